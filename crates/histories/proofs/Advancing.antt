@@ -1,0 +1,171 @@
+-- What an event does to a front.
+use Rattle.std.proofs.Common.{◌≡◌, ◌↔◌, ℕ, suc, ◌<◌, ◌≤◌, List, [], ◌∷◌, ◌++◌, length, get_or, refl, sym, ap, subst, arith, inl, inr, Option, Some, None}
+use Rattle.std.proofs.lemmas.Bool.{cases_lt}
+use Rattle.histories.specs.declared.event.Event.{Event}
+use Rattle.histories.specs.declared.event.Event.TheVariants.{Begin}
+use Rattle.histories.specs.declared.front.Advance.{Advance}
+use Rattle.histories.specs.declared.front.Advance.TheVariants as advance
+use Rattle.histories.specs.declared.front.Config.{Config}
+use Rattle.histories.specs.declared.front.Front.{Front}
+use Rattle.histories.specs.Histories.{begins, times, IsOpen}
+use Rattle.histories.specs.Advances.{AdvancesIn, Agrees, Ends, EndsOpen}
+use Rattle.histories.specs.Frontier.{HasManyOpen, HasSlot, IsFrontOf, IsSound, IsTable}
+use Rattle.histories.specs.Gathering.{AreTaken, HasMany, IsLeft, spot_of}
+use Rattle.histories.proofs.Closing.{made_as}
+use Rattle.histories.proofs.Counting.{times-cons, times_none, times_one, times_other, times_same}
+use Rattle.histories.proofs.Events.{begin_no_end, ends_one, open_begin_now, open_begin_still}
+
+-- by the configurations that are left
+pub advanced : {S : Type 0} (Step : S → ℕ → S → Type 0) (events : List Event) (olds : List S)
+    (event : Event) (front : Front S) (result : Advance)
+    → IsFrontOf Step front (events ++ event ∷ []) olds → IsLeft front.configs.items result
+    → EndsOpen events event → AdvancesIn Step events olds event front result
+advanced Step events olds event front advance.Done f left ends = (f, left, ends)
+advanced Step events olds event front advance.Refused f left ends = (f, left, ends)
+advanced Step events olds event front advance.ManyConfigs f left ends = absurd left
+advanced Step events olds event front advance.ManyOpen f left ends = absurd left
+advanced Step events olds event front advance.NoEvent f left ends = absurd left
+
+pub begin_ends : (events : List Event) (c : ℕ) → EndsOpen events (Begin c)
+begin_ends events c x ends = absurd (begin_no_end c x ends)
+
+-- the call that ends has a slot
+pub slot_ends : (events : List Event) (e : Event) (slots : List (Option ℕ)) (slot c : ℕ)
+    → Ends e c → IsTable events slots → HasSlot slots slot c → EndsOpen events e
+slot_ends events e slots slot c ends table has x now =
+    subst (λ y. IsOpen events y) (ends_one e c x ends now) (table.each slot c has)
+
+pub no_slot : (events : List Event) (e : Event) (slots : List (Option ℕ)) (c : ℕ) → Ends e c
+    → IsTable events slots → ((slot : ℕ) → HasSlot slots slot c → ⊥) → ¬ (EndsOpen events e)
+no_slot events e slots c ends table none is =
+    let at = table.all c (is c ends) in none at.0 at.1
+
+-- the machine makes the calls that have slots as the history has it
+pub agrees_slots : {S : Type 0} (Made Step : S → ℕ → S → Type 0) (events : List Event)
+    (slots : List (Option ℕ)) → IsTable events slots → Agrees Made Step events
+    → (slot call : ℕ) → HasSlot slots slot call → (old new : S)
+    → Made old call new ↔ Step old call new
+agrees_slots Made Step events slots table agrees slot call has =
+    agrees call (table.each slot call has)
+
+pub many_as : {S : Type 0} (A B : S → ℕ → S → Type 0) (slots : List (Option ℕ))
+    → ((slot call : ℕ) → HasSlot slots slot call → (old new : S) → A old call new ↔ B old call new)
+    → (configs : List (Config S)) → HasMany A slots configs → HasMany B slots configs
+many_as A B slots same configs many = (
+  many.0,
+  many.1,
+  many.2,
+  λ k has. made_as A B slots same configs (spot_of k) (many.3 k has),
+)
+
+-- the calls that have slots
+unfoldable called : List (Option ℕ) → List ℕ
+called [] = []
+called (None ∷ slots) = called slots
+called (Some call ∷ slots) = call ∷ called slots
+
+called_all : (slots : List (Option ℕ))
+    → ((slot : ℕ) → slot < length slots → get_or slots slot None ≡ None → ⊥)
+    → length (called slots) ≡ length slots
+unfolding called
+called_all [] taken = refl
+called_all (None ∷ slots) taken = absurd (taken 0 (omega arith) refl)
+called_all (Some call ∷ slots) taken =
+    ap suc (called_all slots (λ slot h none. taken (suc slot) (omega (arith, h)) none))
+
+called_slot : (slots : List (Option ℕ)) (call : ℕ) → 0 < times call (called slots)
+    → (slot : ℕ) × HasSlot slots slot call
+unfolding called
+called_slot [] call h = absurd (omega (arith, h, times_none call))
+called_slot (None ∷ slots) call h = let at = called_slot slots call h in (suc at.0, at.1)
+called_slot (Some one ∷ slots) call h =
+    elim (cases_lt 0 (times call (one ∷ []))) as (λ _. (slot : ℕ) × HasSlot (Some one ∷ slots)
+    slot call) [
+      | inl here ↦ (0, ap (λ n. Some n) (times_same call one here))
+      | inr away ↦
+          let at = called_slot slots call (omega (
+            arith,
+            h,
+            away,
+            times-cons call one (called
+                slots),
+          ))
+          in (suc at.0, at.1)
+    ]
+
+called_once : (slots : List (Option ℕ))
+    → ((one other call : ℕ) → HasSlot slots one call → HasSlot slots other call → one ≡ other)
+    → (call : ℕ) → times call (called slots) ≤ 1
+unfolding called
+called_once [] apart call = omega (arith, times_none call)
+called_once (None ∷ slots) apart call =
+    called_once slots (λ one other c a b. pred_of one other (apart (suc one) (suc other) c a b))
+    call
+  where
+    pred_of : (one other : ℕ) → suc one ≡ suc other → one ≡ other
+    pred_of one other e = omega (arith, e)
+called_once (Some x ∷ slots) apart call =
+    let rest = called_once slots
+    (λ one other c a b. pred_of one other (apart (suc one) (suc other) c a b)) call in
+    elim (cases_lt 0 (times call (x ∷ []))) as (λ _. times call (x ∷ called slots) ≤ 1) [
+      | inl here ↦
+          let same : x ≡ call = times_same call x here in
+          let one : times call (x ∷ []) ≡ 1 =
+          subst (λ y. times call (y ∷ []) ≡ 1) (sym same) (times_one call) in
+          elim (cases_lt 0 (times call (called slots)))
+          as (λ _. times call (x ∷ called slots) ≤ 1) [
+            | inl again ↦
+                let at = called_slot slots call again in
+                let zero_is = apart 0 (suc at.0) call (ap (λ n. Some n) same) at.1 in
+                absurd (omega (arith, zero_is))
+            | inr none ↦ omega (arith, one, none, times-cons call x (called slots))
+          ]
+      | inr away ↦ omega (arith, away, rest, times-cons call x (called slots))
+    ]
+  where
+    pred_of : (one other : ℕ) → suc one ≡ suc other → one ≡ other
+    pred_of one other e = omega (arith, e)
+
+-- where all slots are taken and one call more begins, too many are open
+pub many_open : (events : List Event) (slots : List (Option ℕ)) (c : ℕ) → IsSound events
+    → begins c events ≡ 0 → IsTable events slots → AreTaken slots
+    → HasManyOpen (events ++ Begin c ∷ [])
+many_open events slots c s fresh table taken =
+    let calls : List ℕ = c ∷ called slots in
+    let was_open : (x : ℕ) → 0 < times x (called slots) → IsOpen events x =
+    λ x h. let at = called_slot slots x h in table.each at.0 x at.1 in (
+      calls,
+      omega (arith, taken.0, called_all slots taken.1),
+      λ x. elim (cases_lt 0 (times x (called slots))) as (λ _. times x calls ≤ 1) [
+        | inl some ↦
+            let other : times x (c ∷ []) ≡ 0 =
+            times_other x c (λ e. absurd
+            (omega (arith, (was_open x some).0, subst (λ y. begins y events ≡ 0) e fresh))) in
+            omega (arith, other, called_once slots table.apart x, times-cons x c (called slots))
+        | inr none ↦ omega (arith, none, times_most x c, times-cons x c (called slots))
+      ],
+      λ x h. elim (cases_lt 0 (times x (called slots))) as (λ _. IsOpen (events ++ Begin c ∷ [])
+          x) [
+            | inl some ↦ open_begin_still events c x (was_open x some)
+            | inr none ↦
+                let here : 0 < times x (c ∷ []) = omega (
+                  arith,
+                  h,
+                  none,
+                  times-cons x c (called
+                      slots),
+                ) in
+                subst (λ y. IsOpen (events ++ Begin c ∷ []) y) (times_same x c here)
+                (open_begin_now events c s fresh)
+          ],
+    )
+  where
+    times_most : (x c : ℕ) → times x (c ∷ []) ≤ 1
+    times_most x c =
+        elim (cases_lt 0 (times x (c ∷ []))) as (λ _. times x (c ∷ []) ≤ 1) [
+          | inl here ↦
+              let one : times x (c ∷ []) ≡ 1 =
+              subst (λ y. times x (y ∷ []) ≡ 1) (sym (times_same x c here)) (times_one x) in
+              omega (arith, one)
+          | inr none ↦ omega (arith, none)
+        ]

@@ -1,0 +1,188 @@
+-- Calls that overlap nothing.
+use Rattle.std.proofs.Common.{◌≡◌, ℕ, zero, suc, ◌+◌, ◌<◌, ◌≤◌, List, [], ◌∷◌, ◌++◌, get_or, refl, sym, ◌∙◌, ap, subst, arith, inl, inr, append_assoc}
+use Rattle.std.proofs.lemmas.Bool.{cases_lt}
+use Rattle.std.proofs.lemmas.List.Quantifiers.{all_pairs_push}
+use Rattle.histories.specs.declared.event.Event.{Event}
+use Rattle.histories.specs.declared.event.Event.TheVariants.{Begin, End}
+use Rattle.histories.specs.Histories.{begins, times, Explains, HasEnded, IsOver, Leads}
+use Rattle.histories.specs.Frontier.{IsSound}
+use Rattle.histories.specs.Laws.{CallsAloneAreRuns, calls_alone, in_order}
+use Rattle.histories.proofs.Counting.{not_some, split_times, times-append, times-cons, times_one, times_other, times_same}
+use Rattle.histories.proofs.Events.{answered_now, begins_begin, begins_ends, begins_none, ended_now, ended_still, open_begin_now, over_ended, sound_begin, sound_end, sound_none}
+use Rattle.histories.proofs.Running.{leads_push, leads_split}
+use Rattle.histories.proofs.Explaining.{behind_open, explains_begin, explains_end, explains_front, explains_open, no_times}
+use Rattle.histories.proofs.Frontiers.{explains_none, no_calls}
+
+-- one event after the other
+two_more : (es : List Event) (a b : Event) → es ++ a ∷ b ∷ [] ≡ (es ++ a ∷ []) ++ b ∷ []
+two_more es a b = sym (append_assoc es (a ∷ []) (b ∷ []))
+
+-- calls that have begun have numbers below the count, and have ended
+record IsAlone (es : List Event) (count : ℕ) : Type 0 where
+  sound : IsSound es
+  below : (c : ℕ) → 0 < begins c es → c < count
+  ended : (c : ℕ) → 0 < begins c es → HasEnded es c
+
+alone_fresh : (es : List Event) (count : ℕ) → IsAlone es count → begins count es ≡ 0
+alone_fresh es count a =
+    not_some (begins count es) (λ some. absurd (omega (arith, a.below count some)))
+
+alone_more : (es : List Event) (count : ℕ) → IsAlone es count
+    → IsAlone ((es ++ Begin count ∷ []) ++ End count ∷ []) (count + 1)
+alone_more es count a =
+    let mid : List Event = es ++ Begin count ∷ [] in
+    let fresh = alone_fresh es count a in
+    let here : 0 < begins count mid = (open_begin_now es count a.sound fresh).0 in
+    let counts : (c : ℕ) → begins c (mid ++ End count ∷ []) ≡ begins c es + times c (count ∷ []) =
+    λ c. begins_ends c count mid (End count) (inl refl) ∙ begins_begin c count es in record {
+      sound = sound_end mid (End count) count (inl refl)
+          (sound_begin es count a.sound fresh) here;
+      below = λ c some. elim (cases_lt 0 (begins c es)) as (λ _. c < count + 1) [
+        | inl before ↦ omega (arith, a.below c before)
+        | inr none ↦
+            let same : count ≡ c = times_same c count (omega (arith, some, none, counts c)) in
+            omega (arith, same)
+      ];
+      ended = λ c some. elim (cases_lt 0 (begins c es)) as (λ _. HasEnded (mid ++ End count ∷ [])
+          c) [
+            | inl before ↦
+                ended_still mid (End count) c (ended_still es (Begin count) c (a.ended c before))
+            | inr none ↦
+                let same : count ≡ c = times_same c count (omega (arith, some, none, counts c)) in
+                subst (λ x. HasEnded (mid ++ End count ∷ []) x) same
+                (ended_now mid (End count) count (inl refl))
+          ];
+    }
+
+is_alone : (count : ℕ) → IsAlone (calls_alone count) count
+unfolding calls_alone
+is_alone zero = record {
+  sound = sound_none;
+  below = λ c some. absurd (omega (arith, some, begins_none c));
+  ended = λ c some. absurd (omega (arith, some, begins_none c));
+}
+is_alone (suc count) =
+    subst (λ (l : List Event). IsAlone l (suc count))
+    (sym (two_more (calls_alone count) (Begin count) (End count)))
+    (subst (λ n. IsAlone ((calls_alone count ++ Begin count ∷ []) ++ End count ∷ []) n) (add_one
+    count)
+    (alone_more (calls_alone count) count (is_alone count)))
+  where
+    add_one : (n : ℕ) → n + 1 ≡ suc n
+    add_one n = omega arith
+
+module _ {S : Type 0} (Step : S → ℕ → S → Type 0) where
+  -- a call that is made alone after an order
+  explains_alone : (es : List Event) (count : ℕ) (old mid new : S) (order : List ℕ)
+      → IsAlone es count → Explains Step es old order mid → Step mid count new
+      → Explains Step ((es ++ Begin count ∷ []) ++ End count ∷ []) old (order ++ count ∷ []) new
+  explains_alone es count old mid new order a ex step =
+      let fresh = alone_fresh es count a in
+      let none : times count order ≡ 0 =
+      not_some (times count order) (λ some. absurd (omega (arith, fresh, ex.begun count some))) in
+      let es_mid : List Event = es ++ Begin count ∷ [] in
+      let is_open = open_begin_now es count a.sound fresh in
+      let before = explains_begin Step es old mid order count fresh ex in
+      let counts : (c : ℕ) → times c (order ++ count ∷ []) ≡ times c order + times c (count ∷ []) =
+      λ c. times-append c order (count ∷ []) in
+      explains_end Step es_mid (End count) old new (order ++ count ∷ []) count (inl refl)
+      (λ is. omega (arith, counts count, times_one count)) (record {
+        once = λ c. elim (cases_lt 0 (times c (count ∷ []))) as (λ _. times c (order ++ count ∷
+            []) ≤ 1) [
+              | inl here ↦
+                  let same : count ≡ c = times_same c count here in
+                  omega (
+                    arith,
+                    counts c,
+                    subst (λ x. times x order ≡ 0) same none,
+                    subst (λ x. times x (count ∷ []) ≡ 1) same (times_one count),
+                  )
+              | inr away ↦ omega (arith, counts c, away, ex.once c)
+            ];
+        begun = λ c some. elim (cases_lt 0 (times c (count ∷ []))) as (λ _. 0 < begins c es_mid) [
+          | inl here ↦ subst (λ x. 0 < begins x es_mid) (times_same c count here) is_open.0
+          | inr away ↦ before.begun c (omega (arith, some, counts c, away))
+        ];
+        answered = λ c answered. omega (arith, before.answered c answered, counts c);
+        real_time = all_pairs_push (λ first second. ¬ (IsOver es_mid second first)) order count
+            before.real_time
+            (λ k d within over. is_open.1 (over_ended es_mid count (get_or order k d) over));
+        leads = leads_push Step old mid new order count ex.leads step;
+      })
+
+  -- and an order of the whole has it last
+  explained_alone : (es : List Event) (count : ℕ) (old new : S) (order : List ℕ) → IsAlone es count
+      → Explains Step ((es ++ Begin count ∷ []) ++ End count ∷ []) old order new
+      → (front : List ℕ) × (mid : S) × (order ≡ front ++ count ∷ [])
+      × Explains Step es old front mid × Step mid count new
+  explained_alone es count old new order a ex =
+      let fresh = alone_fresh es count a in
+      let es_mid : List Event = es ++ Begin count ∷ [] in
+      let open_ex = explains_open Step es_mid (End count) old new order count (inl refl) ex in
+      let made : 0 < times count order = ex.answered count (answered_now es_mid count) in
+      let parts = split_times count order made in
+      let front = parts.0 in
+      let back = parts.1 in
+      let whole = subst (λ (l : List ℕ). Explains Step es_mid old l new) parts.2 open_ex in
+      let counts : (c : ℕ)
+      → times c (front ++ count ∷ back) ≡ times c front + times c (count ∷ []) + times c back =
+      λ c. omega (arith, times-append c front (count ∷ back), times-cons c count back) in
+      let empty : back ≡ [] =
+      no_times back (λ c. not_some (times c back) (λ some.
+      let other : times c (count ∷ []) ≡ 0 =
+      times_other c count (λ same. absurd
+      (omega (
+        arith,
+        some,
+        counts c,
+        whole.once c,
+        subst (λ x. times x (count ∷ []) ≡ 1) same (times_one count),
+      ))) in
+      let begun : 0 < begins c es =
+      omega (arith, whole.begun c (omega (arith, some, counts c)), begins_begin c count es, other)
+      in
+      behind_open Step es old new front back count c whole some (a.ended c begun))) in
+      let leads = leads_split Step old new front (count ∷ back) whole.leads in
+      let last = subst (λ (l : List ℕ). Leads Step leads.0 (count ∷ l) new) empty leads.2 in (
+        front,
+        leads.0,
+        parts.2 ∙ ap (λ (l : List ℕ). front ++ count ∷ l) empty,
+        explains_front Step es old leads.0 new front back count a.sound fresh whole leads.1,
+        subst (λ s. Step leads.0 count s) (sym last.2) last.1,
+      )
+
+  alone_there : (count : ℕ) (old new : S) (order : List ℕ)
+      → Explains Step (calls_alone count) old order new
+      → (order ≡ in_order count) × Leads Step old (in_order count) new
+  unfolding calls_alone in_order
+  alone_there zero old new order ex =
+      let is = no_calls Step old new order ex in (is.0, is.1)
+  alone_there (suc count) old new order ex =
+      let r = explained_alone (calls_alone count) count old new order (is_alone count)
+      (subst (λ (l : List Event). Explains Step l old order new)
+      (two_more (calls_alone count) (Begin count) (End count)) ex) in
+      let before = alone_there count old r.1 r.0 r.3 in (
+        r.2 ∙ ap (λ (l : List ℕ). l ++ count ∷ []) before.0,
+        leads_push Step old r.1 new (in_order count) count before.1 r.4,
+      )
+
+  alone_back : (count : ℕ) (old new : S) → Leads Step old (in_order count) new
+      → Explains Step (calls_alone count) old (in_order count) new
+  unfolding calls_alone in_order
+  alone_back zero old new leads =
+      subst (λ s. Explains Step [] old [] s) (sym leads) (explains_none Step old)
+  alone_back (suc count) old new leads =
+      let parts = leads_split Step old new (in_order count) (count ∷ []) leads in
+      let last = parts.2 in
+      subst (λ (l : List Event). Explains Step l old (in_order count ++ count ∷ []) new)
+      (sym (two_more (calls_alone count) (Begin count) (End count)))
+      (explains_alone (calls_alone count) count old parts.0 new (in_order count) (is_alone count)
+      (alone_back count old parts.0 parts.1)
+      (subst (λ s. Step parts.0 count s) (sym last.2) last.1))
+
+  pub calls_alone_are_runs : CallsAloneAreRuns Step
+  calls_alone_are_runs count old new order = (
+    λ ex. alone_there count old new order ex,
+    λ is. subst (λ (l : List ℕ). Explains Step (calls_alone count) old l new) (sym is.0)
+        (alone_back count old new is.1),
+  )

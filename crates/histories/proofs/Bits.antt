@@ -1,0 +1,174 @@
+-- Sets of slots.
+use Rattle.std.proofs.Common.{◌≡◌, ◌≢◌, ℕ, zero, suc, ◌<◌, ◌≤◌, ◌⊎◌, List, length, get_or, min, max, bit_and, bit_or, ◌*◌, ◌^◌, ◌%◌, ◌-◌, refl, sym, ◌∙◌, ap, subst, arith, inl, inr, Option, None}
+use Rattle.std.specs.Int.{bit_at, bit_not, w64}
+use Rattle.std.proofs.lemmas.Bool.{cases_eq, cases_lt}
+use Rattle.std.proofs.lemmas.List.{get_or_past}
+use Rattle.std.proofs.lemmas.Nat.Bits.{bit_at-lt, bit_at-zero, bit_at_and, bit_at_clear_other, bit_at_clear_same, bit_at_ones, bit_at_or, bit_at_set_other, bit_at_set_same, same_from_bits}
+use Rattle.std.proofs.lemmas.Nat.{and_assoc, and_comm}
+use Rattle.histories.specs.Frontier.{HasSlot, cleared, put}
+use Rattle.histories.specs.Gathering.{ones}
+
+pub cleared_same : (set slot : ℕ) → slot < 64 → bit_at (cleared set slot) slot ≡ 0
+unfolding cleared
+cleared_same set slot h = bit_at_clear_same w64 set slot h
+
+pub cleared_other : (set slot other : ℕ) → slot < 64 → other < 64 → other ≢ slot
+    → bit_at (cleared set slot) other ≡ bit_at set other
+unfolding cleared
+cleared_other set slot other h k ne = bit_at_clear_other w64 set slot h other k ne
+
+pub put_same : (set slot : ℕ) → slot < 64 → bit_at (put set slot) slot ≡ 1
+unfolding put
+put_same set slot h = bit_at_set_same w64 set slot h
+
+pub put_other : (set slot other : ℕ) → slot < 64 → other ≢ slot
+    → bit_at (put set slot) other ≡ bit_at set other
+unfolding put
+put_other set slot other h ne = bit_at_set_other w64 set slot h other ne
+
+-- the order in which slots go is free
+pub cleared_swap : (set one other : ℕ)
+    → cleared (cleared set one) other ≡ cleared (cleared set other) one
+unfolding cleared
+cleared_swap set one other =
+    let A = bit_not w64 (1 * 2 ^ one % 2 ^ 64) in
+    let B = bit_not w64 (1 * 2 ^ other % 2 ^ 64) in
+    and_assoc B set A ∙ (ap (bit_and set) (and_comm A B) ∙ sym (and_assoc A set B))
+
+-- and so is that in which one slot goes and another comes
+pub cleared_put : (set slot t : ℕ) → slot < 64 → t < 64 → slot ≢ t
+    → cleared (put set t) slot ≡ put (cleared set slot) t
+unfolding cleared put
+cleared_put set slot t h k ne =
+    let N = bit_not w64 (1 * 2 ^ slot % 2 ^ 64) in
+    let P = 1 * 2 ^ t % 2 ^ 64 in
+    same_from_bits (bit_and (bit_or set P) N) (bit_or (bit_and set N) P)
+    (λ i. bits_of (bit_at (bit_and (bit_or set P) N) i) (bit_at (bit_or (bit_and set N) P) i)
+    (bit_at set i) (bit_at P i) (bit_at N i) (bit_at (bit_or set P) i) (bit_at (bit_and set N) i)
+    (bit_at_and (bit_or set P) N i) (bit_at_or (bit_and set N) P i) (bit_at_or set P i)
+    (bit_at_and set N i) (bit_at-lt set i) (bit_at-lt P i)
+    (elim (cases_eq i t) as (λ _. (bit_at P i ≡ 0) ⊎ (bit_at N i ≡ 1)) [
+      | inl e ↦
+          let ones : bit_at N t ≡ 1 =
+          sym (and_one (bit_at ones64 t) (bit_at N t) (bit_at (bit_and ones64 N) t)
+          (bit_at_and ones64 N t) (bit_at-lt N t)
+          (bit_at_clear_other w64 ones64 slot h t k (λ x. ne (sym x))
+          ∙ bit_at_ones 64 t k)) in
+          inr (subst (λ x. bit_at N x ≡ 1) (sym e) ones)
+      | inr nope ↦ inl
+          (max_zero (bit_at 0 i) (bit_at P i) (bit_at (bit_or 0 P) i)
+          (bit_at_or 0 P i) (bit_at_set_other w64 0 t k i nope ∙ bit_at-zero i))
+    ]))
+  where
+    ones64 : ℕ
+    ones64 = 2 ^ 64 - 1
+
+    bits_of : (x y a p n o m : ℕ) → x ≡ min o n → y ≡ max m p → o ≡ max a p → m ≡ min a n
+        → a < 2 → p < 2 → (p ≡ 0) ⊎ (n ≡ 1) → x ≡ y
+    bits_of x y a p n o m e f g h small low (inl none) = omega arith
+    bits_of x y a p n o m e f g h small low (inr one) = omega arith
+
+    and_one : (a n m : ℕ) → m ≡ min a n → n < 2 → m ≡ 1 → 1 ≡ n
+    and_one a n m e small one = omega arith
+
+    max_zero : (z p m : ℕ) → m ≡ max z p → m ≡ 0 → p ≡ 0
+    max_zero z p m e none = omega arith
+
+-- a slot is in the set or not
+pub bit_cases : (set slot : ℕ) → (bit_at set slot ≡ 0) ⊎ (bit_at set slot ≡ 1)
+bit_cases set slot =
+    elim (cases_eq (bit_at set slot) 0) as (λ _. (bit_at set slot ≡ 0) ⊎ (bit_at set slot ≡ 1)) [
+      | inl none ↦ inl none
+      | inr some ↦ inr (one_of (bit_at set slot) (bit_at-lt set slot) some)
+    ]
+  where
+    one_of : (n : ℕ) → n < 2 → n ≢ 0 → n ≡ 1
+    one_of zero h ne = absurd (ne refl)
+    one_of (suc zero) h ne = refl
+    one_of (suc (suc n)) h ne = absurd (omega arith)
+
+-- a slot that is not in the set
+pub bit_none : (set slot : ℕ) → (bit_at set slot ≡ 1 → ⊥) → bit_at set slot ≡ 0
+bit_none set slot never =
+    elim (bit_cases set slot) as (λ _. bit_at set slot ≡ 0) [
+      | inl none ↦ none
+      | inr some ↦ absurd (never some)
+    ]
+
+-- in a set without a slot there is nothing more
+pub cleared_le : (set slot other : ℕ) → slot < 64 → other < 64
+    → bit_at (cleared set slot) other ≤ bit_at set other
+cleared_le set slot other h k =
+    elim (cases_eq other slot) as (λ _. bit_at (cleared set slot) other ≤ bit_at set other) [
+      | inl e ↦
+          subst (λ x. bit_at (cleared set slot) x ≤ bit_at set x) (sym e)
+          (omega (arith, cleared_same set slot h))
+      | inr ne ↦ omega (arith, cleared_other set slot other h k ne)
+    ]
+
+-- a slot that a call has is there
+pub slot_within : (slots : List (Option ℕ)) (slot call : ℕ) → HasSlot slots slot call
+    → slot < length slots
+slot_within slots slot call has =
+    elim (cases_lt slot (length slots)) as (λ _. slot < length slots) [
+      | inl h ↦ h
+      | inr late ↦
+          let past : get_or slots slot None ≡ None = get_or_past slots slot None (omega (
+            arith,
+            late,
+          )) in
+          absurd (cc)
+    ]
+
+-- a slot has one call
+pub slot_once : (slots : List (Option ℕ)) (slot one other : ℕ) → HasSlot slots slot one
+    → HasSlot slots slot other → one ≡ other
+slot_once slots slot one other a b = cc
+
+pub slot_64 : (slots : List (Option ℕ)) (slot call : ℕ) → length slots ≤ 64
+    → HasSlot slots slot call → slot < 64
+slot_64 slots slot call few has = omega (arith, few, slot_within slots slot call has)
+
+pub ones_none : (set : ℕ) → ones set 0 ≡ 0
+unfolding ones
+ones_none set = refl
+
+pub ones_most : (set n : ℕ) → ones set n ≤ n
+unfolding ones
+ones_most set zero = omega arith
+ones_most set (suc n) = omega (arith, ones_most set n, bit_at-lt set n)
+
+-- fewer slots in the set
+pub ones_le : (set more n : ℕ) → ((i : ℕ) → i < n → bit_at set i ≤ bit_at more i)
+    → ones set n ≤ ones more n
+unfolding ones
+ones_le set more zero le = omega arith
+ones_le set more (suc n) le =
+    omega (arith, le n (omega arith), ones_le set more n (λ i h. le i (omega arith)))
+
+-- and one slot less
+pub ones_less : (set more n slot : ℕ) → ((i : ℕ) → i < n → bit_at set i ≤ bit_at more i)
+    → slot < n → bit_at set slot ≡ 0 → bit_at more slot ≡ 1 → ones set n < ones more n
+unfolding ones
+ones_less set more zero slot le h none some = absurd (omega arith)
+ones_less set more (suc n) slot le h none some =
+    elim (cases_eq slot n) as (λ _. ones set (suc n) < ones more (suc n)) [
+      | inl e ↦
+          let here : bit_at set n ≡ 0 = subst (λ i. bit_at set i ≡ 0) e none in
+          let there : bit_at more n ≡ 1 = subst (λ i. bit_at more i ≡ 1) e some in
+          omega (arith, here, there, ones_le set more n (λ i k. le i (omega arith)))
+      | inr ne ↦
+          let below : slot < n = below_of slot n h ne in
+          omega (
+            arith,
+            le n (omega arith),
+            ones_less set more n slot (λ i k. le i (omega arith)) below none some,
+          )
+    ]
+  where
+    below_of : (slot n : ℕ) → slot < suc n → slot ≢ n → slot < n
+    below_of slot n h ne =
+        elim (cases_lt slot n) as (λ _. slot < n) [
+          | inl less ↦ less
+          | inr past ↦ absurd (ne (omega (arith, h, past)))
+        ]

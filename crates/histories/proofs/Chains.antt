@@ -1,0 +1,330 @@
+-- Orders that are read from links.
+use Rattle.std.proofs.Common.{◌≡◌, ℕ, ◌+◌, ◌<◌, ◌≤◌, List, [], ◌∷◌, ◌++◌, ◌≢◌, Option, set, length, take, drop, take-append-drop, reverse, get_or, refl, sym, ◌∙◌, ap, subst, arith, inl, inr, length-append, append-nil, append_assoc}
+use Rattle.std.proofs.Math.ListN.{get_or-append}
+use Rattle.std.proofs.Math.Seq.{get_or-append_seam}
+use Rattle.std.proofs.lemmas.Bool.{cases_eq, cases_lt}
+use Rattle.std.proofs.lemmas.List.{get_or-set_other, get_or-set_same, get_or_default, get_or_past, length-take-le, reverse-append, take_more}
+use Rattle.histories.specs.declared.front.Config.{Config}
+use Rattle.histories.specs.declared.front.Link.{Link}
+use Rattle.histories.specs.declared.event.Event.{Event}
+use Rattle.histories.specs.Histories.{Explains}
+use Rattle.histories.specs.Frontier.{Leaves, IsFollowed, IsFrontier, Path, Runs, no_path, order_at, order_of, orders, path_more, read}
+use Rattle.histories.specs.Gathering.{AreLaid, Grows, IsLaid, IsLaidOut}
+
+orders_append : (known : List (List ℕ)) (xs ys : List Link)
+    → orders known (xs ++ ys) ≡ orders (orders known xs) ys
+unfolding orders
+orders_append known [] ys = refl
+orders_append known (x ∷ xs) ys =
+    orders_append (known ++ (get_or known x.before [] ++ x.call ∷ []) ∷ []) xs ys
+
+orders_length : (known : List (List ℕ)) (xs : List Link)
+    → length (orders known xs) ≡ length known + length xs
+unfolding orders
+orders_length known [] = omega arith
+orders_length known (x ∷ xs) =
+    let one : List ℕ = get_or known x.before [] ++ x.call ∷ [] in
+    omega (
+      arith,
+      orders_length (known ++ one ∷ []) xs,
+      length-append known (one ∷ []),
+    )
+
+-- those that are known stay
+orders_keep : (known : List (List ℕ)) (xs : List Link) (n : ℕ) → n < length known
+    → get_or (orders known xs) n [] ≡ get_or known n []
+unfolding orders
+orders_keep known [] n h = refl
+orders_keep known (x ∷ xs) n h =
+    let one : List ℕ = get_or known x.before [] ++ x.call ∷ [] in
+    orders_keep (known ++ one ∷ []) xs n (omega (arith, h, length-append known (one ∷ [])))
+    ∙ get_or-append known (one ∷ []) [] n h
+
+pub read_zero : (links : List Link) → read links 0 ≡ []
+unfolding read
+read_zero links = orders_keep ([] ∷ []) links 0 (omega arith)
+
+-- what was read is read still where there are more links
+read_keep : (links others : List Link) (n : ℕ) → n ≤ length links
+    → read (links ++ others) n ≡ read links n
+unfolding read
+read_keep links others n h =
+    ap (λ (l : List (List ℕ)). get_or l n []) (orders_append ([] ∷ []) links others)
+    ∙ orders_keep (orders ([] ∷ []) links) others n
+    (omega (arith, h, orders_length ([] ∷ []) links))
+
+-- one link more
+read_push : (links : List Link) (link : Link)
+    → read (links ++ link ∷ []) (length links + 1) ≡ read links link.before ++ link.call ∷ []
+unfolding read orders
+read_push links link =
+    let known : List (List ℕ) = orders ([] ∷ []) links in
+    let one : List ℕ = get_or known link.before [] ++ link.call ∷ [] in
+    let many : length links + 1 ≡ length known = omega (arith, orders_length ([] ∷ []) links) in
+    ap (λ (l : List (List ℕ)). get_or l (length links + 1) [])
+    (orders_append ([] ∷ []) links (link ∷ []))
+    ∙ (ap (λ n. get_or (known ++ one ∷ []) n []) many ∙ get_or-append_seam known one [] [])
+
+-- past all links nothing is read
+read_past : (links : List Link) (base : ℕ) → length links < base → read links base ≡ []
+unfolding read
+read_past links base h =
+    get_or_past (orders ([] ∷ []) links) base [] (omega (arith, h, orders_length ([] ∷ []) links))
+
+left_short : (front : List Link) (at left : ℕ) (link : Link) → length front ≡ at
+    → (link.before ≤ at → left ≡ link.before) → (at < link.before → left ≡ 0)
+    → left ≤ length front
+left_short front at left link long same none =
+    elim (cases_lt at link.before) as (λ _. left ≤ length front) [
+      | inl above ↦ omega (arith, none above)
+      | inr within ↦
+          let few : link.before ≤ at = omega (arith, within) in omega (arith, same few, few, long)
+    ]
+
+-- the number, or 0 where more links are asked for than there are
+pub read_bounded : (links : List Link) (base left : ℕ)
+    → (base ≤ length links → left ≡ base) → (length links < base → left ≡ 0)
+    → read links base ≡ read links left
+read_bounded links base left same none =
+    elim (cases_lt (length links) base) as (λ _. read links base ≡ read links left) [
+      | inl above ↦
+          read_past links base above
+          ∙ sym (ap (λ n. read links n) (none above) ∙ read_zero links)
+      | inr within ↦ ap (λ n. read links n) (sym (same (omega (arith, within))))
+    ]
+
+-- one call more is read
+pub read_step : (links : List Link) (at left : ℕ) (link : Link) → at < length links
+    → link ≡ get_or links at link → (link.before ≤ at → left ≡ link.before)
+    → (at < link.before → left ≡ 0)
+    → read links (at + 1) ≡ read links left ++ link.call ∷ []
+read_step links at left link h is same none =
+    let front : List Link = take at links in
+    let rest : List Link = drop (at + 1) links in
+    let long : length front ≡ at = length-take-le at links (omega arith) in
+    let whole : (front ++ link ∷ []) ++ rest ≡ links =
+    ap (λ (l : List Link). l ++ rest)
+    (ap (λ (x : Link). front ++ x ∷ []) is ∙ sym (take_more links at link h))
+    ∙ take-append-drop (at + 1) links in
+    let here : read links (at + 1) ≡ read (front ++ link ∷ []) (at + 1) =
+    ap (λ (l : List Link). read l (at + 1)) (sym whole)
+    ∙ read_keep (front ++ link ∷ []) rest (at + 1)
+    (omega (arith, long, length-append front (link ∷ []))) in
+    let last : read (front ++ link ∷ []) (at + 1) ≡ read front link.before ++ link.call ∷ [] =
+    ap (λ n. read (front ++ link ∷ []) (n + 1)) (sym long) ∙ read_push front link in
+    let before : read front link.before ≡ read links left =
+    read_bounded front link.before left (λ few. same (omega (arith, few, long)))
+    (λ many. none (omega (arith, many, long)))
+    ∙ (sym (read_keep front (drop at links) left (left_short front at left link long same none))
+    ∙ ap (λ (l : List Link). read l left) (take-append-drop at links)) in
+    here ∙ (last ∙ ap (λ (o : List ℕ). o ++ link.call ∷ []) before)
+
+-- the calls that were read, the last one first
+pub read_more : (links : List Link) (base at left : ℕ) (link : Link) (found : List ℕ)
+    → at < length links → link ≡ get_or links at link
+    → (link.before ≤ at → left ≡ link.before) → (at < link.before → left ≡ 0)
+    → read links base ≡ read links (at + 1) ++ reverse found
+    → read links base ≡ read links left ++ reverse (found ++ link.call ∷ [])
+read_more links base at left link found h is same none before =
+    before
+    ∙ (ap (λ (o : List ℕ). o ++ reverse found) (read_step links at left link h is same none)
+    ∙ (append_assoc (read links left) (link.call ∷ []) (reverse found)
+    ∙ ap (λ (o : List ℕ). read links left ++ o)
+    (sym (reverse-append found (link.call ∷ [])))))
+
+pub length_grows : (links more : List Link) → Grows links more → length links ≤ length more
+length_grows links more g = omega (arith, ap length g.1, length-append links g.0)
+
+pub read_grows : (links more : List Link) (n : ℕ) → Grows links more → n ≤ length links
+    → read more n ≡ read links n
+read_grows links more n g h =
+    ap (λ (l : List Link). read l n) g.1 ∙ read_keep links g.0 n h
+
+pub grows_then : (links mid more : List Link) → Grows links mid → Grows mid more
+    → Grows links more
+grows_then links mid more f g = (
+  f.0 ++ g.0,
+  g.1 ∙ (ap (λ (l : List Link). l ++ g.0) f.1 ∙ append_assoc links f.0 g.0),
+)
+
+pub grows_none : (links : List Link) → Grows links links
+grows_none links = ([], sym (append-nil links))
+
+-- a path with more calls is read to an order with more calls
+pub order_more : (links : List Link) (path : Path) (calls : List ℕ)
+    → order_at links (path_more path calls) ≡ order_at links path ++ calls
+order_more links path calls = sym (append_assoc (read links path.base) path.calls calls)
+
+pub order_none : (links : List Link) → order_at links no_path ≡ []
+order_none links = append-nil (read links 0) ∙ read_zero links
+
+pub laid_out_none : (links : List Link) (base : ℕ) → IsLaidOut links base [] links base
+laid_out_none links base =
+    (grows_none links, λ within. (within, sym (append-nil (read links base))))
+
+-- one call more
+pub laid_out_more : (links mid : List Link) (base at : ℕ) (calls : List ℕ) (link : Link)
+    → at < length calls → link.call ≡ get_or calls at 0
+    → IsLaidOut links base (take at calls) mid link.before
+    → IsLaidOut links base (take (at + 1) calls) (mid ++ link ∷ []) (length mid + 1)
+laid_out_more links mid base at calls link h is l = (
+  grows_then links mid (mid ++ link ∷ []) l.0 (link ∷ [], refl),
+  λ within. (
+    omega (arith, length-append mid (link ∷ [])),
+    read_push mid link
+        ∙ (ap (λ (o : List ℕ). o ++ link.call ∷ []) (l.1 within).1
+        ∙ (append_assoc (read links base) (take at calls) (link.call ∷ [])
+        ∙ ap (λ (t : List ℕ). read links base ++ t)
+        (ap (λ c. take at calls ++ c ∷ []) is ∙ sym (take_more calls at 0 h)))),
+  ),
+)
+
+module _ {S : Type 0} where
+  pub laid_one : (links more : List Link) (config laid : Config S) → laid.state ≡ config.state
+      → laid.waiting ≡ config.waiting → laid.made.items ≡ []
+      → IsLaidOut links config.base config.made.items more laid.base
+      → IsLaid links more config laid
+  laid_one links more config laid state waits made l = (
+    state,
+    waits,
+    l.0,
+    λ within.
+        let is = l.1 within in (
+          is.0,
+          ap (λ (m : List ℕ). read more laid.base ++ m) made
+              ∙ (append-nil (read more laid.base) ∙ is.1),
+        ),
+  )
+
+  -- with more links after it
+  laid_grows : (links mid more : List Link) (config laid : Config S) → Grows mid more
+      → IsLaid links mid config laid → IsLaid links more config laid
+  laid_grows links mid more config laid g l = (
+    l.0,
+    l.1,
+    grows_then links mid more l.2 g,
+    λ within.
+        let is = l.3 within in (
+          omega (arith, is.0, length_grows mid more g),
+          ap (λ (o : List ℕ). o ++ laid.made.items) (read_grows mid more laid.base g is.0) ∙ is.1,
+        ),
+  )
+
+  -- with fewer links before it
+  laid_before : (links mid more : List Link) (config laid : Config S) → Grows links mid
+      → IsLaid mid more config laid → IsLaid links more config laid
+  laid_before links mid more config laid g l = (
+    l.0,
+    l.1,
+    grows_then links mid more g l.2,
+    λ within.
+        let is = l.3 (omega (arith, within, length_grows links mid g)) in (
+          is.0,
+          is.1
+              ∙ ap (λ (o : List ℕ). o ++ config.made.items)
+              (read_grows links mid config.base g within),
+        ),
+  )
+
+  pub are_laid_none : (links : List Link) → AreLaid {S = S} links links [] []
+  are_laid_none links = record {
+    grows = grows_none links;
+    as_many = refl;
+    each = λ place d h. absurd (omega (arith, h));
+  }
+
+  -- one configuration more, at its place
+  pub are_laid_more : (links mid more : List Link) (configs now new : List (Config S)) (at : ℕ)
+      (config laid : Config S) → at < length now → length now ≡ length configs
+      → ((place : ℕ) (d : Config S) → place < at
+      → IsLaid links mid (get_or configs place d) (get_or now place d))
+      → ((place : ℕ) (d : Config S) → at ≤ place → get_or now place d ≡ get_or configs place d)
+      → Grows links mid → config ≡ get_or now at config → new ≡ set now at laid
+      → IsLaid mid more config laid → (place : ℕ) (d : Config S) → place < at + 1
+      → IsLaid links more (get_or configs place d) (get_or new place d)
+  are_laid_more links mid more configs now new at config laid h many done rest g is e l place d
+      less =
+      elim (cases_eq place at)
+      as (λ _. IsLaid links more (get_or configs place d) (get_or new place d)) [
+        | inl here ↦
+            let there : get_or configs place d ≡ config =
+            ap (λ n. get_or configs n d) here
+            ∙ (sym (rest at d (omega arith)) ∙ sym (is ∙ get_or_default now at config d h)) in
+            let now_is : get_or new place d ≡ laid =
+            ap (λ (k : List (Config S)). get_or k place d) e
+            ∙ (ap (λ n. get_or (set now at laid) n d) here ∙ get_or-set_same now at laid d h) in
+            subst (λ (k : Config S). IsLaid links more (get_or configs place d) k) (sym now_is)
+            (subst (λ (k : Config S). IsLaid links more k laid) (sym there)
+            (laid_before links mid more config laid g l))
+        | inr ne ↦
+            let below : place < at = less_of place at less ne in
+            subst (λ (k : Config S). IsLaid links more (get_or configs place d) k)
+            (sym (ap (λ (k : List (Config S)). get_or k place d) e
+            ∙ get_or-set_other now at place laid d ne))
+            (laid_grows links mid more (get_or configs place d) (get_or now place d) l.2
+            (done place d below))
+      ]
+    where
+      less_of : (i n : ℕ) → i < n + 1 → i ≢ n → i < n
+      less_of i n h ne =
+          elim (cases_lt i n) as (λ _. i < n) [
+            | inl less ↦ less
+            | inr past ↦ absurd (ne (omega (arith, h, past)))
+          ]
+
+module _ {S : Type 0} (Step : S → ℕ → S → Type 0) where
+  laid_followed : (links more : List Link) (slots : List (Option ℕ)) (es : List Event)
+      (olds : List S) (config laid : Config S) → IsLaid links more config laid
+      → IsFollowed Step links slots es olds config → IsFollowed Step more slots es olds laid
+  laid_followed links more slots es olds config laid l f =
+      let is = l.3 f.within in record {
+        old = f.old;
+        from = f.from;
+        explains = subst (λ (o : List ℕ). Explains Step es f.old o laid.state) (sym is.1)
+            (subst (λ s. Explains Step es f.old (order_of links config) s) (sym l.0) f.explains);
+        leaves = subst (λ (o : List ℕ). Leaves slots o laid.waiting) (sym is.1)
+            (subst (λ w. Leaves slots (order_of links config) w) (sym l.1) f.leaves);
+        within = is.0;
+      }
+
+  -- the same configurations with the same orders
+  pub frontier_laid : (links more : List Link) (slots : List (Option ℕ)) (es : List Event)
+      (olds : List S) (configs laid : List (Config S)) → AreLaid links more configs laid
+      → IsFrontier Step links slots es olds configs → IsFrontier Step more slots es olds laid
+  frontier_laid links more slots es olds configs laid a f = record {
+    sound = λ k has.
+        let from = get_or configs has.0 k in
+        let within : has.0 < length configs = omega (arith, has.1, a.as_many) in
+        laid_followed links more slots es olds from k
+        (subst (λ (x : Config S). IsLaid links more from x) has.2 (a.each has.0 k has.1))
+        (f.sound from (has.0, within, get_or_default configs has.0 from k within));
+    complete = λ old order new from ex.
+        let lead = f.complete old order new from ex in
+        let config = lead.2.0 in
+        let has = lead.2.1 in
+        let run = lead.2.2 in
+        let k = get_or laid has.0 config in
+        let within : has.0 < length laid = omega (arith, has.1, a.as_many) in
+        let is = subst (λ (x : Config S). IsLaid links more x k) has.2
+        (a.each has.0 config within) in (
+          lead.0,
+          lead.1,
+          (
+            k,
+            (has.0, within, get_or_default laid has.0 k config within),
+            (
+              run.0,
+              run.1,
+              subst (λ s. Runs Step slots s k.waiting run.0 new run.1) (sym is.0)
+                  (subst (λ w. Runs Step slots config.state w run.0 new run.1) (sym is.1) run.2),
+              run.3,
+            ),
+          ),
+        );
+    once = λ i j d less within same.
+        let first = a.each i d (omega (arith, less, within)) in
+        let second = a.each j d within in
+        f.once i j d less (omega (arith, within, a.as_many))
+        (sym first.0 ∙ (same.0 ∙ second.0), sym first.1 ∙ (same.1 ∙ second.1));
+    table = f.table;
+  }

@@ -1,0 +1,351 @@
+-- A call that ends is made.
+use Rattle.std.proofs.Common.{◌≡◌, ◌↔◌, ℕ, ◌+◌, ◌<◌, ◌≤◌, ◌⊎◌, List, [], ◌∷◌, ◌++◌, length, refl, sym, ◌∙◌, ap, subst, arith, inl, inr, append-nil, append_assoc, Option}
+use Rattle.std.specs.Prelude.{AllPairs}
+use Rattle.std.specs.Int.{bit_at}
+use Rattle.std.specs.List.{Contains}
+use Rattle.histories.specs.declared.front.Config.{Config}
+use Rattle.histories.specs.Frontier.{HasSlot, IsLighter, IsSame, LeadTo, Path, Runs, cleared, path_more, path_of}
+use Rattle.histories.specs.Gathering.{AreSettled, FromOne, Gathers, IsClosed, IsClosing, IsCopy, IsDone, IsMadeFrom, IsNext, IsSettled, IsUnderWay, Spot, ones, spot_of}
+use Rattle.histories.proofs.Bits.{bit_cases, cleared_le, cleared_same, ones_le, ones_less, ones_most, slot_64, slot_within}
+use Rattle.histories.proofs.Running.{lighter_as, lighter_then, runs_as, runs_fewer, runs_lighter, runs_then}
+
+path_with : ℕ → List ℕ → Path
+path_with base calls = record { base = base; calls = calls }
+
+pub path_none : (path : Path) → path ≡ path_more path []
+unfolding path_with
+path_none path = sym (ap (λ (l : List ℕ). path_with path.base l) (append-nil path.calls))
+
+pub path_is : (p q : Path) → p.base ≡ q.base → p.calls ≡ q.calls → p ≡ q
+unfolding path_with
+path_is p q base calls =
+    ap (λ b. path_with b p.calls) base ∙ ap (λ (l : List ℕ). path_with q.base l) calls
+
+pub path_then : (path : Path) (first second : List ℕ)
+    → path_more (path_more path first) second ≡ path_more path (first ++ second)
+unfolding path_with
+path_then path first second =
+    ap (λ (l : List ℕ). path_with path.base l) (append_assoc path.calls first second)
+
+module _ {S : Type 0} (Step : S → ℕ → S → Type 0) (slots : List (Option ℕ)) where
+  -- from the new ones too
+  pub leads_kept : (Found : Spot S → Type 0) (old new : List (Config S)) (s : S) (rest : ℕ)
+      → Gathers Found old new → LeadTo Step slots old s rest → LeadTo Step slots new s rest
+  leads_kept Found old new s rest g l = (l.0, g.kept l.0 l.1, l.2)
+
+  pub leads_found : (Found : Spot S → Type 0) (old new : List (Config S)) (config : Spot S)
+      (calls : List ℕ) (s : S) (fewer rest : ℕ) → Gathers Found old new → Found config
+      → Runs Step slots config.state config.waiting calls s fewer
+      → IsLighter Step slots fewer rest → LeadTo Step slots new s rest
+  leads_found Found old new config calls s fewer rest g found run light =
+      let known = g.complete config found in (
+        known.0,
+        known.1,
+        (
+          calls,
+          fewer,
+          subst (λ x. Runs Step slots x known.0.waiting calls s fewer) (sym known.2.0)
+              (subst (λ w. Runs Step slots config.state w calls s fewer) (sym known.2.1) run),
+          light,
+        ),
+      )
+
+  pub nothing_in : (k : Config S) → ¬ (Contains [] k)
+  nothing_in k has = absurd (omega (arith, has.1))
+
+  -- where calls that change nothing were made, the others lead to the same
+  pub leads_settled : (configs settled : List (Config S)) (new : S) (rest : ℕ)
+      → length slots ≤ 64 → AreSettled Step slots configs settled
+      → LeadTo Step slots configs new rest → LeadTo Step slots settled new rest
+  leads_settled configs settled new rest few a l =
+      let config = l.0 in
+      let one = a.complete config l.1 in
+      let more = runs_lighter Step slots config.state new one.0.waiting config.waiting l.2.1 l.2.0
+      few one.3 l.2.2 in (
+        one.0,
+        one.1,
+        (
+          more.0,
+          more.1,
+          subst (λ s. Runs Step slots s one.0.waiting more.0 new more.1) (sym one.2) more.2,
+          lighter_then Step slots more.1 l.2.1 rest more.3 l.2.3,
+        ),
+      )
+
+  -- the calls of a settled one are made after those of its configuration
+  pub made_settled : (configs : List (Config S)) (config : Config S) (one : Spot S)
+      → IsSettled Step slots config one → IsMadeFrom Step slots configs (spot_of config)
+      → IsMadeFrom Step slots configs one
+  made_settled configs config one is m = (
+    m.0,
+    m.1,
+    (
+      m.2.0 ++ is.calls,
+      subst (λ s. Runs Step slots m.0.state m.0.waiting (m.2.0 ++ is.calls) s one.waiting)
+          (sym is.state)
+          (runs_then Step slots m.0.state config.state config.state m.0.waiting config.waiting
+          one.waiting m.2.0 is.calls m.2.1 is.runs),
+      is.made ∙ (ap (λ (p : Path). path_more p is.calls) m.2.2
+          ∙ path_then (path_of m.0) m.2.0 is.calls),
+    ),
+  )
+
+  pub closing_begin : (configs : List (Config S)) (slot : ℕ)
+      → IsClosing Step slots configs slot [] configs (length slots + 1)
+  closing_begin configs slot = record {
+    sound = λ k has. absurd (nothing_in k has);
+    under_way = λ k has. (k, has, ([], (refl, refl), path_none (path_of k)));
+    complete = λ new rest l over. inr l;
+    short = λ k has. omega (arith, ones_most k.waiting (length slots));
+    once = λ i j d less h. absurd (omega arith);
+  }
+
+  made_done : (configs : List (Config S)) (config : Config S) (copy : Spot S) → IsCopy config copy
+      → IsMadeFrom Step slots configs (spot_of config) → IsMadeFrom Step slots configs copy
+  made_done configs config copy is m = (
+    m.0,
+    m.1,
+    (
+      m.2.0,
+      subst (λ s. Runs Step slots m.0.state m.0.waiting m.2.0 s copy.waiting) (sym is.0)
+          (subst (λ w. Runs Step slots m.0.state m.0.waiting m.2.0 config.state w) (sym is.1)
+          m.2.1),
+      is.2 ∙ m.2.2,
+    ),
+  )
+
+  made_next : (configs : List (Config S)) (config : Config S) (next : Spot S)
+      → IsNext Step slots config next → IsMadeFrom Step slots configs (spot_of config)
+      → IsMadeFrom Step slots configs next
+  made_next configs config next is m =
+      let call = is.2.0 in (
+        m.0,
+        m.1,
+        (
+          m.2.0 ++ call ∷ [],
+          runs_then Step slots m.0.state config.state next.state m.0.waiting config.waiting
+              next.waiting m.2.0 (call ∷ []) m.2.1
+              (is.0, is.2.1, (next.state, is.2.2, (refl, is.2.3))),
+          is.2.4 ∙ (ap (λ (p : Path). path_more p (call ∷ [])) m.2.2
+              ∙ path_then (path_of m.0) m.2.0 (call ∷ [])),
+        ),
+      )
+
+  -- where the call waits and in the end does not, one that waits is made next
+  leads_under_way : (layer next : List (Config S)) (slot : ℕ) (config : Config S)
+      (calls : List ℕ) (new : S) (fewer rest : ℕ) → slot < 64
+      → Gathers (FromOne (IsUnderWay Step slots slot) layer) [] next → Contains layer config
+      → bit_at config.waiting slot ≡ 1 → bit_at fewer slot ≡ 0
+      → Runs Step slots config.state config.waiting calls new fewer
+      → IsLighter Step slots fewer rest → LeadTo Step slots next new rest
+  leads_under_way layer next slot config [] new fewer rest h g has waits over run light =
+      absurd (omega (arith, ap (λ w. bit_at w slot) run.1, waits, over))
+  leads_under_way layer next slot config (c ∷ calls) new fewer rest h g has waits over run light =
+      let spot : Spot S = record {
+        state = run.2.0;
+        waiting = cleared config.waiting run.0;
+        made = path_more (path_of config) (c ∷ []);
+      } in
+      leads_found (FromOne (IsUnderWay Step slots slot) layer) [] next spot calls new fewer rest g (
+        config,
+        has,
+        (waits, (run.0, slot_within slots run.0 c run.1.0, (c, run.1, run.2.1, refl, refl))),
+      ) run.2.2 light
+
+  -- a slot that is in no set in the end
+  lighter_gone : (fewer rest slot call : ℕ) → HasSlot slots slot call
+      → IsLighter Step slots fewer rest → bit_at rest slot ≡ 0 → bit_at fewer slot ≡ 0
+  lighter_gone fewer rest slot call here light over =
+      elim (light slot call here) as (λ _. bit_at fewer slot ≡ 0) [
+        | inl same ↦ same ∙ over
+        | inr idle ↦ idle.0
+      ]
+
+  -- one call more is made where the call waits
+  pub closing_more : (configs done layer more next : List (Config S)) (slot call left : ℕ)
+      → length slots ≤ 64 → HasSlot slots slot call
+      → IsClosing Step slots configs slot done layer (left + 1)
+      → Gathers (FromOne (IsDone slot) layer) done more
+      → Gathers (FromOne (IsUnderWay Step slots slot) layer) [] next
+      → IsClosing Step slots configs slot more next left
+  closing_more configs done layer more next slot call left few here cl f g = record {
+    sound = λ k has.
+        elim (f.sound k has)
+        as (λ _. IsMadeFrom Step slots configs (spot_of k) × (bit_at k.waiting slot ≡ 0)) [
+          | inl before ↦ cl.sound k before
+          | inr found ↦ (
+            made_done configs found.0 (spot_of k) found.2.1 (cl.under_way found.0 found.1),
+            ap (λ w. bit_at w slot) found.2.1.1 ∙ found.2.0,
+          )
+        ];
+    under_way = λ k has.
+        elim (g.sound k has) as (λ _. IsMadeFrom Step slots configs (spot_of k)) [
+          | inl none ↦ absurd (nothing_in k none)
+          | inr found ↦
+              made_next configs found.0 (spot_of k) found.2.1 (cl.under_way found.0 found.1)
+        ];
+    complete = λ new rest l over.
+        elim (cl.complete new rest l over)
+        as (λ _. LeadTo Step slots more new rest ⊎ LeadTo Step slots next new rest) [
+          | inl before ↦
+              inl (leads_kept (FromOne (IsDone slot) layer) done more new rest f before)
+          | inr m ↦
+              elim (bit_cases m.0.waiting slot)
+              as (λ _. LeadTo Step slots more new rest ⊎ LeadTo Step slots next new rest) [
+                | inr waits ↦ inr
+                    (leads_under_way layer next slot m.0 m.2.0 new m.2.1 rest
+                    (slot_64 slots slot call few here) g m.1 waits
+                    (lighter_gone m.2.1 rest slot call here m.2.3 over) m.2.2 m.2.3)
+                | inl gone ↦ inl
+                    (leads_found (FromOne (IsDone slot) layer) done more (spot_of m.0) m.2.0 new
+                    m.2.1 rest f (m.0, m.1, (gone, (refl, refl, refl))) m.2.2 m.2.3)
+              ]
+        ];
+    short = λ k has. elim (g.sound k has) as (λ _. ones k.waiting (length slots) < left) [
+      | inl none ↦ absurd (nothing_in k none)
+      | inr found ↦
+          let from = found.0 in
+          let at = found.2.1.0 in
+          let h = slot_64 slots at found.2.1.2.0 few found.2.1.2.1.0 in
+          let less : ones (cleared from.waiting at) (length slots) < ones from.waiting (length
+          slots) =
+          ones_less (cleared from.waiting at) from.waiting (length slots) at
+          (λ i within. cleared_le from.waiting at i h (omega (arith, within, few))) found.2.1.1
+          (cleared_same from.waiting at h) found.2.1.2.1.1 in
+          omega (
+            arith,
+            cl.short from found.1,
+            less,
+            ap (λ w. ones w (length slots)) found.2.1.2.3,
+          )
+    ];
+    once = f.once cl.once;
+  }
+
+  -- calls that change nothing were made in those under way
+  pub closing_settled : (configs done layer settled : List (Config S)) (slot left : ℕ)
+      → length slots ≤ 64 → AreSettled Step slots layer settled
+      → IsClosing Step slots configs slot done layer left
+      → IsClosing Step slots configs slot done settled left
+  closing_settled configs done layer settled slot left few a cl = record {
+    sound = cl.sound;
+    under_way = λ k has.
+        let is = a.sound k has in
+        made_settled configs is.0 (spot_of k) is.2 (cl.under_way is.0 is.1);
+    complete = λ new rest l over.
+        elim (cl.complete new rest l over)
+        as (λ _. LeadTo Step slots done new rest ⊎ LeadTo Step slots settled new rest) [
+          | inl there ↦ inl there
+          | inr m ↦ inr (leads_settled layer settled new rest few a m)
+        ];
+    short = λ k has.
+        let is = a.sound k has in
+        let from = is.0 in
+        omega (
+          arith,
+          cl.short from is.1,
+          ones_le k.waiting from.waiting (length slots)
+              (λ i within. runs_fewer Step slots from.state from.state from.waiting k.waiting i
+              is.2.calls few (omega (arith, within, few)) is.2.runs),
+        );
+    once = cl.once;
+  }
+
+  pub closing_end : (configs done layer : List (Config S)) (slot left : ℕ) → left ≡ 0
+      → IsClosing Step slots configs slot done layer left → IsClosed Step slots configs slot done
+  closing_end configs done layer slot left none cl = record {
+    sound = cl.sound;
+    complete = λ new rest l over.
+        elim (cl.complete new rest l over) as (λ _. LeadTo Step slots done new rest) [
+          | inl there ↦ there
+          | inr m ↦ absurd (omega (arith, cl.short m.0 m.1, none))
+        ];
+    once = cl.once;
+  }
+
+-- of none, all are different
+pub none_same : {S : Type 0} → AllPairs (λ (a b : Config S). ¬ (IsSame a b)) []
+none_same {S} = λ i j d less h. absurd (omega arith)
+
+-- as another relation has the steps of the calls that have slots
+module _ {S : Type 0} (A B : S → ℕ → S → Type 0) (slots : List (Option ℕ))
+    (same : (slot call : ℕ) → HasSlot slots slot call → (old new : S)
+    → A old call new ↔ B old call new) where
+  pub leads_as : (configs : List (Config S)) (new : S) (rest : ℕ)
+      → LeadTo A slots configs new rest → LeadTo B slots configs new rest
+  leads_as configs new rest l = (
+    l.0,
+    l.1,
+    (
+      l.2.0,
+      l.2.1,
+      runs_as A B slots (λ slot call has old next. (same slot call has old next).0) l.0.state new
+          l.0.waiting l.2.1 l.2.0 l.2.2,
+      lighter_as B A slots (λ slot call has old next. (same slot call has old next).1) l.2.1 rest
+          l.2.3,
+    ),
+  )
+
+  pub made_as : (configs : List (Config S)) (spot : Spot S) → IsMadeFrom A slots configs spot
+      → IsMadeFrom B slots configs spot
+  made_as configs spot m = (
+    m.0,
+    m.1,
+    (
+      m.2.0,
+      runs_as A B slots (λ slot call has old next. (same slot call has old next).0) m.0.state
+          spot.state m.0.waiting spot.waiting m.2.0 m.2.1,
+      m.2.2,
+    ),
+  )
+
+pub turned : {S : Type 0} (A B : S → ℕ → S → Type 0) (slots : List (Option ℕ))
+    → ((slot call : ℕ) → HasSlot slots slot call → (old new : S) → A old call new ↔ B old call new)
+    → (slot call : ℕ) → HasSlot slots slot call → (old new : S) → B old call new ↔ A old call new
+turned A B slots same slot call has old new =
+    let e = same slot call has old new in (e.1, e.0)
+
+pub closed_as : {S : Type 0} (A B : S → ℕ → S → Type 0) (slots : List (Option ℕ))
+    → ((slot call : ℕ) → HasSlot slots slot call → (old new : S) → A old call new ↔ B old call new)
+    → (configs done : List (Config S)) (slot : ℕ) → IsClosed A slots configs slot done
+    → IsClosed B slots configs slot done
+closed_as A B slots same configs done slot cl = record {
+  sound = λ k has.
+      let is = cl.sound k has in (made_as A B slots same configs (spot_of k) is.0, is.1);
+  complete = λ new rest l over.
+      leads_as A B slots same done new rest
+      (cl.complete new rest (leads_as B A slots (turned A B slots same) configs new rest l) over);
+  once = cl.once;
+}
+
+pub settled_as : {S : Type 0} (A B : S → ℕ → S → Type 0) (slots : List (Option ℕ))
+    → ((slot call : ℕ) → HasSlot slots slot call → (old new : S) → A old call new ↔ B old call new)
+    → (configs settled : List (Config S)) → AreSettled A slots configs settled
+    → AreSettled B slots configs settled
+settled_as A B slots same configs settled a = record {
+  sound = λ k has.
+      let is = a.sound k has in
+      let s = is.2 in (
+        is.0,
+        is.1,
+        record {
+          state = s.state;
+          calls = s.calls;
+          runs = runs_as A B slots (λ slot call here old next. (same slot call here old next).0)
+              is.0.state is.0.state is.0.waiting k.waiting s.calls s.runs;
+          lighter = lighter_as B A slots
+              (λ slot call here old next. (same slot call here old next).1) k.waiting
+              is.0.waiting s.lighter;
+          made = s.made;
+        },
+      );
+  complete = λ config has.
+      let one = a.complete config has in (
+        one.0,
+        one.1,
+        one.2,
+        lighter_as B A slots (λ slot call here old next. (same slot call here old next).1)
+            one.0.waiting config.waiting one.3,
+      );
+  once = a.once;
+}

@@ -1,0 +1,233 @@
+-- What explains a history, and one event more.
+use Rattle.std.proofs.Common.{◌≡◌, ℕ, suc, ◌+◌, ◌<◌, ◌≤◌, List, [], ◌∷◌, ◌++◌, length, get_or, refl, sym, ◌∙◌, subst, arith, inl, inr, Option, length-append, append-nil, append_assoc}
+use Rattle.std.specs.Prelude.{AllPairs}
+use Rattle.std.proofs.Math.ListN.{get_or-append}
+use Rattle.std.proofs.Math.Seq.{get_or-append_seam}
+use Rattle.std.proofs.lemmas.Bool.{cases_lt}
+use Rattle.std.proofs.lemmas.List.{get_or-append-add}
+use Rattle.std.proofs.lemmas.List.Quantifiers.{all_pairs_push}
+use Rattle.histories.specs.declared.event.Event.{Event}
+use Rattle.histories.specs.declared.event.Event.TheVariants.{Begin, End}
+use Rattle.histories.specs.Histories.{begins, times, Explains, HasEnded, IsOpen, IsOver, Leads}
+use Rattle.histories.specs.Advances.{Ends}
+use Rattle.histories.specs.Frontier.{IsSound, IsTable, IsWaiting, Leaves, Runs, cleared}
+use Rattle.histories.proofs.Counting.{at_times, times-append, times-cons, times_at, times_one, times_other, times_same}
+use Rattle.histories.proofs.Events.{answered_cases, answered_ended, answered_still, begin_no_end, begins_begin, begins_ends, ends_one, over_cases, over_ended, over_now, over_still}
+use Rattle.histories.proofs.Running.{leads_push, leaves_made}
+
+-- it is the empty list where no number stands in it
+pub no_times : (xs : List ℕ) → ((c : ℕ) → times c xs ≡ 0) → xs ≡ []
+no_times [] none = refl
+no_times (x ∷ xs) none =
+    absurd (omega (arith, none x, times-cons x x xs, times_one x))
+
+-- what is true of all pairs of a list is true of those of its front
+pub all_pairs_front : (P : ℕ → ℕ → Type 0) (xs ys : List ℕ) → AllPairs P (xs ++ ys)
+    → AllPairs P xs
+all_pairs_front P xs ys all = λ i j d less within.
+    subst (λ y. P (get_or xs i d) y) (get_or-append xs ys d j within)
+    (subst (λ x. P x (get_or (xs ++ ys) j d)) (get_or-append xs ys d i (omega arith))
+    (all i j d less (omega (arith, length-append xs ys))))
+
+-- and of a number with each behind it
+pub all_pairs_behind : (P : ℕ → ℕ → Type 0) (xs ys : List ℕ) (x y : ℕ)
+    → AllPairs P (xs ++ x ∷ ys) → 0 < times y ys → P x y
+all_pairs_behind P xs ys x y all h =
+    let at = at_times y ys h in
+    let first : get_or (xs ++ x ∷ ys) (length xs) 0 ≡ x = get_or-append_seam xs x ys 0 in
+    let second : get_or (xs ++ x ∷ ys) (length xs + suc at.0) 0 ≡ y =
+    get_or-append-add xs (x ∷ ys) (suc at.0) 0 ∙ at.2 in
+    subst (λ b. P x b) second
+    (subst (λ a. P a (get_or (xs ++ x ∷ ys) (length xs + suc at.0) 0)) first
+    (all (length xs) (length xs + suc at.0) 0 (omega arith)
+    (omega (arith, at.1, length-append xs (x ∷ ys)))))
+
+-- a number that stands in the order is not one that does not
+pub apart : (order : List ℕ) (call c : ℕ) → times call order ≡ 0 → 0 < times c order
+    → times c (call ∷ []) ≡ 0
+apart order call c none some =
+    times_other c call (λ e. absurd (omega (arith, subst (λ x. times x order ≡ 0) e none, some)))
+
+module _ {S : Type 0} (Step : S → ℕ → S → Type 0) where
+  -- a call that waits is made after an order
+  pub explains_made : (es : List Event) (slots : List (Option ℕ)) (old mid new : S)
+      (order : List ℕ) (waiting slot call : ℕ)
+      → IsTable es slots → Explains Step es old order mid → Leaves slots order waiting
+      → IsWaiting slots waiting slot call → Step mid call new
+      → Explains Step es old (order ++ call ∷ []) new
+      × Leaves slots (order ++ call ∷ []) (cleared waiting slot)
+  explains_made es slots old mid new order waiting slot call table ex leaves is step =
+      let o : IsOpen es call = table.each slot call is.0 in
+      let fresh : times call order ≡ 0 = omega (arith, leaves slot call is.0, is.1) in
+      let counts : (c : ℕ) → times c (order ++ call ∷ []) ≡ times c order + times c (call ∷ []) =
+      λ c. times-append c order (call ∷ []) in (
+        record {
+          once = λ c.
+              elim (cases_lt 0 (times c (call ∷ [])))
+              as (λ _. times c (order ++ call ∷ []) ≤ 1) [
+                | inl here ↦
+                    let same : call ≡ c = times_same c call here in
+                    let none : times c order ≡ 0 = subst (λ x. times x order ≡ 0) same fresh in
+                    let one : times c (call ∷ []) ≡ 1 =
+                    subst (λ x. times x (call ∷ []) ≡ 1) same (times_one call) in
+                    omega (arith, counts c, none, one)
+                | inr away ↦ omega (arith, counts c, away, ex.once c)
+              ];
+          begun = λ c some.
+              elim (cases_lt 0 (times c (call ∷ []))) as (λ _. 0 < begins c es) [
+                | inl here ↦ subst (λ x. 0 < begins x es) (times_same c call here) o.0
+                | inr away ↦ ex.begun c (omega (arith, some, counts c, away))
+              ];
+          answered = λ c a. omega (arith, ex.answered c a, counts c);
+          real_time = all_pairs_push (λ first second. ¬ (IsOver es second first)) order call
+              ex.real_time
+              (λ k d within over. o.1 (over_ended es call (get_or order k d) over));
+          leads = leads_push Step old mid new order call ex.leads step;
+        },
+        leaves_made Step slots order waiting slot call table.few table.apart leaves is,
+      )
+
+  -- calls that wait are made after an order
+  pub explains_run : (es : List Event) (slots : List (Option ℕ)) (old mid new : S)
+      (order : List ℕ) (waiting : ℕ) (calls : List ℕ) (rest : ℕ)
+      → IsTable es slots → Explains Step es old order mid → Leaves slots order waiting
+      → Runs Step slots mid waiting calls new rest
+      → Explains Step es old (order ++ calls) new × Leaves slots (order ++ calls) rest
+  explains_run es slots old mid new order waiting [] rest table ex leaves run =
+      subst (λ (o : List ℕ). Explains Step es old o new × Leaves slots o rest)
+      (sym (append-nil order))
+      (subst (λ n. Explains Step es old order n × Leaves slots order rest) (sym run.0)
+      (subst (λ w. Explains Step es old order mid × Leaves slots order w) (sym run.1)
+      (ex, leaves)))
+  explains_run es slots old mid new order waiting (call ∷ calls) rest table ex leaves run =
+      let more = explains_made es slots old mid run.2.0 order waiting run.0 call table ex leaves
+      run.1
+      run.2.1 in
+      let all = explains_run es slots old run.2.0 new (order ++ call ∷ []) (cleared waiting run.0)
+      calls rest table more.0 more.1 run.2.2 in
+      subst (λ (o : List ℕ). Explains Step es old o new × Leaves slots o rest)
+      (append_assoc order (call ∷ []) calls) all
+
+  -- a call that begins now and is not made: the order explains what was before
+  pub explains_without : (es : List Event) (old new : S) (order : List ℕ) (call : ℕ)
+      → Explains Step (es ++ Begin call ∷ []) old order new → times call order ≡ 0
+      → Explains Step es old order new
+  explains_without es old new order call ex none = record {
+    once = ex.once;
+    begun = λ c some.
+        omega (arith, ex.begun c some, begins_begin c call es, apart order call c none some);
+    answered = λ c a. ex.answered c (answered_still es (Begin call) c a);
+    real_time = λ i j d less within over.
+        ex.real_time i j d less within
+        (over_still es (Begin call) (get_or order j d) (get_or order i d) over);
+    leads = ex.leads;
+  }
+
+  -- what stands behind a call that begins now has not ended
+  pub behind_open : (es : List Event) (old new : S) (before after : List ℕ) (call c : ℕ)
+      → Explains Step (es ++ Begin call ∷ []) old (before ++ call ∷ after) new
+      → 0 < times c after → HasEnded es c → ⊥
+  behind_open es old new before after call c ex some ended =
+      all_pairs_behind (λ first second. ¬ (IsOver (es ++ Begin call ∷ []) second first)) before
+      after call c ex.real_time some (over_now es c call ended)
+
+  -- CUT. A call that begins now and is made: what was answered stands before it, and explains what
+  -- was before.
+  pub explains_front : (es : List Event) (old mid new : S) (before after : List ℕ) (call : ℕ)
+      → IsSound es → begins call es ≡ 0
+      → Explains Step (es ++ Begin call ∷ []) old (before ++ call ∷ after) new
+      → Leads Step old before mid → Explains Step es old before mid
+  explains_front es old mid new before after call s fresh ex leads =
+      let order = before ++ call ∷ after in
+      let counts : (c : ℕ)
+      → times c order ≡ times c before + times c (call ∷ []) + times c after =
+      λ c. omega (arith, times-append c before (call ∷ after), times-cons c call after) in
+      let absent : times call before ≡ 0 =
+      omega (arith, counts call, ex.once call, times_one call) in record {
+        once = λ c. omega (arith, counts c, ex.once c);
+        begun = λ c some.
+            omega (
+              arith,
+              ex.begun c (omega (arith, counts c, some)),
+              begins_begin c call es,
+              apart before call c absent some,
+            );
+        answered = λ c a.
+            let made : 0 < times c order = ex.answered c (answered_still es (Begin call) c a) in
+            let begun : 0 < begins c es = s.begun c (answered_ended es c a) in
+            let other : times c (call ∷ []) ≡ 0 =
+            times_other c call
+            (λ e. absurd (omega (arith, begun, subst (λ x. begins x es ≡ 0) e fresh))) in
+            elim (cases_lt 0 (times c before)) as (λ _. 0 < times c before) [
+              | inl some ↦ some
+              | inr none ↦
+                  absurd
+                  (behind_open es old new before after call c ex
+                  (omega (arith, made, counts c, other, none)) (answered_ended es c a))
+            ];
+        real_time = λ i j d less within over.
+            all_pairs_front (λ first second. ¬ (IsOver (es ++ Begin call ∷ []) second first))
+            before (call ∷ after) ex.real_time i j d less within
+            (over_still es (Begin call) (get_or before j d) (get_or before i d) over);
+        leads = leads;
+      }
+
+  -- a call begins and waits
+  pub explains_begin : (es : List Event) (old new : S) (order : List ℕ) (call : ℕ)
+      → begins call es ≡ 0 → Explains Step es old order new
+      → Explains Step (es ++ Begin call ∷ []) old order new
+  explains_begin es old new order call fresh ex = record {
+    once = ex.once;
+    begun = λ c some. omega (arith, ex.begun c some, begins_begin c call es);
+    answered = λ c a. elim (answered_cases es (Begin call) c a) as (λ _. 0 < times c order) [
+      | inl before ↦ ex.answered c before
+      | inr e ↦ absurd (cc)
+    ];
+    real_time = λ i j d less within over.
+        elim (over_cases es (Begin call) (get_or order j d) (get_or order i d) over)
+        as (λ _. ⊥) [
+          | inl before ↦ ex.real_time i j d less within before
+          | inr e ↦
+              let same : call ≡ get_or order i d = cc in
+              let begun : 0 < begins (get_or order i d) es =
+              ex.begun (get_or order i d) (times_at order i d (omega arith)) in
+              absurd (omega (arith, begun, subst (λ x. begins x es ≡ 0) same fresh))
+        ];
+    leads = ex.leads;
+  }
+
+  -- a call ends, and has been made if it was answered
+  pub explains_end : (es : List Event) (e : Event) (old new : S) (order : List ℕ) (call : ℕ)
+      → Ends e call → (e ≡ End call → 0 < times call order) → Explains Step es old order new
+      → Explains Step (es ++ e ∷ []) old order new
+  explains_end es e old new order call ends made ex = record {
+    once = ex.once;
+    begun = λ c some. omega (arith, ex.begun c some, begins_ends c call es e ends);
+    answered = λ c a. elim (answered_cases es e c a) as (λ _. 0 < times c order) [
+      | inl before ↦ ex.answered c before
+      | inr is ↦
+          let same : c ≡ call = ends_one e c call (inl is) ends in
+          subst (λ x. 0 < times x order) (sym same)
+          (made (subst (λ x. e ≡ End x) same is))
+    ];
+    real_time = λ i j d less within over.
+        elim (over_cases es e (get_or order j d) (get_or order i d) over)
+        as (λ _. ⊥) [
+          | inl before ↦ ex.real_time i j d less within before
+          | inr is ↦ begin_no_end (get_or order i d) call (subst (λ x. Ends x call) is ends)
+        ];
+    leads = ex.leads;
+  }
+
+  -- an order that explains the history with the end explains that without
+  pub explains_open : (es : List Event) (e : Event) (old new : S) (order : List ℕ) (call : ℕ)
+      → Ends e call → Explains Step (es ++ e ∷ []) old order new → Explains Step es old order new
+  explains_open es e old new order call ends ex = record {
+    once = ex.once;
+    begun = λ c some. omega (arith, ex.begun c some, begins_ends c call es e ends);
+    answered = λ c a. ex.answered c (answered_still es e c a);
+    real_time = λ i j d less within over.
+        ex.real_time i j d less within
+        (over_still es e (get_or order j d) (get_or order i d) over);
+    leads = ex.leads;
+  }

@@ -1,0 +1,604 @@
+-- The configurations after one event more.
+use Rattle.std.proofs.Common.{◌≡◌, ◌≢◌, ℕ, ◌+◌, ◌<◌, ◌≤◌, ◌⊎◌, List, [], ◌∷◌, ◌++◌, length, get_or, refl, sym, ◌∙◌, ap, subst, arith, inl, inr, Option}
+use Rattle.std.specs.Prelude.{AllPairs}
+use Rattle.std.specs.Int.{bit_at}
+use Rattle.std.specs.List.{Contains}
+use Rattle.std.proofs.lemmas.Bool.{cases_lt}
+use Rattle.std.proofs.lemmas.List.{get_or_default}
+use Rattle.histories.specs.declared.front.Config.{Config}
+use Rattle.histories.specs.declared.front.Link.{Link}
+use Rattle.histories.specs.declared.event.Event.{Event}
+use Rattle.histories.specs.declared.event.Event.TheVariants.{Begin, End, Crash}
+use Rattle.histories.specs.Histories.{begins, times, Explains, Leads}
+use Rattle.histories.specs.Advances.{Ends}
+use Rattle.histories.specs.Frontier.{HasManyOrders, HasSlot, IsFollowed, IsFrontier, IsIdle, IsLighter, IsSame, IsSound, IsTable, IsWaiting, LeadTo, Leaves, Path, Runs, cleared, no_path, order_at, order_of, path_of, put}
+use Rattle.histories.specs.Gathering.{AreOpened, AreSettled, FreesSlot, FromOne, Gathers, HasMany, IsClosed, IsDropped, IsFirst, IsMadeFrom, IsOpened, Spot, TakesSlot, spot_of}
+use Rattle.histories.proofs.Bits.{bit_cases, cleared_other, cleared_put, cleared_same, put_other, put_same, slot_64, slot_within}
+use Rattle.histories.proofs.Counting.{not_some, split_times, times-append, times-cons, times_none, times_one, times_same}
+use Rattle.histories.proofs.Events.{answered_now, begins_begin, begins_none}
+use Rattle.histories.proofs.Tables.{freed_before, table_begin, table_end, taken_cases, taken_other, taken_still}
+use Rattle.histories.proofs.Running.{leads_split, leaves_run, lighter_cleared, runs_fewer, runs_in, runs_lighter, runs_order, runs_then, runs_without}
+use Rattle.histories.proofs.Running.{lighter_without}
+use Rattle.histories.proofs.Explaining.{behind_open, explains_begin, explains_end, explains_front, explains_open, explains_run, explains_without, no_times}
+use Rattle.histories.proofs.Closing.{leads_found, leads_kept, leads_settled, made_settled, none_same, nothing_in, path_none}
+use Rattle.histories.proofs.Chains.{order_more, order_none}
+
+module _ {S : Type 0} (Step : S → ℕ → S → Type 0) where
+  -- each configuration is that of an order
+  abbrev pub AreSound : List Link → List (Option ℕ) → List Event → List S → List (Config S)
+      → Type 0
+  AreSound links slots es olds configs =
+      (config : Config S) → Contains configs config
+      → IsFollowed Step links slots es olds config
+
+  -- each order is that of a configuration
+  abbrev pub AreComplete : List (Option ℕ) → List Event → List S → List (Config S) → Type 0
+  AreComplete slots es olds configs =
+      (old : S) (order : List ℕ) (new : S) → Contains olds old
+      → Explains Step es old order new
+      → (rest : ℕ) × Leaves slots order rest × LeadTo Step slots configs new rest
+
+  -- where waiting calls were made, the order explains the history still
+  pub followed_made : (links : List Link) (slots : List (Option ℕ)) (es : List Event)
+      (olds : List S) (configs : List (Config S)) (k : Config S) → IsTable es slots
+      → AreSound links slots es olds configs → IsMadeFrom Step slots configs (spot_of k)
+      → IsFollowed Step links slots es olds k
+  followed_made links slots es olds configs k table sound made =
+      let is = sound made.0 made.1 in
+      let from = made.0 in
+      let calls = made.2.0 in
+      let order : order_of links k ≡ order_of links from ++ calls =
+      ap (λ (p : Path). order_at links p) made.2.2 ∙ order_more links (path_of from) calls in
+      let more = explains_run Step es slots is.old from.state k.state (order_of links from)
+      from.waiting calls k.waiting table is.explains is.leaves made.2.1 in record {
+        old = is.old;
+        from = is.from;
+        explains = subst (λ (m : List ℕ). Explains Step es is.old m k.state) (sym order) more.0;
+        leaves = subst (λ (m : List ℕ). Leaves slots m k.waiting) (sym order) more.1;
+        within = omega (arith, is.within, ap (λ (p : Path). p.base) made.2.2);
+      }
+
+  -- calls that change nothing were made
+  pub frontier_settled : (links : List Link) (slots : List (Option ℕ)) (es : List Event)
+      (olds : List S) (configs settled : List (Config S)) → IsTable es slots
+      → AreSound links slots es olds configs → AreComplete slots es olds configs
+      → AreSettled Step slots configs settled → IsFrontier Step links slots es olds settled
+  frontier_settled links slots es olds configs settled table sound complete a = record {
+    sound = λ k has.
+        let is = a.sound k has in
+        followed_made links slots es olds configs k table sound
+        (made_settled Step slots configs is.0 (spot_of k) is.2
+        (is.0, is.1, ([], (refl, refl), path_none (path_of is.0))));
+    complete = λ old order new from ex.
+        let lead = complete old order new from ex in (
+          lead.0,
+          lead.1,
+          leads_settled Step slots configs settled new lead.0 table.few a lead.2,
+        );
+    once = a.once;
+    table = table;
+  }
+
+  module _ (slots more : List (Option ℕ)) (c t : ℕ) (takes : TakesSlot slots c t more)
+      (few : length slots ≤ 64) where
+    lighter_put : (fewer rest : ℕ) → IsLighter Step slots fewer rest
+        → IsLighter Step more (put fewer t) (put rest t)
+    lighter_put fewer rest l slot call has =
+        elim (taken_cases slots more c t slot call takes has)
+        as (λ _. (bit_at (put fewer t) slot ≡ bit_at (put rest t) slot)
+        ⊎ ((bit_at (put fewer t) slot ≡ 0) × IsIdle Step call)) [
+          | inl now ↦ inl
+              (subst (λ s. bit_at (put fewer t) s ≡ bit_at (put rest t) s) (sym now.0)
+              (put_same fewer t takes.within ∙ sym (put_same rest t takes.within)))
+          | inr was ↦
+              elim (l slot call was.1)
+              as (λ _. (bit_at (put fewer t) slot ≡ bit_at (put rest t) slot)
+              ⊎ ((bit_at (put fewer t) slot ≡ 0) × IsIdle Step call)) [
+                | inl same ↦ inl
+                    (put_other fewer t slot takes.within was.0
+                    ∙ (same ∙ sym (put_other rest t slot takes.within was.0)))
+                | inr idle ↦ inr (put_other fewer t slot takes.within was.0 ∙ idle.0, idle.1)
+              ]
+        ]
+
+    leaves_put : (order : List ℕ) (rest : ℕ) → times c order ≡ 0 → Leaves slots order rest
+        → Leaves more order (put rest t)
+    leaves_put order rest none leaves slot call has =
+        elim (taken_cases slots more c t slot call takes has)
+        as (λ _. times call order + bit_at (put rest t) slot ≡ 1) [
+          | inl now ↦
+              omega (
+                arith,
+                ap (λ x. times x order) now.1,
+                none,
+                subst (λ s. bit_at (put rest t) s ≡ 1) (sym now.0) (put_same rest t takes.within),
+              )
+          | inr was ↦
+              omega (arith, leaves slot call was.1, put_other rest t slot takes.within was.0)
+        ]
+
+    runs_put : (old new : S) (waiting rest : ℕ) (calls : List ℕ)
+        → Runs Step slots old waiting calls new rest
+        → Runs Step more old (put waiting t) calls new (put rest t)
+    runs_put old new waiting rest calls run =
+        runs_in Step slots more old new waiting rest calls t (λ w. put w t)
+        (λ w s ne h. cleared_put w s t h takes.within ne)
+        (λ w s ne h. put_other w t s takes.within ne) few
+        (λ s call has some. (
+          taken_other slots more c t s call takes has,
+          taken_still slots more c
+              t s call takes has,
+        ))
+        run
+
+    -- the same leads on where one call more waits
+    leads_put : (configs opened : List (Config S)) (new : S) (rest : ℕ) → AreOpened t configs opened
+        → LeadTo Step slots configs new rest → LeadTo Step more opened new (put rest t)
+    leads_put configs opened new rest o l =
+        let from = l.0 in
+        let has = l.1 in
+        let k = get_or opened has.0 from in
+        let within : has.0 < length opened = omega (arith, has.1, o.0) in
+        let is : IsOpened t from k = subst (λ (x : Config S). IsOpened t x k) has.2
+        (o.1 has.0 from within) in (
+          k,
+          (has.0, within, get_or_default opened has.0 k from within),
+          (
+            l.2.0,
+            put l.2.1 t,
+            subst (λ s. Runs Step more s k.waiting l.2.0 new (put l.2.1 t)) (sym is.0)
+                (subst (λ w. Runs Step more from.state w l.2.0 new (put l.2.1 t)) (sym is.1)
+                (runs_put from.state new from.waiting l.2.1 l.2.0 l.2.2)),
+            lighter_put l.2.1 rest l.2.3,
+          ),
+        )
+
+    -- and other calls go on from there
+    leads_on : (opened : List (Config S)) (mid new : S) (rest last : ℕ) (calls : List ℕ)
+        → length more ≤ 64 → LeadTo Step more opened mid rest
+        → Runs Step more mid rest calls new last → LeadTo Step more opened new last
+    leads_on opened mid new rest last calls short l run =
+        let on = runs_lighter Step more mid new l.2.1 rest last calls short l.2.3 run in (
+          l.0,
+          l.1,
+          (
+            l.2.0 ++ on.0,
+            on.1,
+            runs_then Step more l.0.state mid new l.0.waiting l.2.1 on.1 l.2.0 on.0 l.2.2 on.2,
+            on.3,
+          ),
+        )
+
+    opened_sound : (links : List Link) (es : List Event) (olds : List S)
+        (configs opened : List (Config S)) → begins c es ≡ 0
+        → AreSound links slots es olds configs → AreOpened t configs opened
+        → AreSound links more (es ++ Begin c ∷ []) olds opened
+    opened_sound links es olds configs opened fresh sound o k has =
+        let from = get_or configs has.0 k in
+        let within : has.0 < length configs = omega (arith, has.1, o.0) in
+        let one : IsOpened t from k = subst (λ (x : Config S). IsOpened t from x) has.2
+        (o.1 has.0 k has.1) in
+        let is = sound from (has.0, within, get_or_default configs has.0 from k within) in
+        let order : order_of links k ≡ order_of links from = ap (λ (p : Path). order_at links p)
+        one.2
+        in
+        let none : times c (order_of links from) ≡ 0 =
+        not_some (times c (order_of links from))
+        (λ some. absurd (omega (arith, is.explains.begun c some, fresh))) in record {
+          old = is.old;
+          from = is.from;
+          explains = subst (λ (m : List ℕ). Explains Step (es ++ Begin c ∷ []) is.old m k.state)
+              (sym order)
+              (subst (λ x. Explains Step (es ++ Begin c ∷ []) is.old (order_of links from) x)
+              (sym one.0)
+              (explains_begin Step es is.old from.state (order_of links from) c fresh
+              is.explains));
+          leaves = subst (λ (m : List ℕ). Leaves more m k.waiting) (sym order)
+              (subst (λ w. Leaves more (order_of links from) w) (sym one.1)
+              (leaves_put (order_of links from) from.waiting none is.leaves));
+          within = omega (arith, is.within, ap (λ (p : Path). p.base) one.2);
+        }
+
+    -- where the order has the call
+    opened_with : (es : List Event) (olds : List S) (configs opened : List (Config S))
+        (old new : S) (front back : List ℕ) → IsSound es → begins c es ≡ 0 → IsTable es slots
+        → IsTable (es ++ Begin c ∷ []) more → AreComplete slots es olds configs
+        → AreOpened t configs opened → Contains olds old
+        → Explains Step (es ++ Begin c ∷ []) old (front ++ c ∷ back) new
+        → (rest : ℕ) × Leaves more (front ++ c ∷ back) rest × LeadTo Step more opened new rest
+    opened_with es olds configs opened old new front back s fresh table next complete o from ex =
+        let order = front ++ c ∷ back in
+        let parts = leads_split Step old new front (c ∷ back) ex.leads in
+        let mid = parts.0 in
+        let lead = complete old front mid from
+        (explains_front Step es old mid new front back c s fresh ex parts.1) in
+        let rest = lead.0 in
+        let counts : (x : ℕ) → times x order ≡ times x front + times x (c ∷ []) + times x back =
+        λ x. omega (arith, times-append x front (c ∷ back), times-cons x c back) in
+        let none : times c front ≡ 0 = omega (arith, counts c, ex.once c, times_one c) in
+        let all : (x : ℕ) → 0 < times x (c ∷ back) → (slot : ℕ) × IsWaiting more (put rest t) slot
+        x =
+        λ x some.
+        elim (cases_lt 0 (times x (c ∷ []))) as (λ _. (slot : ℕ) × IsWaiting more (put rest t)
+        slot x) [
+          | inl here ↦
+              let same : c ≡ x = times_same x c here in
+              (t, (subst (λ y. HasSlot more t y) same takes.has, put_same rest t takes.within))
+          | inr away ↦
+              let behind : 0 < times x back = omega (arith, some, away, times-cons x c back) in
+              let begun : 0 < begins x es =
+              omega (
+                arith,
+                ex.begun x (omega (arith, counts x, behind)),
+                begins_begin x c es,
+                away,
+              ) in
+              let at = table.all x (begun, behind_open Step es old new front back c x ex behind) in
+              let ne = taken_other slots more c t at.0 x takes at.1 in
+              let waits : bit_at rest at.0 ≡ 1 =
+              omega (arith, lead.1 at.0 x at.1, counts x, ex.once x, behind) in (
+                at.0,
+                (
+                  taken_still slots more c t at.0 x takes at.1,
+                  put_other rest t at.0 takes.within ne ∙ waits,
+                ),
+              )
+        ] in
+        let run = runs_order Step more mid new (put rest t) (c ∷ back) next.few next.apart
+        (λ x. omega (arith, counts x, ex.once x, times-cons x c back)) all parts.2 in (
+          run.0,
+          leaves_run Step more front mid new (put rest t) run.0 (c ∷ back) next.few next.apart
+              (leaves_put front rest none lead.1) run.1,
+          leads_on opened mid new (put rest t) run.0 (c ∷ back) next.few
+              (leads_put configs opened mid rest o lead.2) run.1,
+        )
+
+    opened_complete : (es : List Event) (olds : List S) (configs opened : List (Config S))
+        → IsSound es → begins c es ≡ 0 → IsTable es slots → IsTable (es ++ Begin c ∷ []) more
+        → AreComplete slots es olds configs → AreOpened t configs opened
+        → AreComplete more (es ++ Begin c ∷ []) olds opened
+    opened_complete es olds configs opened s fresh table next complete o old order new from ex =
+        elim (cases_lt 0 (times c order))
+        as (λ _. (rest : ℕ) × Leaves more order rest × LeadTo Step more opened new rest) [
+          | inl some ↦
+              let parts = split_times c order some in
+              subst
+              (λ (l : List ℕ). (rest : ℕ) × Leaves more l rest × LeadTo Step more opened new rest)
+              (sym parts.2)
+              (opened_with es olds configs opened old new parts.0 parts.1 s fresh table next
+              complete
+              o from
+              (subst (λ (l : List ℕ). Explains Step (es ++ Begin c ∷ []) old l new) parts.2 ex))
+          | inr few_ ↦
+              let none : times c order ≡ 0 = omega (arith, few_) in
+              let lead = complete old order new from
+              (explains_without Step es old new order c ex none) in (
+                put lead.0 t,
+                leaves_put order lead.0 none lead.1,
+                leads_put configs opened new lead.0 o lead.2,
+              )
+        ]
+
+  -- a call begins
+  pub frontier_begin : (links : List Link) (slots more : List (Option ℕ)) (es : List Event)
+      (olds : List S) (configs opened settled : List (Config S)) (c t : ℕ) → IsSound es
+      → begins c es ≡ 0 → TakesSlot slots c t more → IsFrontier Step links slots es olds configs
+      → AreOpened t configs opened → AreSettled Step more opened settled
+      → IsFrontier Step links more (es ++ Begin c ∷ []) olds settled
+  frontier_begin links slots more es olds configs opened settled c t s fresh takes f o a =
+      let next = table_begin es slots more c t s fresh f.table takes in
+      let few = f.table.few in
+      frontier_settled links more (es ++ Begin c ∷ []) olds opened settled next
+      (opened_sound slots more c t takes few links es olds configs opened fresh f.sound o)
+      (opened_complete slots more c t takes few es olds configs opened s fresh f.table next
+      f.complete o) a
+
+  module _ (slots more : List (Option ℕ)) (t : ℕ) (frees : FreesSlot slots t more)
+      (few : length slots ≤ 64) where
+    leaves_freed : (order : List ℕ) (rest : ℕ) → Leaves slots order rest → Leaves more order rest
+    leaves_freed order rest leaves slot call has =
+        leaves slot call (freed_before slots more t slot call frees has).1
+
+    lighter_freed : (fewer rest : ℕ) → IsLighter Step slots fewer rest
+        → IsLighter Step more fewer rest
+    lighter_freed fewer rest l slot call has =
+        l slot call (freed_before slots more t slot call frees has).1
+
+    -- the same leads on without the slot
+    leads_freed : (configs : List (Config S)) (new : S) (rest : ℕ)
+        → ((k : Config S) → Contains configs k → bit_at k.waiting t ≡ 0)
+        → LeadTo Step slots configs new rest → LeadTo Step more configs new rest
+    leads_freed configs new rest gone l =
+        let k = l.0 in (
+          k,
+          l.1,
+          (
+            l.2.0,
+            l.2.1,
+            runs_in Step slots more k.state new k.waiting l.2.1 l.2.0 t (λ w. w)
+                (λ w s ne h. refl) (λ w s ne h. refl) few
+                (λ s call has some.
+                let ne : s ≢ t = λ e. absurd
+                (omega (arith, some, gone k l.1, ap (λ x. bit_at k.waiting x) e)) in
+                (ne, frees.others s ne ∙ has)) l.2.2,
+            lighter_freed l.2.1 rest l.2.3,
+          ),
+        )
+
+    -- a configuration in which the call was made
+    done_sound : (links : List Link) (es : List Event) (e : Event) (olds : List S)
+        (configs done : List (Config S)) (c : ℕ) → Ends e c → HasSlot slots t c
+        → IsTable es slots → AreSound links slots es olds configs
+        → IsClosed Step slots configs t done
+        → AreSound links more (es ++ e ∷ []) olds done
+    done_sound links es e olds configs done c ends here table sound g k has =
+        let closed = g.sound k has in
+        let is = followed_made links slots es olds configs k table sound closed.0 in record {
+          old = is.old;
+          from = is.from;
+          explains = explains_end Step es e is.old k.state (order_of links k) c ends
+              (λ is_end. omega (arith, is.leaves t c here, closed.1)) is.explains;
+          leaves = leaves_freed (order_of links k) k.waiting is.leaves;
+          within = is.within;
+        }
+
+    -- a call that was answered is made
+    pub frontier_end : (links : List Link) (es : List Event) (olds : List S)
+        (configs done : List (Config S)) (c : ℕ) → HasSlot slots t c
+        → IsFrontier Step links slots es olds configs → IsClosed Step slots configs t done
+        → IsFrontier Step links more (es ++ End c ∷ []) olds done
+    frontier_end links es olds configs done c here f g = record {
+      sound = done_sound links es (End c) olds configs done c (inl refl) here f.table f.sound g;
+      complete = λ old order new from ex.
+          let lead = f.complete old order new from
+          (explains_open Step es (End c) old new order c (inl refl) ex) in
+          let made : 0 < times c order = ex.answered c (answered_now es c) in (
+            lead.0,
+            leaves_freed order lead.0 lead.1,
+            leads_freed done new lead.0 (λ k has. (g.sound k has).1)
+                (g.complete new lead.0 lead.2 (omega (arith, made, lead.1 t c here))),
+          );
+      once = g.once;
+      table = table_end es slots more (End c) c t (inl refl) f.table here frees;
+    }
+
+    -- a configuration in which it was dropped
+    dropped_sound : (links : List Link) (es : List Event) (olds : List S)
+        (configs : List (Config S)) (c : ℕ) (k : Config S) → HasSlot slots t c
+        → AreSound links slots es olds configs → FromOne (IsDropped t) configs (spot_of k)
+        → IsFollowed Step links more (es ++ Crash c ∷ []) olds k
+    dropped_sound links es olds configs c k here sound found =
+        let from = found.0 in
+        let is = sound from found.1 in
+        let drop = found.2 in
+        let order : order_of links k ≡ order_of links from = ap (λ (p : Path). order_at links p)
+        drop.3
+        in record {
+          old = is.old;
+          from = is.from;
+          explains = subst (λ (m : List ℕ). Explains Step (es ++ Crash c ∷ []) is.old m k.state)
+              (sym order)
+              (subst (λ x. Explains Step (es ++ Crash c ∷ []) is.old (order_of links from) x)
+              (sym drop.1)
+              (explains_end Step es (Crash c) is.old from.state (order_of links from) c (inr refl)
+              (λ is_end. absurd (cc)) is.explains));
+          leaves = λ slot call has.
+              let before = freed_before slots more t slot call frees has in
+              omega (
+                arith,
+                is.leaves slot call before.1,
+                ap (times call) order,
+                ap (λ w. bit_at w slot) drop.2,
+                cleared_other from.waiting t slot (slot_64 slots t c few here)
+                    (slot_64 slots slot call few before.1) before.0,
+              );
+          within = omega (arith, is.within, ap (λ (p : Path). p.base) drop.3);
+        }
+
+    crash_sound : (links : List Link) (es : List Event) (olds : List S)
+        (configs done all : List (Config S)) (c : ℕ) → HasSlot slots t c → IsTable es slots
+        → AreSound links slots es olds configs → IsClosed Step slots configs t done
+        → Gathers (FromOne (IsDropped t) configs) done all
+        → AreSound links more (es ++ Crash c ∷ []) olds all
+    crash_sound links es olds configs done all c here table sound g d k has =
+        elim (d.sound k has) as (λ _. IsFollowed Step links more (es ++ Crash c ∷ []) olds k) [
+          | inl closed ↦
+              done_sound links es (Crash c) olds configs done c (inr refl) here table sound g k
+              closed
+          | inr found ↦ dropped_sound links es olds configs c k here sound found
+        ]
+
+    crash_gone : (configs done all : List (Config S)) (c : ℕ) → HasSlot slots t c
+        → IsClosed Step slots configs t done → Gathers (FromOne (IsDropped t) configs) done all
+        → (k : Config S) → Contains all k → bit_at k.waiting t ≡ 0
+    crash_gone configs done all c here g d k has =
+        elim (d.sound k has) as (λ _. bit_at k.waiting t ≡ 0) [
+          | inl closed ↦ (g.sound k closed).1
+          | inr found ↦
+              ap (λ w. bit_at w t) found.2.2
+              ∙ cleared_same found.0.waiting t (slot_64 slots t c few here)
+        ]
+
+    -- what is led to where the call is not made
+    crash_leads : (configs done all : List (Config S)) (c : ℕ) (new : S) (rest : ℕ)
+        → HasSlot slots t c → IsClosed Step slots configs t done
+        → Gathers (FromOne (IsDropped t) configs) done all
+        → bit_at rest t ≡ 1 → LeadTo Step slots configs new rest
+        → LeadTo Step slots all new (cleared rest t)
+    crash_leads configs done all c new rest here g d waits l =
+        let h = slot_64 slots t c few here in
+        let from = l.0 in
+        let fewer = l.2.1 in
+        elim (bit_cases fewer t) as (λ _. LeadTo Step slots all new (cleared rest t)) [
+          | inl none ↦
+              leads_kept Step slots (FromOne (IsDropped t) configs) done all new (cleared rest t) d
+              (g.complete new (cleared rest t) (
+                from,
+                l.1,
+                (
+                  l.2.0,
+                  fewer,
+                  l.2.2,
+                  lighter_without Step slots fewer rest t few h none
+                      l.2.3,
+                ),
+              )
+              (cleared_same rest t h))
+          | inr some ↦
+              let there : bit_at from.waiting t ≡ 1 =
+              one_of (bit_at from.waiting t)
+              (runs_fewer Step slots from.state new from.waiting fewer t l.2.0 few h l.2.2) some
+              (bit_cases from.waiting t) in
+              let spot : Spot S = record {
+                state = from.state;
+                waiting = cleared from.waiting t;
+                made = path_of from;
+              } in
+              leads_found Step slots (FromOne (IsDropped t) configs) done all spot l.2.0 new
+              (cleared fewer t) (cleared rest t) d (from, l.1, (there, refl, refl, refl))
+              (runs_without Step slots from.state new from.waiting fewer t l.2.0 few h some l.2.2)
+              (lighter_cleared Step slots fewer rest t few h l.2.3)
+        ]
+      where
+        one_of : (n : ℕ) → bit_at l.2.1 t ≤ n → bit_at l.2.1 t ≡ 1 → (n ≡ 0) ⊎ (n ≡ 1) → n ≡ 1
+        one_of n le one (inl zero) = absurd (omega (arith, le, one, zero))
+        one_of n le one (inr is) = is
+
+    -- a call whose caller crashed is made, or never
+    pub frontier_crash : (links : List Link) (es : List Event) (olds : List S)
+        (configs done all : List (Config S)) (c : ℕ) → HasSlot slots t c
+        → IsFrontier Step links slots es olds configs → IsClosed Step slots configs t done
+        → Gathers (FromOne (IsDropped t) configs) done all
+        → IsFrontier Step links more (es ++ Crash c ∷ []) olds all
+    frontier_crash links es olds configs done all c here f g d = record {
+      sound = crash_sound links es olds configs done all c here f.table f.sound g d;
+      complete = λ old order new from ex.
+          let lead = f.complete old order new from
+          (explains_open Step es (Crash c) old new order c (inr refl) ex) in
+          let gone = crash_gone configs done all c here g d in
+          elim (bit_cases lead.0 t)
+          as (λ _. (rest : ℕ) × Leaves more order rest × LeadTo Step more all new rest) [
+            | inl none ↦ (
+              lead.0,
+              leaves_freed order lead.0 lead.1,
+              leads_freed all new lead.0 gone
+                  (leads_kept Step slots (FromOne (IsDropped t) configs) done all new lead.0 d
+                  (g.complete new lead.0 lead.2 none)),
+            )
+            | inr some ↦ (
+              cleared lead.0 t,
+              λ slot call has.
+                  let before = freed_before slots more t slot call frees has in
+                  omega (
+                    arith,
+                    lead.1 slot call before.1,
+                    cleared_other lead.0 t slot (slot_64 slots t c few here)
+                        (slot_64 slots slot call few before.1) before.0,
+                  ),
+              leads_freed all new (cleared lead.0 t) gone
+                  (crash_leads configs done all c new lead.0 here g d some lead.2),
+            )
+          ];
+      once = d.once g.once;
+      table = table_end es slots more (Crash c) c t (inr refl) f.table here frees;
+    }
+
+  pub many_orders : (links : List Link) (slots : List (Option ℕ)) (es : List Event)
+      (olds : List S) (configs : List (Config S)) → IsFrontier Step links slots es olds configs
+      → HasMany Step slots configs → HasManyOrders Step es olds
+  many_orders links slots es olds configs f many = (
+    links,
+    slots,
+    many.0,
+    many.1,
+    many.2,
+    f.table,
+    λ k has. followed_made links slots es olds configs k f.table f.sound (many.3 k has),
+  )
+
+  pub front_many : (links : List Link) (slots : List (Option ℕ)) (es : List Event)
+      (olds : List S) (configs : List (Config S)) → IsFrontier Step links slots es olds configs
+      → 4096 < length configs → HasManyOrders Step es olds
+  front_many links slots es olds configs f many =
+      (links, slots, configs, many, f.once, f.table, f.sound)
+
+  -- an order of no calls
+  pub explains_none : (old : S) → Explains Step [] old [] old
+  explains_none old = record {
+    once = λ c. omega (arith, times_none c);
+    begun = λ c some. absurd (omega (arith, times_none c));
+    answered = λ c a. absurd (let e = a.1 in cc);
+    real_time = λ i j d less h. absurd (omega arith);
+    leads = refl;
+  }
+
+  pub no_calls : (old new : S) (order : List ℕ) → Explains Step [] old order new
+      → (order ≡ []) × (new ≡ old)
+  no_calls old new order ex =
+      let none : order ≡ [] =
+      no_times order (λ c. not_some (times c order)
+      (λ some. absurd (omega (arith, ex.begun c some, begins_none c)))) in
+      (none, subst (λ (o : List ℕ). Leads Step old o new) none ex.leads)
+
+  -- configurations of orders of no calls, where no call is open
+  pub frontier_fresh : (links : List Link) (slots : List (Option ℕ)) (olds : List S)
+      (configs : List (Config S)) → IsTable [] slots
+      → ((k : Config S) → Contains configs k → Contains olds k.state × (path_of k ≡ no_path))
+      → ((old : S) → Contains olds old → (k : Config S) × Contains configs k × (k.state ≡ old))
+      → AllPairs (λ a b. ¬ (IsSame a b)) configs → IsFrontier Step links slots [] olds configs
+  frontier_fresh links slots olds configs table from all once = record {
+    sound = λ k has.
+        let is = from k has in
+        let order : order_of links k ≡ [] =
+        ap (λ (p : Path). order_at links p) is.1 ∙ order_none links in record {
+          old = k.state;
+          from = is.0;
+          explains = subst (λ (m : List ℕ). Explains Step [] k.state m k.state) (sym order)
+              (explains_none k.state);
+          leaves = λ slot call here.
+              absurd (omega (arith, (table.each slot call here).0, begins_none call));
+          within = omega (arith, ap (λ (p : Path). p.base) is.1);
+        };
+    complete = λ old order new has ex.
+        let is = no_calls old new order ex in
+        let k = all old has in (
+          0,
+          λ slot call here.
+              absurd (omega (arith, (table.each slot call here).0, begins_none call)),
+          (
+            k.0,
+            k.1,
+            (
+              [],
+              k.0.waiting,
+              (is.1 ∙ sym k.2, refl),
+              λ slot call here.
+                  absurd (omega (arith, (table.each slot call here).0, begins_none call)),
+            ),
+          ),
+        );
+    once = once;
+    table = table;
+  }
+
+  pub table_none : IsTable [] []
+  table_none = record {
+    each = λ slot call has. absurd (omega (arith, slot_within [] slot call has));
+    all = λ call is. absurd (omega (arith, is.0, begins_none call));
+    apart = λ one other call a b. absurd (omega (arith, slot_within [] one call a));
+    few = omega arith;
+  }
+
+  -- before any event
+  pub frontier_first : (links : List Link) (olds : List S) (configs : List (Config S))
+      → Gathers (IsFirst olds) [] configs → IsFrontier Step links [] [] olds configs
+  frontier_first links olds configs g =
+      frontier_fresh links [] olds configs table_none
+      (λ k has. elim (g.sound k has) as (λ _. Contains olds k.state × (path_of k ≡ no_path)) [
+        | inl none ↦ absurd (nothing_in Step [] k none)
+        | inr found ↦ (found.0, found.2)
+      ])
+      (λ old has.
+      let spot : Spot S = record { state = old; waiting = 0; made = no_path } in
+      let k = g.complete spot (has, refl, refl) in (k.0, k.1, k.2.0))
+      (g.once none_same)

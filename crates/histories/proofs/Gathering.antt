@@ -1,0 +1,262 @@
+-- Configurations that are gathered.
+use Rattle.std.proofs.Common.{◌≡◌, Option, ℕ, ◌+◌, ◌<◌, ◌⊎◌, List, [], ◌∷◌, ◌++◌, length, take, get_or, refl, sym, ◌∙◌, ap, subst, arith, inl, inr, true, false}
+use Rattle.std.specs.Int.{bit_at}
+use Rattle.std.specs.List.{Contains}
+use Rattle.std.proofs.lemmas.Bool.{cases_order}
+use Rattle.std.proofs.lemmas.List.{take_more}
+use Rattle.std.proofs.lemmas.List.Elements.{All-contains, Contains-append_left, Contains-push, Contains-push_cases}
+use Rattle.std.proofs.lemmas.List.Quantifiers.{all_pairs_push}
+use Rattle.histories.specs.declared.front.Config.{Config}
+use Rattle.histories.specs.Histories.{AreAll}
+use Rattle.histories.specs.Frontier.{IsSame, IsWaiting, cleared, no_path, path_more, path_of}
+use Rattle.histories.specs.Gathering.{FromOne, Gathers, IsAt, IsCopy, IsDone, IsDropped, IsFirst, IsKnown, IsNext, IsNextAt, IsNextBelow, IsNextIn, IsUnderWay, Spot, spot_of}
+use Rattle.histories.proofs.Bits.{slot_once}
+
+module _ {S : Type 0} where
+  pub gathers_none : (Found : Spot S → Type 0) (old : List (Config S))
+      → ((k : Spot S) → ¬ (Found k)) → Gathers Found old old
+  gathers_none Found old none = record {
+    sound = λ k has. inl has;
+    kept = λ k has. has;
+    complete = λ k f. absurd (none k f);
+    once = λ a. a;
+  }
+
+  -- the same, found by other words
+  pub gathers_as : (P Q : Spot S → Type 0) (old new : List (Config S))
+      → ((k : Spot S) → P k → Q k) → ((k : Spot S) → Q k → P k) → Gathers P old new
+      → Gathers Q old new
+  gathers_as P Q old new there back g = record {
+    sound = λ k has. elim (g.sound k has) as (λ _. Contains old k ⊎ Q (spot_of k)) [
+      | inl m ↦ inl m
+      | inr p ↦ inr (there (spot_of k) p)
+    ];
+    kept = g.kept;
+    complete = λ k q. g.complete k (back k q);
+    once = g.once;
+  }
+
+  -- first some are found, and then others
+  pub gathers_then : (P Q R : Spot S → Type 0) (old mid new : List (Config S))
+      → ((k : Spot S) → R k → P k ⊎ Q k) → ((k : Spot S) → P k → R k)
+      → ((k : Spot S) → Q k → R k) → Gathers P old mid → Gathers Q mid new → Gathers R old new
+  gathers_then P Q R old mid new either first second f g = record {
+    sound = λ k has. elim (g.sound k has) as (λ _. Contains old k ⊎ R (spot_of k)) [
+      | inl m ↦ elim (f.sound k m) as (λ _. Contains old k ⊎ R (spot_of k)) [
+        | inl n ↦ inl n
+        | inr p ↦ inr (first (spot_of k) p)
+      ]
+      | inr q ↦ inr (second (spot_of k) q)
+    ];
+    kept = λ k has. g.kept k (f.kept k has);
+    complete = λ k r.
+        elim (either k r) as (λ _. (known : Config S) × Contains new known × IsAt known k) [
+          | inl p ↦ let m = f.complete k p in (m.0, g.kept m.0 m.1, m.2)
+          | inr q ↦ g.complete k q
+        ];
+    once = λ a. g.once (f.once a);
+  }
+
+  -- one that is there already
+  pub gathers_known : (configs : List (Config S)) (config : Config S)
+      → IsKnown configs config true → Gathers (IsCopy config) configs configs
+  gathers_known configs config is = record {
+    sound = λ k has. inl has;
+    kept = λ k has. has;
+    complete = λ k copy. (is.0, is.1, (is.2.0 ∙ sym copy.0, is.2.1 ∙ sym copy.1));
+    once = λ a. a;
+  }
+
+  -- one that is not there yet
+  pub gathers_new : (configs : List (Config S)) (config : Config S)
+      → IsKnown configs config false
+      → Gathers (IsCopy config) configs (configs ++ config ∷ [])
+  gathers_new configs config is = record {
+    sound = λ k has. elim (Contains-push_cases configs config k has)
+        as (λ _. Contains configs k ⊎ IsCopy config (spot_of k)) [
+          | inl m ↦ inl m
+          | inr e ↦ inr (subst (λ (x : Config S). IsCopy config (spot_of x)) e (refl, refl, refl))
+        ];
+    kept = λ k has. Contains-append_left configs (config ∷ []) k has;
+    complete = λ k copy. (config, Contains-push configs config, (sym copy.0, sym copy.1));
+    once = λ a. all_pairs_push (λ x y. ¬ (IsSame x y)) configs config a (λ k d h. is k d h);
+  }
+
+  -- one state more that a call leaves
+  pub gathers_state : (from next : Config S) (slot call at : ℕ) (states : List S) (state : S)
+      (old mid new : List (Config S)) → at < length states → state ≡ get_or states at state
+      → next.state ≡ state → next.waiting ≡ cleared from.waiting slot
+      → path_of next ≡ path_more (path_of from) (call ∷ [])
+      → Gathers (IsNextIn from slot call (take at states)) old mid
+      → Gathers (IsCopy next) mid new
+      → Gathers (IsNextIn from slot call (take (at + 1) states)) old new
+  gathers_state from next slot call at states state old mid new h is same waits made f g =
+      let one_more : take (at + 1) states ≡ take at states ++ state ∷ [] =
+      take_more states at state h ∙ ap (λ x. take at states ++ x ∷ []) (sym is) in
+      subst (λ l. Gathers (IsNextIn from slot call l) old new) (sym one_more)
+      (gathers_then (IsNextIn from slot call (take at states)) (IsCopy next)
+      (IsNextIn from slot call (take at states ++ state ∷ [])) old mid new
+      (λ k r. elim (Contains-push_cases (take at states) state k.state r.0)
+      as (λ _. IsNextIn from slot call (take at states) k ⊎ IsCopy next k) [
+        | inl m ↦ inl (m, r.1, r.2)
+        | inr e ↦ inr (sym e ∙ sym same, r.1 ∙ sym waits, r.2 ∙ sym made)
+      ])
+      (λ k p. (Contains-append_left (take at states) (state ∷ []) k.state p.0, p.1, p.2))
+      (λ k q. (
+        subst (λ x. Contains (take at states ++ state ∷ []) x) (sym (q.0 ∙ same))
+            (Contains-push (take at states) state),
+        q.1 ∙ waits,
+        q.2 ∙ made,
+      )) f g)
+
+  pub gathers_no_state : (from : Config S) (slot call : ℕ) (old : List (Config S))
+      → Gathers (IsNextIn from slot call []) old old
+  gathers_no_state from slot call old =
+      gathers_none (IsNextIn from slot call []) old (λ k f. absurd (omega (arith, f.0.1)))
+
+  module _ (Step : S → ℕ → S → Type 0) (slots : List (Option ℕ)) where
+    -- all states that a call leaves
+    pub gathers_call : (from : Config S) (slot call : ℕ) (states : List S)
+        (old new : List (Config S)) → IsWaiting slots from.waiting slot call
+        → AreAll (Step from.state call) states
+        → Gathers (IsNextIn from slot call states) old new
+        → Gathers (IsNextAt Step slots from slot) old new
+    gathers_call from slot call states old new waits all g =
+        gathers_as (IsNextIn from slot call states) (IsNextAt Step slots from slot) old new
+        (λ k p. (
+          call,
+          waits,
+          All-contains (Step from.state call) states k.state all.0 p.0,
+          p.1,
+          p.2,
+        ))
+        (λ k p.
+        let same : p.0 ≡ call = slot_once slots slot p.0 call p.1.0 waits.0 in (
+          all.1 k.state (subst (λ c. Step from.state c k.state) same p.2),
+          p.3,
+          subst (λ c. k.made ≡ path_more (path_of from) (c ∷ [])) same p.4,
+        )) g
+
+    -- where no call waits in the slot
+    pub gathers_empty : (from : Config S) (slot : ℕ) (old : List (Config S))
+        → ((call : ℕ) → IsWaiting slots from.waiting slot call → ⊥)
+        → Gathers (IsNextAt Step slots from slot) old old
+    gathers_empty from slot old none =
+        gathers_none (IsNextAt Step slots from slot) old (λ k f. none f.0 f.1)
+
+    -- one slot more
+    pub gathers_slot : (from : Config S) (slot : ℕ) (old mid new : List (Config S))
+        → Gathers (IsNextBelow Step slots from slot) old mid
+        → Gathers (IsNextAt Step slots from slot) mid new
+        → Gathers (IsNextBelow Step slots from (slot + 1)) old new
+    gathers_slot from slot old mid new f g =
+        gathers_then (IsNextBelow Step slots from slot) (IsNextAt Step slots from slot)
+        (IsNextBelow Step slots from (slot + 1)) old mid new
+        (λ k r. elim (cases_order r.0 slot)
+        as (λ _. IsNextBelow Step slots from slot k ⊎ IsNextAt Step slots from slot k) [
+          | inl e ↦ inr (subst (λ i. IsNextAt Step slots from i k) e r.2)
+          | inr (inl less) ↦ inl (r.0, less, r.2)
+          | inr (inr more) ↦ absurd (omega (arith, r.1))
+        ])
+        (λ k p. (p.0, omega (arith, p.1), p.2)) (λ k q. (slot, omega arith, q)) f g
+
+    pub gathers_no_slot : (from : Config S) (old : List (Config S))
+        → Gathers (IsNextBelow Step slots from 0) old old
+    gathers_no_slot from old =
+        gathers_none (IsNextBelow Step slots from 0) old (λ k f. absurd (omega (arith, f.1)))
+
+  -- one configuration more of those from which others are found
+  pub gathers_one : (Fact : Config S → Spot S → Type 0) (layer : List (Config S)) (at : ℕ)
+      (from : Config S) (old mid new : List (Config S)) → at < length layer
+      → from ≡ get_or layer at from → Gathers (FromOne Fact (take at layer)) old mid
+      → Gathers (Fact from) mid new → Gathers (FromOne Fact (take (at + 1) layer)) old new
+  gathers_one Fact layer at from old mid new h is f g =
+      let one_more : take (at + 1) layer ≡ take at layer ++ from ∷ [] =
+      take_more layer at from h ∙ ap (λ (x : Config S). take at layer ++ x ∷ []) (sym is) in
+      subst (λ l. Gathers (FromOne Fact l) old new) (sym one_more)
+      (gathers_then (FromOne Fact (take at layer)) (Fact from)
+      (FromOne Fact (take at layer ++ from ∷ [])) old mid new
+      (λ k r. elim (Contains-push_cases (take at layer) from r.0 r.1)
+      as (λ _. FromOne Fact (take at layer) k ⊎ Fact from k) [
+        | inl m ↦ inl (r.0, m, r.2)
+        | inr e ↦ inr (subst (λ (x : Config S). Fact x k) (sym e) r.2)
+      ])
+      (λ k p. (p.0, Contains-append_left (take at layer) (from ∷ []) p.0 p.1, p.2))
+      (λ k q. (from, Contains-push (take at layer) from, q)) f g)
+
+  -- of none, nothing is found
+  pub gathers_no_one : (Fact : Config S → Spot S → Type 0) (old : List (Config S))
+      → Gathers (FromOne Fact []) old old
+  gathers_no_one Fact old =
+      gathers_none (FromOne Fact []) old (λ k f. absurd (omega (arith, f.1.1)))
+
+  -- one state more from which an order of no calls begins
+  pub gathers_first : (states : List S) (at : ℕ) (from : S) (config : Config S)
+      (old mid new : List (Config S)) → at < length states → from ≡ get_or states at from
+      → config.state ≡ from → config.waiting ≡ 0 → path_of config ≡ no_path
+      → Gathers (IsFirst (take at states)) old mid → Gathers (IsCopy config) mid new
+      → Gathers (IsFirst (take (at + 1) states)) old new
+  gathers_first states at from config old mid new h is same waits made f g =
+      let one_more : take (at + 1) states ≡ take at states ++ from ∷ [] =
+      take_more states at from h ∙ ap (λ x. take at states ++ x ∷ []) (sym is) in
+      subst (λ l. Gathers (IsFirst l) old new) (sym one_more)
+      (gathers_then (IsFirst (take at states)) (IsCopy config)
+      (IsFirst (take at states ++ from ∷ [])) old mid new
+      (λ k r. elim (Contains-push_cases (take at states) from k.state r.0)
+      as (λ _. IsFirst (take at states) k ⊎ IsCopy config k) [
+        | inl m ↦ inl (m, r.1, r.2)
+        | inr e ↦ inr (sym e ∙ sym same, r.1 ∙ sym waits, r.2 ∙ sym made)
+      ])
+      (λ k p. (Contains-append_left (take at states) (from ∷ []) k.state p.0, p.1, p.2))
+      (λ k q. (
+        subst (λ x. Contains (take at states ++ from ∷ []) x) (sym (q.0 ∙ same))
+            (Contains-push (take at states) from),
+        q.1 ∙ waits,
+        q.2 ∙ made,
+      )) f g)
+
+  pub gathers_no_first : (old : List (Config S)) → Gathers (IsFirst []) old old
+  gathers_no_first old =
+      gathers_none (IsFirst []) old (λ k f. absurd (omega (arith, f.0.1)))
+
+  -- a copy is gathered where a configuration is done
+  pub gathers_done : (slot : ℕ) (config copy : Config S) (old new : List (Config S))
+      → bit_at config.waiting slot ≡ 0 → IsCopy config (spot_of copy)
+      → Gathers (IsCopy copy) old new → Gathers (IsDone slot config) old new
+  gathers_done slot config copy old new gone is g =
+      gathers_as (IsCopy copy) (IsDone slot config) old new
+      (λ k p. (gone, (p.0 ∙ is.0, p.1 ∙ is.1, p.2 ∙ is.2)))
+      (λ k p. (p.1.0 ∙ sym is.0, p.1.1 ∙ sym is.1, p.1.2 ∙ sym is.2)) g
+
+  pub gathers_not_done : (slot : ℕ) (config : Config S) (old : List (Config S))
+      → bit_at config.waiting slot ≡ 1 → Gathers (IsDone slot config) old old
+  gathers_not_done slot config old waits =
+      gathers_none (IsDone slot config) old (λ k f. absurd (omega (arith, f.0)))
+
+  -- or where its call is dropped
+  pub gathers_dropped : (slot : ℕ) (config dropped : Config S) (old new : List (Config S))
+      → bit_at config.waiting slot ≡ 1 → dropped.state ≡ config.state
+      → dropped.waiting ≡ cleared config.waiting slot → path_of dropped ≡ path_of config
+      → Gathers (IsCopy dropped) old new → Gathers (IsDropped slot config) old new
+  gathers_dropped slot config dropped old new waits state set made g =
+      gathers_as (IsCopy dropped) (IsDropped slot config) old new
+      (λ k p. (waits, p.0 ∙ state, p.1 ∙ set, p.2 ∙ made))
+      (λ k p. (p.1 ∙ sym state, p.2 ∙ sym set, p.3 ∙ sym made)) g
+
+  pub gathers_not_dropped : (slot : ℕ) (config : Config S) (old : List (Config S))
+      → bit_at config.waiting slot ≡ 0 → Gathers (IsDropped slot config) old old
+  gathers_not_dropped slot config old gone =
+      gathers_none (IsDropped slot config) old (λ k f. absurd (omega (arith, f.0)))
+
+  module _ (Step : S → ℕ → S → Type 0) (slots : List (Option ℕ)) where
+    pub gathers_under_way : (slot : ℕ) (config : Config S) (old new : List (Config S))
+        → bit_at config.waiting slot ≡ 1 → Gathers (IsNext Step slots config) old new
+        → Gathers (IsUnderWay Step slots slot config) old new
+    gathers_under_way slot config old new waits g =
+        gathers_as (IsNext Step slots config) (IsUnderWay Step slots slot config) old new
+        (λ k p. (waits, p)) (λ k p. p.1) g
+
+    pub gathers_not_under_way : (slot : ℕ) (config : Config S) (old : List (Config S))
+        → bit_at config.waiting slot ≡ 0 → Gathers (IsUnderWay Step slots slot config) old old
+    gathers_not_under_way slot config old gone =
+        gathers_none (IsUnderWay Step slots slot config) old (λ k f. absurd (omega (arith, f.0)))

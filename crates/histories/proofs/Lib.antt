@@ -1,0 +1,17 @@
+pub mod Bits
+pub mod Places
+pub mod Counting
+pub mod Events
+pub mod Tables
+pub mod Running
+pub mod Explaining
+pub mod Gathering
+pub mod Closing
+pub mod Settlings
+pub mod Chains
+pub mod Frontiers
+pub mod Splitting
+pub mod Verdicts
+pub mod Advancing
+pub mod Excluding
+pub mod Alone

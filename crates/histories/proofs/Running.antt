@@ -1,0 +1,351 @@
+-- Calls that wait and are made.
+use Rattle.std.proofs.Common.{◌≡◌, ◌≢◌, ◌⊎◌, ℕ, ◌+◌, ◌<◌, ◌≤◌, List, [], ◌∷◌, ◌++◌, length, refl, sym, ◌∙◌, ap, subst, arith, inl, inr, Option, append-nil, append_assoc}
+use Rattle.std.specs.Int.{bit_at}
+use Rattle.std.proofs.lemmas.Bool.{cases_eq}
+use Rattle.histories.specs.Histories.{times, Leads}
+use Rattle.histories.specs.Frontier.{HasSlot, IsIdle, IsLighter, IsWaiting, Leaves, Runs, cleared}
+use Rattle.histories.proofs.Bits.{bit_cases, cleared_le, cleared_other, cleared_same, cleared_swap, slot_64, slot_once}
+use Rattle.histories.proofs.Counting.{times-append, times-cons, times_one, times_other}
+
+module _ {S : Type 0} (Step : S → ℕ → S → Type 0) where
+  pub leads_push : (old mid new : S) (order : List ℕ) (call : ℕ) → Leads Step old order mid
+      → Step mid call new → Leads Step old (order ++ call ∷ []) new
+  leads_push old mid new [] call l step =
+      (new, subst (λ s. Step s call new) l step, refl)
+  leads_push old mid new (c ∷ order) call l step =
+      (l.0, l.1, leads_push l.0 mid new order call l.2 step)
+
+  pub leads_split : (old new : S) (before after : List ℕ) → Leads Step old (before ++ after) new
+      → (mid : S) × Leads Step old before mid × Leads Step mid after new
+  leads_split old new [] after l = (old, refl, l)
+  leads_split old new (c ∷ before) after l =
+      let more = leads_split l.0 new before after l.2 in
+      (more.0, (l.0, l.1, more.1), more.2)
+
+  module _ (slots : List (Option ℕ)) where
+    -- first some calls, and then others
+    pub runs_then : (old mid new : S) (waiting rest last : ℕ) (first second : List ℕ)
+        → Runs Step slots old waiting first mid rest → Runs Step slots mid rest second new last
+        → Runs Step slots old waiting (first ++ second) new last
+    runs_then old mid new waiting rest last [] second f g =
+        subst (λ s. Runs Step slots s waiting second new last) f.0
+        (subst (λ w. Runs Step slots mid w second new last) f.1 g)
+    runs_then old mid new waiting rest last (c ∷ first) second f g = (
+      f.0,
+      f.1,
+      (
+        f.2.0,
+        f.2.1,
+        runs_then f.2.0 mid new (cleared waiting f.0) rest last first second f.2.2 g,
+      ),
+    )
+
+    pub lighter_same : (waiting : ℕ) → IsLighter Step slots waiting waiting
+    lighter_same waiting slot call has = inl refl
+
+    pub lighter_is : (fewer waiting : ℕ) → fewer ≡ waiting → IsLighter Step slots fewer waiting
+    lighter_is fewer waiting e slot call has = inl (ap (λ w. bit_at w slot) e)
+
+    pub lighter_then : (few fewer waiting : ℕ) → IsLighter Step slots few fewer
+        → IsLighter Step slots fewer waiting → IsLighter Step slots few waiting
+    lighter_then few fewer waiting a b slot call has =
+        elim (a slot call has)
+        as (λ _. (bit_at few slot ≡ bit_at waiting slot)
+        ⊎ ((bit_at few slot ≡ 0) × IsIdle Step call)) [
+          | inl x ↦ elim (b slot call has)
+              as (λ _. (bit_at few slot ≡ bit_at waiting slot)
+              ⊎ ((bit_at few slot ≡ 0) × IsIdle Step call)) [
+                | inl y ↦ inl (x ∙ y)
+                | inr y ↦ inr (x ∙ y.0, y.1)
+              ]
+          | inr x ↦ inr x
+        ]
+
+    -- the same slot goes from both
+    pub lighter_cleared : (fewer waiting slot : ℕ) → length slots ≤ 64 → slot < 64
+        → IsLighter Step slots fewer waiting
+        → IsLighter Step slots (cleared fewer slot) (cleared waiting slot)
+    lighter_cleared fewer waiting slot few h l other call has =
+        elim (cases_eq other slot)
+        as (λ _. (bit_at (cleared fewer slot) other ≡ bit_at (cleared waiting slot) other)
+        ⊎ ((bit_at (cleared fewer slot) other ≡ 0) × IsIdle Step call)) [
+          | inl e ↦ inl
+              (subst
+              (λ x. bit_at (cleared fewer slot) x ≡ bit_at (cleared waiting slot) x) (sym e)
+              (cleared_same fewer slot h ∙ sym (cleared_same waiting slot h)))
+          | inr ne ↦
+              let k = slot_64 slots other call few has in
+              elim (l other call has)
+              as (λ _. (bit_at (cleared fewer slot) other ≡ bit_at (cleared waiting slot) other)
+              ⊎ ((bit_at (cleared fewer slot) other ≡ 0) × IsIdle Step call)) [
+                | inl x ↦ inl
+                    (cleared_other fewer slot other h k ne
+                    ∙ (x ∙ sym (cleared_other waiting slot other h k ne)))
+                | inr x ↦ inr (cleared_other fewer slot other h k ne ∙ x.0, x.1)
+              ]
+        ]
+
+    -- a slot of a call that changes nothing goes from the second, which the first does not have
+    pub lighter_without : (fewer waiting slot : ℕ) → length slots ≤ 64 → slot < 64
+        → bit_at fewer slot ≡ 0 → IsLighter Step slots fewer waiting
+        → IsLighter Step slots fewer (cleared waiting slot)
+    lighter_without fewer waiting slot few h none l other call has =
+        elim (cases_eq other slot)
+        as (λ _. (bit_at fewer other ≡ bit_at (cleared waiting slot) other)
+        ⊎ ((bit_at fewer other ≡ 0) × IsIdle Step call)) [
+          | inl e ↦ inl
+              (subst (λ x. bit_at fewer x ≡ bit_at (cleared waiting slot) x) (sym e)
+              (none ∙ sym (cleared_same waiting slot h)))
+          | inr ne ↦
+              let k = slot_64 slots other call few has in
+              elim (l other call has)
+              as (λ _. (bit_at fewer other ≡ bit_at (cleared waiting slot) other)
+              ⊎ ((bit_at fewer other ≡ 0) × IsIdle Step call)) [
+                | inl x ↦ inl (x ∙ sym (cleared_other waiting slot other h k ne))
+                | inr x ↦ inr x
+              ]
+        ]
+
+    -- a slot of a call that changes nothing goes from the first
+    pub lighter_idle : (waiting slot call : ℕ) → length slots ≤ 64 → HasSlot slots slot call
+        → IsIdle Step call → IsLighter Step slots (cleared waiting slot) waiting
+    lighter_idle waiting slot call few here idle other c has =
+        elim (cases_eq other slot)
+        as (λ _. (bit_at (cleared waiting slot) other ≡ bit_at waiting other)
+        ⊎ ((bit_at (cleared waiting slot) other ≡ 0) × IsIdle Step c)) [
+          | inl e ↦ inr (
+            subst (λ x. bit_at (cleared waiting slot) x ≡ 0) (sym e)
+                (cleared_same waiting slot (slot_64 slots slot call few here)),
+            subst (λ x. IsIdle Step x)
+                (slot_once slots slot call c here (subst (λ x. HasSlot slots x c) e has)) idle,
+          )
+          | inr ne ↦ inl
+              (cleared_other waiting slot other (slot_64 slots slot call few here)
+              (slot_64 slots other c few has) ne)
+        ]
+
+    -- Calls that change nothing need not be made: where fewer calls wait, but for such, the others
+    -- still lead to the same state.
+    pub runs_lighter : (old new : S) (fewer waiting rest : ℕ) (calls : List ℕ)
+        → length slots ≤ 64 → IsLighter Step slots fewer waiting
+        → Runs Step slots old waiting calls new rest
+        → (less : List ℕ) × (last : ℕ) × Runs Step slots old fewer less new last
+        × IsLighter Step slots last rest
+    runs_lighter old new fewer waiting rest [] few l run = (
+      [],
+      fewer,
+      (run.0, refl),
+      λ slot call has. subst (λ w. (bit_at fewer slot ≡ bit_at w
+          slot) ⊎ ((bit_at fewer slot ≡ 0) × IsIdle Step call)) (sym run.1) (l slot call has),
+    )
+    runs_lighter old new fewer waiting rest (call ∷ calls) few l run =
+        let slot = run.0 in
+        let here = run.1.0 in
+        let h = slot_64 slots slot call few here in
+        let mid = run.2.0 in
+        let Goal : Type 0 = (less : List ℕ) × (last : ℕ)
+        × Runs Step slots old fewer less new last × IsLighter Step slots last rest in
+        elim (bit_cases fewer slot) as (λ _. Goal) [
+          | inr some ↦
+              let more = runs_lighter mid new (cleared fewer slot) (cleared waiting slot) rest calls
+              few (lighter_cleared fewer waiting slot few h l) run.2.2 in (
+                call ∷ more.0,
+                more.1,
+                (slot, (here, some), (mid, run.2.1, more.2)),
+                more.3,
+              )
+          | inl none ↦
+              elim (l slot call here) as (λ _. Goal) [
+                | inl same ↦ absurd (omega (arith, same, none, run.1.1))
+                | inr idle ↦
+                    let is : mid ≡ old = idle.1 old mid run.2.1 in
+                    runs_lighter old new fewer (cleared waiting slot) rest calls few
+                    (lighter_without fewer waiting slot few h none l)
+                    (subst (λ s. Runs Step slots s (cleared waiting slot) calls new rest) is
+                    run.2.2)
+              ]
+        ]
+
+    -- of the calls that are open, each stands in the order or waits still
+    pub leaves_made : (order : List ℕ) (waiting slot call : ℕ) → length slots ≤ 64
+        → ((one other c : ℕ) → HasSlot slots one c → HasSlot slots other c → one ≡ other)
+        → Leaves slots order waiting → IsWaiting slots waiting slot call
+        → Leaves slots (order ++ call ∷ []) (cleared waiting slot)
+    leaves_made order waiting slot call few apart leaves is other c has =
+        let h = slot_64 slots slot call few is.0 in
+        elim (cases_eq other slot)
+        as (λ _. times c (order ++ call ∷ []) + bit_at (cleared waiting slot) other ≡ 1) [
+          | inl e ↦
+              let same : call ≡ c =
+              slot_once slots slot call c is.0 (subst (λ x. HasSlot slots x c) e has) in
+              let gone : bit_at (cleared waiting slot) other ≡ 0 =
+              subst (λ x. bit_at (cleared waiting slot) x ≡ 0) (sym e) (cleared_same waiting slot h)
+              in
+              let one : times c (call ∷ []) ≡ 1 =
+              subst (λ x. times c (x ∷ []) ≡ 1) (sym same) (times_one c) in
+              let was : bit_at waiting other ≡ 1 =
+              subst (λ x. bit_at waiting x ≡ 1) (sym e) is.1 in
+              omega (arith, leaves other c has, was, gone, one, times-append c order (call ∷ []))
+          | inr ne ↦
+              let stays : bit_at (cleared waiting slot) other ≡ bit_at waiting other =
+              cleared_other waiting slot other h (slot_64 slots other c few has) ne in
+              let none : times c (call ∷ []) ≡ 0 =
+              times_other c call
+              (λ same. ne (apart other slot c has (subst (λ x. HasSlot slots slot x) same is.0))) in
+              omega (arith, leaves other c has, stays, none, times-append c order (call ∷ []))
+        ]
+
+    pub leaves_run : (order : List ℕ) (old new : S) (waiting rest : ℕ) (calls : List ℕ)
+        → length slots ≤ 64
+        → ((one other c : ℕ) → HasSlot slots one c → HasSlot slots other c → one ≡ other)
+        → Leaves slots order waiting → Runs Step slots old waiting calls new rest
+        → Leaves slots (order ++ calls) rest
+    leaves_run order old new waiting rest [] few apart leaves run =
+        subst (λ (o : List ℕ). Leaves slots o rest) (sym (append-nil order))
+        (subst (λ w. Leaves slots order w) (sym run.1) leaves)
+    leaves_run order old new waiting rest (call ∷ calls) few apart leaves run =
+        subst (λ (o : List ℕ). Leaves slots o rest) (append_assoc order (call ∷ []) calls)
+        (leaves_run (order ++ call ∷ []) run.2.0 new (cleared waiting run.0) rest calls few apart
+        (leaves_made order waiting run.0 call few apart leaves run.1) run.2.2)
+
+    -- calls that all wait can be made in their order
+    pub runs_order : (old new : S) (waiting : ℕ) (order : List ℕ) → length slots ≤ 64
+        → ((one other c : ℕ) → HasSlot slots one c → HasSlot slots other c → one ≡ other)
+        → ((c : ℕ) → times c order ≤ 1)
+        → ((c : ℕ) → 0 < times c order → (slot : ℕ) × IsWaiting slots waiting slot c)
+        → Leads Step old order new
+        → (rest : ℕ) × Runs Step slots old waiting order new rest
+    runs_order old new waiting [] few apart once all l = (waiting, (l, refl))
+    runs_order old new waiting (x ∷ order) few apart once all l =
+        let at = all x (omega (arith, times-cons x x order, times_one x)) in
+        let h = slot_64 slots at.0 x few at.1.0 in
+        let more = runs_order l.0 new (cleared waiting at.0) order few apart
+        (λ c. omega (arith, once c, times-cons c x order))
+        (λ c some.
+        let is = all c (omega (arith, some, times-cons c x order)) in
+        let other : x ≢ c = λ e. absurd
+        (omega (
+          arith,
+          some,
+          once c,
+          times-cons c x order,
+          subst (λ y. times y (x ∷ []) ≡ 1) e
+              (times_one x),
+        )) in (
+          is.0,
+          (
+            is.1.0,
+            cleared_other waiting at.0 is.0 h (slot_64 slots is.0 c few is.1.0)
+                (λ e. other (slot_once slots at.0 x c at.1.0 (subst (λ s. HasSlot slots s c) e
+                is.1.0)))
+                ∙ is.1.1,
+          ),
+        )) l.2 in
+        (more.0, (at.0, at.1, (l.0, l.1, more.1)))
+
+  -- the same calls in other slots, in which others may wait
+  pub runs_in : (slots other : List (Option ℕ)) (old new : S) (waiting rest : ℕ) (calls : List ℕ)
+      (t : ℕ) (change : ℕ → ℕ)
+      → ((w s : ℕ) → s ≢ t → s < 64 → cleared (change w) s ≡ change (cleared w s))
+      → ((w s : ℕ) → s ≢ t → s < 64 → bit_at (change w) s ≡ bit_at w s)
+      → length slots ≤ 64
+      → ((s c : ℕ) → HasSlot slots s c → bit_at waiting s ≡ 1 → (s ≢ t) × HasSlot other s c)
+      → Runs Step slots old waiting calls new rest
+      → Runs Step other old (change waiting) calls new (change rest)
+  runs_in slots other old new waiting rest [] t change swaps keeps few still run =
+      (run.0, ap change run.1)
+  runs_in slots other old new waiting rest (call ∷ calls) t change swaps keeps few still run =
+      let slot = run.0 in
+      let h = slot_64 slots slot call few run.1.0 in
+      let is = still slot call run.1.0 run.1.1 in (
+        slot,
+        (is.1, keeps waiting slot is.0 h ∙ run.1.1),
+        (
+          run.2.0,
+          run.2.1,
+          subst (λ w. Runs Step other run.2.0 w calls new (change rest))
+              (sym (swaps waiting slot is.0 h))
+              (runs_in slots other run.2.0 new (cleared waiting slot) rest calls t change swaps
+              keeps few
+              (λ s c has some. still s c has
+              (elim (cases_eq s slot) as (λ _. bit_at waiting s ≡ 1) [
+                | inl e ↦
+                    absurd (omega (
+                      arith,
+                      some,
+                      subst (λ x. bit_at (cleared waiting slot) x ≡ 0)
+                          (sym e) (cleared_same waiting slot h),
+                    ))
+                | inr ne ↦ sym (cleared_other waiting slot s h (slot_64 slots s c few has) ne) ∙ some
+              ])) run.2.2),
+        ),
+      )
+
+  -- bits of those that wait only go
+  pub runs_fewer : (slots : List (Option ℕ)) (old new : S) (waiting rest t : ℕ) (calls : List ℕ)
+      → length slots ≤ 64 → t < 64 → Runs Step slots old waiting calls new rest
+      → bit_at rest t ≤ bit_at waiting t
+  runs_fewer slots old new waiting rest t [] few h run = omega (arith, ap (λ w. bit_at w t) run.1)
+  runs_fewer slots old new waiting rest t (call ∷ calls) few h run =
+      omega (
+        arith,
+        runs_fewer slots run.2.0 new (cleared waiting run.0) rest t calls few h run.2.2,
+        cleared_le waiting run.0 t (slot_64 slots run.0 call few run.1.0) h,
+      )
+
+  -- a call that waits in the end need not wait for the others to be made
+  pub runs_without : (slots : List (Option ℕ)) (old new : S) (waiting rest t : ℕ) (calls : List ℕ)
+      → length slots ≤ 64 → t < 64 → bit_at rest t ≡ 1
+      → Runs Step slots old waiting calls new rest
+      → Runs Step slots old (cleared waiting t) calls new (cleared rest t)
+  runs_without slots old new waiting rest t [] few h some run =
+      (run.0, ap (λ w. cleared w t) run.1)
+  runs_without slots old new waiting rest t (call ∷ calls) few h some run =
+      let slot = run.0 in
+      let k = slot_64 slots slot call few run.1.0 in
+      let ne : slot ≢ t = λ e. absurd
+      (omega (
+        arith,
+        some,
+        runs_fewer slots run.2.0 new (cleared waiting slot) rest t calls few h run.2.2,
+        subst (λ s. bit_at (cleared waiting slot) s ≡ 0) e (cleared_same waiting slot k),
+      )) in (
+        slot,
+        (run.1.0, cleared_other waiting t slot h k ne ∙ run.1.1),
+        (
+          run.2.0,
+          run.2.1,
+          subst (λ w. Runs Step slots run.2.0 w calls new (cleared rest t))
+              (cleared_swap waiting slot t)
+              (runs_without slots run.2.0 new (cleared waiting slot) rest t calls few h some
+              run.2.2),
+        ),
+      )
+
+-- as another relation has the steps
+module _ {S : Type 0} (A B : S → ℕ → S → Type 0) (slots : List (Option ℕ))
+    (makes : (slot call : ℕ) → HasSlot slots slot call → (old new : S) → A old call new → B old
+    call new)
+  where
+    pub runs_as : (old new : S) (waiting rest : ℕ) (calls : List ℕ)
+        → Runs A slots old waiting calls new rest → Runs B slots old waiting calls new rest
+    runs_as old new waiting rest [] run = run
+    runs_as old new waiting rest (call ∷ calls) run = (
+      run.0,
+      run.1,
+      (
+        run.2.0,
+        makes run.0 call run.1.0 old run.2.0 run.2.1,
+        runs_as run.2.0 new (cleared waiting run.0) rest calls run.2.2,
+      ),
+    )
+
+    pub lighter_as : (fewer waiting : ℕ) → IsLighter B slots fewer waiting
+        → IsLighter A slots fewer waiting
+    lighter_as fewer waiting l slot call has =
+        elim (l slot call has)
+        as (λ _. (bit_at fewer slot ≡ bit_at waiting slot)
+        ⊎ ((bit_at fewer slot ≡ 0) × IsIdle A call)) [
+          | inl same ↦ inl same
+          | inr idle ↦ inr (idle.0, λ old new step. idle.1 old new (makes slot call has old new step))
+        ]

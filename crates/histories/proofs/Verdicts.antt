@@ -1,0 +1,395 @@
+-- What is found of a whole history.
+use Rattle.std.proofs.Common.{◌≡◌, ◌≢◌, ◌⊎◌, ℕ, zero, suc, ◌+◌, ◌-◌, ◌<◌, ◌≤◌, List, [], ◌∷◌, ◌++◌, length, take, get_or, refl, sym, ◌∙◌, ap, subst, arith, inl, inr, Option, add-zero, take_all}
+use Rattle.std.proofs.lemmas.Bool.{cases_lt, cases_order}
+use Rattle.std.proofs.lemmas.List.{take_more}
+use Rattle.std.proofs.lemmas.Option.{slice_get-get_or}
+use Rattle.histories.specs.declared.event.Event.{Event}
+use Rattle.histories.specs.declared.event.Event.TheVariants.{Begin, End, Crash}
+use Rattle.histories.specs.declared.front.Advance.{Advance}
+use Rattle.histories.specs.declared.front.Advance.TheVariants as advance
+use Rattle.histories.specs.declared.front.Front.{Front}
+use Rattle.histories.specs.declared.verdict.Verdict.TheVariants as verdict
+use Rattle.histories.specs.declared.front.Config.{Config}
+use Rattle.histories.specs.declared.front.Link.{Link}
+use Rattle.histories.specs.Histories.{begins, begun, times, Explains, IsExplained, IsHistory, IsNext, IsOpen, MayFollow, StandsAt}
+use Rattle.histories.specs.Advances.{AdvancesIn, Agrees, EndsOpen, IsAdvance}
+use Rattle.histories.specs.Verdicts.{IsVerdict}
+use Rattle.histories.specs.Frontier.{HasManyOpen, HasManyOrders, IsFrontOf, IsFrontier, IsSound, order_of}
+use Rattle.histories.proofs.Counting.{not_some, split_times, times_same}
+use Rattle.histories.proofs.Events.{begin_no_end, begins_begin, begins_ends, begins_none, ends_one, sound_begin, sound_end, sound_none, stands_within}
+use Rattle.histories.proofs.Running.{leads_split}
+use Rattle.histories.proofs.Frontiers.{explains_none}
+use Rattle.histories.proofs.Explaining.{explains_front, explains_open, explains_without}
+
+begun_begin : (es : List Event) (c : ℕ) → begun (es ++ Begin c ∷ []) ≡ begun es + 1
+unfolding begun
+begun_begin [] c = omega arith
+begun_begin (Begin b ∷ es) c = omega (arith, begun_begin es c)
+begun_begin (End b ∷ es) c = begun_begin es c
+begun_begin (Crash b ∷ es) c = begun_begin es c
+
+begun_end : (es : List Event) (c : ℕ) → begun (es ++ End c ∷ []) ≡ begun es
+unfolding begun
+begun_end [] c = refl
+begun_end (Begin b ∷ es) c = omega (arith, begun_end es c)
+begun_end (End b ∷ es) c = begun_end es c
+begun_end (Crash b ∷ es) c = begun_end es c
+
+begun_crash : (es : List Event) (c : ℕ) → begun (es ++ Crash c ∷ []) ≡ begun es
+unfolding begun
+begun_crash [] c = refl
+begun_crash (Begin b ∷ es) c = omega (arith, begun_crash es c)
+begun_crash (End b ∷ es) c = begun_crash es c
+begun_crash (Crash b ∷ es) c = begun_crash es c
+
+pub begun_none : begun [] ≡ 0
+unfolding begun
+begun_none = refl
+
+-- how many calls have begun after one event more
+pub counts_begin : (count call : ℕ) (es : List Event) → count ≡ begun es
+    → count + 1 ≡ begun (es ++ Begin call ∷ [])
+counts_begin count call es is = omega (arith, is, begun_begin es call)
+
+pub counts_end : (count call : ℕ) (es : List Event) → count ≡ begun es
+    → count ≡ begun (es ++ End call ∷ [])
+counts_end count call es is = is ∙ sym (begun_end es call)
+
+pub counts_crash : (count call : ℕ) (es : List Event) → count ≡ begun es
+    → count ≡ begun (es ++ Crash call ∷ [])
+counts_crash count call es is = is ∙ sym (begun_crash es call)
+
+-- how many have begun after one event more, where a call that begins has the next number
+pub count_begin : (count call : ℕ) (es : List Event) → call ≡ count → count ≡ begun es
+    → (count + 1 ≡ begun (es ++ Begin call ∷ [])) × IsNext es (Begin call)
+count_begin count call es same is =
+    (counts_begin count call es is, λ c e. let x : call ≡ c = cc in sym x ∙ (same ∙ is))
+
+pub count_end : (count call : ℕ) (es : List Event) → count ≡ begun es
+    → (count ≡ begun (es ++ End call ∷ [])) × IsNext es (End call)
+count_end count call es is = (counts_end count call es is, λ c e. absurd (cc))
+
+pub count_crash : (count call : ℕ) (es : List Event) → count ≡ begun es
+    → (count ≡ begun (es ++ Crash call ∷ [])) × IsNext es (Crash call)
+count_crash count call es is = (counts_crash count call es is, λ c e. absurd (cc))
+
+pub count_none : (count call : ℕ) (es : List Event) → call ≢ count → count ≡ begun es
+    → ¬ (MayFollow es (Begin call))
+count_none count call es ne is may = ne (may ∙ sym is)
+
+-- the calls that have begun have numbers below their count
+abbrev pub AreNumbered : List Event → Type 0
+AreNumbered es = (c : ℕ) → 0 < begins c es → c < begun es
+
+pub numbered_none : AreNumbered []
+numbered_none c h = absurd (omega (arith, h, begins_none c))
+
+pub numbered_more : (es : List Event) (e : Event) → AreNumbered es → IsNext es e
+    → AreNumbered (es ++ e ∷ [])
+numbered_more es (Begin b) n next c h =
+    elim (cases_lt 0 (begins c es)) as (λ _. c < begun (es ++ Begin b ∷ [])) [
+      | inl before ↦ omega (arith, n c before, begun_begin es b)
+      | inr none ↦
+          let here : 0 < times c (b ∷ []) = omega (arith, h, none, begins_begin c b es) in
+          omega (arith, times_same c b here, next b refl, begun_begin es b)
+    ]
+numbered_more es (End b) n next c h =
+    omega (arith, n c (omega (arith, h, begins_ends c b es (End b) (inl refl))), begun_end es b)
+numbered_more es (Crash b) n next c h =
+    omega (arith, n c (omega (arith, h, begins_ends c b es (Crash b) (inr refl))), begun_crash es b)
+
+-- a call with the next number is new
+pub next_fresh : (es : List Event) (e : Event) → AreNumbered es → IsNext es e → (c : ℕ)
+    → e ≡ Begin c → begins c es ≡ 0
+next_fresh es e n next c is =
+    not_some (begins c es) (λ some. absurd (omega (arith, n c some, next c is)))
+
+pub sound_more : (es : List Event) (e : Event) → IsSound es
+    → ((c : ℕ) → e ≡ Begin c → begins c es ≡ 0) → EndsOpen es e → IsSound (es ++ e ∷ [])
+sound_more es (Begin c) s fresh ends = sound_begin es c s (fresh c refl)
+sound_more es (End c) s fresh ends =
+    sound_end es (End c) c (inl refl) s (ends c (inl refl)).0
+sound_more es (Crash c) s fresh ends =
+    sound_end es (Crash c) c (inr refl) s (ends c (inr refl)).0
+
+-- the event may follow
+pub may_of : (es : List Event) (e : Event) → IsNext es e → EndsOpen es e → MayFollow es e
+may_of es (Begin c) next ends = next c refl
+may_of es (End c) next ends = ends c (inl refl)
+may_of es (Crash c) next ends = ends c (inr refl)
+
+pub next_of : (es : List Event) (e : Event) → MayFollow es e → IsNext es e
+next_of es (Begin c) may b is = let same : c ≡ b = cc in sym same ∙ may
+next_of es (End c) may b is = absurd (cc)
+next_of es (Crash c) may b is = absurd (cc)
+
+pub ends_of : (es : List Event) (e : Event) → MayFollow es e → EndsOpen es e
+ends_of es (Begin c) may b ends = absurd (begin_no_end c b ends)
+ends_of es (End c) may b ends =
+    subst (λ x. IsOpen es x) (ends_one (End c) c b (inl refl) ends) may
+ends_of es (Crash c) may b ends =
+    subst (λ x. IsOpen es x) (ends_one (Crash c) c b (inr refl) ends) may
+
+-- the events up to one more
+pub one_more : (es : List Event) (i : ℕ) (d : Event) → i < length es
+    → take (i + 1) es ≡ take i es ++ get_or es i d ∷ []
+one_more es i d h = take_more es i d h
+
+add_one : (i : ℕ) → i + 1 ≡ suc i
+add_one i = omega arith
+
+plus_suc : (i n : ℕ) → i + suc n ≡ i + n + 1
+plus_suc i n = omega arith
+
+may_more : (es : List Event) (i : ℕ) → IsHistory es → i < length es
+    → MayFollow (take i es) (get_or es i (Begin 0))
+may_more es i history h =
+    history i (get_or es i (Begin 0)) (slice_get-get_or es i (Begin 0) h)
+
+-- a history begins each call once, and with the next number
+history_take : (es : List Event) → IsHistory es → (i : ℕ) → i ≤ length es
+    → IsSound (take i es) × AreNumbered (take i es)
+history_take es history zero h = (sound_none, numbered_none)
+history_take es history (suc i) h =
+    let before = history_take es history i (omega arith) in
+    let e = get_or es i (Begin 0) in
+    let may = may_more es i history (omega arith) in
+    let next = next_of (take i es) e may in
+    subst (λ n. IsSound (take n es) × AreNumbered (take n es)) (add_one i)
+    (subst (λ (l : List Event). IsSound l × AreNumbered l) (sym (one_more es i (Begin 0) (omega
+    arith))) (
+      sound_more (take i es) e before.0 (next_fresh (take i es) e before.1 next)
+          (ends_of (take i es) e may),
+      numbered_more (take i es) e before.1 next,
+    ))
+
+module _ {S : Type 0} (Step : S → ℕ → S → Type 0) where
+  -- what explains the history with one event more, explains it without, in part
+  explained_before : (es : List Event) (e : Event) (olds : List S) → IsSound es
+      → ((c : ℕ) → e ≡ Begin c → begins c es ≡ 0)
+      → IsExplained Step (es ++ e ∷ []) olds → IsExplained Step es olds
+  explained_before es (End call) olds s fresh x =
+      (x.0, x.1, x.2, x.3, explains_open Step es (End call) x.0 x.2 x.1 call (inl refl) x.4)
+  explained_before es (Crash call) olds s fresh x =
+      (x.0, x.1, x.2, x.3, explains_open Step es (Crash call) x.0 x.2 x.1 call (inr refl) x.4)
+  explained_before es (Begin call) olds s fresh x =
+      elim (cases_lt 0 (times call x.1)) as (λ _. IsExplained Step es olds) [
+        | inl some ↦
+            let parts = split_times call x.1 some in
+            let ex = subst (λ (o : List ℕ). Explains Step (es ++ Begin call ∷ []) x.0 o x.2) parts.2
+            x.4 in
+            let leads = leads_split Step x.0 x.2 parts.0 (call ∷ parts.1) ex.leads in (
+              x.0,
+              parts.0,
+              leads.0,
+              x.3,
+              explains_front Step es x.0 leads.0 x.2 parts.0 parts.1 call s (fresh call refl) ex
+                  leads.1,
+            )
+        | inr none ↦
+            (x.0, x.1, x.2, x.3, explains_without Step es x.0 x.2 x.1 call x.4 (omega arith))
+      ]
+
+  pub explained_take : (es : List Event) (olds : List S) (i more : ℕ) → IsHistory es
+      → i + more ≤ length es → IsExplained Step (take (i + more) es) olds
+      → IsExplained Step (take i es) olds
+  explained_take es olds i zero history h x =
+      subst (λ n. IsExplained Step (take n es) olds) (add-zero i) x
+  explained_take es olds i (suc more) history h x =
+      let at = i + more in
+      let within : at < length es = omega arith in
+      let before = history_take es history at (omega arith) in
+      let e = get_or es at (Begin 0) in
+      explained_take es olds i more history (omega arith)
+      (explained_before (take at es) e olds before.0
+      (next_fresh (take at es) e before.1 (next_of (take at es) e (may_more es at history within)))
+      (subst (λ (l : List Event). IsExplained Step l olds) (one_more es at (Begin 0) within)
+      (subst (λ n. IsExplained Step (take n es) olds) (plus_suc i more) x)))
+
+  -- where no order explains the events up to a place, none explains all
+  pub refused_whole : (es : List Event) (olds : List S) (i : ℕ) → i ≤ length es
+      → ¬ (IsExplained Step (take i es) olds) → IsHistory es → ¬ (IsExplained Step es olds)
+  refused_whole es olds i h none history x =
+      none (explained_take es olds i (length es - i) history (omega arith)
+      (subst (λ (l : List Event). IsExplained Step l olds)
+      (sym (take_all (i + (length es - i)) es (omega arith))) x))
+
+  -- a configuration is left exactly where an order explains the history
+  pub frontier_explained : (links : List Link) (slots : List (Option ℕ)) (es : List Event)
+      (olds : List S) (configs : List (Config S)) → IsFrontier Step links slots es olds configs
+      → 0 < length configs → IsExplained Step es olds
+  frontier_explained links slots es olds [] f h = absurd (omega arith)
+  frontier_explained links slots es olds (k ∷ configs) f h =
+      let is = f.sound k (0, omega arith, refl) in
+      (is.old, order_of links k, k.state, is.from, is.explains)
+
+  pub frontier_refused : (links : List Link) (slots : List (Option ℕ)) (es : List Event)
+      (olds : List S) (configs : List (Config S)) → IsFrontier Step links slots es olds configs
+      → length configs ≡ 0 → ¬ (IsExplained Step es olds)
+  frontier_refused links slots es olds configs f none x =
+      let l = f.complete x.0 x.1 x.2 x.3 x.4 in absurd (omega (arith, none, l.2.1.1))
+
+  pub frontier_some : (links : List Link) (slots : List (Option ℕ)) (olds : List S)
+      (configs : List (Config S)) → 0 < length olds
+      → IsFrontier Step links slots [] olds configs → 0 < length configs
+  frontier_some links slots [] configs h f = absurd (omega arith)
+  frontier_some links slots (old ∷ olds) configs h f =
+      let l = f.complete old [] old (0, omega arith, refl) (explains_none Step old) in
+      omega (arith, l.2.1.1)
+
+-- each event before a place may follow those before it
+abbrev pub IsHistoryTo : List Event → ℕ → Type 0
+IsHistoryTo es i =
+    (place : ℕ) (event : Event) → place < i → StandsAt es place event
+    → MayFollow (take place es) event
+
+-- the event at a place
+stands_get : (es : List Event) (i : ℕ) (d e : Event) → i < length es → StandsAt es i e
+    → e ≡ get_or es i d
+stands_get es i d e h at =
+    let there = slice_get-get_or es i d h in cc
+
+pub history_more : (es : List Event) (i : ℕ) (d : Event) → i < length es
+    → MayFollow (take i es) (get_or es i d) → IsHistoryTo es i → IsHistoryTo es (i + 1)
+history_more es i d h may all place event less at =
+    elim (cases_order place i) as (λ _. MayFollow (take place es) event) [
+      | inl e ↦ subst (λ k. MayFollow (take k es) event) (sym e)
+          (subst (λ (x : Event). MayFollow (take i es) x)
+          (sym (stands_get es i d event h (subst (λ k. StandsAt es k event) e at))) may)
+      | inr (inl below) ↦ all place event below at
+      | inr (inr above) ↦ absurd (omega arith)
+    ]
+
+pub history_whole : (es : List Event) (i : ℕ) → length es ≤ i → IsHistoryTo es i → IsHistory es
+history_whole es i h all = λ place event at.
+    let within : place < length es = stands_within es place event at in
+    all place event (omega arith) at
+
+module _ {S : Type 0} (Step : S → ℕ → S → Type 0) where
+  -- the front is that of the events before a place, all of which may follow
+  pub record IsJudged (front : Front S) (events : List Event) (olds : List S) (count at : ℕ)
+      : Type 0 where
+    pub front_of : IsFrontOf Step front (take at events) olds
+    pub some : 0 < length front.configs.items
+    pub sound : IsSound (take at events)
+    pub numbered : AreNumbered (take at events)
+    pub counts : count ≡ begun (take at events)
+    pub most : count ≤ at
+    pub to : IsHistoryTo events at
+
+  pub judged_begin : (front : Front S) (events : List Event) (olds : List S) → 0 < length olds
+      → IsFrontOf Step front [] olds → IsJudged front events olds 0 0
+  judged_begin front events olds some f = record {
+    front_of = f;
+    some = frontier_some Step front.links.items front.slots.items olds front.configs.items some f;
+    sound = sound_none;
+    numbered = numbered_none;
+    counts = sym begun_none;
+    most = omega arith;
+    to = λ place event less at. absurd (omega (arith, less));
+  }
+
+  pub agrees_same : (events : List Event) → Agrees Step Step events
+  agrees_same events call is old new = (λ x. x, λ x. x)
+
+  pub judged_done : (old new : Front S) (events : List Event) (olds : List S)
+      (count at more : ℕ) (d : Event) → at < length events → IsJudged old events olds count at
+      → ((es : List Event) → count ≡ begun es
+      → (more ≡ begun (es ++ get_or events at d ∷ [])) × IsNext es (get_or events at d))
+      → more ≤ count + 1
+      → AdvancesIn Step (take at events) olds (get_or events at d) new advance.Done
+      → IsJudged new events olds more (at + 1)
+  judged_done old new events olds count at more d h j next most a =
+      let e = get_or events at d in
+      let es : List Event = take at events in
+      let whole : take (at + 1) events ≡ es ++ e ∷ [] = one_more events at d h in
+      let is = next es j.counts in record {
+        front_of = subst (λ (l : List Event). IsFrontOf Step new l olds) (sym whole) a.0;
+        some = a.1;
+        sound = subst (λ (l : List Event). IsSound l) (sym whole)
+            (sound_more es e j.sound (next_fresh es e j.numbered is.1) a.2);
+        numbered = subst (λ (l : List Event). AreNumbered l) (sym whole)
+            (numbered_more es e j.numbered is.1);
+        counts = is.0 ∙ ap begun (sym whole);
+        most = omega (arith, most, j.most);
+        to = history_more events at d h (may_of es e is.1 a.2) j.to;
+      }
+
+  pub judged_refused : (old new : Front S) (events : List Event) (olds : List S) (count at : ℕ)
+      (d : Event) → at < length events → IsJudged old events olds count at
+      → AdvancesIn Step (take at events) olds (get_or events at d) new advance.Refused
+      → IsVerdict Step olds events (verdict.Refused at)
+  judged_refused old new events olds count at d h j a =
+      let whole : take (at + 1) events ≡ take at events ++ get_or events at d ∷ [] =
+      one_more events at d h in
+      let refused : ¬ (IsExplained Step (take (at + 1) events) olds) =
+      subst (λ (l : List Event). ¬ (IsExplained Step l olds)) (sym whole)
+      (frontier_refused Step new.links.items new.slots.items
+      (take at events ++ get_or events at d ∷ []) olds new.configs.items a.0 a.1) in (
+        h,
+        frontier_explained Step old.links.items old.slots.items (take at events) olds
+            old.configs.items j.front_of j.some,
+        refused,
+        refused_whole Step events olds (at + 1) (omega (arith, h)) refused,
+      )
+
+  pub judged_many : (new : Front S) (events : List Event) (olds : List S) (at : ℕ) (d : Event)
+      → at < length events
+      → AdvancesIn Step (take at events) olds (get_or events at d) new advance.ManyConfigs
+      → IsVerdict Step olds events (verdict.ManyConfigs at)
+  judged_many new events olds at d h a = (
+    h,
+    elim a as (λ _. HasManyOrders Step (take at events) olds
+        ⊎ HasManyOrders Step (take (at + 1) events) olds) [
+          | inl before ↦ inl before
+          | inr after ↦ inr
+              (subst (λ (l : List Event). HasManyOrders Step l olds) (sym (one_more events at d
+              h)) after)
+        ],
+  )
+
+  pub judged_open : (new : Front S) (events : List Event) (olds : List S) (at : ℕ) (d : Event)
+      → at < length events
+      → AdvancesIn Step (take at events) olds (get_or events at d) new advance.ManyOpen
+      → IsVerdict Step olds events (verdict.ManyOpen at)
+  judged_open new events olds at d h a = (
+    h,
+    subst (λ (l : List Event). HasManyOpen l) (sym (one_more events at d h)) a,
+  )
+
+  pub judged_none : (events : List Event) (olds : List S) (at : ℕ) (d : Event)
+      → at < length events → ¬ (MayFollow (take at events) (get_or events at d))
+      → IsVerdict Step olds events (verdict.NoHistory at)
+  judged_none events olds at d h never =
+      (get_or events at d, slice_get-get_or events at d h, never)
+
+  pub judged_closed : (new : Front S) (events : List Event) (olds : List S) (at : ℕ) (d : Event)
+      → at < length events
+      → AdvancesIn Step (take at events) olds (get_or events at d) new advance.NoEvent
+      → IsVerdict Step olds events (verdict.NoHistory at)
+  judged_closed new events olds at d h a =
+      judged_none events olds at d h (λ may. a (ends_of (take at events) (get_or events at d) may))
+
+  pub judged_end : (front : Front S) (events : List Event) (olds : List S) (count at : ℕ)
+      → length events ≤ at → IsJudged front events olds count at
+      → IsVerdict Step olds events (verdict.Explained front)
+  judged_end front events olds count at h j = (
+    subst (λ (l : List Event). IsFrontOf Step front l olds) (take_all at events h) j.front_of,
+    j.some,
+    history_whole events at h j.to,
+  )
+
+-- what one event more does
+pub judged_advance : {M S : Type 0} (StepOf : M → S → ℕ → S → Type 0) (machine : M)
+    (old new : Front S) (events : List Event) (olds : List S) (count at more : ℕ) (d : Event)
+    (result : Advance) → IsJudged (StepOf machine) old events olds count at
+    → ((es : List Event) → count ≡ begun es
+    → (more ≡ begun (es ++ get_or events at d ∷ [])) × IsNext es (get_or events at d))
+    → IsAdvance StepOf machine old (get_or events at d) new result
+    → AdvancesIn (StepOf machine) (take at events) olds (get_or events at d) new result
+judged_advance StepOf machine old new events olds count at more d result j next advances =
+    let es : List Event = take at events in
+    let e = get_or events at d in
+    advances machine es olds (agrees_same (StepOf machine) es)
+    (agrees_same (StepOf machine) (es ++ e ∷ [])) j.sound
+    (next_fresh es e j.numbered (next es j.counts).1) j.front_of

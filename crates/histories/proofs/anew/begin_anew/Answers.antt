@@ -1,0 +1,40 @@
+use Rattle.std.proofs.Common.{rules, ◌≡◌, [], List, length, map, refl, subst, sym}
+use Rattle.histories.specs.declared.front.Config.{Config}
+use Rattle.histories.specs.Frontier.{IsFrontier}
+use Rattle.histories.specs.Gathering.{AreUnlinked}
+use Rattle.histories.proofs.Places.{put_back}
+use Rattle.histories.proofs.Splitting.{fresh_anew, quiet_empty, split_anew}
+use Rattle.histories.proofs.anew.begin_anew.Goals as goal
+
+pub returns : goal.returns
+returns g c whole events olds sound f =
+    let Step = g.M.Machine.Step whole in
+    let front = c.args.front.now in
+    let slots = front.slots.items in
+    let configs = front.configs.items in
+    let empty = rw c.deref.ensures.value at (c.are_free.ensures.yes c.if-not-are_free.false) in
+    let quiet = quiet_empty events slots f.table empty in
+    let unlinked = c.unlink.new.configs in
+    let is : AreUnlinked configs unlinked = rw c.deref_mut.ensures.value at c.unlink.ensures in
+    let long : front.configs.len ≡ length configs = search rules in (
+      quiet,
+      (
+        map (λ k. k.state) configs,
+        subst (λ (l : List (Config g.row.M-State.Denot)). IsFrontier Step c.new.result.items slots
+            []
+            (map (λ k. k.state) configs) l)
+            (sym (put_back unlinked configs front.configs.len is.0 long))
+            (fresh_anew Step c.new.result.items slots configs unlinked f.table.few empty f.once is),
+        λ rest after all.
+            split_anew Step front.links.items slots events olds configs sound quiet empty f rest
+            after all,
+      ),
+    )
+
+pub returns-then-not-are_free : goal.returns-then-not-are_free
+returns-then-not-are_free g c whole = (
+  refl,
+  λ events olds f.
+      let has = rw c.deref.ensures.value at (c.are_free.ensures.no c.if-not-are_free.true) in
+      (has.1, f.table.each has.0 has.1 has.2),
+)

@@ -1,0 +1,13 @@
+use Rattle.std.proofs.Common.{AllPairs}
+use Rattle.histories.specs.Frontier.{IsSame}
+use Rattle.histories.specs.Gathering.{IsClosing}
+use Rattle.histories.proofs.close.close.Given as goal
+
+abbrev pub invariant-loop-left : goal.invariant-loop-left
+invariant-loop-left g l =
+    IsClosing (g.M.Machine.Step l.machine) l.slots l.configs l.slot l.done.items l.layer.items
+    l.left
+    × AllPairs (λ a b. ¬ (IsSame a b)) l.layer.items
+
+abbrev pub decreases-loop-left : goal.decreases-loop-left
+decreases-loop-left g l = l.left

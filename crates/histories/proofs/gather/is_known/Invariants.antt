@@ -1,0 +1,7 @@
+use Rattle.std.proofs.Common.{All, take}
+use Rattle.histories.specs.Frontier.{IsSame}
+use Rattle.histories.proofs.gather.is_known.Given as goal
+
+abbrev pub invariant-loop-known : goal.invariant-loop-known
+invariant-loop-known g l =
+    All (λ known. ¬ (IsSame known l.config)) (take l.known-index l.configs)

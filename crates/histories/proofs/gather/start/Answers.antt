@@ -1,0 +1,30 @@
+use Rattle.std.proofs.Common.{rules, ◌≤◌, [], length, refl, subst, sym, take_all}
+use Rattle.histories.specs.Frontier.{IsFrontier, no_path}
+use Rattle.histories.specs.Gathering.{Gathers, IsFirst}
+use Rattle.histories.proofs.Closing.{path_is}
+use Rattle.histories.proofs.Frontiers.{frontier_first}
+use Rattle.histories.proofs.Gathering.{gathers_first}
+use Rattle.histories.proofs.gather.start.Goals as goal
+
+pub loop-from-preserved : goal.loop-from-preserved
+loop-from-preserved g c =
+    gathers_first c.args.states.now c.loop-from.from-index c.from-item.result
+    (record {
+      state = c.in_ok-state.state;
+      waiting = 0;
+      base = 0;
+      made = c.new-made.result;
+    }) _ _ _ c.loop-from-test.true c.from-item.is c.in_ok-state.ensures (search rules)
+    (path_is (record { base = 0; calls = c.new-made.result.items }) no_path refl
+    c.new-made.ensures.items) c.loop-from.invariant c.in_ok-add.ensures
+
+pub returns : goal.returns
+returns g c =
+    let states = c.args.states.now in
+    let all : length states ≤ c.loop-from.from-index = search rules in
+    let Step = g.M.Machine.Step c.args.machine.now in
+    subst (λ l. IsFrontier Step c.new-links.result.items l [] states c.loop-from.configs.items)
+    (sym c.new-slots.ensures.items)
+    (frontier_first Step c.new-links.result.items states c.loop-from.configs.items
+    (subst (λ l. Gathers (IsFirst l) [] c.loop-from.configs.items)
+    (take_all c.loop-from.from-index states all) c.loop-from.invariant))

@@ -1,0 +1,5 @@
+use Rattle.histories.proofs.Excluding.{verdicts_exclude}
+use Rattle.histories.proofs.laws.verdicts_exclude.Goals as goal
+
+pub returns : goal.returns
+returns g c = verdicts_exclude (g.M.Machine.Step c.args._machine.now)

@@ -1,0 +1,7 @@
+use Rattle.std.proofs.Common.{take}
+use Rattle.histories.specs.Gathering.{IsLaidOut}
+use Rattle.histories.proofs.links.lay_calls.Given as goal
+
+abbrev pub invariant-loop-call : goal.invariant-loop-call
+invariant-loop-call l =
+    IsLaidOut l.fn.links.items l.base (take l.call-index l.calls) l.links.items l.last

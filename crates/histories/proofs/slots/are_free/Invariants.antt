@@ -1,0 +1,6 @@
+use Rattle.std.proofs.Common.{◌<◌, ℕ}
+use Rattle.histories.specs.Frontier.{HasSlot}
+use Rattle.histories.proofs.slots.are_free.Given as goal
+
+abbrev pub invariant-loop-slot : goal.invariant-loop-slot
+invariant-loop-slot l = (s call : ℕ) → s < l.slot-index → HasSlot l.slots s call → ⊥

@@ -1,0 +1,52 @@
+-- What an event does to a front.
+use Rattle.std.specs.Prelude.{◌≡◌, ℕ, ◌<◌, ◌⊎◌, ◌↔◌, List, [], ◌∷◌, ◌++◌, length}
+use Rattle.histories.specs.declared.event.Event.{Event}
+use Rattle.histories.specs.declared.event.Event.TheVariants.{Begin, End, Crash}
+use Rattle.histories.specs.declared.front.Advance.{Advance}
+use Rattle.histories.specs.declared.front.Advance.TheVariants as advance
+use Rattle.histories.specs.declared.front.Front.{Front}
+use Rattle.histories.specs.Histories.{IsOpen, begins}
+use Rattle.histories.specs.Frontier.{HasManyOpen, HasManyOrders, IsFrontOf, IsSound}
+
+-- of the calls that are open, the machine makes each as the history has it
+abbrev pub Agrees : {S : Type 0} → (S → ℕ → S → Type 0) → (S → ℕ → S → Type 0) → List Event → Type 0
+Agrees {S} Made Step events =
+    (call : ℕ) → IsOpen events call → (old new : S) → Made old call new ↔ Step old call new
+
+-- the call ends with this event
+abbrev pub Ends : Event → ℕ → Type 0
+Ends event call = (event ≡ End call) ⊎ (event ≡ Crash call)
+
+-- a call that ends with this event is open
+abbrev pub EndsOpen : List Event → Event → Type 0
+EndsOpen events event = (call : ℕ) → Ends event call → IsOpen events call
+
+-- Done, Refused: the configurations are those after one event more; there are some, or none.
+-- ManyConfigs: orders that explain the events before this one, or those up to it, lead to more than
+-- 4,096 configurations.
+-- ManyOpen: more than 64 calls are open after this event.
+-- NoEvent: the call that ends is not open.
+abbrev pub AdvancesIn : {S : Type 0} → (S → ℕ → S → Type 0) → List Event → List S → Event → Front S
+    → Advance → Type 0
+AdvancesIn Step events olds event new advance.Done =
+    IsFrontOf Step new (events ++ event ∷ []) olds × (0 < length new.configs.items)
+    × EndsOpen events event
+AdvancesIn Step events olds event new advance.Refused =
+    IsFrontOf Step new (events ++ event ∷ []) olds × (length new.configs.items ≡ 0)
+    × EndsOpen events event
+AdvancesIn Step events olds event new advance.ManyConfigs =
+    HasManyOrders Step events olds ⊎ HasManyOrders Step (events ++ event ∷ []) olds
+AdvancesIn Step events olds event new advance.ManyOpen = HasManyOpen (events ++ event ∷ [])
+AdvancesIn Step events olds event new advance.NoEvent = ¬ (EndsOpen events event)
+
+-- The same of each history that the old front is of, where a call that begins is new in it. The
+-- machine that is used need have those calls alone that are open; a whole one has all.
+abbrev pub IsAdvance : {M S : Type 0} → (M → S → ℕ → S → Type 0) → M → Front S → Event → Front S
+    → Advance → Type 0
+IsAdvance {M} {S} Step machine old event new result =
+    (whole : M) (events : List Event) (olds : List S)
+    → Agrees (Step machine) (Step whole) events
+    → Agrees (Step machine) (Step whole) (events ++ event ∷ [])
+    → IsSound events → ((call : ℕ) → event ≡ Begin call → begins call events ≡ 0)
+    → IsFrontOf (Step whole) old events olds
+    → AdvancesIn (Step whole) events olds event new result

@@ -1,0 +1,242 @@
+-- How configurations are gathered, and calls are made in them.
+use Rattle.std.specs.Prelude.{◌≡◌, ℕ, zero, suc, ◌+◌, ◌<◌, ◌≤◌, ◌⊎◌, List, [], ◌∷◌, ◌++◌, length, get_or, Bool, true, false, All, AllPairs, Option, Some, None}
+use Rattle.std.specs.Int.{bit_at}
+use Rattle.std.specs.Global.{Vec}
+use Rattle.std.specs.List.{Contains}
+use Rattle.histories.specs.declared.front.Advance.{Advance}
+use Rattle.histories.specs.declared.front.Advance.TheVariants as advance
+use Rattle.histories.specs.declared.front.Config.{Config}
+use Rattle.histories.specs.declared.front.Link.{Link}
+use Rattle.histories.specs.Frontier.{HasSlot, IsLighter, IsSame, IsWaiting, LeadTo, Path, Runs, cleared, no_path, order_of, path_more, path_of, put, read}
+
+-- whether one of the configurations is the same
+abbrev pub IsKnown : {S : Type 0} → List (Config S) → Config S → Bool → Type 0
+IsKnown {S} configs config true = (known : Config S) × Contains configs known × IsSame known config
+IsKnown configs config false = All (λ known. ¬ (IsSame known config)) configs
+
+-- the call has taken a slot that was free
+pub record TakesSlot (old : List (Option ℕ)) (call slot : ℕ) (new : List (Option ℕ)) : Type 0 where
+  pub free : get_or old slot None ≡ None
+  pub within : slot < 64
+  pub has : HasSlot new slot call
+  pub others : (other : ℕ) → (other ≡ slot → ⊥) → get_or new other None ≡ get_or old other None
+  pub few : length new ≤ 64
+
+-- each of the slots that there may be is taken
+abbrev pub AreTaken : List (Option ℕ) → Type 0
+AreTaken slots =
+    (64 ≤ length slots) × ((slot : ℕ) → slot < length slots → get_or slots slot None ≡ None → ⊥)
+
+-- the slot was made free
+pub record FreesSlot (old : List (Option ℕ)) (slot : ℕ) (new : List (Option ℕ)) : Type 0 where
+  pub free : get_or new slot None ≡ None
+  pub others : (other : ℕ) → (other ≡ slot → ⊥) → get_or new other None ≡ get_or old other None
+  pub few : length new ≡ length old
+
+-- how many slots below this number of them are in the set
+unfoldable pub ones : ℕ → ℕ → ℕ
+ones set zero = 0
+ones set (suc n) = bit_at set n + ones set n
+
+-- how far an order has come, apart from where it is kept
+pub record Spot (S : Type 0) : Type 0 where
+  pub state : S
+  pub waiting : ℕ
+  pub made : Path
+
+abbrev pub spot_of : {S : Type 0} → Config S → Spot S
+spot_of config = record {
+  state = config.state;
+  waiting = config.waiting;
+  made = path_of config;
+}
+
+-- the configuration has this state and these calls that wait
+abbrev pub IsAt : {S : Type 0} → Config S → Spot S → Type 0
+IsAt config spot = (config.state ≡ spot.state) × (config.waiting ≡ spot.waiting)
+
+-- the same state, the same calls that wait, and the same that were made
+abbrev pub IsCopy : {S : Type 0} → Config S → Spot S → Type 0
+IsCopy config copy =
+    (copy.state ≡ config.state) × (copy.waiting ≡ config.waiting) × (copy.made ≡ path_of config)
+
+-- the call in this slot waits too
+abbrev pub IsOpened : {S : Type 0} → ℕ → Config S → Config S → Type 0
+IsOpened slot config opened =
+    (opened.state ≡ config.state) × (opened.waiting ≡ put config.waiting slot)
+    × (path_of opened ≡ path_of config)
+
+-- the same in each of the configurations, at its place
+abbrev pub AreOpened : {S : Type 0} → ℕ → List (Config S) → List (Config S) → Type 0
+AreOpened {S} slot configs opened =
+    (length opened ≡ length configs)
+    × ((place : ℕ) (d : Config S) → place < length opened
+    → IsOpened slot (get_or configs place d) (get_or opened place d))
+
+-- calls that can be made and change nothing were made
+pub record IsSettled {S : Type 0} (Step : S → ℕ → S → Type 0) (slots : List (Option ℕ))
+    (config : Config S) (settled : Spot S) : Type 0 where
+  pub state : settled.state ≡ config.state
+  pub calls : List ℕ
+  pub runs : Runs Step slots config.state config.waiting calls config.state settled.waiting
+  pub lighter : IsLighter Step slots settled.waiting config.waiting
+  pub made : settled.made ≡ path_more (path_of config) calls
+
+-- each is settled from a configuration, each configuration has one, and each is there once
+pub record AreSettled {S : Type 0} (Step : S → ℕ → S → Type 0) (slots : List (Option ℕ))
+    (configs settled : List (Config S)) : Type 0 where
+  pub sound : (one : Config S) → Contains settled one
+      → (config : Config S) × Contains configs config × IsSettled Step slots config (spot_of one)
+  pub complete : (config : Config S) → Contains configs config
+      → (one : Config S) × Contains settled one × (one.state ≡ config.state)
+      × IsLighter Step slots one.waiting config.waiting
+  pub once : AllPairs (λ a b. ¬ (IsSame a b)) settled
+
+-- the call in the slot, which waits, is made, and leaves one of the states
+abbrev pub IsNextIn : {S : Type 0} → Config S → ℕ → ℕ → List S → Spot S → Type 0
+IsNextIn config slot call states next =
+    Contains states next.state × (next.waiting ≡ cleared config.waiting slot)
+    × (next.made ≡ path_more (path_of config) (call ∷ []))
+
+-- the call in the slot waits and is made
+abbrev pub IsNextAt : {S : Type 0} → (S → ℕ → S → Type 0) → List (Option ℕ) → Config S → ℕ → Spot S
+    → Type 0
+IsNextAt Step slots config slot next =
+    (call : ℕ) × IsWaiting slots config.waiting slot call × Step config.state call next.state
+    × (next.waiting ≡ cleared config.waiting slot)
+    × (next.made ≡ path_more (path_of config) (call ∷ []))
+
+-- a call in a slot below this one waits and is made
+abbrev pub IsNextBelow : {S : Type 0} → (S → ℕ → S → Type 0) → List (Option ℕ) → Config S → ℕ
+    → Spot S → Type 0
+IsNextBelow Step slots config end next =
+    (slot : ℕ) × (slot < end) × IsNextAt Step slots config slot next
+
+-- a call that waits is made
+abbrev pub IsNext : {S : Type 0} → (S → ℕ → S → Type 0) → List (Option ℕ) → Config S → Spot S
+    → Type 0
+IsNext Step slots config next = IsNextBelow Step slots config (length slots) next
+
+-- the call in the slot has been made, and the copy is of this configuration
+abbrev pub IsDone : {S : Type 0} → ℕ → Config S → Spot S → Type 0
+IsDone slot config copy = (bit_at config.waiting slot ≡ 0) × IsCopy config copy
+
+-- the call in the slot waits, and one that waits is made
+abbrev pub IsUnderWay : {S : Type 0} → (S → ℕ → S → Type 0) → List (Option ℕ) → ℕ → Config S →
+    Spot S
+    → Type 0
+IsUnderWay Step slots slot config next =
+    (bit_at config.waiting slot ≡ 1) × IsNext Step slots config next
+
+-- the call in the slot waits, and is never made
+abbrev pub IsDropped : {S : Type 0} → ℕ → Config S → Spot S → Type 0
+IsDropped slot config dropped =
+    (bit_at config.waiting slot ≡ 1) × (dropped.state ≡ config.state)
+    × (dropped.waiting ≡ cleared config.waiting slot) × (dropped.made ≡ path_of config)
+
+-- it is true of one of these and of that
+abbrev pub FromOne : {S : Type 0} → (Config S → Spot S → Type 0) → List (Config S) → Spot S → Type 0
+FromOne {S} Fact configs spot =
+    (config : Config S) × Contains configs config × Fact config spot
+
+-- the new ones are the old ones and those that are found, but for those that are there already, and
+-- each is there once
+pub record Gathers {S : Type 0} (Found : Spot S → Type 0) (old new : List (Config S)) : Type 0
+  where
+    pub sound : (config : Config S) → Contains new config
+        → Contains old config ⊎ Found (spot_of config)
+    pub kept : (config : Config S) → Contains old config → Contains new config
+    pub complete : (spot : Spot S) → Found spot
+        → (known : Config S) × Contains new known × IsAt known spot
+    pub once : AllPairs (λ a b. ¬ (IsSame a b)) old → AllPairs (λ a b. ¬ (IsSame a b)) new
+
+-- calls that waited in one of the configurations were made
+abbrev pub IsMadeFrom : {S : Type 0} → (S → ℕ → S → Type 0) → List (Option ℕ) → List (Config S)
+    → Spot S → Type 0
+IsMadeFrom {S} Step slots configs next =
+    (config : Config S) × Contains configs config
+    × ((calls : List ℕ) × Runs Step slots config.state config.waiting calls next.state next.waiting
+    × (next.made ≡ path_more (path_of config) calls))
+
+-- The call in the slot is made: of those that are done each has come from a configuration, and the
+-- call does not wait there. What some calls lead to, the call among them, is still led to from
+-- those done, or from those under way, in each of which fewer calls wait.
+pub record IsClosing {S : Type 0} (Step : S → ℕ → S → Type 0) (slots : List (Option ℕ))
+    (configs : List (Config S)) (slot : ℕ) (done layer : List (Config S)) (left : ℕ) : Type 0 where
+  pub sound : (config : Config S) → Contains done config
+      → IsMadeFrom Step slots configs (spot_of config) × (bit_at config.waiting slot ≡ 0)
+  pub under_way : (config : Config S) → Contains layer config
+      → IsMadeFrom Step slots configs (spot_of config)
+  pub complete : (new : S) (rest : ℕ) → LeadTo Step slots configs new rest → bit_at rest slot ≡ 0
+      → LeadTo Step slots done new rest ⊎ LeadTo Step slots layer new rest
+  pub short : (config : Config S) → Contains layer config
+      → ones config.waiting (length slots) < left
+  pub once : AllPairs (λ a b. ¬ (IsSame a b)) done
+
+-- the same once none is under way
+pub record IsClosed {S : Type 0} (Step : S → ℕ → S → Type 0) (slots : List (Option ℕ))
+    (configs : List (Config S)) (slot : ℕ) (done : List (Config S)) : Type 0 where
+  pub sound : (config : Config S) → Contains done config
+      → IsMadeFrom Step slots configs (spot_of config) × (bit_at config.waiting slot ≡ 0)
+  pub complete : (new : S) (rest : ℕ) → LeadTo Step slots configs new rest → bit_at rest slot ≡ 0
+      → LeadTo Step slots done new rest
+  pub once : AllPairs (λ a b. ¬ (IsSame a b)) done
+
+-- an order of no calls has come to the spot from one of these states
+abbrev pub IsFirst : {S : Type 0} → List S → Spot S → Type 0
+IsFirst olds spot = Contains olds spot.state × (spot.waiting ≡ 0) × (spot.made ≡ no_path)
+
+-- there are these links, and others after them
+abbrev pub Grows : List Link → List Link → Type 0
+Grows links more = (others : List Link) × (more ≡ links ++ others)
+
+-- the calls stand in the links, after those up to the first number, and end at the second one
+abbrev pub IsLaidOut : List Link → ℕ → List ℕ → List Link → ℕ → Type 0
+IsLaidOut links base calls more last =
+    Grows links more
+    × (base ≤ length links → (last ≤ length more) × (read more last ≡ read links base ++ calls))
+
+-- the same configuration, with the same order in more links
+abbrev pub IsLaid : {S : Type 0} → List Link → List Link → Config S → Config S → Type 0
+IsLaid links more config laid =
+    (laid.state ≡ config.state) × (laid.waiting ≡ config.waiting) × Grows links more
+    × (config.base ≤ length links
+    → (laid.base ≤ length more) × (order_of more laid ≡ order_of links config))
+
+-- the same configurations, each at its place, with the same orders in more links
+pub record AreLaid {S : Type 0} (links more : List Link) (configs laid : List (Config S)) : Type 0
+  where
+    pub grows : Grows links more
+    pub as_many : length laid ≡ length configs
+    pub each : (place : ℕ) (d : Config S) → place < length laid
+        → IsLaid links more (get_or configs place d) (get_or laid place d)
+
+-- the same configurations, each at its place, with orders of no calls
+abbrev pub AreUnlinked : {S : Type 0} → List (Config S) → List (Config S) → Type 0
+AreUnlinked {S} configs unlinked =
+    (length unlinked ≡ length configs)
+    × ((place : ℕ) (d : Config S) → place < length unlinked
+    → ((get_or unlinked place d).state ≡ (get_or configs place d).state)
+    × ((get_or unlinked place d).waiting ≡ (get_or configs place d).waiting)
+    × (path_of (get_or unlinked place d) ≡ no_path))
+
+-- more configurations than are followed, each there once, to which calls that waited lead
+abbrev pub HasMany : {S : Type 0} → (S → ℕ → S → Type 0) → List (Option ℕ) → List (Config S) →
+    Type 0
+HasMany {S} Step slots configs =
+    (many : List (Config S)) × (4096 < length many) × AllPairs (λ a b. ¬ (IsSame a b)) many
+    × ((config : Config S) → Contains many config → IsMadeFrom Step slots configs (spot_of config))
+
+-- the call in the slot is made, or there are too many configurations
+abbrev pub IsCloseOutcome : {S : Type 0} → (S → ℕ → S → Type 0) → List (Option ℕ) → List (Config S)
+    → ℕ → Option (Vec (Config S)) → Type 0
+IsCloseOutcome Step slots configs slot (Some done) = IsClosed Step slots configs slot done.items
+IsCloseOutcome Step slots configs slot None = HasMany Step slots configs
+
+-- what was done, by the configurations that are left
+abbrev pub IsLeft : {S : Type 0} → List (Config S) → Advance → Type 0
+IsLeft configs advance.Done = 0 < length configs
+IsLeft configs advance.Refused = length configs ≡ 0
+IsLeft configs advance.ManyConfigs = ⊥
+IsLeft configs advance.ManyOpen = ⊥
+IsLeft configs advance.NoEvent = ⊥

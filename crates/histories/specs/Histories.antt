@@ -1,0 +1,93 @@
+-- Histories of calls that overlapped, and the orders that explain them.
+use Rattle.std.specs.Prelude.{◌≡◌, ℕ, ◌+◌, ◌<◌, ◌≤◌, ◌⊎◌, List, [], ◌∷◌, take, cond, eqb, Some, All, AllPairs, slice_get}
+use Rattle.std.specs.List.{Contains}
+use Rattle.histories.specs.declared.event.Event.{Event}
+use Rattle.histories.specs.declared.event.Event.TheVariants.{Begin, End, Crash}
+
+-- the list has each value that the fact is true of, and no other
+abbrev pub AreAll : {S : Type 0} → (S → Type 0) → List S → Type 0
+AreAll {S} Fact values = All Fact values × ((value : S) → Fact value → Contains values value)
+
+-- how often the number stands in the list
+unfoldable pub times : ℕ → List ℕ → ℕ
+times number [] = 0
+times number (x ∷ xs) = cond (eqb x number) 1 0 + times number xs
+
+-- how often the call begins
+unfoldable pub begins : ℕ → List Event → ℕ
+begins call [] = 0
+begins call (Begin begun ∷ events) = cond (eqb begun call) 1 0 + begins call events
+begins call (End ended ∷ events) = begins call events
+begins call (Crash crashed ∷ events) = begins call events
+
+-- how many calls begin
+unfoldable pub begun : List Event → ℕ
+begun [] = 0
+begun (Begin call ∷ events) = 1 + begun events
+begun (End call ∷ events) = begun events
+begun (Crash call ∷ events) = begun events
+
+-- the event stands at this place
+abbrev pub StandsAt : List Event → ℕ → Event → Type 0
+StandsAt events place event = slice_get events place ≡ Some event
+
+-- the call was answered
+abbrev pub IsAnswered : List Event → ℕ → Type 0
+IsAnswered events call = (place : ℕ) × StandsAt events place (End call)
+
+-- the call is over from this place on: it was answered, or its caller crashed
+abbrev pub EndsAt : List Event → ℕ → ℕ → Type 0
+EndsAt events place call =
+    StandsAt events place (End call) ⊎ StandsAt events place (Crash call)
+
+abbrev pub HasEnded : List Event → ℕ → Type 0
+HasEnded events call = (place : ℕ) × EndsAt events place call
+
+-- the call is open: it has begun, and has not ended
+abbrev pub IsOpen : List Event → ℕ → Type 0
+IsOpen events call = (0 < begins call events) × (¬ (HasEnded events call))
+
+-- the first call was over when the second began: its end stands before the begin of the second
+abbrev pub IsOver : List Event → ℕ → ℕ → Type 0
+IsOver events first second =
+    (ended : ℕ) × (begun : ℕ) × (ended < begun) × EndsAt events ended first
+    × StandsAt events begun (Begin second)
+
+-- the calls lead from the old state to the new one, one after the other
+abbrev pub Leads : {S : Type 0} → (S → ℕ → S → Type 0) → S → List ℕ → S → Type 0
+Leads Step old [] new = new ≡ old
+Leads {S} Step old (call ∷ calls) new =
+    (mid : S) × Step old call mid × Leads Step mid calls new
+
+-- The order explains the history: it has calls that have begun, each once. All that were answered
+-- are among them. No call stands before one that was over when it began. The calls lead, one after
+-- the other, from the old state to the new one.
+pub record Explains {S : Type 0} (Step : S → ℕ → S → Type 0) (events : List Event) (old : S)
+    (order : List ℕ) (new : S) : Type 0 where
+  pub once : (call : ℕ) → times call order ≤ 1
+  pub begun : (call : ℕ) → 0 < times call order → 0 < begins call events
+  pub answered : (call : ℕ) → IsAnswered events call → 0 < times call order
+  pub real_time : AllPairs (λ first second. ¬ (IsOver events second first)) order
+  pub leads : Leads Step old order new
+
+-- an order of calls explains the history from one of the old states
+abbrev pub IsExplained : {S : Type 0} → (S → ℕ → S → Type 0) → List Event → List S → Type 0
+IsExplained {S} Step events olds =
+    (old : S) × (order : List ℕ) × (new : S) × Contains olds old
+    × Explains Step events old order new
+
+-- the event may come next: calls are numbered by their begins, and one that is open ends
+abbrev pub MayFollow : List Event → Event → Type 0
+MayFollow events (Begin call) = call ≡ begun events
+MayFollow events (End call) = IsOpen events call
+MayFollow events (Crash call) = IsOpen events call
+
+-- a call that begins has the next number
+abbrev pub IsNext : List Event → Event → Type 0
+IsNext events event = (call : ℕ) → event ≡ Begin call → call ≡ begun events
+
+-- each event may follow those before it
+abbrev pub IsHistory : List Event → Type 0
+IsHistory events =
+    (place : ℕ) (event : Event) → StandsAt events place event
+    → MayFollow (take place events) event

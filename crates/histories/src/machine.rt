@@ -1,0 +1,35 @@
+//! What is searched: recorded calls that lead from one state to another.
+ghost use Rattle.std.specs.Prelude.{◌≡◌, ◌↔◌, ℕ, IfOk, IsTrue};
+ghost use Rattle.histories.specs.Frontier.{IsIdle};
+ghost use Rattle.histories.specs.Histories.{AreAll};
+
+use std::alloc::AllocError;
+
+/// Recorded calls. A call is named by its number.
+pub trait Machine {
+    /// What the calls change.
+    type State: Drop;
+
+    /// The call can be made in the first state and leaves the second: with the reply that was
+    /// seen, or, where none was seen, with any reply.
+    ghost Step: { Self → Self.State → ℕ → Self.State → Type 0 };
+
+    /// All states that the call may leave.
+    fn follow(&self, state: &Self::State, call: usize) -> Result<Vec<Self::State>, AllocError>
+        ensures { IfOk result (λ found. AreAll (Step self.now state.now call) found.items) };
+
+    /// Whether the call can be made in this state, and changes nothing in whatever state it is
+    /// made, as a query or a call that was refused. Such a call is made at once. An answer of no is
+    /// always right: then more orders are followed.
+    fn is_idle(&self, state: &Self::State, call: usize) -> bool
+        ensures { IsTrue result → Step self.now state.now call state.now
+            × IsIdle (Step self.now) call };
+
+    /// A copy of the state.
+    fn copied(&self, state: &Self::State) -> Result<Self::State, AllocError>
+        ensures { IfOk result (λ copy. copy ≡ state.now) };
+
+    /// Whether two states are the same.
+    fn same(&self, one: &Self::State, other: &Self::State) -> bool
+        ensures { IsTrue result ↔ (one.now ≡ other.now) };
+}

@@ -1,0 +1,76 @@
+//! The slots of the calls that are open.
+ghost use Rattle.std.specs.Prelude.{◌≡◌, ◌<◌, ◌≤◌, None, IfNone, IfOk, IfSome, IsFalse, IsTrue, ℕ, length, get_or};
+ghost use Rattle.histories.specs.Frontier.{HasSlot};
+ghost use Rattle.histories.specs.Gathering.{AreTaken, FreesSlot, TakesSlot};
+
+use super::front::MAX_OPEN;
+use std::alloc::AllocError;
+
+/// The first slot that is free.
+fn free_slot(slots: &[Option<usize>]) -> Option<usize>
+    ensures some { IfSome result (λ slot. (slot < length slots.now)
+        × (get_or slots.now slot None ≡ None)) }
+    ensures none { IfNone result ((slot : ℕ) → slot < length slots.now
+        → get_or slots.now slot None ≡ None → ⊥) }
+{
+    for slot in 0..slots.len() {
+        if slots[slot].is_none() {
+            return Some(slot);
+        }
+    }
+    None
+}
+
+/// The slot of the call.
+pub fn slot_of(slots: &[Option<usize>], call: usize) -> Option<usize>
+    ensures some { IfSome result (λ slot. (slot < length slots.now)
+        × HasSlot slots.now slot call) }
+    ensures none { IfNone result ((slot : ℕ) → HasSlot slots.now slot call → ⊥) }
+{
+    for slot in 0..slots.len() {
+        if slots[slot] == Some(call) {
+            return Some(slot);
+        }
+    }
+    None
+}
+
+/// Gives the call a slot, or returns `None` where none is left.
+pub fn take_slot(slots: &mut Vec<Option<usize>>, call: usize) -> Result<Option<usize>, AllocError>
+    requires few { length slots.old.items ≤ 64 }
+    ensures some { IfOk result (λ taken. IfSome taken
+        (λ slot. TakesSlot slots.old.items call slot slots.new.items)) }
+    ensures none { IfOk result (λ taken. IfNone taken (AreTaken slots.old.items)) }
+{
+    if let Some(slot) = free_slot(slots) {
+        slots[slot] = Some(call);
+        return Ok(Some(slot));
+    }
+    let slot = slots.len();
+    if slot >= MAX_OPEN {
+        return Ok(None);
+    }
+    slots.push(Some(call))?;
+    Ok(Some(slot))
+}
+
+/// Makes the slot free.
+pub fn free(slots: &mut Vec<Option<usize>>, slot: usize)
+    requires { slot < length slots.old.items }
+    ensures { FreesSlot slots.old.items slot slots.new.items }
+{
+    slots[slot] = None;
+}
+
+/// Whether all slots are free.
+pub fn are_free(slots: &[Option<usize>]) -> bool
+    ensures yes { IsTrue result → (slot call : ℕ) → HasSlot slots.now slot call → ⊥ }
+    ensures no { IsFalse result → (slot : ℕ) × (call : ℕ) × HasSlot slots.now slot call }
+{
+    for slot in slots {
+        if slot.is_some() {
+            return false;
+        }
+    }
+    true
+}

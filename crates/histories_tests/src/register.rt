@@ -1,0 +1,98 @@
+//! A register that is written and read.
+ghost use Rattle.std.specs.Prelude.{◌≡◌, ℕ, IfNone, IfOk, IfSome, IsTrue, slice_get};
+ghost use Rattle.histories.specs.Histories.{AreAll};
+ghost use Rattle.histories_tests.specs.Register.{Makes, MakesCall};
+
+use histories::Machine;
+use std::alloc::{AllocError, Global};
+
+/// A call on the register, with the reply that was seen.
+#[derive(Clone, Copy)]
+pub enum Access {
+    /// The value that was written.
+    Write(u64),
+    /// The value that was read.
+    Read(u64),
+    /// A read that was never answered.
+    Unanswered,
+}
+
+/// Recorded calls on the register.
+#[derive(Drop)]
+pub struct Recorded {
+    pub alloc: Global,
+    pub calls: Vec<Access>,
+}
+
+/// The value after a call, or `None` where the reply is not that of a register with this value.
+fn after(access: &Access, value: u64) -> Option<u64>
+    ensures some { IfSome result (λ new. Makes access.now value new
+        × ((other : ℕ) → Makes access.now value other → other ≡ new)) }
+    ensures none { IfNone result ((other : ℕ) → ¬ (Makes access.now value other)) }
+{
+    match access {
+        Access::Write(written) => Some(*written),
+        Access::Read(seen) if *seen == value => Some(value),
+        Access::Read(_) => None,
+        Access::Unanswered => Some(value),
+    }
+}
+
+/// All values after a call: one, or none.
+fn all_after(alloc: Global, access: &Access, value: u64) -> Result<Vec<u64>, AllocError>
+    ensures { IfOk result (λ found. AreAll (Makes access.now value) found.items) }
+{
+    let mut list = Vec::new(alloc);
+    let Some(new) = after(access, value) else {
+        return Ok(list);
+    };
+    list.push(new)?;
+    Ok(list)
+}
+
+/// No value.
+fn nothing(alloc: Global) -> Vec<u64>
+    ensures { AreAll (λ _. ⊥) result.items }
+{
+    Vec::new(alloc)
+}
+
+/// Whether the call can be made with this value, and is no write.
+fn reads(access: &Access, value: u64) -> bool
+    ensures { IsTrue result → Makes access.now value value
+        × ((old new : ℕ) → Makes access.now old new → new ≡ old) }
+{
+    match access {
+        Access::Write(_) => false,
+        Access::Read(seen) => *seen == value,
+        Access::Unanswered => true,
+    }
+}
+
+impl Machine for Recorded {
+    type State = u64;
+
+    ghost Step = { λ m value call new. MakesCall (slice_get m.calls.items call) value new };
+
+    fn follow(&self, value: &u64, call: usize) -> Result<Vec<u64>, AllocError> {
+        match self.calls.get(call) {
+            Some(access) => all_after(self.alloc, access, *value),
+            None => Ok(nothing(self.alloc)),
+        }
+    }
+
+    fn is_idle(&self, value: &u64, call: usize) -> bool {
+        match self.calls.get(call) {
+            Some(access) => reads(access, *value),
+            None => false,
+        }
+    }
+
+    fn copied(&self, value: &u64) -> Result<u64, AllocError> {
+        Ok(*value)
+    }
+
+    fn same(&self, one: &u64, other: &u64) -> bool {
+        *one == *other
+    }
+}
