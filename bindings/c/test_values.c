@@ -852,17 +852,17 @@ static void causes(void) {
               (told.status == IOX2SD_STATUS_BAD_PATH) == (path != IOX2SD_STATUS_DONE));
         const bool is_utf8 = i != 1;
         told = iox2sd_hash_text(IOX2SD_PATTERN_EVENT, text, length, out, 300);
-        CHECK(told.cause == (is_utf8 ? name : IOX2SD_STATUS_DONE));
+        CHECK(told.cause == (is_utf8 ? name : (uint32_t)IOX2SD_STATUS_DONE));
         CHECK((told.status == IOX2SD_STATUS_BAD_SERVICE_NAME) ==
               (is_utf8 && name != IOX2SD_STATUS_DONE));
         told = iox2sd_internal_hash_text(IOX2SD_PATTERN_EVENT, text, length, out, 300);
-        CHECK(told.cause == (is_utf8 ? internal : IOX2SD_STATUS_DONE));
+        CHECK(told.cause == (is_utf8 ? internal : (uint32_t)IOX2SD_STATUS_DONE));
         iox2sd_description made;
         iox2sd_field_answer field = iox2sd_describe_publish_subscribe(&settings, text, length,
                                                                       false, service, &made);
-        CHECK(field.cause == (is_utf8 ? name : IOX2SD_STATUS_DONE) && field.field == 0);
+        CHECK(field.cause == (is_utf8 ? name : (uint32_t)IOX2SD_STATUS_DONE) && field.field == 0);
         field = iox2sd_describe_publish_subscribe(&settings, text, length, true, service, &made);
-        CHECK(field.cause == (is_utf8 ? internal : IOX2SD_STATUS_DONE));
+        CHECK(field.cause == (is_utf8 ? internal : (uint32_t)IOX2SD_STATUS_DONE));
         iox2sd_attribute pairs[2] = {iox2sd_attribute_str("k", "v"), {text, length, bytes("v"), 1}};
         iox2sd_key keys[2] = {iox2sd_key_str("k"), {text, length}};
         const iox2sd_attribute good = pairs[0];

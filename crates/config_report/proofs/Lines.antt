@@ -1,5 +1,5 @@
 -- The lines of settings, one after the other.
-use Rattle.std.proofs.Common.{◌≡◌, ℕ, ◌+◌, ◌≤◌, ◌<◌, List, [], ◌∷◌, ◌++◌, length, map, drop, get_or, slice_get, Some, None, refl, sym, ap, ◌∙◌, subst, add-one, append_assoc, append-nil, arith, length-append, drop-cons, drop_of_length-le}
+use Rattle.std.proofs.Common.{◌≡◌, ℕ, zero, suc, ◌+◌, ◌≤◌, ◌<◌, List, [], ◌∷◌, ◌++◌, length, map, drop, get_or, slice_get, Some, None, refl, sym, ap, ◌∙◌, subst, add-one, append_assoc, append-nil, arith, length-append, drop-cons, drop_of_length-le}
 use Rattle.std.specs.Prelude.{flat_map}
 use Rattle.std.proofs.lemmas.List.{length-map}
 use Rattle.iox2_config.specs.declared.config.Config.{Config}
@@ -30,6 +30,38 @@ one_more view text xs i x out new whole lt is before wrote =
     first ∙ ap (λ y. y ∷ drop (i + 1) xs) (sym is) in
     ap (λ l. l ++ more) wrote ∙ append_assoc out (text (view x)) more
     ∙ ap (λ l. out ++ flat_map text (map view l)) (sym split) ∙ before
+
+-- what a list that is mapped twice has at an index
+pub at_map : {A B C : Type 0} (view : A → B) (f : B → C) (xs : List A) (i : ℕ) (x : A) (d : C)
+    → i < length xs → x ≡ get_or xs i x → get_or (map f (map view xs)) i d ≡ f (view x)
+at_map view f [] i x d lt is = absurd (omega arith)
+at_map view f (y ∷ ys) zero x d lt is = ap (λ z. f (view z)) (sym is)
+at_map view f (y ∷ ys) (suc i) x d lt is = at_map view f ys i x d (omega arith) is
+
+-- a value by its index, whatever stands past the end
+pub item_is : {A : Type 0} (xs : List A) (i : ℕ) (d : A) → i < length xs
+    → get_or xs i d ≡ get_or xs i (get_or xs i d)
+item_is [] i d lt = absurd (omega arith)
+item_is (x ∷ xs) zero d lt = refl
+item_is (x ∷ xs) (suc i) d lt = item_is xs i d (omega arith)
+
+-- past the last of some values all of them are mapped
+pub all_mapped : {A B C : Type 0} (view : A → B) (f : B → C) (xs : List A) (i : ℕ)
+    (done whole : List C) → length xs ≤ i → done ++ map f (map view (drop i xs)) ≡ whole
+    → done ≡ whole
+all_mapped view f xs i done whole all is =
+    let ended : done ++ [] ≡ whole = rw (drop_of_length-le xs all) at is in
+    sym (append-nil done) ∙ ended
+
+pub map_same : {A B : Type 0} (f g : A → B) (xs : List A) → ((x : A) → f x ≡ g x)
+    → map f xs ≡ map g xs
+map_same f g [] same = refl
+map_same f g (x ∷ xs) same = rw (same x, map_same f g xs same) refl
+
+pub map_twice : {A B C : Type 0} (f : A → B) (g : B → C) (xs : List A)
+    → map g (map f xs) ≡ map (λ x. g (f x)) xs
+map_twice f g [] = refl
+map_twice f g (x ∷ xs) = rw (map_twice f g xs) refl
 
 -- no settings have no lines
 pub no_settings : (s : Section) (ds : List Setting) → AreSettingLines s ds [] []

@@ -1,3 +1,4 @@
 pub mod Limits
+pub mod Positions
 pub mod Report
 pub mod Text

@@ -8,6 +8,7 @@
 mod chunks;
 mod files;
 mod named;
+mod positions;
 mod refused;
 mod report;
 mod text;

@@ -1,10 +1,12 @@
 //! What is said of a file of settings.
 
-ghost use Rattle.std.specs.Prelude.{◌≡◌, IfOk, map, flat_map, string_bytes};
-ghost use Rattle.config_report.specs.Report.{ReadsFile, Reports, HasDefaults, warning_text};
+ghost use Rattle.std.specs.Prelude.{◌≡◌, IfOk, IsSome, map, flat_map, string_bytes};
+ghost use Rattle.config_report.specs.Report.{ReadsFile, Reports, HasDefaults, warning_in};
+ghost use Rattle.toml.specs.Parse.{parse_document};
 ghost use Rattle.config_report.specs.Text.{IsReportText};
 ghost use Rattle.iox2_config_file.specs.Unknown.{unknown_view};
 
+use crate::positions::unknown_positions;
 use crate::refused::{no_utf8, refusal};
 use crate::text::write_text;
 use crate::warnings::write_warnings;
@@ -47,7 +49,7 @@ pub fn read_file(alloc: Global, bytes: &[u8]) -> Result<FileConfig, ReportError>
 {
     match str::from_utf8(bytes) {
         Ok(text) => match read_config(alloc, text) {
-            Ok(settings) => match warnings_of(alloc, settings.unknown.as_slice()) {
+            Ok(settings) => match warnings_of(alloc, text, settings.unknown.as_slice()) {
                 Ok(warnings) => Ok(FileConfig {
                     config: settings.config,
                     warnings,
@@ -75,13 +77,14 @@ pub fn report_file(alloc: Global, bytes: &[u8]) -> Result<Report, ReportError>
     }
 }
 
-/// A line for each key that no setting has.
-fn warnings_of(alloc: Global, unknown: &[UnknownKey]) -> Result<String, AllocError>
-    ensures { IfOk result (λ warnings. string_bytes warnings
-        ≡ flat_map warning_text (map unknown_view unknown.now)) }
+/// A line for each key of a text that no setting has.
+fn warnings_of(alloc: Global, text: &str, unknown: &[UnknownKey]) -> Result<String, AllocError>
+    ensures { IfOk result (λ warnings. IsSome (parse_document text.now) → string_bytes warnings
+        ≡ flat_map (warning_in text.now) (map unknown_view unknown.now)) }
 {
+    let positions = unknown_positions(alloc, text, unknown)?;
     let mut warnings = String::new(alloc);
-    write_warnings(&mut warnings, unknown)?;
+    write_warnings(&mut warnings, unknown, positions.as_slice())?;
     Ok(warnings)
 }
 

@@ -8,6 +8,8 @@ mod faults;
 #[cfg(test)]
 mod memory;
 #[cfg(test)]
+mod positions;
+#[cfg(test)]
 mod settings;
 #[cfg(test)]
 mod unknown;

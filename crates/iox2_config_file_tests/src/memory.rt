@@ -7,6 +7,7 @@ use iox2_config_file::{
     ConfigFileError, ConfigWriteError, Section, read_config, report_all, write_config,
 };
 use std::alloc::Global;
+use std::test::Fail;
 use test_support::memory::may_be_refused;
 
 /// A file with a setting of each kind and two keys that no setting has.
@@ -60,4 +61,16 @@ fn a_configuration_is_written_whole_or_not_at_all(rt: HostRuntime) {
         Err(ConfigWriteError::NoMemory) => assert!(rt; may_be_refused(&rt)),
         Err(ConfigWriteError::OutOfRange(_)) => panic!(rt; "the configuration is refused"),
     }
+}
+
+/// A file of 100,000 bytes and more is read: no size wants more memory than there is.
+#[test]
+fn a_long_file_is_read(rt: HostRuntime) -> Result<(), Fail> {
+    let mut text = "# a line of thirty-two bytes ...\n".repeat(rt.alloc(), 4_000)?;
+    text.push_str("defaults.event.max-nodes = 7\nnodes = 1\n")?;
+    match unknown(rt.alloc(), text.as_str()) {
+        Some(count) => assert_eq!(rt; count, 1),
+        None => assert!(rt; may_be_refused(&rt)),
+    }
+    Ok(())
 }

@@ -25,8 +25,9 @@ fn settings_are_written_with_what_follows(rt: HostRuntime) {
 #[test]
 fn all_faults_of_a_file_are_written(rt: HostRuntime) {
     let file = "defaults.event.max-nodes = ''\nglobal.prefix = 2\nsize = 1";
-    let faults = b"global.prefix: is an integer, and a string with the name of a file is wanted
-defaults.event.max-nodes: is a string, and an integer is wanted
+    let faults =
+        b"2:1: error: global.prefix: is an integer, and a string with the name of a file is wanted
+1:1: error: defaults.event.max-nodes: is a string, and an integer is wanted
 ";
     let (status, output, errors) = run(&rt, rt.alloc(), &["iox2-describe", "config"], file);
     assert_eq!(rt;

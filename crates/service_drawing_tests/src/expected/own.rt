@@ -50,7 +50,7 @@ pub(crate) const FILES: [(&str, &str); 3] = [
     ),
     (
         "config\n[defaults.event]\nmax-nodes = 5\nmax-listener = 4\nend\nevent My/Event\nset max_listeners 3\n",
-        "unknown key defaults.event.max-listener: defaults.event.max-listeners may be meant\n",
+        "4:1: warning: defaults.event.max-listener: this table has no such key, defaults.event.max-listeners may be meant\n",
     ),
 ];
 
@@ -71,8 +71,8 @@ pub(crate) const REFUSED: [(&str, &str); 8] = [
     ),
     (
         "config\nglobal.prefix = 2\ndefaults.event.max-nodes = ''\nend\nevent A\n",
-        "global.prefix: is an integer, and a string with the name of a file is wanted
-defaults.event.max-nodes: is a string, and an integer is wanted
+        "2:1: error: global.prefix: is an integer, and a string with the name of a file is wanted
+3:1: error: defaults.event.max-nodes: is a string, and an integer is wanted
 ",
     ),
     (
@@ -93,8 +93,9 @@ defaults.event.max-nodes: is a string, and an integer is wanted
     ),
 ];
 
-/// Settings that are no TOML, at the third line of the input, and what the report begins with.
+/// Settings that are no TOML, at the third line of the input, and what is reported.
 pub(crate) const NO_TOML: (&str, &str) = (
     "config\n\nglobal = \nend\nevent A\n",
-    "TOML parse error at line 3, column 10\n",
+    "3:10: error: invalid value, expected a string, number, boolean, date-time, array or inline \
+     table\n",
 );

@@ -12,8 +12,8 @@ max-publisher = 3
 ";
 
 /// What is said of the keys that no setting has.
-pub(crate) const UNKNOWN: &str = "unknown key size: no setting has it
-unknown key defaults.publish-subscribe.max-publisher: defaults.publish-subscribe.max-publishers may be meant
+pub(crate) const UNKNOWN: &str = "1:1: warning: size: this table has no such key
+8:1: warning: defaults.publish-subscribe.max-publisher: this table has no such key, defaults.publish-subscribe.max-publishers may be meant
 ";
 
 /// What follows from the file, below its settings. A publisher may have 2 samples taken, and each

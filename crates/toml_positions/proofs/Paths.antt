@@ -1,0 +1,115 @@
+-- Paths of keys.
+use Rattle.std.proofs.Common.{◌≡◌, ◌≤◌, ◌<◌, ◌⊎◌, inl, inr, ℕ, zero, suc, Bool, true, false, ◌&&◌, ◌||◌, bytes_eq, get_or, Option, None, List, [], ◌∷◌, ◌++◌, length, map, take, drop, refl, sym, ap, ◌∙◌, string_bytes, String, arith, append_assoc, length-append, drop_of_length-le}
+use Rattle.std.specs.Borrow.{Bor}
+use Rattle.std.specs.declared.alloc.Global.{Global}
+use Rattle.std.specs.Prelude.{nat_le}
+use Rattle.std.proofs.lemmas.Bool.Decides.{nat_tests}
+use Rattle.std.proofs.lemmas.List.{map-append}
+use Rattle.toml_parser.specs.Reading.{path_view as keys_view}
+use Rattle.toml_positions.specs.Written.{agree, writes, written}
+
+agree_none : (ks : List (List ℕ)) → agree ks [] ≡ true
+agree_none [] = refl
+agree_none (k ∷ ks) = refl
+
+and_true : (b : Bool) → (b && true) ≡ b
+and_true true = refl
+and_true false = refl
+
+assoc_and : (a b c : Bool) → (a && (b && c)) ≡ ((a && b) && c)
+assoc_and true b c = refl
+assoc_and false b c = refl
+
+agree_one : (k : List ℕ) (ks : List (List ℕ)) (l : List ℕ)
+    → agree (k ∷ ks) (l ∷ []) ≡ bytes_eq k l
+agree_one k ks l = rw (agree_none ks) (and_true (bytes_eq k l))
+
+-- past the end of one of two paths they agree
+pub agree_past : (xs : List (String Global)) (ys : List (Bor (List ℕ))) (i : ℕ)
+    → (length xs ≤ i) ⊎ (length ys ≤ i)
+    → agree (keys_view (drop i xs)) (map (λ k. k.now) (drop i ys)) ≡ true
+agree_past xs ys i (inl h) = rw (drop_of_length-le xs h) refl
+agree_past xs ys i (inr h) = rw (drop_of_length-le ys h) (agree_none _)
+
+-- a path that goes on with one key more
+pub agree_more : (ks ls : List (List ℕ)) (l d : List ℕ) → length ls < length ks
+    → agree ks (ls ++ l ∷ []) ≡ (agree ks ls && bytes_eq (get_or ks (length ls) d) l)
+agree_more [] ls l d h = absurd (omega arith)
+agree_more (k ∷ ks) [] l d h = agree_one k ks l
+agree_more (k ∷ ks) (m ∷ ls) l d h =
+    rw (agree_more ks ls l d (omega arith)) (assoc_and (bytes_eq k m) (agree ks ls) _)
+
+pub agree_short : (ks ls : List (List ℕ)) (l : List ℕ) → length ks ≤ length ls
+    → agree ks (ls ++ l ∷ []) ≡ agree ks ls
+agree_short [] ls l h = refl
+agree_short (k ∷ ks) [] l h = absurd (omega arith)
+agree_short (k ∷ ks) (m ∷ ls) l h = rw (agree_short ks ls l (omega arith)) refl
+
+-- the keys of an expression, appended
+pub led : (old front : List (String Global)) (last : String Global)
+    → keys_view ((old ++ front) ++ last ∷ [])
+    ≡ keys_view old ++ (keys_view front ++ string_bytes last ∷ [])
+led old front last =
+    map-append string_bytes (old ++ front) (last ∷ [])
+    ∙ ap (λ l. l ++ string_bytes last ∷ []) (map-append string_bytes old front)
+    ∙ append_assoc (keys_view old) (keys_view front) (string_bytes last ∷ [])
+
+-- a front that is kept is the front of what follows it
+pub take_front : {A : Type 0} (n : ℕ) (xs ys : List A) → n ≤ length xs
+    → take n (take n xs ++ ys) ≡ take n xs
+take_front zero xs ys h = refl
+take_front (suc n) [] ys h = absurd (omega arith)
+take_front (suc n) (x ∷ xs) ys h = ap (λ l. x ∷ l) (take_front n xs ys (omega arith))
+
+-- a list that is known by its indices
+pub all_by_index : {A : Type 0} (f : List (List ℕ) → Option A) (xs : List (Option A))
+    (ys : List (List (List ℕ))) → length xs ≡ length ys
+    → ((k : ℕ) → k < length ys → get_or xs k None ≡ f (get_or ys k [])) → xs ≡ map f ys
+all_by_index f [] [] same each = refl
+all_by_index f [] (y ∷ ys) same each = absurd (omega (arith, same))
+all_by_index f (x ∷ xs) [] same each = absurd (omega (arith, same))
+all_by_index f (x ∷ xs) (y ∷ ys) same each =
+    let head : x ≡ f y = each 0 (omega arith) in
+    let more : (k : ℕ) → k < length ys → get_or xs k None ≡ f (get_or ys k []) =
+    λ k few. each (suc k) (omega arith) in
+    let rest = all_by_index f xs ys (omega (arith, same)) more in
+    rw (head, rest) refl
+
+fits : (n m : ℕ) → n ≤ m → nat_le n m ≡ true
+fits n m h = grind (arith, nat_tests)
+
+too_long : (n m : ℕ) → m < n → nat_le n m ≡ false
+too_long n m h = grind (arith, nat_tests)
+
+both : (a pair : Bool) → (a && (pair || true)) ≡ a
+both true true = refl
+both true false = refl
+both false pair = refl
+
+either : (a pair : Bool) → (a && (pair || false)) ≡ (pair && a)
+either true true = refl
+either true false = refl
+either false true = refl
+either false false = refl
+
+-- a path through which the path of an expression may lead
+pub writes_above : (start : List ℕ) (ks ls : List (List ℕ)) (l : List ℕ) (pair : Bool)
+    → length ls < length ks
+    → agree ks (ls ++ l ∷ []) ≡ writes (written start ks pair) (ls ++ l ∷ [])
+writes_above start ks ls l pair h =
+    let few : length (ls ++ l ∷ []) ≤ length ks = omega (arith, length-append ls (l ∷ [])) in
+    rw (fits _ _ few) (sym (both _ pair))
+
+-- a path that may lead through that of an expression
+pub writes_below : (start : List ℕ) (ks ls : List (List ℕ)) (l : List ℕ) (pair : Bool)
+    → length ks ≤ length ls
+    → (pair && agree ks ls) ≡ writes (written start ks pair) (ls ++ l ∷ [])
+writes_below start ks ls l pair h =
+    let many : length ks < length (ls ++ l ∷ []) = omega (arith, length-append ls (l ∷ [])) in
+    rw (too_long _ _ many, agree_short ks ls l h) (sym (either (agree ks ls) pair))
+
+pub key_at : (xs : List (String Global)) (i : ℕ) (x : String Global) → i < length xs
+    → x ≡ get_or xs i x → get_or (keys_view xs) i [] ≡ string_bytes x
+key_at [] i x h is = absurd (omega arith)
+key_at (y ∷ ys) zero x h is = ap string_bytes (sym is)
+key_at (y ∷ ys) (suc i) x h is = key_at ys i x (omega arith) is

@@ -1,0 +1,11 @@
+use Rattle.std.proofs.Common.{arith}
+use Rattle.std.proofs.lemmas.Grind.{common_steps}
+use Rattle.std.proofs.lemmas.Bool.Decides.{nat_tests}
+use Rattle.toml.specs.Parse.{skip_bom}
+use Rattle.toml.proofs.Turns.{bom_boundary}
+use Rattle.toml_positions.proofs.positions.skip_bom.Goals as goal
+
+pub range_from-requires : goal.range_from-requires
+unfolding skip_bom
+range_from-requires c _ =
+    bom_boundary c.args.text.now c.utf8.text (grind (arith, nat_tests, common_steps))

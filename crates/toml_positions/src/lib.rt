@@ -1,0 +1,14 @@
+//! Where in a TOML text the values at paths of keys are written.
+//!
+//! The toolchain's `toml` reads a text to a table and gives no positions. This crate goes over the
+//! expressions of a text that is TOML once, by the grammar of `toml`, and notes where each of some
+//! paths is first written.
+#![tactic(auto)]
+
+mod expression;
+mod position;
+mod positions;
+mod value;
+
+pub use position::{Position, position_after};
+pub use positions::{KeyPath, positions_of};

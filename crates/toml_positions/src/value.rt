@@ -1,0 +1,167 @@
+//! Values, of which only the end is looked for.
+ghost use Rattle.std.specs.Prelude.{◌≡◌, ℕ, ◌<◌, ◌≤◌, true, length, option_map, IfSome, IfOk};
+ghost use Rattle.toml_parser.specs.Reading.{key_view};
+ghost use Rattle.toml_parser.specs.Strings.{key, quoted, starts_string};
+ghost use Rattle.toml_parser.specs.Numbers.{unquoted};
+ghost use Rattle.toml.specs.Data.{no_items};
+ghost use Rattle.toml.specs.Tables.{no_nodes};
+ghost use Rattle.toml.specs.Parse as spec;
+ghost use Rattle.toml_positions.specs.Reading.{Agrees, Shortens};
+
+use std::alloc::{AllocError, Global};
+use toml_parser::text::{first, skip, skip_blank, skip_ws};
+use toml_parser::{Key, ParseError, dotted_key, quoted, starts_string, unquoted};
+
+/// A key, and the white space after it.
+pub(crate) fn read_key(alloc: Global, s: &str) -> Result<Option<(Key, &str)>, AllocError>
+    ensures value { IfOk result (λ o. option_map (λ p. (key_view p.0, p.1.now)) o ≡ key s.now) }
+    ensures shorter { Shortens (λ p. p.1.now) s.now result }
+{
+    match dotted_key(alloc, s) {
+        Ok(read) => Ok(Some(read)),
+        Err(ParseError::OutOfMemory) => Err(AllocError),
+        Err(_) => Ok(None),
+    }
+}
+
+/// What follows a string.
+fn after_string(alloc: Global, s: &str) -> Result<Option<&str>, AllocError>
+    requires { starts_string s.now ≡ true }
+    ensures value { IfOk result (λ o.
+        option_map (λ r. r.now) o ≡ option_map (λ p. p.1) (quoted s.now)) }
+    ensures shorter { Shortens (λ r. r.now) s.now result }
+{
+    match quoted(alloc, s) {
+        Ok((_text, rest)) => Ok(Some(rest)),
+        Err(ParseError::OutOfMemory) => Err(AllocError),
+        Err(_) => Ok(None),
+    }
+}
+
+/// What follows a scalar.
+fn after_scalar(alloc: Global, s: &str) -> Result<Option<&str>, AllocError>
+    ensures value { IfOk result (λ o.
+        option_map (λ r. r.now) o ≡ option_map (λ p. p.1) (unquoted s.now)) }
+    ensures shorter { Shortens (λ r. r.now) s.now result }
+{
+    match unquoted(alloc, s) {
+        Ok((_scalar, rest)) => Ok(Some(rest)),
+        Err(ParseError::OutOfMemory) => Err(AllocError),
+        Err(_) => Ok(None),
+    }
+}
+
+/// What follows a value with arrays and inline tables at most `depth` deep.
+#[cycle(value)]
+pub(crate) fn after_value(alloc: Global, s: &str, depth: usize) -> Result<Option<&str>, AllocError>
+    ensures value { Agrees (λ r. r.now) result (option_map (λ p. p.1) (spec.val depth s.now)) }
+    ensures shorter { Shortens (λ r. r.now) s.now result }
+{
+    let byte = first(s);
+    if byte != b'[' && byte != b'{' {
+        return after_atom(alloc, s);
+    }
+    if depth == 0 {
+        return Ok(None);
+    }
+    if byte == b'[' {
+        after_array(alloc, skip(s, 1), depth - 1)
+    } else {
+        after_table(alloc, skip(s, 1), depth - 1)
+    }
+}
+
+/// What follows a string or a scalar.
+#[tactic(auto, unfolding(toml::specs::Parse::atom))]
+fn after_atom(alloc: Global, s: &str) -> Result<Option<&str>, AllocError>
+    ensures value { IfOk result (λ o.
+        option_map (λ r. r.now) o ≡ option_map (λ p. p.1) (spec.atom s.now)) }
+    ensures shorter { Shortens (λ r. r.now) s.now result }
+{
+    if starts_string(s) {
+        after_string(alloc, s)
+    } else {
+        after_scalar(alloc, s)
+    }
+}
+
+/// What follows the elements of an array and its closing bracket.
+#[cycle(value)]
+fn after_array(alloc: Global, s: &str, depth: usize) -> Result<Option<&str>, AllocError>
+    ensures value { (n : ℕ) → length s.now < n → Agrees (λ r. r.now) result
+        (option_map (λ p. p.1) (spec.items (spec.val depth) n no_items s.now)) }
+    ensures shorter { Shortens (λ r. r.now) s.now result }
+{
+    let mut rest = s;
+    'items: loop {
+        let start = skip_blank(rest, true);
+        if first(start) == b']' {
+            return Ok(Some(skip(start, 1)));
+        }
+        let Some(after) = after_value(alloc, start, depth)? else {
+            return Ok(None);
+        };
+        let Some(next) = after_element(after, b']') else {
+            return Ok(None);
+        };
+        rest = next;
+    }
+}
+
+/// What follows the pairs of an inline table and its closing brace.
+#[cycle(value)]
+fn after_table(alloc: Global, s: &str, depth: usize) -> Result<Option<&str>, AllocError>
+    ensures value { (n : ℕ) → length s.now < n → Agrees (λ r. r.now) result
+        (option_map (λ p. p.1) (spec.members (spec.val depth) n no_nodes s.now)) }
+    ensures shorter { Shortens (λ r. r.now) s.now result }
+{
+    let mut rest = s;
+    'members: loop {
+        let start = skip_blank(rest, true);
+        if first(start) == b'}' {
+            return Ok(Some(skip(start, 1)));
+        }
+        let Some((_key, at_value)) = key_equals(alloc, start)? else {
+            return Ok(None);
+        };
+        let Some(after) = after_value(alloc, at_value, depth)? else {
+            return Ok(None);
+        };
+        let Some(next) = after_element(after, b'}') else {
+            return Ok(None);
+        };
+        rest = next;
+    }
+}
+
+/// What follows an element: past a comma, or at the closing bracket.
+#[tactic(auto, unfolding(toml::specs::Parse::after_element))]
+fn after_element(s: &str, closing: u8) -> Option<&str>
+    ensures value { option_map (λ r. r.now) result ≡ spec.after_element closing s.now }
+    ensures within { IfSome result (λ r. length r.now ≤ length s.now) }
+{
+    let rest = skip_blank(s, true);
+    if first(rest) == b',' {
+        Some(skip(rest, 1))
+    } else if first(rest) == closing {
+        Some(rest)
+    } else {
+        None
+    }
+}
+
+/// A key, with what follows its `=` and the white space after that.
+#[tactic(auto, unfolding(toml::specs::Parse::key_equals))]
+pub(crate) fn key_equals(alloc: Global, s: &str) -> Result<Option<(Key, &str)>, AllocError>
+    ensures value { IfOk result (λ o.
+        option_map (λ p. (key_view p.0, p.1.now)) o ≡ spec.key_equals s.now) }
+    ensures shorter { Shortens (λ p. p.1.now) s.now result }
+{
+    let Some((key, rest)) = read_key(alloc, s)? else {
+        return Ok(None);
+    };
+    if first(rest) != b'=' {
+        return Ok(None);
+    }
+    Ok(Some((key, skip_ws(skip(rest, 1)))))
+}
