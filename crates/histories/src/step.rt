@@ -109,7 +109,13 @@ fn crash<M: Machine>(
 /// one is followed. A call that can be made and changes nothing is made at once. What is kept grows
 /// with the calls that are open, the configurations and the links, and not with the history.
 ///
-/// Where memory was refused, or an answer is not `Done`, the front is of no history any more.
+/// Where memory was refused, or the result is not `Done`, the front is of no history any more.
+///
+/// From `crates/histories_tests/src/fronts.rt`:
+///
+/// ```
+/// let found = advance(alloc, &machine, &mut front, event)?;
+/// ```
 pub fn advance<M: Machine>(
     alloc: Global,
     machine: &M,

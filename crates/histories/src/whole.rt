@@ -33,6 +33,14 @@ fn count_after(count: usize, event: Event) -> Option<usize>
 /// Judges a history that begins in one of these states: whether some order of its calls explains
 /// it, in which each call that was answered is made with the reply that was seen. A call that was
 /// never answered is made with any reply, or not at all.
+///
+/// From `crates/histories_tests/src/histories.rt`:
+///
+/// ```
+/// match judge(alloc, &machine, &[0], events)? {
+///     Verdict::Explained(front) => Ok(Found::Left(front.configs.len())),
+///     Verdict::Refused(at) => Ok(Found::Refused(at)),
+/// ```
 pub fn judge<M: Machine>(
     alloc: Global,
     machine: &M,
