@@ -46,7 +46,7 @@ made iox2sdConfig.cmake "$cmake"
 
 # The crate, without its tests.
 rm -rf "$share"
-(cd rust && find -L Cargo.toml build.rs README.md LICENSE-* NOTICE src examples -type f) |
+(cd rust && find Cargo.toml build.rs README.md LICENSE-* NOTICE src examples -type f) |
     while read -r file; do install -D -m 644 "rust/$file" "$share/rust/$file"; done
 
 # The wheel.
