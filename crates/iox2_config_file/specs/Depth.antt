@@ -158,7 +158,7 @@ abbrev pub stepped : Scan → ℕ → Option Scan
 stepped s b =
     if is_outside s.inside b
     then option_map (λ n. record { inside = follow s.inside b; nesting = n })
-        (moved s.nesting.position s.nesting.marks b)
+    (moved s.nesting.position s.nesting.marks b)
     else Some (record { inside = follow s.inside b; nesting = s.nesting })
 
 abbrev pub Steps : Scan → ℕ → Bool → Scan → Type 0
@@ -194,7 +194,7 @@ abbrev pub found_from : Scan → TooDeep → List ℕ → Option TooDeep
 found_from s before [] = None
 found_from s before (b ∷ bs) =
     elim (stepped s b)
-      [ None ↦ Some (told before) | Some next ↦ found_from next (passed before b) bs ]
+    [ None ↦ Some (told before) | Some next ↦ found_from next (passed before b) bs ]
 
 -- the same of a whole text
 unfoldable pub too_deep : List ℕ → Option TooDeep

@@ -108,8 +108,10 @@ abbrev pub service_names_of : PlainTexts → List Keyed
 service_names_of t =
     (codes "global.service.data-segment-suffix", bytes_of t.data_segment_suffix)
     ∷ (codes "global.service.static-config-storage-suffix", bytes_of t.static_config_storage_suffix)
-    ∷ (codes "global.service.dynamic-config-storage-suffix",
-      bytes_of t.dynamic_config_storage_suffix)
+    ∷ (
+      codes "global.service.dynamic-config-storage-suffix",
+      bytes_of t.dynamic_config_storage_suffix,
+    )
     ∷ (codes "global.service.connection-suffix", bytes_of t.connection_suffix)
     ∷ (codes "global.service.event-connection-suffix", bytes_of t.event_connection_suffix)
     ∷ (codes "global.service.blackboard-mgmt-suffix", bytes_of t.blackboard_mgmt_suffix)

@@ -201,7 +201,12 @@ pub(crate) fn plain_fault(alloc: Global, fault: &SettingFault) -> Result<PlainFa
 {
     let path = key_path(alloc, fault.section, fault.key)?;
     let reason = reason_of(alloc, fault.fault)?;
-    Ok(placed(fault.fault, fault.section, path.as_bytes(), reason.as_bytes()))
+    Ok(placed(
+        fault.fault,
+        fault.section,
+        path.as_bytes(),
+        reason.as_bytes(),
+    ))
 }
 
 /// Where a text is too deep, or that there was no memory to say it.

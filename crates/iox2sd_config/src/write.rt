@@ -17,8 +17,7 @@ use iox2_texts::paths::{FileName, Path};
 use iox2sd_common::answers::put;
 use iox2sd_common::status::Status;
 use iox2sd_settings::read_settings::{
-    Field, read_blackboard, read_event, read_global, read_publish_subscribe,
-    read_request_response,
+    Field, read_blackboard, read_event, read_global, read_publish_subscribe, read_request_response,
 };
 use iox2sd_settings::settings::GlobalSettings;
 use std::alloc;
@@ -188,16 +187,31 @@ fn check_service_names(texts: &PlainTexts) -> Result<(), BadText>
     ensures err { IfErr result (λ bad.
         IsFirstBad IsFileName bad_name (service_names_of texts.now) (bad_view bad)) }
 {
-    check_name(&texts.data_segment_suffix, "global.service.data-segment-suffix")?;
-    check_name(&texts.static_config_storage_suffix, "global.service.static-config-storage-suffix")?;
+    check_name(
+        &texts.data_segment_suffix,
+        "global.service.data-segment-suffix",
+    )?;
+    check_name(
+        &texts.static_config_storage_suffix,
+        "global.service.static-config-storage-suffix",
+    )?;
     check_name(
         &texts.dynamic_config_storage_suffix,
         "global.service.dynamic-config-storage-suffix",
     )?;
     check_name(&texts.connection_suffix, "global.service.connection-suffix")?;
-    check_name(&texts.event_connection_suffix, "global.service.event-connection-suffix")?;
-    check_name(&texts.blackboard_mgmt_suffix, "global.service.blackboard-mgmt-suffix")?;
-    check_name(&texts.blackboard_data_suffix, "global.service.blackboard-data-suffix")
+    check_name(
+        &texts.event_connection_suffix,
+        "global.service.event-connection-suffix",
+    )?;
+    check_name(
+        &texts.blackboard_mgmt_suffix,
+        "global.service.blackboard-mgmt-suffix",
+    )?;
+    check_name(
+        &texts.blackboard_data_suffix,
+        "global.service.blackboard-data-suffix",
+    )
 }
 
 /// The ends of the names of nodes' files are names of files, or this is the first that is none.
@@ -207,7 +221,10 @@ fn check_node_names(texts: &PlainTexts) -> Result<(), BadText>
         IsFirstBad IsFileName bad_name (node_names_of texts.now) (bad_view bad)) }
 {
     check_name(&texts.monitor_suffix, "global.node.monitor-suffix")?;
-    check_name(&texts.node_static_config_suffix, "global.node.static-config-suffix")?;
+    check_name(
+        &texts.node_static_config_suffix,
+        "global.node.static-config-suffix",
+    )?;
     check_name(&texts.service_tag_suffix, "global.node.service-tag-suffix")?;
     check_name(&texts.port_tag_suffix, "global.node.port-tag-suffix")?;
     check_name(&texts.global_mgmt_suffix, "global.node.global-mgmt-suffix")

@@ -211,10 +211,7 @@ fn write_value(pairs: &[Attribute<'_>], key: &[u8], index: usize, out: &mut [u8]
 }
 
 /// How many values the key has, or why it is not searched for.
-fn count_of(
-    pairs: &[Attribute<'_>],
-    key: &[u8],
-) -> CountAnswer
+fn count_of(pairs: &[Attribute<'_>], key: &[u8]) -> CountAnswer
     ensures { CountsValues pairs.now key.now result }
 {
     let mut at = 0;
@@ -247,12 +244,7 @@ pub extern "C" fn iox2sd_attributes_number_of_key_values_at(
 }
 
 /// Writes the value of the key at the index, or reports why there is none.
-fn write_of(
-    pairs: &[Attribute<'_>],
-    key: &[u8],
-    index: usize,
-    out: &mut [u8],
-) -> TextAnswer
+fn write_of(pairs: &[Attribute<'_>], key: &[u8], index: usize, out: &mut [u8]) -> TextAnswer
     ensures { TellsValue pairs.now key.now index out.old result out.new }
 {
     let mut at = 0;
@@ -378,11 +370,7 @@ fn verify(set: &[Attribute<'_>], required: &[Attribute<'_>], keys: &[Key<'_>]) -
 }
 
 /// Whether the set has what is required, or the first reason why not.
-fn judge(
-    pairs: &[Attribute<'_>],
-    required: &[Attribute<'_>],
-    keys: &[Key<'_>],
-) -> PlaceAnswer
+fn judge(pairs: &[Attribute<'_>], required: &[Attribute<'_>], keys: &[Key<'_>]) -> PlaceAnswer
     ensures { VerifiesSet pairs.now required.now keys.now result }
 {
     let mut at = 0;

@@ -2,8 +2,8 @@
 #![tactic(auto)]
 
 pub mod attributes;
-mod causes;
 pub mod capacities;
+mod causes;
 pub mod chunks;
 pub mod compatible;
 pub mod descriptions;

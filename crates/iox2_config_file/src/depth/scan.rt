@@ -38,12 +38,7 @@ pub(crate) struct Scan {
 fn is_blank(byte: u8) -> bool
     ensures { result ≡ is_blank byte }
 {
-    byte == b' '
-        || byte == b'\t'
-        || byte == b'\r'
-        || byte == b'\n'
-        || byte == b'#'
-        || 128 <= byte
+    byte == b' ' || byte == b'\t' || byte == b'\r' || byte == b'\n' || byte == b'#' || 128 <= byte
 }
 
 impl Nesting {

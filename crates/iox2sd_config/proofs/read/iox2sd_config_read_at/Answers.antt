@@ -17,5 +17,11 @@ returns-in-Ok c =
     ≡ read_answer (length read.settings.unknown.items) = search rules in
     written c.args.text.now c.args.out.now (known_answer c.read-in-Ok.result) c.config_of.result
     c.in-len1-up.len_at_least
-    (λ first. inl (read.ensures.utf8, read.ensures.shallow, read.settings, read.ensures.ok,
-      c.config_of.ensures, answer))
+    (λ first. inl (
+      read.ensures.utf8,
+      read.ensures.shallow,
+      read.settings,
+      read.ensures.ok,
+      c.config_of.ensures,
+      answer,
+    ))

@@ -22,6 +22,11 @@ returns-in_err-check_name-3-clause-err c =
     let refused = c.in_err-check_name-3.ensures in
     let first : IsFirstBad IsFileName bad_name (service_names_of c.args.texts.now)
     (bad_view c.in_err-check_name-3.field-0.0) =
-    inr (c.in_ok-check_name.ensures.ok, inr (c.in_ok-check_name-2.ensures.ok,
-    inl (refused.err, refused.told))) in
+    inr (
+      c.in_ok-check_name.ensures.ok,
+      inr (
+        c.in_ok-check_name-2.ensures.ok,
+        inl (refused.err, refused.told),
+      ),
+    ) in
     search (rules, first)
