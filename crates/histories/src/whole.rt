@@ -34,7 +34,7 @@ fn count_after(count: usize, event: Event) -> Option<usize>
 /// it, in which each call that was answered is made with the reply that was seen. A call that was
 /// never answered is made with any reply, or not at all.
 ///
-/// From `crates/histories_tests/src/histories.rt`:
+/// From `crates/histories_tests/src/worked.rt`:
 ///
 /// ```
 /// match judge(alloc, &machine, &[0], events)? {

@@ -1,6 +1,6 @@
 //! The bounds of the search.
-use super::histories::{Found, judged};
 use super::register::Access;
+use super::worked::{Found, judged};
 use histories::{Event, MAX_OPEN};
 use std::alloc::{AllocError, Global};
 use std::test::Fail;

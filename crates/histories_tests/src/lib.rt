@@ -7,6 +7,6 @@ mod bounds;
 #[cfg(test)]
 mod fronts;
 #[cfg(test)]
-mod histories;
+mod worked;
 // It is no test, since `specs/` speaks of its types.
 pub mod register;
