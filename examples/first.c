@@ -71,10 +71,10 @@ static void verify(const iox2sd_attribute *attributes, size_t number_of_attribut
     printf("an opener of color = red, unit, rate: there is no %.*s\n",
            (int)keys[verified.at].length, (const char *)keys[verified.at].text);
     print_answer("an opener with these types",
-                 iox2sd_message_is_compatible_to(&opener, &service).status == IOX2SD_STATUS_DONE);
+                 iox2sd_message_is_compatible_to(&service, &opener).status == IOX2SD_STATUS_DONE);
     opener.payload.alignment = 16;
     print_answer("an opener with a wider payload",
-                 iox2sd_message_is_compatible_to(&opener, &service).status == IOX2SD_STATUS_DONE);
+                 iox2sd_message_is_compatible_to(&service, &opener).status == IOX2SD_STATUS_DONE);
     printf("a message: %zu bytes, alignment %zu\n", layout.size, layout.alignment);
 }
 

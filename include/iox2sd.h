@@ -96,8 +96,8 @@ enum iox2sd_status_number {
     IOX2SD_STATUS_NODE_NOT_REGISTERED = 13, /* The port's node is not registered. */
     IOX2SD_STATUS_ROLE_NOT_IN_PATTERN = 14,
     IOX2SD_STATUS_UNKNOWN_SEGMENT = 15,
-    IOX2SD_STATUS_BAD_KEY =
-        16, /* A key of a pair is invalid: iox2sd_attribute_key_check says why. */
+    /* A key of a pair is invalid: iox2sd_attribute_key_check says why. */
+    IOX2SD_STATUS_BAD_KEY = 16,
     /* A value of a pair is invalid: iox2sd_attribute_value_check says why. */
     IOX2SD_STATUS_BAD_VALUE = 17,
     IOX2SD_STATUS_TOO_MANY = 18, /* There are more than sixteen pairs. */
@@ -106,15 +106,15 @@ enum iox2sd_status_number {
     IOX2SD_STATUS_EMPTY = 40,
     IOX2SD_STATUS_TOO_LONG = 41,
     IOX2SD_STATUS_ILLEGAL_BYTE = 42,
-    IOX2SD_STATUS_NO_FILE_NAME =
-        43, /* The name, or what follows the last `/`, is ".", ".." or empty. */
+    /* The name, or what follows the last `/`, is ".", ".." or empty. */
+    IOX2SD_STATUS_NO_FILE_NAME = 43,
     IOX2SD_STATUS_RESERVED_PREFIX = 44,
     IOX2SD_STATUS_NOT_UTF8 = 45,
     IOX2SD_STATUS_BAD_SERVICE_NAME = 46,
     IOX2SD_STATUS_BAD_PATH = 47,
     IOX2SD_STATUS_BAD_ENTRY = 48,
-    IOX2SD_STATUS_ILLEGAL_HASH =
-        49, /* SHA-1, which all calls use, is proved to make no such text. */
+    /* SHA-1, which all calls use, is proved to make no such text. */
+    IOX2SD_STATUS_ILLEGAL_HASH = 49,
     IOX2SD_STATUS_BAD_REQUIRED_KEY = 50,
     IOX2SD_STATUS_BAD_REQUIRED_VALUE = 51,
     IOX2SD_STATUS_BAD_ASKED_KEY = 52,
@@ -133,16 +133,16 @@ enum iox2sd_status_number {
     IOX2SD_STATUS_UNKNOWN_TEXT = 65,
     IOX2SD_STATUS_BAD_LINE = 66, /* A line of a script is not valid. */
     IOX2SD_STATUS_UNKNOWN_STRATEGY = 67,
-    IOX2SD_STATUS_BAD_DURATION =
-        68,                   /* The nanoseconds beside the seconds are 1,000,000,000 or more. */
+    /* The nanoseconds beside the seconds are 1,000,000,000 or more. */
+    IOX2SD_STATUS_BAD_DURATION = 68,
     IOX2SD_STATUS_UNMET = 69, /* A setting of a service is not what an opener requires. */
     /* A service has another messaging pattern than an opener requires. */
     IOX2SD_STATUS_OTHER_PATTERN = 70,
     IOX2SD_STATUS_NOT_TOML = 80,
     IOX2SD_STATUS_WRONG_TYPE = 81, /* The value of a key is of another type than the wanted one. */
     IOX2SD_STATUS_BELOW_ZERO = 82, /* The value of a key is below 0. */
-    IOX2SD_STATUS_NO_DURATION =
-        83, /* The value of a key is no table of the integers secs and nanos. */
+    /* The value of a key is no table of the integers secs and nanos. */
+    IOX2SD_STATUS_NO_DURATION = 83,
     IOX2SD_STATUS_NO_TOML_INTEGER = 84, /* A number is above 2^63 - 1. */
     IOX2SD_STATUS_NO_FILE = 85,         /* A file cannot be read: C++ alone returns it. */
     /* Tables and arrays of a file are more than 32 deep in one another. */

@@ -323,8 +323,8 @@ IOX2SD_CHECKED iox2sd_count_answer iox2sd_required_amount_of_chunks_per_server_d
 
 /* What a sender does where a receiver's buffer is full and may not overflow. */
 enum iox2sd_backpressure_strategy_number {
-    IOX2SD_BACKPRESSURE_RETRY_UNTIL_DELIVERED =
-        0, /* It tries again until the receiver can take the message. */
+    /* It tries again until the receiver can take the message. */
+    IOX2SD_BACKPRESSURE_RETRY_UNTIL_DELIVERED = 0,
     IOX2SD_BACKPRESSURE_DISCARD_DATA = 1 /* It skips this receiver. */
 };
 typedef uint32_t iox2sd_backpressure_strategy;

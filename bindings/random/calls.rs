@@ -17,8 +17,9 @@ use iox2sd::dynamic_config::{
     RegisterNodeResult, ServerDetails, SubscriberDetails, WriterDetails,
 };
 use iox2sd::identifiers::{
-    UniqueClientId, UniqueListenerId, UniqueNodeId, UniqueNotifierId, UniquePublisherId,
-    UniqueReaderId, UniqueServerId, UniqueServiceId, UniqueSubscriberId, UniqueWriterId,
+    UniqueClientId, UniqueListenerId, UniqueNodeId, UniqueNotifierId, UniquePortId,
+    UniquePublisherId, UniqueReaderId, UniqueServerId, UniqueServiceId, UniqueSubscriberId,
+    UniqueWriterId,
 };
 use iox2sd::messaging_pattern::MessagingPattern;
 use iox2sd::paths::{FileName, FilePath, Path, RestrictedFileName};
