@@ -40,7 +40,10 @@ def step(dice: random.Random, service: Recorder, handles: "list[Any]") -> None:
     elif kind < 8:
         handles.append(service.attach(port(role, dice.choice(PORTS), node)))
     elif kind == 8:
-        service.remove_dead_node_id(node, [KINDS[role][1](*dice.choice(PORTS))] * dice.randrange(2))
+        # A log names ids without kinds, so the ports of both kinds with one number are kept.
+        number = dice.choice(PORTS)
+        kept = [KINDS[one][1](*number) for one in service.port_roles] * dice.randrange(2)
+        service.remove_dead_node_id(node, kept)
     elif kind == 9:
         service.list_node_ids()
     elif kind < 12:

@@ -258,7 +258,9 @@ impl fmt::Display for Verdict {
             Verdict::Conforms { calls } => padded(f, format_args!("conforms, {calls} calls")),
             Verdict::NoRun(refusal) => refusal.fmt(f),
             Verdict::NoOrder(refusal) => refusal.fmt(f),
-            Verdict::TooManyStates { line } => at_line(f, *line, sys::IOX2SD_STATUS_TOO_MANY_STATES),
+            Verdict::TooManyStates { line } => {
+                at_line(f, *line, sys::IOX2SD_STATUS_TOO_MANY_STATES)
+            }
             Verdict::BadLine { line, expected } => at_line(f, *line, expected.as_c()),
         }
     }

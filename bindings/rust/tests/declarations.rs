@@ -259,6 +259,19 @@ fn upper(name: &str) -> String {
 
 #[test]
 fn each_enumerator_has_the_number_of_its_name() {
+    const KINDS: [&str; 11] = [
+        "ALLOCATION",
+        "BACKPRESSURE",
+        "FIELD",
+        "KIND",
+        "PART",
+        "PATTERN",
+        "ROLE",
+        "SEGMENT",
+        "STATUS",
+        "TOML",
+        "VARIANT",
+    ];
     let mut count = 0;
     for file in [
         "container.rs",
@@ -279,19 +292,12 @@ fn each_enumerator_has_the_number_of_its_name() {
             let name = before.rsplit(is_end).next().unwrap();
             let constant = after.split(',').next().unwrap().trim();
             if name == "DetailsNotGiven" {
-                assert_eq!(constant, "BAD_ALIGNMENT");
+                assert_eq!(constant, "STATUS_BAD_ALIGNMENT");
                 continue;
             }
-            let end = if constant.ends_with("_SEGMENT") {
-                "_SEGMENT"
-            } else {
-                ""
-            };
-            let front = ["ALLOCATION_", "VARIANT_", "TOML_", "KIND_"]
-                .into_iter()
-                .find(|front| constant.starts_with(front))
-                .unwrap_or("");
-            assert_eq!(constant, format!("{front}{}{end}", upper(name)), "{file}");
+            let (kind, of_kind) = constant.split_once('_').unwrap();
+            assert!(KINDS.contains(&kind), "{file}: {constant}");
+            assert_eq!(of_kind, upper(name), "{file}");
             count += 1;
         }
     }
