@@ -362,7 +362,7 @@ static void places(void) {
 
 static void compatible(void) {
     iox2sd_message_details opener = details(), service = details();
-    iox2sd_part_answer answer = iox2sd_message_is_compatible_to(&opener, &service);
+    iox2sd_part_answer answer = iox2sd_message_is_compatible_to(&service, &opener);
     say(answer.status);
     if (answer.status == IOX2SD_STATUS_DONE) return;
     say_number(answer.side);
