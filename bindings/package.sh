@@ -55,7 +55,8 @@ for each in "${programs[@]}"; do
     install -m 755 "$(program "$each")" "$prefix/bin/$each"
     manual "$each" "$prefix/share/man/man1"
 done
-install -m 644 "$top"/docs/{C,CPP,CALLS,GLOSSARY,SCRIPT,DESCRIBE,CONFORM,CONFIG}.md "$prefix/share/doc/iox2sd"
+install -m 644 "$top"/docs/{C,CPP,CALLS,GLOSSARY,SCRIPT,DESCRIBE,CONFORM,CONFIG}.md \
+    "$top/docs/iceoryx2.toml" "$prefix/share/doc/iox2sd"
 install -m 644 "$top"/examples/*.c "$top"/examples/*.cpp package/Makefile package/CMakeLists.txt \
     "$prefix/share/doc/iox2sd/examples"
 legal "$prefix/share/doc/iox2sd"
