@@ -6,7 +6,7 @@ use iox2_config::config::Config;
 use iox2_config_file::{
     ConfigFileError, ConfigWriteError, Section, read_config, report_all, write_config,
 };
-use std::alloc::Global;
+use std::alloc::{AllocError, Global};
 use std::test::Fail;
 use test_support::memory::may_be_refused;
 
@@ -63,11 +63,20 @@ fn a_configuration_is_written_whole_or_not_at_all(rt: HostRuntime) {
     }
 }
 
-/// A file of 100,000 bytes and more is read: no size wants more memory than there is.
+/// A file of more than 100,000 bytes, with one setting and one unknown key.
+fn long_file(alloc: Global) -> Result<String, AllocError> {
+    let mut text = "# a line of thirty-two bytes ...\n".repeat(alloc, 4_000)?;
+    text.push_str("defaults.event.max-nodes = 7\nnodes = 1\n")?;
+    Ok(text)
+}
+
+/// A long file is read: no size wants more memory than there is.
 #[test]
 fn a_long_file_is_read(rt: HostRuntime) -> Result<(), Fail> {
-    let mut text = "# a line of thirty-two bytes ...\n".repeat(rt.alloc(), 4_000)?;
-    text.push_str("defaults.event.max-nodes = 7\nnodes = 1\n")?;
+    let Ok(text) = long_file(rt.alloc()) else {
+        assert!(rt; may_be_refused(&rt));
+        return Ok(());
+    };
     match unknown(rt.alloc(), text.as_str()) {
         Some(count) => assert_eq!(rt; count, 1),
         None => assert!(rt; may_be_refused(&rt)),
