@@ -8,6 +8,7 @@ from pathlib import Path
 
 from reference_site.definitions import taken_names
 from reference_site.edits import edits_by_function
+from reference_site.headline import Headline
 from reference_site.parts import Parts, breakable, escape, first_sentence, plural
 
 NAMED = {"fn": "function", "const": "constant"}
@@ -32,6 +33,11 @@ class Pages:
             self.files[f"{crate.name}.html"] = self.crate_page(crate)
             if crate.definitions:
                 self.files[f"{crate.name}-definitions.html"] = self.definitions_page(crate)
+        promises = (top / "docs" / "PROMISES.md").read_text()
+        self.headline = Headline(project, promises, scope_in)
+        self.parts.problems += self.headline.problems
+        self.files["headline.html"] = self.page(
+            "The headline, to be read in one sitting", self.headline.body(self.parts))
         self.files["names.html"] = self.names_page()
         self.files["index.html"] = self.index_page()
 
@@ -255,6 +261,7 @@ class Pages:
             "Below the promises, the definitions in them are explained, each with a link to the "
             "definition itself. A must-fail edit is a mistake that the prover refused at this "
             "contract.</p>"
+            f'<h2>What is proved</h2>{self.headline.summary(inline)}'
             f'<h2>Crates, bottom up</h2><div class="named">{rows}</div>'
             f'<h2>Words</h2><div class="named">{words}</div>')
 
