@@ -4,7 +4,7 @@
 #     bindings/package.sh
 #
 # - iox2sd-VERSION-x86_64-linux-gnu.tar.gz: a prefix with headers, libraries, the programs, pages
-#   and examples, to be unpacked anywhere;
+#   and examples, and the site of all contracts, to be unpacked anywhere;
 # - iox2sd-VERSION-rust.tar.gz: the crate for cargo, with the static library beside it;
 # - a wheel for pip with the shared library in it, and an archive of sources, of which pip makes one
 #   with the library that is installed;
@@ -57,6 +57,7 @@ for each in "${programs[@]}"; do
 done
 install -m 644 "$top"/docs/{C,CPP,CALLS,GLOSSARY,SCRIPT,DESCRIBE,CONFORM,CONFIG}.md \
     "$top/docs/iceoryx2.toml" "$prefix/share/doc/iox2sd"
+"$top/docs/reference" "$prefix/share/doc/iox2sd/reference" > "$work/log"
 install -m 644 "$top"/examples/*.c "$top"/examples/*.cpp package/Makefile package/CMakeLists.txt \
     "$prefix/share/doc/iox2sd/examples"
 legal "$prefix/share/doc/iox2sd"
@@ -116,6 +117,7 @@ DESTDIR=$work/usr LIBDIR=lib/$triplet ./install.sh /usr > "$work/log"
 sed -e 's|^prefix=.*|prefix=/usr|' -e 's| -Wl,-rpath,[^ ]*||' \
     "$work/usr/usr/lib/$triplet/pkgconfig/iox2sd.pc" > "$dev/lib/$triplet/pkgconfig/iox2sd.pc"
 install -m 644 "$work/usr/usr/lib/$triplet"/cmake/iox2sd/* "$dev/lib/$triplet/cmake/iox2sd"
+install -D -m 644 -t "$dev/share/doc/iox2sd/reference" "$prefix"/share/doc/iox2sd/reference/*
 deb libiox2sd-dev
 
 python=$work/deb/python3-iox2sd/usr/lib/python3/dist-packages

@@ -83,6 +83,8 @@ if has g++; then run "archive: C++" cpp_static; fi
 if has gcc && has pkg-config; then run "archive: pkg-config" by_pkg_config; fi
 if has make && has g++; then run "archive: make" by_make; fi
 if has cmake && has g++; then run "archive: CMake" by_cmake; fi
+has_site() { grep -q "sample_layout" "$prefix/share/doc/iox2sd/reference/headline.html"; }
+run "archive: the site of contracts" has_site
 refuses_argument() { ! "$prefix/bin/$1" what < /dev/null; }
 # The program that ignores its arguments, on its stored run.
 ignores() {
