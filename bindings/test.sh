@@ -114,6 +114,23 @@ crate_tests() {
         grep -q '^test result: ok[.] [1-9]' "$work/crate_tests"
 }
 
+# The comparison with the original crate, with one that stands in for it: all answers alike, and one
+# default of another number.
+against() {
+    mkdir "$work/compared"
+    cp -r against "$work/compared"
+    ln -s "$PWD/rust" "$work/compared/rust"
+    with_stand_in() {
+        CARGO_TARGET_DIR=$work/compared/target IOX2SD_LIB_DIR=$PWD/out \
+            cargo "$1" --quiet --jobs 1 --offline --manifest-path "$work/compared/against/Cargo.toml" \
+            --config "patch.crates-io.iceoryx2.path=\"$work/compared/against/stand_in\"" "${@:2}"
+    }
+    with_stand_in run | grep '^[1-9][0-9]* compared, 0 differ$' &&
+        ! with_stand_in run --features iceoryx2/differs > "$work/differs" &&
+        grep 'event.max_listeners: iceoryx2 has' "$work/differs" &&
+        grep ' compared, 1 differ$' "$work/differs"
+}
+
 # Where the library is missing, what does not link passes, and what links says what is missing.
 without_library() {
     local missing=$work/missing
@@ -443,7 +460,12 @@ if has cargo; then
         fi
     if has_cargo clippy; then run "cargo clippy" crate clippy --all-targets -- --deny warnings
     run "cargo clippy, pedantic" crate clippy --lib --examples -- --deny warnings --deny clippy::pedantic; fi
-    if has_cargo fmt; then run "cargo fmt" cargo fmt --check --manifest-path rust/Cargo.toml; fi
+    if has_cargo fmt; then
+        for manifest in rust against against/stand_in; do
+            run "cargo fmt $manifest" cargo fmt --check --manifest-path $manifest/Cargo.toml
+        done
+    fi
+    run "the comparison with iceoryx2, by a crate that stands in for it" against
     run "cargo package, and tests of what it packs" packaged
 fi
 if has python3; then
