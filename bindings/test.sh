@@ -126,6 +126,7 @@ against() {
             --config "patch.crates-io.iceoryx2.path=\"$work/compared/against/stand_in\"" "${@:2}"
     }
     with_stand_in run | grep '^[1-9][0-9]* compared, 0 differ$' &&
+        with_stand_in run --bin headers | grep '^response-header 8 8 ' &&
         ! with_stand_in run --features iceoryx2/differs > "$work/differs" &&
         grep 'event.max_listeners: iceoryx2 has' "$work/differs" &&
         grep ' compared, 1 differ$' "$work/differs"

@@ -42,6 +42,30 @@ pub mod service {
 
     pub use iox2sd::service::{attribute, service_hash, service_name};
 
+    pub mod header {
+        //! What stands before each message. These have no fields of the middleware's.
+
+        pub mod publish_subscribe {
+            //! Of samples.
+
+            /// Of a sample.
+            #[derive(Debug)]
+            pub struct Header(pub u64);
+        }
+
+        pub mod request_response {
+            //! Of requests and responses.
+
+            /// Of a request.
+            #[derive(Debug)]
+            pub struct RequestHeader(pub u64);
+
+            /// Of a response.
+            #[derive(Debug)]
+            pub struct ResponseHeader(pub u64);
+        }
+    }
+
     pub mod static_config {
         //! The description of a service.
 
