@@ -17,11 +17,11 @@ namespace {
 
 void remove(Service& service, const UniqueNodeId& dead,
             std::initializer_list<UniquePortId> kept = {}) {
-    const DeadNodeRemoval removal = service.remove_dead_node_id(dead, kept).value();
-    std::cout << "dead " << dead << ": " << removal.first << " publishers, " << removal.second
-              << " subscribers removed, "
-              << (removal.state == DeregisterNodeState::HasOwners ? "nodes are left\n"
-                                                                  : "the service is locked\n");
+    const auto [state, publishers, subscribers] = service.remove_dead_node_id(dead, kept).value();
+    const char* const then =
+        state == DeregisterNodeState::HasOwners ? "nodes are left" : "the service is locked";
+    std::cout << "dead " << dead << ": " << publishers << " publishers, " << subscribers
+              << " subscribers removed, " << then << '\n';
     for (const PortDetails& port : service.ports_of(dead).value()) {
         std::cout << "  kept: " << role(port) << ' ' << port_id(port) << '\n';
     }

@@ -1,5 +1,5 @@
-// Whether a service meets what an opener requires, capacities by settings, and numbers for services.
-// The last line is 'N checks, N failed'.
+// Whether a service meets what an opener requires, and numbers for services. The last line is
+// 'N checks, N failed'.
 #include "iox2sd.hpp"
 
 #include "check.hpp"
@@ -84,21 +84,6 @@ void blackboard() {
     UNMET(MaxNodes, ++r.max_nodes);
 }
 
-void capacities_by_settings() {
-    PublishSubscribeSettings samples = PublishSubscribeSettings::defaults();
-    samples.max_nodes = 3, samples.max_publishers = 4, samples.max_subscribers = 5;
-    CHECK(capacities(samples) == Capacities{3, 4, 5});
-    EventSettings events = EventSettings::defaults();
-    events.max_nodes = 3, events.max_listeners = 4, events.max_notifiers = 5;
-    CHECK(capacities(events) == Capacities{3, 4, 5});
-    RequestResponseSettings requests = RequestResponseSettings::defaults();
-    requests.max_nodes = 3, requests.max_servers = 4, requests.max_clients = 5;
-    CHECK(capacities(requests) == Capacities{3, 4, 5});
-    BlackboardSettings values = BlackboardSettings::defaults();
-    values.max_nodes = 3, values.max_readers = 4;
-    CHECK(capacities(values) == Capacities{3, 4, 1});
-}
-
 void service_numbers() {
     ServiceNumbers numbers;
     CHECK(numbers.last() == 0 && numbers.next().value() == 1 && numbers.next().value() == 2);
@@ -115,7 +100,6 @@ int main() {
     event();
     request_response();
     blackboard();
-    capacities_by_settings();
     service_numbers();
     return end_of_checks();
 }
