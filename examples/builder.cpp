@@ -21,20 +21,17 @@ TypeDetail type(TypeVariant variant, std::string_view name, std::size_t size,
 }
 
 void open(const StaticConfig& description, Service& service, const Requirements& required) {
-    const auto met = description.satisfies(required);
-    if (!met) {
+    if (const auto met = description.satisfies(required); !met) {
         std::cout << "refused: " << met.error() << '\n';
-        return;
-    }
-    const auto node = service.register_node_id(UniqueNodeId::create(1, 0, 0, 2).value());
-    if (!node) {
+    } else if (const auto node = service.register_node_id(UniqueNodeId::create(1, 0, 0, 2).value());
+               !node) {
         std::cout << "refused: " << node.error() << '\n';
-        return;
+    } else {
+        const auto& types = description.publish_subscribe()->message_type_details;
+        const Layout message = types.sample_layout(2).value();
+        std::cout << "opened with slot " << node->slot << ", a message has " << message.size
+                  << " bytes, alignment " << message.alignment << '\n';
     }
-    const MessageTypeDetails& types = description.publish_subscribe()->message_type_details;
-    const Layout message = types.sample_layout(2).value();
-    std::cout << "opened with slot " << node->slot << ", a message has " << message.size
-              << " bytes, alignment " << message.alignment << '\n';
 }
 
 }  // namespace
@@ -55,20 +52,12 @@ int main() {
             .value();
     Service service = Service::create(description, 7).value();
 
-    Requirements blue{description.messaging_pattern()};
+    Requirements blue{description.messaging_pattern()}, fitting = blue;
     blue.attributes.require(color, AttributeValue::create("blue").value()).value();
-    open(description, service, blue);
-
-    MessageTypeDetails wider = types;
-    wider.payload = type(TypeVariant::Dynamic, "Payload", 8, 16);
-    open(description, service, {PublishSubscribeStaticConfig(settings, wider)});
-
-    PublishSubscribeSettings more = settings;
-    more.max_subscribers = 9;
-    open(description, service, {PublishSubscribeStaticConfig(more, types)});
-
-    Requirements fitting{description.messaging_pattern()};
     fitting.attributes.require(color, red).value();
-    open(description, service, fitting);
-    open(description, service, fitting);
+    PublishSubscribeStaticConfig wider(settings, types), more = wider;
+    wider.message_type_details.payload = type(TypeVariant::Dynamic, "Payload", 8, 16);
+    more.max_subscribers = 9;
+    const Requirements all[] = {blue, {wider}, {more}, fitting, fitting};
+    for (const Requirements& required : all) open(description, service, required);
 }

@@ -14,26 +14,23 @@
 use iox2sd::prelude::*;
 use iox2sd::static_config::messaging_pattern::MessagingPattern as Required;
 use iox2sd::static_config::publish_subscribe;
-use std::alloc::Layout;
 use std::error::Error;
 
-/// The slot of the opener's node, and the layout of a message of so many elements.
+/// The slot of the opener's node, and the size of a message of 1000 elements.
 fn open(
     description: &StaticConfig,
     service: &mut DynamicConfig,
     (required, attributes): (publish_subscribe::StaticConfig, &AttributeVerifier),
-    elements: usize,
-) -> Result<(usize, Layout), Box<dyn Error>> {
+) -> Result<(usize, usize), Box<dyn Error>> {
     description.verify_opener(&Required::PublishSubscribe(required), attributes)?;
-    let types = description.publish_subscribe().message_type_details();
-    let message = types.sample_layout(elements)?;
+    let message = required.message_type_details.sample_layout(1000)?;
     let node = UniqueNodeId::new(2, 0, 0, 1).ok_or("the id of no node")?;
-    Ok((service.register_node_id(node)?.slot(), message))
+    Ok((service.register_node_id(node)?.slot(), message.size()))
 }
 
 fn main() -> Result<(), Box<dyn Error>> {
-    let site = "site".parse()?;
-    let attributes = AttributeSpecifier::new().define(&site, &"north".parse()?)?;
+    let (site, north) = ("site".parse()?, "north".parse()?);
+    let attributes = AttributeSpecifier::new().define(&site, &north)?;
     let id = UniqueServiceId::new(1, 0, 0, 1);
     let mut description =
         StaticConfig::new_publish_subscribe(&"lidar/front".parse()?, &Config::default(), id)?
@@ -45,24 +42,17 @@ fn main() -> Result<(), Box<dyn Error>> {
     println!("{name} has the hash text {hash}");
 
     let required = *description.publish_subscribe();
-    let north = AttributeVerifier::new().require(&site, &"north".parse()?)?;
-    let (slot, message) = open(&description, &mut service, (required, &north), 1000)?;
-    println!(
-        "opened in slot {slot}, with messages of {} bytes",
-        message.size()
-    );
+    let north = AttributeVerifier::new().require(&site, &north)?;
+    let (slot, bytes) = open(&description, &mut service, (required, &north))?;
+    println!("opened in slot {slot}, with messages of {bytes} bytes");
 
     let south = AttributeVerifier::new().require(&site, &"south".parse()?)?;
-    let (mut other_types, mut more_nodes) = (required, required);
-    other_types.message_type_details =
+    let (mut types, mut more) = (required, required);
+    types.message_type_details =
         MessageTypeDetails::from::<[u64; 3], u32, [f64; 3]>(TypeVariant::Dynamic)?;
-    more_nodes.max_nodes += 1;
-    for opener in [
-        (required, &south),
-        (other_types, &north),
-        (more_nodes, &north),
-    ] {
-        let refused = open(&description, &mut service, opener, 1000).unwrap_err();
+    more.max_nodes += 1;
+    for opener in [(required, &south), (types, &north), (more, &north)] {
+        let refused = open(&description, &mut service, opener).unwrap_err();
         println!("refused: {refused}");
     }
     assert_eq!(service.number_of_nodes(), 1);

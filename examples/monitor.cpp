@@ -2,10 +2,10 @@
 // read. The service is locked when its last node is removed.
 //
 // It prints:
-//     dead 100000000000000000000000a: 1 publishers, 0 subscribers removed, nodes are left
+//     dead 100000000000000000000000a: 1 publishers, 0 subscribers, nodes are left
 //       kept: subscriber 1000000000000000000000015
-//     dead 100000000000000000000000a: 0 publishers, 1 subscribers removed, nodes are left
-//     dead 200000000000000000000000b: 1 publishers, 0 subscribers removed, the service is locked
+//     dead 100000000000000000000000a: 0 publishers, 1 subscribers, nodes are left
+//     dead 200000000000000000000000b: 1 publishers, 0 subscribers, locked
 //     a late node: the service is locked for good
 #include <iostream>
 
@@ -17,11 +17,9 @@ namespace {
 
 void remove(Service& service, const UniqueNodeId& dead,
             std::initializer_list<UniquePortId> kept = {}) {
-    const DeadNodeRemoval removal = service.remove_dead_node_id(dead, kept).value();
-    std::cout << "dead " << dead << ": " << removal.first << " publishers, " << removal.second
-              << " subscribers removed, "
-              << (removal.state == DeregisterNodeState::HasOwners ? "nodes are left\n"
-                                                                  : "the service is locked\n");
+    const DeadNodeRemoval gone = service.remove_dead_node_id(dead, kept).value();
+    std::cout << "dead " << dead << ": " << gone.first << " publishers, " << gone.second
+              << " subscribers, " << (*service.is_locked() ? "locked\n" : "nodes are left\n");
     for (const PortDetails& port : service.ports_of(dead).value()) {
         std::cout << "  kept: " << role(port) << ' ' << port_id(port) << '\n';
     }

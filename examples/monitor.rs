@@ -19,12 +19,11 @@ use std::error::Error;
 fn remove_dead_nodes(service: &mut DynamicConfig, dead: &[UniqueNodeId], busy: &[UniquePortId]) {
     for node in dead {
         service.remove_dead_node_id(node, |port| {
-            if busy.contains(&port) {
-                println!("{port} is busy");
-                PortCleanupAction::SkipPort
-            } else {
-                println!("{port} is removed");
-                PortCleanupAction::RemovePort
+            let is_busy = busy.contains(&port);
+            println!("{port} is {}", if is_busy { "busy" } else { "removed" });
+            match is_busy {
+                true => PortCleanupAction::SkipPort,
+                false => PortCleanupAction::RemovePort,
             }
         });
     }
@@ -53,8 +52,7 @@ fn main() -> Result<(), Box<dyn Error>> {
     remove_dead_nodes(&mut service, &nodes, &[busy.into()]);
     println!("{} node is left", service.number_of_nodes());
     remove_dead_nodes(&mut service, &nodes, &[]);
-    if service.is_locked() {
-        println!("the service is locked");
-    }
+    assert!(service.is_locked());
+    println!("the service is locked");
     Ok(())
 }

@@ -16,33 +16,31 @@ using namespace iox2sd;
 
 namespace {
 
-int report(const Result<ConfigFile, ConfigError>& file) {
+bool report(const Result<ConfigFile, ConfigError>& file) {
     if (!file) {
         std::cout << "refused: " << text(file.status()) << '\n';
         for (const ConfigFault& fault : file.error().faults) std::cout << "  " << fault << '\n';
-        return 1;
+        return false;
     }
     const PublishSubscribeSettings& samples = file->config.publish_subscribe;
     std::cout << "services are in " << file->config.service_dir().value() << '\n'
               << "a publisher needs memory for "
               << samples.required_amount_of_samples_per_data_segment().value() << " samples\n";
     for (const UnknownKey& unknown : file->unknown) {
-        std::cout << "unknown: " << unknown.key;
-        if (!unknown.meant.empty()) std::cout << ", meant is " << unknown.meant;
-        std::cout << '\n';
+        std::cout << "unknown: " << unknown.key << (unknown.meant.empty() ? "" : ", meant is ")
+                  << unknown.meant << '\n';
     }
-    return 0;
+    return true;
 }
 
 }  // namespace
 
 int main(int count, char** arguments) {
-    if (count > 1) return report(Config::from_toml_file(arguments[1]));
-    const int good = report(Config::from_toml("[global]\nroot-path = '/run/my'\n"
-                                              "[defaults.publish-subscribe]\n"
-                                              "max-subscribers = 16\n"
-                                              "[defaults.event]\nmax-listener = 3\n"));
-    const int bad = report(Config::from_toml("[global]\ncreation-timeout = 5\n"
-                                             "[defaults.event]\nmax-nodes = -1\n"));
-    return good == 0 && bad == 1 ? 0 : 1;
+    if (count > 1) return report(Config::from_toml_file(arguments[1])) ? 0 : 1;
+    const auto good = Config::from_toml("[global]\nroot-path = '/run/my'\n"
+                                        "[defaults.publish-subscribe]\nmax-subscribers = 16\n"
+                                        "[defaults.event]\nmax-listener = 3\n");
+    const auto bad = Config::from_toml("[global]\ncreation-timeout = 5\n"
+                                       "[defaults.event]\nmax-nodes = -1\n");
+    return report(good) && !report(bad) ? 0 : 1;
 }

@@ -2,7 +2,7 @@
 //
 // It prints:
 //     unknown: global.prefx: global.prefix may be meant
-//     lidar/front: 20 nodes, 2 publishers, 4 subscribers, 18 samples
+//     2 publishers of 18 samples each, 4 subscribers
 //     refused: defaults.publish-subscribe.max-subscribers: is below 0
 #![forbid(unsafe_code)]
 
@@ -22,19 +22,10 @@ fn main() -> Result<(), Box<dyn Error>> {
         println!("unknown: {key}");
     }
     let settings = file.config.defaults.publish_subscribe;
-    let id = UniqueServiceId::new(1, 0, 0, 1);
-    let service = StaticConfig::new(&"lidar/front".parse()?, &settings, id)?;
-    let fixed = service.publish_subscribe();
-    let samples = settings
-        .required_amount_of_samples_per_data_segment()
-        .ok_or("too many samples")?;
-    println!(
-        "{}: {} nodes, {} publishers, {} subscribers, {samples} samples",
-        service.name(),
-        fixed.max_nodes(),
-        fixed.max_publishers(),
-        fixed.max_subscribers()
-    );
+    let (publishers, subscribers) = (settings.max_publishers, settings.max_subscribers);
+    let samples = settings.required_amount_of_samples_per_data_segment();
+    let samples = samples.ok_or("too many samples")?;
+    println!("{publishers} publishers of {samples} samples each, {subscribers} subscribers");
     if let Err(refused) = Config::from_toml(&FILE.replace('4', "-4")) {
         println!("refused: {refused}");
     }

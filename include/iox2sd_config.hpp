@@ -66,15 +66,23 @@ Text<Capacity> front(const std::uint8_t (&bytes)[Size], std::size_t length) noex
 }
 
 /// A path or the name of a file that the library gave, and such a text for the library.
-template <class Kind>
-Kind text_from_c(const iox2sd_config_text& c) noexcept {
-    return Kind(front<255>(c.bytes, c.length), {});
+template <>
+inline Path from_c<Path>(const iox2sd_config_text& c) noexcept {
+    return Path(front<255>(c.bytes, c.length), {});
 }
-inline iox2sd_config_text text_as_c(const Text<255>& text) noexcept {
+template <>
+inline FileName from_c<FileName>(const iox2sd_config_text& c) noexcept {
+    return FileName(front<255>(c.bytes, c.length), {});
+}
+template <class Content>
+iox2sd_config_text as_c(const SemanticString<Content, 255>& text) noexcept {
     iox2sd_config_text c{};
     copy_items(bytes(text.view()), text.size(), c.bytes);
     c.length = text.size();
     return c;
+}
+inline iox2sd_config_text as_c(const Path& path) noexcept {
+    return as_c<PathContent>(path);
 }
 
 }  // namespace detail
@@ -107,8 +115,7 @@ struct ConfigFault {
     }
 };
 
-template <>
-inline constexpr bool detail::is_written<ConfigFault> = true;
+IOX2SD_WRITTEN(ConfigFault);
 
 /// Why the text of a file gives no settings.
 struct ConfigError {
@@ -124,8 +131,7 @@ struct ConfigError {
         return Text<338>::joined({iox2sd::text(status)});
     }
 };
-template <>
-inline constexpr bool detail::is_written<ConfigError> = true;
+IOX2SD_WRITTEN(ConfigError);
 
 /// Why settings give no text.
 struct ConfigWriteError {
@@ -143,8 +149,7 @@ struct ConfigWriteError {
         return Text<255>::joined({iox2sd::text(field), ": ", words});
     }
 };
-template <>
-inline constexpr bool detail::is_written<ConfigWriteError> = true;
+IOX2SD_WRITTEN(ConfigWriteError);
 
 /// A key of a file that no setting has.
 struct UnknownKey {
@@ -174,27 +179,11 @@ struct ConfigTexts {
     FileName port_tag_suffix;
     FileName global_mgmt_suffix;
 
-#define IOX2SD_TEXTS                                                                          \
-    root_path, prefix, service_directory, data_segment_suffix, static_config_storage_suffix,  \
-        dynamic_config_storage_suffix, connection_suffix, event_connection_suffix,            \
-        blackboard_mgmt_suffix, blackboard_data_suffix, node_directory, monitor_suffix,       \
-        node_static_config_suffix, service_tag_suffix, port_tag_suffix, global_mgmt_suffix
-#define IOX2SD_TEXT_FROM_C(name) detail::text_from_c<decltype(name)>(c.name),
-#define IOX2SD_TEXT_AS_C(name) c.name = detail::text_as_c(name);
-    IOX2SD_FIELDS(IOX2SD_TEXTS);
-
-    /// The texts that the C header has, and the texts as it takes them.
-    static ConfigTexts from_c(const iox2sd_config_texts& c) noexcept {
-        return {IOX2SD_EACH(IOX2SD_TEXT_FROM_C, IOX2SD_TEXTS)};
-    }
-    iox2sd_config_texts as_c() const noexcept {
-        iox2sd_config_texts c{};
-        IOX2SD_EACH(IOX2SD_TEXT_AS_C, IOX2SD_TEXTS)
-        return c;
-    }
-#undef IOX2SD_TEXTS
-#undef IOX2SD_TEXT_FROM_C
-#undef IOX2SD_TEXT_AS_C
+    IOX2SD_OF_C(ConfigTexts, iox2sd_config_texts, root_path, prefix, service_directory,
+                data_segment_suffix, static_config_storage_suffix, dynamic_config_storage_suffix,
+                connection_suffix, event_connection_suffix, blackboard_mgmt_suffix,
+                blackboard_data_suffix, node_directory, monitor_suffix, node_static_config_suffix,
+                service_tag_suffix, port_tag_suffix, global_mgmt_suffix);
 };
 
 namespace detail {

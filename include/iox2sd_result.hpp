@@ -105,12 +105,6 @@ enum class Status : std::uint32_t {
     NoGroupEnd = IOX2SD_STATUS_NO_GROUP_END,
 };
 
-/// What a status says, in a static text. That of a number that is no status's is that of
-/// `UnknownStatus`.
-inline std::string_view text(Status status) noexcept {
-    return iox2sd_status_str(static_cast<std::uint32_t>(status));
-}
-
 namespace detail {
 
 /// Marks what the library answered, which needs no further check.
@@ -129,8 +123,25 @@ inline constexpr bool is_text = std::is_base_of_v<AnyText, T>;
 /// Which values `<<` and `std::format` write: those with a text, and texts.
 template <class T>
 inline constexpr bool is_written = is_text<T>;
-template <>
-inline constexpr bool is_written<Status> = true;
+
+}  // namespace detail
+
+/// Has values of a type with a `text` written.
+#define IOX2SD_WRITTEN(Type) \
+    template <>              \
+    inline constexpr bool detail::is_written<Type> = true
+/// `text` of an enumerator, which is written: what a function of C says of its number, in a static
+/// text.
+#define IOX2SD_WORDS(Enum, words)                                       \
+    inline std::string_view text(Enum number) noexcept {                \
+        return words(static_cast<std::underlying_type_t<Enum>>(number)); \
+    }                                                                   \
+    IOX2SD_WRITTEN(Enum)
+
+/// What a status says. A number that is no status's says what `UnknownStatus` does.
+IOX2SD_WORDS(Status, iox2sd_status_str);
+
+namespace detail {
 
 /// The text of a value that is written.
 template <class T>
@@ -314,30 +325,18 @@ auto as_c(const T& value) noexcept {
 
 }  // namespace detail
 
-template <class A, class B, class = detail::IfCompared<A, B>>
-bool operator==(const A& a, const B& b) noexcept {
-    return detail::Compared<A, B>::same(a, b);
-}
-template <class A, class B, class = detail::IfCompared<A, B>>
-bool operator!=(const A& a, const B& b) noexcept {
-    return !(a == b);
-}
-template <class A, class B, class = detail::IfCompared<A, B>>
-bool operator<(const A& a, const B& b) noexcept {
-    return detail::Compared<A, B>::order(a, b) < 0;
-}
-template <class A, class B, class = detail::IfCompared<A, B>>
-bool operator>(const A& a, const B& b) noexcept {
-    return detail::Compared<A, B>::order(a, b) > 0;
-}
-template <class A, class B, class = detail::IfCompared<A, B>>
-bool operator<=(const A& a, const B& b) noexcept {
-    return detail::Compared<A, B>::order(a, b) <= 0;
-}
-template <class A, class B, class = detail::IfCompared<A, B>>
-bool operator>=(const A& a, const B& b) noexcept {
-    return detail::Compared<A, B>::order(a, b) >= 0;
-}
+#define IOX2SD_COMPARISON(op, ...)                                   \
+    template <class A, class B, class = detail::IfCompared<A, B>>    \
+    bool operator op(const A& a, const B& b) noexcept {              \
+        return __VA_ARGS__;                                          \
+    }
+IOX2SD_COMPARISON(==, detail::Compared<A, B>::same(a, b))
+IOX2SD_COMPARISON(!=, !detail::Compared<A, B>::same(a, b))
+IOX2SD_COMPARISON(<, detail::Compared<A, B>::order(a, b) < 0)
+IOX2SD_COMPARISON(>, detail::Compared<A, B>::order(a, b) > 0)
+IOX2SD_COMPARISON(<=, detail::Compared<A, B>::order(a, b) <= 0)
+IOX2SD_COMPARISON(>=, detail::Compared<A, B>::order(a, b) >= 0)
+#undef IOX2SD_COMPARISON
 #ifdef __cpp_lib_three_way_comparison
 template <class A, class B, class = detail::IfCompared<A, B>>
 std::strong_ordering operator<=>(const A& a, const B& b) noexcept {
@@ -765,6 +764,10 @@ Result<T> result(std::uint32_t status, T value) noexcept {
 inline Result<void> result(std::uint32_t status) noexcept {
     if (status != IOX2SD_STATUS_DONE) return Status{status};
     return {};
+}
+
+inline Result<std::size_t> result(const iox2sd_count_answer& answer) noexcept {
+    return result(answer.status, answer.count);
 }
 
 /// What a call of the C headers returns of so many items.

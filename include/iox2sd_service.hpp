@@ -182,7 +182,6 @@ Details port_details(const iox2sd_port_details& c) noexcept {
     std::abort();  // The library lists ports of the eight kinds alone.
 }
 
-
 inline UniqueNodeId node_id(const iox2sd_id& id) noexcept { return {id, FromLibrary{}}; }
 
 /// The pattern of what a service is made of.
@@ -405,11 +404,13 @@ public:
 
     /// How many handles of nodes there are: a node that is registered twice counts twice.
     Result<std::size_t> number_of_nodes() const noexcept {
-        return count(iox2sd_number_of_nodes(&object_));
+        return detail::result(iox2sd_number_of_nodes(&object_));
     }
 
     /// How many handles of nodes there may be at a time.
-    Result<std::size_t> max_nodes() const noexcept { return count(iox2sd_max_nodes(&object_)); }
+    Result<std::size_t> max_nodes() const noexcept {
+        return detail::result(iox2sd_max_nodes(&object_));
+    }
 
     /// Whether a node would be registered: the service is not locked, and a slot and a ticket are
     /// left.
@@ -420,12 +421,12 @@ public:
     /// How many ports of the role there are.
     /// Errors: `UnknownRole`; `RoleNotInPattern`, also for `Role::Node`.
     Result<std::size_t> count_ports(Role role) const noexcept {
-        return count(iox2sd_count_ports(&object_, number(role)));
+        return detail::result(iox2sd_count_ports(&object_, number(role)));
     }
 
     /// How many ports of the role there may be at a time. Errors as of `count_ports`.
     Result<std::size_t> max_ports(Role role) const noexcept {
-        return count(iox2sd_max_ports(&object_, number(role)));
+        return detail::result(iox2sd_max_ports(&object_, number(role)));
     }
 
     /// Whether a port of the role would be attached, if its node is registered. Errors as of
@@ -505,10 +506,6 @@ private:
 
     static Result<bool> flag(const iox2sd_flag_answer& answer) noexcept {
         return detail::result(answer.status, answer.yes);
-    }
-
-    static Result<std::size_t> count(const iox2sd_count_answer& answer) noexcept {
-        return detail::result(answer.status, answer.count);
     }
 
     static bool is_state(std::uint32_t status) noexcept {

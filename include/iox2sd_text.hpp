@@ -15,11 +15,12 @@ public:
     /// The empty text.
     Text() noexcept = default;
 
-    /// The text that a call of the C headers writes into a buffer. Errors: those of the call.
-    template <class Write>
-    static Result<Text> written_by(Write write) noexcept {
+    /// The text that a call of the C headers, with these arguments before, writes into a buffer.
+    /// Errors: those of the call.
+    template <class Write, class... Arguments>
+    static Result<Text> written_by(Write write, Arguments... arguments) noexcept {
         Text text;
-        const iox2sd_text_answer answer = write(text.bytes_, Capacity);
+        const iox2sd_text_answer answer = write(arguments..., text.bytes_, Capacity);
         if (answer.status != IOX2SD_STATUS_DONE) return Status{answer.status};
         text.length_ = answer.length;
         return text;
@@ -101,33 +102,23 @@ struct TextError {
     }
 };
 
+IOX2SD_WRITTEN(TextError);
+
 namespace detail {
 
-template <>
-inline constexpr bool is_written<TextError> = true;
-
 /// What the library checks of each kind of texts.
-struct KeyContent {
-    static constexpr auto check = iox2sd_attribute_key_check;
-};
-struct ValueContent {
-    static constexpr auto check = iox2sd_attribute_value_check;
-};
-struct FileNameContent {
-    static constexpr auto check = iox2sd_file_name_check;
-};
-struct RestrictedContent {
-    static constexpr auto check = iox2sd_restricted_file_name_check;
-};
-struct PathContent {
-    static constexpr auto check = iox2sd_path_check;
-};
-struct FilePathContent {
-    static constexpr auto check = iox2sd_file_path_check;
-};
-struct ServiceNameContent {
-    static constexpr auto check = iox2sd_internal_service_name_check;
-};
+#define IOX2SD_CONTENT(Content, of_library) \
+    struct Content {                        \
+        static constexpr auto check = of_library; \
+    };
+IOX2SD_CONTENT(KeyContent, iox2sd_attribute_key_check)
+IOX2SD_CONTENT(ValueContent, iox2sd_attribute_value_check)
+IOX2SD_CONTENT(FileNameContent, iox2sd_file_name_check)
+IOX2SD_CONTENT(RestrictedContent, iox2sd_restricted_file_name_check)
+IOX2SD_CONTENT(PathContent, iox2sd_path_check)
+IOX2SD_CONTENT(FilePathContent, iox2sd_file_path_check)
+IOX2SD_CONTENT(ServiceNameContent, iox2sd_internal_service_name_check)
+#undef IOX2SD_CONTENT
 
 }  // namespace detail
 
@@ -143,7 +134,7 @@ public:
     /// The text as one of this kind. Errors: `Empty`; `TooLong`, with the greatest length;
     /// `IllegalByte`, with the index of the first one; `NoFileName` of the names of files.
     static Result<SemanticString, TextError> create(std::string_view text) noexcept {
-        return checked<SemanticString>(Content::check(detail::bytes(text), text.size()), text);
+        return checked<SemanticString>(Content::check, text);
     }
 
     SemanticString(const Text<Capacity>& text, detail::FromLibrary) noexcept
@@ -152,12 +143,21 @@ public:
 protected:
     explicit SemanticString(std::string_view text) noexcept : Text<Capacity>(text) {}
 
-    /// The text as one of a kind that derives from this one, if the check let it through.
+    /// The text as one of a kind that is or derives from this one, if the check lets it through.
     template <class Made>
-    static Result<Made, TextError> checked(const iox2sd_place_answer& answer,
-                                           std::string_view text) noexcept {
+    static Result<Made, TextError> checked(
+        iox2sd_place_answer check(const std::uint8_t*, std::size_t),
+        std::string_view text) noexcept {
+        const iox2sd_place_answer answer = check(detail::bytes(text), text.size());
         if (answer.status != IOX2SD_STATUS_DONE) return TextError{Status{answer.status}, answer.at};
-        return Made(text);
+        return Made(SemanticString(text), {});
+    }
+
+    /// One of such a kind, of a text that was written, or the error for which it was not.
+    template <class Made>
+    static Result<Made> made(const Result<Text<Capacity>>& written) noexcept {
+        if (!written) return written.error();
+        return Made(*written, {});
     }
 
     SemanticString() noexcept = default;
@@ -168,99 +168,73 @@ protected:
 /// A path: at most 255 bytes, each from 1 to 127.
 class Path : public SemanticString<detail::PathContent, 255> {
 public:
-    using Base = SemanticString<detail::PathContent, 255>;
+    using SemanticString::SemanticString;
 
     /// Errors: `TooLong`, with `at` 255; `IllegalByte`, with the index of the first one.
     static Result<Path, TextError> create(std::string_view text) noexcept {
-        return checked<Path>(iox2sd_path_check(detail::bytes(text), text.size()), text);
+        return checked<Path>(iox2sd_path_check, text);
     }
 
     /// The empty path.
     Path() noexcept = default;
-    Path(const Text<255>& text, detail::FromLibrary mark) noexcept : Base(text, mark) {}
 
     /// Joins an entry to the path, with one `/` between them unless the path is empty or ends in
     /// `/`. Error: `TooLong`, past 255 bytes; then the path is as it was.
     Result<void> add_path_entry(const Path& entry) noexcept {
-        const auto joined = written_by([&](std::uint8_t* out, std::size_t capacity) {
-            return iox2sd_path_add_path_entry(detail::bytes(*this), size(), detail::bytes(entry),
-                                              entry.size(), out, capacity);
-        });
-        if (!joined) return joined.status();
-        *this = Path(*joined, {});
+        const auto joined = made<Path>(written_by(iox2sd_path_add_path_entry, detail::bytes(*this),
+                                                  size(), detail::bytes(entry), entry.size()));
+        if (!joined) return joined.error();
+        *this = *joined;
         return {};
     }
-
-private:
-    friend Base;
-    explicit Path(std::string_view text) noexcept : Base(text) {}
 };
 
 /// The path of a file: 1 to 255 bytes, each from 1 to 127, of which those after the last `/` are
 /// the name of a file. Errors as of the name of a file; a `/` is no illegal byte.
 class FilePath : public SemanticString<detail::FilePathContent, 255> {
 public:
-    using Base = SemanticString<detail::FilePathContent, 255>;
+    using SemanticString::SemanticString;
 
     static Result<FilePath, TextError> create(std::string_view text) noexcept {
-        return checked<FilePath>(iox2sd_file_path_check(detail::bytes(text), text.size()), text);
+        return checked<FilePath>(iox2sd_file_path_check, text);
     }
-
-    FilePath(const Text<255>& text, detail::FromLibrary mark) noexcept : Base(text, mark) {}
 
     /// The path of a file in a directory, joined as `Path::add_path_entry` does.
     /// Error: `TooLong`, past 255 bytes.
     static Result<FilePath> from_path_and_file(const Path& path, const FileName& file) noexcept {
-        const auto joined = written_by([&](std::uint8_t* out, std::size_t capacity) {
-            return iox2sd_file_path_from_path_and_file(
-                detail::bytes(path), path.size(), detail::bytes(file), file.size(), out, capacity);
-        });
-        if (!joined) return joined.status();
-        return FilePath(*joined, {});
+        return made<FilePath>(written_by(iox2sd_file_path_from_path_and_file, detail::bytes(path),
+                                         path.size(), detail::bytes(file), file.size()));
     }
-
-private:
-    friend Base;
-    explicit FilePath(std::string_view text) noexcept : Base(text) {}
 };
 
 /// The name of a service: 1 to 255 bytes, each from 1 to 127. The names of the system's own
 /// services begin with "iox2://", and those that a user gives do not.
 class ServiceName : public SemanticString<detail::ServiceNameContent, 255> {
 public:
-    using Base = SemanticString<detail::ServiceNameContent, 255>;
+    using SemanticString::SemanticString;
 
     /// The name that a user gives. Errors: `ReservedPrefix`; `Empty`; `TooLong`, with `at` 255;
     /// `IllegalByte`, with the index of the first one.
     static Result<ServiceName, TextError> create(std::string_view text) noexcept {
-        return checked<ServiceName>(iox2sd_service_name_check(detail::bytes(text), text.size()),
-                                    text);
+        return checked<ServiceName>(iox2sd_service_name_check, text);
     }
 
     /// A name that may be one of the system's own. Errors as above, but for `ReservedPrefix`.
     static Result<ServiceName, TextError> internal_new(std::string_view text) noexcept {
-        const auto* const bytes = detail::bytes(text);
-        return checked<ServiceName>(iox2sd_internal_service_name_check(bytes, text.size()), text);
+        return checked<ServiceName>(iox2sd_internal_service_name_check, text);
     }
 
     /// The name of one of the system's own services: "iox2://" and the text.
     /// Errors: `NotUtf8`; `TooLong`, for more than 248 bytes; `IllegalByte`.
     static Result<ServiceName> internal_new_prefixed(std::string_view text) noexcept {
-        const auto made = written_by([text](std::uint8_t* out, std::size_t capacity) {
-            return iox2sd_internal_service_name(detail::bytes(text), text.size(), out, capacity);
-        });
-        if (!made) return made.status();
-        return ServiceName(made->view());
+        return made<ServiceName>(
+            written_by(iox2sd_internal_service_name, detail::bytes(text), text.size()));
     }
 
     /// Whether a text begins with "iox2://".
     static bool has_iox2_prefix(std::string_view text) noexcept {
         return iox2sd_has_iox2_prefix(detail::bytes(text), text.size());
     }
-
-private:
-    friend Base;
-    explicit ServiceName(std::string_view text) noexcept : Base(text) {}
 };
 
 /// Messaging patterns.
@@ -271,30 +245,20 @@ enum class PatternKind : std::uint64_t {
     Blackboard = IOX2SD_PATTERN_BLACKBOARD,
 };
 
-/// The word for a pattern, as "publish-subscribe", in a static text.
-inline std::string_view text(PatternKind kind) noexcept {
-    return iox2sd_pattern_str(static_cast<std::uint64_t>(kind));
-}
-template <>
-inline constexpr bool detail::is_written<PatternKind> = true;
+/// The word for a pattern, as "publish-subscribe".
+IOX2SD_WORDS(PatternKind, iox2sd_pattern_str);
 
 /// The hash text of a service's pattern and name by SHA-1, under which its files are found.
 class ServiceHash : public RestrictedFileName {
 public:
+    using SemanticString::SemanticString;
+
     /// Errors: `UnknownPattern`; `IllegalHash`, which SHA-1 is proved never to make.
     static Result<ServiceHash> create(const ServiceName& name, PatternKind kind) noexcept {
-        const auto made = written_by([&](std::uint8_t* out, std::size_t capacity) {
-            return iox2sd_internal_hash_text(static_cast<std::uint64_t>(kind), detail::bytes(name),
-                                             name.size(), out, capacity);
-        });
-        if (!made) return made.status();
-        return ServiceHash(*made);
+        return made<ServiceHash>(written_by(iox2sd_internal_hash_text,
+                                            static_cast<std::uint64_t>(kind), detail::bytes(name),
+                                            name.size()));
     }
-
-private:
-    friend class StaticConfig;
-
-    explicit ServiceHash(std::string_view text) noexcept : RestrictedFileName(text) {}
 };
 
 // ---- Ids ----
@@ -325,9 +289,7 @@ public:
     /// The number process * 2^96 + seconds * 2^64 + nanoseconds * 2^32 + counter in lower-case
     /// hexadecimal digits without leading zeros.
     Text<32> text() const noexcept {
-        return *Text<32>::written_by([this](std::uint8_t* out, std::size_t capacity) {
-            return iox2sd_id_text(parts_, out, capacity);
-        });
+        return *Text<32>::written_by(iox2sd_id_text, parts_);
     }
 
     /// Ids are equal where their parts are, and ordered by that number.
@@ -353,12 +315,8 @@ enum class Role : std::uint64_t {
     Writer = IOX2SD_ROLE_WRITER,
 };
 
-/// The word for a role, as "publisher", in a static text.
-inline std::string_view text(Role role) noexcept {
-    return iox2sd_role_str(static_cast<std::uint64_t>(role));
-}
-template <>
-inline constexpr bool detail::is_written<Role> = true;
+/// The word for a role, as "publisher".
+IOX2SD_WORDS(Role, iox2sd_role_str);
 
 /// All kinds of ports, each with the word that its fields begin with.
 #define IOX2SD_PORT_KINDS(kind)                                     \
@@ -397,8 +355,7 @@ public:
     std::uint64_t owner_id() const noexcept { return iox2sd_id_owner_id(parts()); }
 };
 
-template <>
-inline constexpr bool detail::is_written<UniqueNodeId> = true;
+IOX2SD_WRITTEN(UniqueNodeId);
 
 /// The id of a port of any kind, with its role. It is written as its number, without the role.
 class UniquePortId {
@@ -421,8 +378,7 @@ private:
     iox2sd_id parts_;
 };
 
-template <>
-inline constexpr bool detail::is_written<UniquePortId> = true;
+IOX2SD_WRITTEN(UniquePortId);
 
 // ---- Capacities ----
 

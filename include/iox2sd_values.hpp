@@ -83,10 +83,8 @@ public:
     /// Error: `NoSuchValue`.
     Result<AttributeValue> key_value(const AttributeKey& key, std::size_t index) const noexcept {
         const detail::Pairs pairs = as_pairs();
-        const auto found = Text<256>::written_by([&](std::uint8_t* out, std::size_t capacity) {
-            return iox2sd_attributes_key_value(pairs.items, pairs.size, detail::bytes(key),
-                                               key.size(), index, out, capacity);
-        });
+        const auto found = Text<256>::written_by(iox2sd_attributes_key_value, pairs.items,
+                                                 pairs.size, detail::bytes(key), key.size(), index);
         if (!found) return found.status();
         return AttributeValue(*found, detail::FromLibrary{});
     }
@@ -125,8 +123,7 @@ struct AttributeVerificationError {
         return Text<383>::joined({key, "=", *value, ": ", words});
     }
 };
-template <>
-inline constexpr bool detail::is_written<AttributeVerificationError> = true;
+IOX2SD_WRITTEN(AttributeVerificationError);
 
 /// What an opener requires of the attributes of a service: pairs and keys, at most sixteen
 /// together.
@@ -230,12 +227,8 @@ enum class MessagePart : std::uint32_t {
     Payload = IOX2SD_PART_PAYLOAD,
 };
 
-/// The words for a part of a message, as "user header", in a static text.
-inline std::string_view text(MessagePart part) noexcept {
-    return iox2sd_part_str(static_cast<std::uint32_t>(part));
-}
-template <>
-inline constexpr bool detail::is_written<MessagePart> = true;
+/// The words for a part of a message, as "user header".
+IOX2SD_WORDS(MessagePart, iox2sd_part_str);
 
 /// The type of one part of a message.
 class TypeDetail {
@@ -316,8 +309,7 @@ struct IncompatibleTypes {
         return Text<127>::joined({iox2sd::text(part), ": ", iox2sd::text(status)});
     }
 };
-template <>
-inline constexpr bool detail::is_written<IncompatibleTypes> = true;
+IOX2SD_WRITTEN(IncompatibleTypes);
 
 /// The parts of a message, which lie one after another.
 struct MessageTypeDetails {
@@ -490,12 +482,8 @@ enum class SettingsField : std::uint32_t {
     MaxNodes = IOX2SD_FIELD_MAX_NODES,
 };
 
-/// The name of a field, as "max_subscribers", in a static text.
-inline std::string_view text(SettingsField field) noexcept {
-    return iox2sd_field_str(static_cast<std::uint32_t>(field));
-}
-template <>
-inline constexpr bool detail::is_written<SettingsField> = true;
+/// The name of a field, as "max_subscribers".
+IOX2SD_WORDS(SettingsField, iox2sd_field_str);
 
 /// The first field of settings that is invalid: `UnknownStrategy`, or `BadDuration` of nanoseconds
 /// of 1,000,000,000 or more. Or the first that is not what an opener requires: `Unmet`.
@@ -510,8 +498,7 @@ struct SettingsError {
         return Text<127>::joined({iox2sd::text(field), ": ", iox2sd::text(status)});
     }
 };
-template <>
-inline constexpr bool detail::is_written<SettingsError> = true;
+IOX2SD_WRITTEN(SettingsError);
 
 namespace detail {
 
@@ -603,8 +590,7 @@ struct PublishSubscribeSettings {
     /// segment is made for. Error: `TooLarge` past 2^64 - 1.
     Result<std::size_t> required_amount_of_samples_per_data_segment() const noexcept {
         const iox2sd_publish_subscribe_settings c = as_c();
-        const iox2sd_count_answer answer = iox2sd_samples_of(&c);
-        return detail::result(answer.status, answer.count);
+        return detail::result(iox2sd_samples_of(&c));
     }
 };
 
@@ -662,13 +648,11 @@ struct RequestResponseSettings {
     /// use at once. Error: `TooLarge` past 2^64 - 1.
     Result<std::size_t> required_amount_of_chunks_per_client_data_segment() const noexcept {
         const iox2sd_request_response_settings c = as_c();
-        const iox2sd_count_answer answer = iox2sd_requests_of(&c);
-        return detail::result(answer.status, answer.count);
+        return detail::result(iox2sd_requests_of(&c));
     }
     Result<std::size_t> required_amount_of_chunks_per_server_data_segment() const noexcept {
         const iox2sd_request_response_settings c = as_c();
-        const iox2sd_count_answer answer = iox2sd_responses_of(&c);
-        return detail::result(answer.status, answer.count);
+        return detail::result(iox2sd_responses_of(&c));
     }
 };
 
@@ -724,9 +708,7 @@ enum class ConfigEntry : std::uint32_t {
 
 /// A default text of the configuration. Error: `UnknownText`.
 inline Result<Text<255>> default_text(ConfigEntry entry) noexcept {
-    return Text<255>::written_by([entry](std::uint8_t* out, std::size_t capacity) {
-        return iox2sd_default_text(static_cast<std::uint32_t>(entry), out, capacity);
-    });
+    return Text<255>::written_by(iox2sd_default_text, static_cast<std::uint32_t>(entry));
 }
 
 namespace detail {
@@ -734,9 +716,7 @@ namespace detail {
 /// A directory below a root path.
 template <class Write>
 Result<Path> directory(const Path& root, Write write) noexcept {
-    const auto made = Text<255>::written_by([&](std::uint8_t* out, std::size_t capacity) {
-        return write(bytes(root), root.size(), out, capacity);
-    });
+    const auto made = Text<255>::written_by(write, bytes(root), root.size());
     if (!made) return made.status();
     return Path(*made, {});
 }
@@ -784,10 +764,9 @@ struct PublishSubscribeStaticConfig {
     /// so many loaned. Error: `TooLarge` past 2^64 - 1.
     Result<std::size_t> required_amount_of_samples_per_data_segment(
         std::size_t publisher_max_loaned_data) const noexcept {
-        const iox2sd_count_answer answer = iox2sd_required_amount_of_samples_per_data_segment(
+        return detail::result(iox2sd_required_amount_of_samples_per_data_segment(
             max_subscribers, subscriber_max_buffer_size, subscriber_max_borrowed_samples,
-            history_size, publisher_max_loaned_data);
-        return detail::result(answer.status, answer.count);
+            history_size, publisher_max_loaned_data));
     }
 
     IOX2SD_FIXED(PublishSubscribeStaticConfig, publish_subscribe, max_subscribers, max_publishers,
@@ -834,19 +813,17 @@ struct RequestResponseStaticConfig {
     /// so many loaned. Error: `TooLarge` past 2^64 - 1.
     Result<std::size_t> required_amount_of_chunks_per_client_data_segment(
         std::size_t client_max_loaned_data) const noexcept {
-        const iox2sd_count_answer answer = iox2sd_required_amount_of_chunks_per_client_data_segment(
-            max_servers, max_active_requests_per_client, client_max_loaned_data);
-        return detail::result(answer.status, answer.count);
+        return detail::result(iox2sd_required_amount_of_chunks_per_client_data_segment(
+            max_servers, max_active_requests_per_client, client_max_loaned_data));
     }
 
     /// The greatest number of one server's responses that can be in use at once, where it may have
     /// so many loaned for each request. Error: `TooLarge` past 2^64 - 1.
     Result<std::size_t> required_amount_of_chunks_per_server_data_segment(
         std::size_t server_max_loaned_responses_per_request) const noexcept {
-        const iox2sd_count_answer answer = iox2sd_required_amount_of_chunks_per_server_data_segment(
+        return detail::result(iox2sd_required_amount_of_chunks_per_server_data_segment(
             max_clients, max_active_requests_per_client, max_response_buffer_size,
-            max_borrowed_responses_per_pending_response, server_max_loaned_responses_per_request);
-        return detail::result(answer.status, answer.count);
+            max_borrowed_responses_per_pending_response, server_max_loaned_responses_per_request));
     }
 
     IOX2SD_FIXED(RequestResponseStaticConfig, request_response, max_active_requests_per_client,
@@ -955,8 +932,7 @@ struct OpenError {
         return Text<383>::joined({iox2sd::text(field), ": ", words});
     }
 };
-template <>
-inline constexpr bool detail::is_written<OpenError> = true;
+IOX2SD_WRITTEN(OpenError);
 
 namespace detail {
 

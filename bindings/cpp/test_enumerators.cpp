@@ -1,6 +1,6 @@
-// Each enumerator has the number that the C headers give its name, and each status its text. The
-// last line is 'N checks, N failed'.
-#include <iterator>
+// Each enumerator has the number that the C headers give its name, and each status a text of its
+// own. The last line is 'N checks, N failed'.
+#include <set>
 #include <string_view>
 
 #include "check.hpp"
@@ -10,341 +10,159 @@ namespace {
 
 using namespace iox2sd;
 
-/// What each status says.
-struct StatusText {
-    Status status;
-    const char* text;
-};
-
-constexpr StatusText texts[] = {
-    {Status::Done, "done"},
-    {Status::DoneLocked, "done, and the service is locked for good"},
-    {Status::BufferTooShort, "the buffer is too short"},
-    {Status::NoMemory, "no memory"},
-    {Status::NoService, "the object holds no service"},
-    {Status::HasService, "the object holds a service already"},
-    {Status::UnknownPattern, "unknown messaging pattern"},
-    {Status::UnknownRole, "unknown role"},
-    {Status::NoNode, "not the id of a node"},
-    {Status::IsLocked, "the service is locked for good"},
-    {Status::OutOfSpace, "no slot or no ticket is left"},
-    {Status::ForeignHandle, "no entry has the handle"},
-    {Status::PortsStillAttached, "ports are still attached"},
-    {Status::NodeNotRegistered, "the node is not registered"},
-    {Status::RoleNotInPattern, "the pattern has no ports of the role"},
-    {Status::UnknownSegment, "unknown kind of data segment"},
-    {Status::BadKey, "not a key of a pair"},
-    {Status::BadValue, "not a value of a pair"},
-    {Status::TooMany, "more than sixteen pairs"},
-    {Status::Null, "NULL"},
-    {Status::UnknownStatus, "unknown status"},
-    {Status::Empty, "the text is empty"},
-    {Status::TooLong, "the text is too long"},
-    {Status::IllegalByte, "a byte may not stand in the text"},
-    {Status::NoFileName, "not the name of a file"},
-    {Status::ReservedPrefix, "the name begins with a reserved prefix"},
-    {Status::NotUtf8, "not UTF-8"},
-    {Status::BadServiceName, "not the name of a service"},
-    {Status::BadPath, "not a path"},
-    {Status::BadEntry, "the text may not be joined to a path"},
-    {Status::IllegalHash, "the hash text cannot be the name of a file"},
-    {Status::BadRequiredKey, "not a key of a required pair"},
-    {Status::BadRequiredValue, "not a value of a required pair"},
-    {Status::BadAskedKey, "not a key that may be searched for"},
-    {Status::TooManyRequired, "more than sixteen pairs and keys are required"},
-    {Status::MissingPair, "a required pair is not in the set"},
-    {Status::MissingKey, "no pair of the set has a required key"},
-    {Status::NoSuchValue, "the key has no value of this index"},
-    {Status::BadAlignment, "an alignment is not a power of two"},
-    {Status::TooLarge, "the answer would pass its range"},
-    {Status::UnknownVariant, "unknown variant"},
-    {Status::OtherName, "the types of a part have other names"},
-    {Status::OtherVariant, "the types of a part are of other variants"},
-    {Status::OtherSize, "the types of a part have other sizes"},
-    {Status::OtherAlignment, "the types of the headers have other alignments"},
-    {Status::GreaterAlignment, "the opener's type has a greater alignment than the service's"},
-    {Status::UnknownText, "unknown text of the configuration"},
-    {Status::BadLine, "a line of the script is not valid"},
-    {Status::UnknownStrategy, "unknown strategy"},
-    {Status::BadDuration, "the nanoseconds of a duration are a second or more"},
-    {Status::Unmet, "a setting is not what the opener requires"},
-    {Status::OtherPattern, "the service has another messaging pattern"},
-    {Status::NotToml, "not TOML"},
-    {Status::WrongType, "a value of another type is wanted"},
-    {Status::BelowZero, "the number is below 0"},
-    {Status::NoDuration, "not a duration: the integers secs and nanos"},
-    {Status::NoTomlInteger, "TOML has no integer above 2^63 - 1"},
-    {Status::NoFile, "the file cannot be read"},
-    {Status::TooDeep, "tables and arrays are nested too deeply"},
-    {Status::NoRun, "no run gives the reply"},
-    {Status::NoServiceLine, "the line of a service is expected"},
-    {Status::NoCommandLine, "the line of a command is expected"},
-    {Status::NoReplyLine, "the line of a reply is expected"},
-    {Status::NoOrder, "no order of the group gives the replies"},
-    {Status::TooManyStates, "orders of the group lead to more than 64 states"},
-    {Status::NoGroupLine, "the line of a call of the group, or its end, is expected"},
-    {Status::NoGroupEnd, "the end of the group is expected, which has 8 calls"},
-};
-
 // The number of the C headers that each enumerator has. A switch that leaves one out does not
 // compile, since the compiler's warnings are errors.
 
 constexpr std::uint64_t none = UINT64_MAX;
 
-std::uint64_t of_header(Role role) {
-    switch (role) {
-        case Role::Node: return IOX2SD_ROLE_NODE;
-        case Role::Publisher: return IOX2SD_ROLE_PUBLISHER;
-        case Role::Subscriber: return IOX2SD_ROLE_SUBSCRIBER;
-        case Role::Notifier: return IOX2SD_ROLE_NOTIFIER;
-        case Role::Listener: return IOX2SD_ROLE_LISTENER;
-        case Role::Client: return IOX2SD_ROLE_CLIENT;
-        case Role::Server: return IOX2SD_ROLE_SERVER;
-        case Role::Reader: return IOX2SD_ROLE_READER;
-        case Role::Writer: return IOX2SD_ROLE_WRITER;
+#define IS(name, NAME) \
+    case E::name: return IOX2SD_##NAME;
+#define NUMBERS(Enum, each)                       \
+    std::uint64_t of_header(Enum number) {        \
+        using E = Enum;                           \
+        switch (number) { each }                  \
+        return none;                              \
     }
-    return none;
-}
 
-std::uint64_t of_header(PatternKind kind) {
-    switch (kind) {
-        case PatternKind::PublishSubscribe: return IOX2SD_PATTERN_PUBLISH_SUBSCRIBE;
-        case PatternKind::Event: return IOX2SD_PATTERN_EVENT;
-        case PatternKind::RequestResponse: return IOX2SD_PATTERN_REQUEST_RESPONSE;
-        case PatternKind::Blackboard: return IOX2SD_PATTERN_BLACKBOARD;
-    }
-    return none;
-}
+NUMBERS(Role, IS(Node, ROLE_NODE) IS(Publisher, ROLE_PUBLISHER) IS(Subscriber, ROLE_SUBSCRIBER)
+        IS(Notifier, ROLE_NOTIFIER) IS(Listener, ROLE_LISTENER) IS(Client, ROLE_CLIENT)
+        IS(Server, ROLE_SERVER) IS(Reader, ROLE_READER) IS(Writer, ROLE_WRITER))
+NUMBERS(PatternKind, IS(PublishSubscribe, PATTERN_PUBLISH_SUBSCRIBE) IS(Event, PATTERN_EVENT)
+        IS(RequestResponse, PATTERN_REQUEST_RESPONSE) IS(Blackboard, PATTERN_BLACKBOARD))
+NUMBERS(DataSegmentType, IS(Dynamic, SEGMENT_DYNAMIC) IS(Static, SEGMENT_STATIC))
+NUMBERS(TypeVariant, IS(FixedSize, VARIANT_FIXED_SIZE) IS(Dynamic, VARIANT_DYNAMIC))
+NUMBERS(MessagePart, IS(Header, PART_HEADER) IS(UserHeader, PART_USER_HEADER)
+        IS(Payload, PART_PAYLOAD))
+NUMBERS(BackpressureStrategy, IS(RetryUntilDelivered, BACKPRESSURE_RETRY_UNTIL_DELIVERED)
+        IS(DiscardData, BACKPRESSURE_DISCARD_DATA))
+NUMBERS(AllocationStrategy, IS(BestFit, ALLOCATION_BEST_FIT) IS(PowerOfTwo, ALLOCATION_POWER_OF_TWO)
+        IS(Static, ALLOCATION_STATIC))
+NUMBERS(SettingsField, IS(BackpressureStrategy, FIELD_BACKPRESSURE_STRATEGY)
+        IS(PublisherAllocationStrategy, FIELD_PUBLISHER_ALLOCATION_STRATEGY)
+        IS(Deadline, FIELD_DEADLINE)
+        IS(ClientBackpressureStrategy, FIELD_CLIENT_BACKPRESSURE_STRATEGY)
+        IS(ServerBackpressureStrategy, FIELD_SERVER_BACKPRESSURE_STRATEGY)
+        IS(ClientAllocationStrategy, FIELD_CLIENT_ALLOCATION_STRATEGY)
+        IS(ServerAllocationStrategy, FIELD_SERVER_ALLOCATION_STRATEGY)
+        IS(CreationTimeout, FIELD_CREATION_TIMEOUT) IS(MaxSubscribers, FIELD_MAX_SUBSCRIBERS)
+        IS(MaxPublishers, FIELD_MAX_PUBLISHERS) IS(HistorySize, FIELD_HISTORY_SIZE)
+        IS(SubscriberMaxBufferSize, FIELD_SUBSCRIBER_MAX_BUFFER_SIZE)
+        IS(SubscriberMaxBorrowedSamples, FIELD_SUBSCRIBER_MAX_BORROWED_SAMPLES)
+        IS(EnableSafeOverflow, FIELD_ENABLE_SAFE_OVERFLOW) IS(MaxNotifiers, FIELD_MAX_NOTIFIERS)
+        IS(MaxListeners, FIELD_MAX_LISTENERS) IS(EventIdMaxValue, FIELD_EVENT_ID_MAX_VALUE)
+        IS(NotifierCreatedEvent, FIELD_NOTIFIER_CREATED_EVENT)
+        IS(NotifierDroppedEvent, FIELD_NOTIFIER_DROPPED_EVENT)
+        IS(NotifierDeadEvent, FIELD_NOTIFIER_DEAD_EVENT)
+        IS(EnableSafeOverflowForRequests, FIELD_ENABLE_SAFE_OVERFLOW_FOR_REQUESTS)
+        IS(EnableSafeOverflowForResponses, FIELD_ENABLE_SAFE_OVERFLOW_FOR_RESPONSES)
+        IS(EnableFireAndForgetRequests, FIELD_ENABLE_FIRE_AND_FORGET_REQUESTS)
+        IS(MaxActiveRequestsPerClient, FIELD_MAX_ACTIVE_REQUESTS_PER_CLIENT)
+        IS(MaxLoanedRequests, FIELD_MAX_LOANED_REQUESTS)
+        IS(MaxResponseBufferSize, FIELD_MAX_RESPONSE_BUFFER_SIZE) IS(MaxServers, FIELD_MAX_SERVERS)
+        IS(MaxClients, FIELD_MAX_CLIENTS)
+        IS(MaxBorrowedResponsesPerPendingResponse,
+           FIELD_MAX_BORROWED_RESPONSES_PER_PENDING_RESPONSE)
+        IS(MaxReaders, FIELD_MAX_READERS) IS(MaxWriters, FIELD_MAX_WRITERS)
+        IS(MaxNodes, FIELD_MAX_NODES))
+NUMBERS(ConfigEntry, IS(RootPath, TEXT_ROOT_PATH) IS(Prefix, TEXT_PREFIX)
+        IS(ServiceDirectory, TEXT_SERVICE_DIRECTORY) IS(DataSegmentSuffix, TEXT_DATA_SEGMENT_SUFFIX)
+        IS(StaticConfigStorageSuffix, TEXT_STATIC_CONFIG_STORAGE_SUFFIX)
+        IS(DynamicConfigStorageSuffix, TEXT_DYNAMIC_CONFIG_STORAGE_SUFFIX)
+        IS(ConnectionSuffix, TEXT_CONNECTION_SUFFIX)
+        IS(EventConnectionSuffix, TEXT_EVENT_CONNECTION_SUFFIX)
+        IS(BlackboardMgmtSuffix, TEXT_BLACKBOARD_MGMT_SUFFIX)
+        IS(BlackboardDataSuffix, TEXT_BLACKBOARD_DATA_SUFFIX) IS(NodeDirectory, TEXT_NODE_DIRECTORY)
+        IS(MonitorSuffix, TEXT_MONITOR_SUFFIX)
+        IS(NodeStaticConfigSuffix, TEXT_NODE_STATIC_CONFIG_SUFFIX)
+        IS(ServiceTagSuffix, TEXT_SERVICE_TAG_SUFFIX) IS(PortTagSuffix, TEXT_PORT_TAG_SUFFIX)
+        IS(GlobalMgmtSuffix, TEXT_GLOBAL_MGMT_SUFFIX) IS(ConfigFileName, TEXT_CONFIG_FILE_NAME)
+        IS(ConfigFilePath, TEXT_CONFIG_FILE_PATH) IS(RelativeConfigPath, TEXT_RELATIVE_CONFIG_PATH)
+        IS(UserConfigFilePath, TEXT_USER_CONFIG_FILE_PATH))
+NUMBERS(ConfigTable, IS(Root, TABLE_ROOT) IS(Global, TABLE_GLOBAL) IS(Service, TABLE_SERVICE)
+        IS(Node, TABLE_NODE) IS(Defaults, TABLE_DEFAULTS)
+        IS(PublishSubscribe, TABLE_PUBLISH_SUBSCRIBE) IS(Event, TABLE_EVENT)
+        IS(RequestResponse, TABLE_REQUEST_RESPONSE) IS(Blackboard, TABLE_BLACKBOARD))
+NUMBERS(TomlType, IS(None, TOML_NONE) IS(String, TOML_STRING) IS(Integer, TOML_INTEGER)
+        IS(Float, TOML_FLOAT) IS(Boolean, TOML_BOOLEAN) IS(Datetime, TOML_DATETIME)
+        IS(Array, TOML_ARRAY) IS(Table, TOML_TABLE))
+NUMBERS(SettingKind, IS(None, KIND_NONE) IS(Table, KIND_TABLE) IS(Number, KIND_NUMBER)
+        IS(Flag, KIND_FLAG) IS(Path, KIND_PATH) IS(NameOfFile, KIND_FILE_NAME)
+        IS(Backpressure, KIND_BACKPRESSURE) IS(Allocation, KIND_ALLOCATION)
+        IS(Duration, KIND_DURATION))
 
-std::uint64_t of_header(DataSegmentType type) {
-    switch (type) {
-        case DataSegmentType::Dynamic: return IOX2SD_SEGMENT_DYNAMIC;
-        case DataSegmentType::Static: return IOX2SD_SEGMENT_STATIC;
-    }
-    return none;
-}
+/// Each status, with what it says.
+#define STATUSES(S)                                                                                \
+    S(Done, DONE, "done")                                                                          \
+    S(DoneLocked, DONE_LOCKED, "done, and the service is locked for good")                         \
+    S(BufferTooShort, BUFFER_TOO_SHORT, "the buffer is too short")                                 \
+    S(NoMemory, NO_MEMORY, "no memory")                                                            \
+    S(NoService, NO_SERVICE, "the object holds no service")                                        \
+    S(HasService, HAS_SERVICE, "the object holds a service already")                               \
+    S(UnknownPattern, UNKNOWN_PATTERN, "unknown messaging pattern")                                \
+    S(UnknownRole, UNKNOWN_ROLE, "unknown role")                                                   \
+    S(NoNode, NO_NODE, "not the id of a node")                                                     \
+    S(IsLocked, IS_LOCKED, "the service is locked for good")                                       \
+    S(OutOfSpace, OUT_OF_SPACE, "no slot or no ticket is left")                                    \
+    S(ForeignHandle, FOREIGN_HANDLE, "no entry has the handle")                                    \
+    S(PortsStillAttached, PORTS_STILL_ATTACHED, "ports are still attached")                        \
+    S(NodeNotRegistered, NODE_NOT_REGISTERED, "the node is not registered")                        \
+    S(RoleNotInPattern, ROLE_NOT_IN_PATTERN, "the pattern has no ports of the role")               \
+    S(UnknownSegment, UNKNOWN_SEGMENT, "unknown kind of data segment")                             \
+    S(BadKey, BAD_KEY, "not a key of a pair")                                                      \
+    S(BadValue, BAD_VALUE, "not a value of a pair")                                                \
+    S(TooMany, TOO_MANY, "more than sixteen pairs")                                                \
+    S(Null, NULL, "NULL")                                                                          \
+    S(UnknownStatus, UNKNOWN_STATUS, "unknown status")                                             \
+    S(Empty, EMPTY, "the text is empty")                                                           \
+    S(TooLong, TOO_LONG, "the text is too long")                                                   \
+    S(IllegalByte, ILLEGAL_BYTE, "a byte may not stand in the text")                               \
+    S(NoFileName, NO_FILE_NAME, "not the name of a file")                                          \
+    S(ReservedPrefix, RESERVED_PREFIX, "the name begins with a reserved prefix")                   \
+    S(NotUtf8, NOT_UTF8, "not UTF-8")                                                              \
+    S(BadServiceName, BAD_SERVICE_NAME, "not the name of a service")                               \
+    S(BadPath, BAD_PATH, "not a path")                                                             \
+    S(BadEntry, BAD_ENTRY, "the text may not be joined to a path")                                 \
+    S(IllegalHash, ILLEGAL_HASH, "the hash text cannot be the name of a file")                     \
+    S(BadRequiredKey, BAD_REQUIRED_KEY, "not a key of a required pair")                            \
+    S(BadRequiredValue, BAD_REQUIRED_VALUE, "not a value of a required pair")                      \
+    S(BadAskedKey, BAD_ASKED_KEY, "not a key that may be searched for")                            \
+    S(TooManyRequired, TOO_MANY_REQUIRED, "more than sixteen pairs and keys are required")         \
+    S(MissingPair, MISSING_PAIR, "a required pair is not in the set")                              \
+    S(MissingKey, MISSING_KEY, "no pair of the set has a required key")                            \
+    S(NoSuchValue, NO_SUCH_VALUE, "the key has no value of this index")                            \
+    S(BadAlignment, BAD_ALIGNMENT, "an alignment is not a power of two")                           \
+    S(TooLarge, TOO_LARGE, "the answer would pass its range")                                      \
+    S(UnknownVariant, UNKNOWN_VARIANT, "unknown variant")                                          \
+    S(OtherName, OTHER_NAME, "the types of a part have other names")                               \
+    S(OtherVariant, OTHER_VARIANT, "the types of a part are of other variants")                    \
+    S(OtherSize, OTHER_SIZE, "the types of a part have other sizes")                               \
+    S(OtherAlignment, OTHER_ALIGNMENT, "the types of the headers have other alignments")           \
+    S(GreaterAlignment, GREATER_ALIGNMENT,                                                         \
+      "the opener's type has a greater alignment than the service's")                              \
+    S(UnknownText, UNKNOWN_TEXT, "unknown text of the configuration")                              \
+    S(BadLine, BAD_LINE, "a line of the script is not valid")                                      \
+    S(UnknownStrategy, UNKNOWN_STRATEGY, "unknown strategy")                                       \
+    S(BadDuration, BAD_DURATION, "the nanoseconds of a duration are a second or more")             \
+    S(Unmet, UNMET, "a setting is not what the opener requires")                                   \
+    S(OtherPattern, OTHER_PATTERN, "the service has another messaging pattern")                    \
+    S(NotToml, NOT_TOML, "not TOML")                                                               \
+    S(WrongType, WRONG_TYPE, "a value of another type is wanted")                                  \
+    S(BelowZero, BELOW_ZERO, "the number is below 0")                                              \
+    S(NoDuration, NO_DURATION, "not a duration: the integers secs and nanos")                      \
+    S(NoTomlInteger, NO_TOML_INTEGER, "TOML has no integer above 2^63 - 1")                        \
+    S(NoFile, NO_FILE, "the file cannot be read")                                                  \
+    S(TooDeep, TOO_DEEP, "tables and arrays are nested too deeply")                                \
+    S(NoRun, NO_RUN, "no run gives the reply")                                                     \
+    S(NoServiceLine, NO_SERVICE_LINE, "the line of a service is expected")                         \
+    S(NoCommandLine, NO_COMMAND_LINE, "the line of a command is expected")                         \
+    S(NoReplyLine, NO_REPLY_LINE, "the line of a reply is expected")                               \
+    S(NoOrder, NO_ORDER, "no order of the group gives the replies")                                \
+    S(TooManyStates, TOO_MANY_STATES, "orders of the group lead to more than 64 states")           \
+    S(NoGroupLine, NO_GROUP_LINE, "the line of a call of the group, or its end, is expected")      \
+    S(NoGroupEnd, NO_GROUP_END, "the end of the group is expected, which has 8 calls")
 
-std::uint64_t of_header(TypeVariant variant) {
-    switch (variant) {
-        case TypeVariant::FixedSize: return IOX2SD_VARIANT_FIXED_SIZE;
-        case TypeVariant::Dynamic: return IOX2SD_VARIANT_DYNAMIC;
-    }
-    return none;
-}
-
-std::uint64_t of_header(MessagePart part) {
-    switch (part) {
-        case MessagePart::Header: return IOX2SD_PART_HEADER;
-        case MessagePart::UserHeader: return IOX2SD_PART_USER_HEADER;
-        case MessagePart::Payload: return IOX2SD_PART_PAYLOAD;
-    }
-    return none;
-}
-
-std::uint64_t of_header(BackpressureStrategy strategy) {
-    switch (strategy) {
-        case BackpressureStrategy::RetryUntilDelivered: return IOX2SD_BACKPRESSURE_RETRY_UNTIL_DELIVERED;
-        case BackpressureStrategy::DiscardData: return IOX2SD_BACKPRESSURE_DISCARD_DATA;
-    }
-    return none;
-}
-
-std::uint64_t of_header(AllocationStrategy strategy) {
-    switch (strategy) {
-        case AllocationStrategy::BestFit: return IOX2SD_ALLOCATION_BEST_FIT;
-        case AllocationStrategy::PowerOfTwo: return IOX2SD_ALLOCATION_POWER_OF_TWO;
-        case AllocationStrategy::Static: return IOX2SD_ALLOCATION_STATIC;
-    }
-    return none;
-}
-
-std::uint64_t of_header(SettingsField field) {
-    switch (field) {
-        case SettingsField::BackpressureStrategy: return IOX2SD_FIELD_BACKPRESSURE_STRATEGY;
-        case SettingsField::PublisherAllocationStrategy:
-            return IOX2SD_FIELD_PUBLISHER_ALLOCATION_STRATEGY;
-        case SettingsField::Deadline: return IOX2SD_FIELD_DEADLINE;
-        case SettingsField::ClientBackpressureStrategy: return IOX2SD_FIELD_CLIENT_BACKPRESSURE_STRATEGY;
-        case SettingsField::ServerBackpressureStrategy: return IOX2SD_FIELD_SERVER_BACKPRESSURE_STRATEGY;
-        case SettingsField::ClientAllocationStrategy: return IOX2SD_FIELD_CLIENT_ALLOCATION_STRATEGY;
-        case SettingsField::ServerAllocationStrategy: return IOX2SD_FIELD_SERVER_ALLOCATION_STRATEGY;
-        case SettingsField::CreationTimeout: return IOX2SD_FIELD_CREATION_TIMEOUT;
-        case SettingsField::MaxSubscribers: return IOX2SD_FIELD_MAX_SUBSCRIBERS;
-        case SettingsField::MaxPublishers: return IOX2SD_FIELD_MAX_PUBLISHERS;
-        case SettingsField::HistorySize: return IOX2SD_FIELD_HISTORY_SIZE;
-        case SettingsField::SubscriberMaxBufferSize: return IOX2SD_FIELD_SUBSCRIBER_MAX_BUFFER_SIZE;
-        case SettingsField::SubscriberMaxBorrowedSamples:
-            return IOX2SD_FIELD_SUBSCRIBER_MAX_BORROWED_SAMPLES;
-        case SettingsField::EnableSafeOverflow: return IOX2SD_FIELD_ENABLE_SAFE_OVERFLOW;
-        case SettingsField::MaxNotifiers: return IOX2SD_FIELD_MAX_NOTIFIERS;
-        case SettingsField::MaxListeners: return IOX2SD_FIELD_MAX_LISTENERS;
-        case SettingsField::EventIdMaxValue: return IOX2SD_FIELD_EVENT_ID_MAX_VALUE;
-        case SettingsField::NotifierCreatedEvent: return IOX2SD_FIELD_NOTIFIER_CREATED_EVENT;
-        case SettingsField::NotifierDroppedEvent: return IOX2SD_FIELD_NOTIFIER_DROPPED_EVENT;
-        case SettingsField::NotifierDeadEvent: return IOX2SD_FIELD_NOTIFIER_DEAD_EVENT;
-        case SettingsField::EnableSafeOverflowForRequests:
-            return IOX2SD_FIELD_ENABLE_SAFE_OVERFLOW_FOR_REQUESTS;
-        case SettingsField::EnableSafeOverflowForResponses:
-            return IOX2SD_FIELD_ENABLE_SAFE_OVERFLOW_FOR_RESPONSES;
-        case SettingsField::EnableFireAndForgetRequests:
-            return IOX2SD_FIELD_ENABLE_FIRE_AND_FORGET_REQUESTS;
-        case SettingsField::MaxActiveRequestsPerClient:
-            return IOX2SD_FIELD_MAX_ACTIVE_REQUESTS_PER_CLIENT;
-        case SettingsField::MaxLoanedRequests: return IOX2SD_FIELD_MAX_LOANED_REQUESTS;
-        case SettingsField::MaxResponseBufferSize: return IOX2SD_FIELD_MAX_RESPONSE_BUFFER_SIZE;
-        case SettingsField::MaxServers: return IOX2SD_FIELD_MAX_SERVERS;
-        case SettingsField::MaxClients: return IOX2SD_FIELD_MAX_CLIENTS;
-        case SettingsField::MaxBorrowedResponsesPerPendingResponse:
-            return IOX2SD_FIELD_MAX_BORROWED_RESPONSES_PER_PENDING_RESPONSE;
-        case SettingsField::MaxReaders: return IOX2SD_FIELD_MAX_READERS;
-        case SettingsField::MaxWriters: return IOX2SD_FIELD_MAX_WRITERS;
-        case SettingsField::MaxNodes: return IOX2SD_FIELD_MAX_NODES;
-    }
-    return none;
-}
-
-std::uint64_t of_header(ConfigEntry entry) {
-    switch (entry) {
-        case ConfigEntry::RootPath: return IOX2SD_TEXT_ROOT_PATH;
-        case ConfigEntry::Prefix: return IOX2SD_TEXT_PREFIX;
-        case ConfigEntry::ServiceDirectory: return IOX2SD_TEXT_SERVICE_DIRECTORY;
-        case ConfigEntry::DataSegmentSuffix: return IOX2SD_TEXT_DATA_SEGMENT_SUFFIX;
-        case ConfigEntry::StaticConfigStorageSuffix: return IOX2SD_TEXT_STATIC_CONFIG_STORAGE_SUFFIX;
-        case ConfigEntry::DynamicConfigStorageSuffix: return IOX2SD_TEXT_DYNAMIC_CONFIG_STORAGE_SUFFIX;
-        case ConfigEntry::ConnectionSuffix: return IOX2SD_TEXT_CONNECTION_SUFFIX;
-        case ConfigEntry::EventConnectionSuffix: return IOX2SD_TEXT_EVENT_CONNECTION_SUFFIX;
-        case ConfigEntry::BlackboardMgmtSuffix: return IOX2SD_TEXT_BLACKBOARD_MGMT_SUFFIX;
-        case ConfigEntry::BlackboardDataSuffix: return IOX2SD_TEXT_BLACKBOARD_DATA_SUFFIX;
-        case ConfigEntry::NodeDirectory: return IOX2SD_TEXT_NODE_DIRECTORY;
-        case ConfigEntry::MonitorSuffix: return IOX2SD_TEXT_MONITOR_SUFFIX;
-        case ConfigEntry::NodeStaticConfigSuffix: return IOX2SD_TEXT_NODE_STATIC_CONFIG_SUFFIX;
-        case ConfigEntry::ServiceTagSuffix: return IOX2SD_TEXT_SERVICE_TAG_SUFFIX;
-        case ConfigEntry::PortTagSuffix: return IOX2SD_TEXT_PORT_TAG_SUFFIX;
-        case ConfigEntry::GlobalMgmtSuffix: return IOX2SD_TEXT_GLOBAL_MGMT_SUFFIX;
-        case ConfigEntry::ConfigFileName: return IOX2SD_TEXT_CONFIG_FILE_NAME;
-        case ConfigEntry::ConfigFilePath: return IOX2SD_TEXT_CONFIG_FILE_PATH;
-        case ConfigEntry::RelativeConfigPath: return IOX2SD_TEXT_RELATIVE_CONFIG_PATH;
-        case ConfigEntry::UserConfigFilePath: return IOX2SD_TEXT_USER_CONFIG_FILE_PATH;
-    }
-    return none;
-}
-
-std::uint64_t of_header(ConfigTable table) {
-    switch (table) {
-        case ConfigTable::Root: return IOX2SD_TABLE_ROOT;
-        case ConfigTable::Global: return IOX2SD_TABLE_GLOBAL;
-        case ConfigTable::Service: return IOX2SD_TABLE_SERVICE;
-        case ConfigTable::Node: return IOX2SD_TABLE_NODE;
-        case ConfigTable::Defaults: return IOX2SD_TABLE_DEFAULTS;
-        case ConfigTable::PublishSubscribe: return IOX2SD_TABLE_PUBLISH_SUBSCRIBE;
-        case ConfigTable::Event: return IOX2SD_TABLE_EVENT;
-        case ConfigTable::RequestResponse: return IOX2SD_TABLE_REQUEST_RESPONSE;
-        case ConfigTable::Blackboard: return IOX2SD_TABLE_BLACKBOARD;
-    }
-    return none;
-}
-
-std::uint64_t of_header(TomlType type) {
-    switch (type) {
-        case TomlType::None: return IOX2SD_TOML_NONE;
-        case TomlType::String: return IOX2SD_TOML_STRING;
-        case TomlType::Integer: return IOX2SD_TOML_INTEGER;
-        case TomlType::Float: return IOX2SD_TOML_FLOAT;
-        case TomlType::Boolean: return IOX2SD_TOML_BOOLEAN;
-        case TomlType::Datetime: return IOX2SD_TOML_DATETIME;
-        case TomlType::Array: return IOX2SD_TOML_ARRAY;
-        case TomlType::Table: return IOX2SD_TOML_TABLE;
-    }
-    return none;
-}
-
-std::uint64_t of_header(SettingKind kind) {
-    switch (kind) {
-        case SettingKind::None: return IOX2SD_KIND_NONE;
-        case SettingKind::Table: return IOX2SD_KIND_TABLE;
-        case SettingKind::Number: return IOX2SD_KIND_NUMBER;
-        case SettingKind::Flag: return IOX2SD_KIND_FLAG;
-        case SettingKind::Path: return IOX2SD_KIND_PATH;
-        case SettingKind::NameOfFile: return IOX2SD_KIND_FILE_NAME;
-        case SettingKind::Backpressure: return IOX2SD_KIND_BACKPRESSURE;
-        case SettingKind::Allocation: return IOX2SD_KIND_ALLOCATION;
-        case SettingKind::Duration: return IOX2SD_KIND_DURATION;
-    }
-    return none;
-}
-
-std::uint64_t of_header(Status status) {
-    switch (status) {
-        case Status::Done: return IOX2SD_STATUS_DONE;
-        case Status::DoneLocked: return IOX2SD_STATUS_DONE_LOCKED;
-        case Status::BufferTooShort: return IOX2SD_STATUS_BUFFER_TOO_SHORT;
-        case Status::NoMemory: return IOX2SD_STATUS_NO_MEMORY;
-        case Status::NoService: return IOX2SD_STATUS_NO_SERVICE;
-        case Status::HasService: return IOX2SD_STATUS_HAS_SERVICE;
-        case Status::UnknownPattern: return IOX2SD_STATUS_UNKNOWN_PATTERN;
-        case Status::UnknownRole: return IOX2SD_STATUS_UNKNOWN_ROLE;
-        case Status::NoNode: return IOX2SD_STATUS_NO_NODE;
-        case Status::IsLocked: return IOX2SD_STATUS_IS_LOCKED;
-        case Status::OutOfSpace: return IOX2SD_STATUS_OUT_OF_SPACE;
-        case Status::ForeignHandle: return IOX2SD_STATUS_FOREIGN_HANDLE;
-        case Status::PortsStillAttached: return IOX2SD_STATUS_PORTS_STILL_ATTACHED;
-        case Status::NodeNotRegistered: return IOX2SD_STATUS_NODE_NOT_REGISTERED;
-        case Status::RoleNotInPattern: return IOX2SD_STATUS_ROLE_NOT_IN_PATTERN;
-        case Status::UnknownSegment: return IOX2SD_STATUS_UNKNOWN_SEGMENT;
-        case Status::BadKey: return IOX2SD_STATUS_BAD_KEY;
-        case Status::BadValue: return IOX2SD_STATUS_BAD_VALUE;
-        case Status::TooMany: return IOX2SD_STATUS_TOO_MANY;
-        case Status::Null: return IOX2SD_STATUS_NULL;
-        case Status::UnknownStatus: return IOX2SD_STATUS_UNKNOWN_STATUS;
-        case Status::Empty: return IOX2SD_STATUS_EMPTY;
-        case Status::TooLong: return IOX2SD_STATUS_TOO_LONG;
-        case Status::IllegalByte: return IOX2SD_STATUS_ILLEGAL_BYTE;
-        case Status::NoFileName: return IOX2SD_STATUS_NO_FILE_NAME;
-        case Status::ReservedPrefix: return IOX2SD_STATUS_RESERVED_PREFIX;
-        case Status::NotUtf8: return IOX2SD_STATUS_NOT_UTF8;
-        case Status::BadServiceName: return IOX2SD_STATUS_BAD_SERVICE_NAME;
-        case Status::BadPath: return IOX2SD_STATUS_BAD_PATH;
-        case Status::BadEntry: return IOX2SD_STATUS_BAD_ENTRY;
-        case Status::IllegalHash: return IOX2SD_STATUS_ILLEGAL_HASH;
-        case Status::BadRequiredKey: return IOX2SD_STATUS_BAD_REQUIRED_KEY;
-        case Status::BadRequiredValue: return IOX2SD_STATUS_BAD_REQUIRED_VALUE;
-        case Status::BadAskedKey: return IOX2SD_STATUS_BAD_ASKED_KEY;
-        case Status::TooManyRequired: return IOX2SD_STATUS_TOO_MANY_REQUIRED;
-        case Status::MissingPair: return IOX2SD_STATUS_MISSING_PAIR;
-        case Status::MissingKey: return IOX2SD_STATUS_MISSING_KEY;
-        case Status::NoSuchValue: return IOX2SD_STATUS_NO_SUCH_VALUE;
-        case Status::BadAlignment: return IOX2SD_STATUS_BAD_ALIGNMENT;
-        case Status::TooLarge: return IOX2SD_STATUS_TOO_LARGE;
-        case Status::UnknownVariant: return IOX2SD_STATUS_UNKNOWN_VARIANT;
-        case Status::OtherName: return IOX2SD_STATUS_OTHER_NAME;
-        case Status::OtherVariant: return IOX2SD_STATUS_OTHER_VARIANT;
-        case Status::OtherSize: return IOX2SD_STATUS_OTHER_SIZE;
-        case Status::OtherAlignment: return IOX2SD_STATUS_OTHER_ALIGNMENT;
-        case Status::GreaterAlignment: return IOX2SD_STATUS_GREATER_ALIGNMENT;
-        case Status::UnknownText: return IOX2SD_STATUS_UNKNOWN_TEXT;
-        case Status::BadLine: return IOX2SD_STATUS_BAD_LINE;
-        case Status::UnknownStrategy: return IOX2SD_STATUS_UNKNOWN_STRATEGY;
-        case Status::BadDuration: return IOX2SD_STATUS_BAD_DURATION;
-        case Status::Unmet: return IOX2SD_STATUS_UNMET;
-        case Status::OtherPattern: return IOX2SD_STATUS_OTHER_PATTERN;
-        case Status::NotToml: return IOX2SD_STATUS_NOT_TOML;
-        case Status::WrongType: return IOX2SD_STATUS_WRONG_TYPE;
-        case Status::BelowZero: return IOX2SD_STATUS_BELOW_ZERO;
-        case Status::NoDuration: return IOX2SD_STATUS_NO_DURATION;
-        case Status::NoTomlInteger: return IOX2SD_STATUS_NO_TOML_INTEGER;
-        case Status::NoFile: return IOX2SD_STATUS_NO_FILE;
-        case Status::TooDeep: return IOX2SD_STATUS_TOO_DEEP;
-        case Status::NoRun: return IOX2SD_STATUS_NO_RUN;
-        case Status::NoServiceLine: return IOX2SD_STATUS_NO_SERVICE_LINE;
-        case Status::NoCommandLine: return IOX2SD_STATUS_NO_COMMAND_LINE;
-        case Status::NoReplyLine: return IOX2SD_STATUS_NO_REPLY_LINE;
-        case Status::NoOrder: return IOX2SD_STATUS_NO_ORDER;
-        case Status::TooManyStates: return IOX2SD_STATUS_TOO_MANY_STATES;
-        case Status::NoGroupLine: return IOX2SD_STATUS_NO_GROUP_LINE;
-        case Status::NoGroupEnd: return IOX2SD_STATUS_NO_GROUP_END;
-    }
-    return none;
-}
+#define OF_HEADER(name, NAME, words) IS(name, STATUS_##NAME)
+NUMBERS(Status, STATUSES(OF_HEADER))
 
 /// Each of `count` numbers from `first` on is that of an enumerator of its own name.
 template <class Enum>
@@ -377,17 +195,17 @@ void enumerators() {
         CHECK(found == (is_status ? number : none));
         statuses += is_status;
     }
-    CHECK(statuses == std::size(texts));
-}
-
-void status_texts() {
-    for (const StatusText& each : texts) CHECK(text(each.status) == each.text);
+    std::set<std::string_view> texts;
+#define SAYS(name, NAME, words) \
+    CHECK(text(Status::name) == words && texts.insert(words).second);
+    STATUSES(SAYS)
+    CHECK(statuses == texts.size());
+    CHECK(text(Status{4000000000}) == "unknown status");
 }
 
 }  // namespace
 
 int main() {
     enumerators();
-    status_texts();
     return end_of_checks();
 }

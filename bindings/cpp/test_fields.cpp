@@ -113,105 +113,72 @@ void each_counts(T& value, Members&... members) {
     (counts(whole, value, members), ...);
 }
 
+/// The members of a value by names, each of which counts.
+#define EACH_COUNTS(value, ...)          \
+    {                                    \
+        auto& [__VA_ARGS__] = value;     \
+        each_counts(value, __VA_ARGS__); \
+    }
+
 void plain_values() {
     TextError text_error{Status::TooLong, 3};
-    auto& [text_status, at] = text_error;
-    each_counts(text_error, text_status, at);
+    EACH_COUNTS(text_error, status, at);
     AttributeVerificationError missing{Status::MissingPair, key("k"), value("v")};
-    auto& [missing_status, missing_key, missing_value] = missing;
-    each_counts(missing, missing_status, missing_key, missing_value);
+    EACH_COUNTS(missing, status, missing_key, missing_value);
     Layout layout{8, 4};
-    auto& [size, alignment] = layout;
-    each_counts(layout, size, alignment);
+    EACH_COUNTS(layout, size, alignment);
     MessagePlaces places{8, 16};
-    auto& [user_header, payload] = places;
-    each_counts(places, user_header, payload);
+    EACH_COUNTS(places, user_header, payload);
     IncompatibleTypes incompatible{Status::OtherName, MessagePart::Header};
-    auto& [cause, part] = incompatible;
-    each_counts(incompatible, cause, part);
+    EACH_COUNTS(incompatible, status, part);
     Duration duration{1, 2};
-    auto& [seconds, nanoseconds] = duration;
-    each_counts(duration, seconds, nanoseconds);
+    EACH_COUNTS(duration, seconds, nanoseconds);
     EventId event{1};
-    auto& [number] = event;
-    each_counts(event, number);
+    EACH_COUNTS(event, number);
     SettingsError invalid{Status::BadDuration, SettingsField::Deadline};
-    auto& [reason, field] = invalid;
-    each_counts(invalid, reason, field);
+    EACH_COUNTS(invalid, status, field);
     ContainerHandle handle{7, Role::Node, 1, 2};
-    auto& [service, role, slot, ticket] = handle;
-    each_counts(handle, service, role, slot, ticket);
+    EACH_COUNTS(handle, service, role, slot, ticket);
     Capacities capacities{1, 2, 3};
-    auto& [nodes, first, second] = capacities;
-    each_counts(capacities, nodes, first, second);
+    EACH_COUNTS(capacities, nodes, first, second);
     PortRoles roles{Role::Listener, Role::Notifier};
-    auto& [first_role, second_role] = roles;
-    each_counts(roles, first_role, second_role);
+    EACH_COUNTS(roles, first, second);
     DeadNodeRemoval removal{DeregisterNodeState::HasOwners, 1, 2};
-    auto& [state, gone_first, gone_second] = removal;
-    each_counts(removal, state, gone_first, gone_second);
+    EACH_COUNTS(removal, state, first, second);
     MessageTypeDetails details = message("p");
-    auto& [header, other_header, last] = details;
-    each_counts(details, header, other_header, last);
+    EACH_COUNTS(details, header, user_header, payload);
 }
 
 void settings() {
     GlobalSettings global{{1, 2}, true, false, true};
-    auto& [timeout, open, creation, destruction] = global;
-    each_counts(global, timeout, open, creation, destruction);
+    EACH_COUNTS(global, timeout, open, creation, destruction);
     PublishSubscribeSettings samples = PublishSubscribeSettings::defaults();
-    {
-        auto& [a, b, c, d, e, f, g, h, i, j, k] = samples;
-        each_counts(samples, a, b, c, d, e, f, g, h, i, j, k);
-    }
+    EACH_COUNTS(samples, a, b, c, d, e, f, g, h, i, j, k);
     EventSettings events{1, 2, 3, 4, Duration{5, 6}, EventId{7}, EventId{8}, EventId{9}};
-    {
-        auto& [a, b, c, d, e, f, g, h] = events;
-        each_counts(events, a, b, c, d, e, f, g, h);
-    }
+    EACH_COUNTS(events, a, b, c, d, e, f, g, h);
     RequestResponseSettings requests = RequestResponseSettings::defaults();
-    {
-        auto& [a, b, c, d, e, f, g, h, i, j, k, l, m, n, o, p, q] = requests;
-        each_counts(requests, a, b, c, d, e, f, g, h, i, j, k, l, m, n, o, p, q);
-    }
+    EACH_COUNTS(requests, a, b, c, d, e, f, g, h, i, j, k, l, m, n, o, p, q);
     BlackboardSettings boards{1, 2};
-    auto& [readers, nodes] = boards;
-    each_counts(boards, readers, nodes);
-    {
-        PublishSubscribeStaticConfig fixed(samples, message("p"));
-        auto& [a, b, c, d, e, f, g, h] = fixed;
-        each_counts(fixed, a, b, c, d, e, f, g, h);
-    }
-    {
-        RequestResponseStaticConfig fixed(requests, message("p"), message("q"));
-        auto& [a, b, c, d, e, f, g, h, i, j, k, l] = fixed;
-        each_counts(fixed, a, b, c, d, e, f, g, h, i, j, k, l);
-    }
-    BlackboardStaticConfig fixed(boards, type("k"));
-    auto& [max_readers, max_writers, max_nodes, key_type] = fixed;
-    each_counts(fixed, max_readers, max_writers, max_nodes, key_type);
+    EACH_COUNTS(boards, readers, nodes);
+    PublishSubscribeStaticConfig fixed_samples(samples, message("p"));
+    EACH_COUNTS(fixed_samples, a, b, c, d, e, f, g, h);
+    RequestResponseStaticConfig fixed_requests(requests, message("p"), message("q"));
+    EACH_COUNTS(fixed_requests, a, b, c, d, e, f, g, h, i, j, k, l);
+    BlackboardStaticConfig fixed_boards(boards, type("k"));
+    EACH_COUNTS(fixed_boards, readers, writers, nodes, key_type);
 }
 
 void config_files() {
     ConfigFault fault{Status::WrongType, ConfigTable::Event, TomlType::Float, SettingKind::Number,
                       {}, {}};
-    {
-        auto& [a, b, c, d, e, f] = fault;
-        each_counts(fault, a, b, c, d, e, f);
-    }
+    EACH_COUNTS(fault, a, b, c, d, e, f);
     ConfigWriteError unwritten{Status::BadDuration, SettingsField::Deadline, {}};
-    auto& [status, field, written_key] = unwritten;
-    each_counts(unwritten, status, field, written_key);
+    EACH_COUNTS(unwritten, status, field, written_key);
     UnknownKey unknown{ConfigTable::Event, "key", {}};
-    auto& [table, unknown_key, meant] = unknown;
-    each_counts(unknown, table, unknown_key, meant);
+    EACH_COUNTS(unknown, table, unknown_key, meant);
     Config config = Config::from_toml("").value().config;
-    {
-        auto& [a, b, c, d, e, f, g, h, i, j, k, l, m, n, o, p] = config.texts;
-        each_counts(config.texts, a, b, c, d, e, f, g, h, i, j, k, l, m, n, o, p);
-    }
-    auto& [global, texts, samples, events, requests, boards] = config;
-    each_counts(config, global, texts, samples, events, requests, boards);
+    EACH_COUNTS(config.texts, a, b, c, d, e, f, g, h, i, j, k, l, m, n, o, p);
+    EACH_COUNTS(config, global, texts, samples, events, requests, boards);
 }
 
 template <class Id>
@@ -313,86 +280,54 @@ bool is_same(const iox2sd_id& a, const iox2sd_id& b) {
 
 /// What is read of a port is what is written of it, and fields that its kind lacks are 0.
 template <class Details, class... Fields>
-void port(Details& expected, Fields iox2sd_port_details::*... own) {
+void port(const Details& expected, Fields iox2sd_port_details::*... own) {
     const iox2sd_port_details c = c_port(Details::role);
     const Details read = Details::from_c(c);
     CHECK(read == expected && is_same(read.port_id().parts(), c.port));
     CHECK(is_same(read.node_id.parts(), c.node));
     iox2sd_port_details wanted{};
-    wanted.role = c.role;
-    wanted.port = c.port;
-    wanted.node = c.node;
     ((wanted.*own = c.*own), ...);
     const iox2sd_port_details written = read.as_c();
-    CHECK(written.role == wanted.role && is_same(written.port, wanted.port));
-    CHECK(is_same(written.node, wanted.node));
-    CHECK(written.number_of_samples == wanted.number_of_samples);
-    CHECK(written.buffer_size == wanted.buffer_size);
-    CHECK(written.request_buffer_size == wanted.request_buffer_size);
-    CHECK(written.number_of_responses == wanted.number_of_responses);
-    CHECK(written.number_of_requests == wanted.number_of_requests);
-    CHECK(written.response_buffer_size == wanted.response_buffer_size);
-    CHECK(written.max_slice_len == wanted.max_slice_len);
-    CHECK(written.data_segment == wanted.data_segment);
-    CHECK(written.max_number_of_segments == wanted.max_number_of_segments);
+    CHECK(written.role == c.role && is_same(written.port, c.port) && is_same(written.node, c.node));
+#define SAME(name) CHECK(written.name == wanted.name);
+    IOX2SD_EACH(SAME, number_of_samples, buffer_size, request_buffer_size, number_of_responses,
+                number_of_requests, response_buffer_size, max_slice_len, data_segment,
+                max_number_of_segments)
 }
 
 /// The fields of each kind of ports, by their numbers in `c_port`, and each of them counts.
 void ports() {
     using Port = iox2sd_port_details;
+    const iox2sd_id id{11, 12, 13, 14};
     const UniqueNodeId node = UniqueNodeId::create(21, 22, 23, 24).value();
     const DataSegmentType grows = DataSegmentType::Dynamic;
-    {
-        PublisherDetails made{UniquePublisherId(11, 12, 13, 14), node, 31, 37, grows, 38};
-        port(made, &Port::number_of_samples, &Port::max_slice_len, &Port::data_segment,
-             &Port::max_number_of_segments);
-        auto& [a, b, c, d, e, f] = made;
-        each_counts(made, a, b, c, d, e, f);
-    }
-    {
-        SubscriberDetails made{UniqueSubscriberId(11, 12, 13, 14), node, 32};
-        port(made, &Port::buffer_size);
-        auto& [a, b, c] = made;
-        each_counts(made, a, b, c);
-    }
-    {
-        NotifierDetails made{UniqueNotifierId(11, 12, 13, 14), node};
-        port(made);
-        auto& [a, b] = made;
-        each_counts(made, a, b);
-    }
-    {
-        ListenerDetails made{UniqueListenerId(11, 12, 13, 14), node};
-        port(made);
-        auto& [a, b] = made;
-        each_counts(made, a, b);
-    }
-    {
-        ClientDetails made{UniqueClientId(11, 12, 13, 14), node, 35, 36, 37, grows, 38};
-        port(made, &Port::number_of_requests, &Port::response_buffer_size, &Port::max_slice_len,
-             &Port::data_segment, &Port::max_number_of_segments);
-        auto& [a, b, c, d, e, f, g] = made;
-        each_counts(made, a, b, c, d, e, f, g);
-    }
-    {
-        ServerDetails made{UniqueServerId(11, 12, 13, 14), node, 33, 34, 37, grows, 38};
-        port(made, &Port::request_buffer_size, &Port::number_of_responses, &Port::max_slice_len,
-             &Port::data_segment, &Port::max_number_of_segments);
-        auto& [a, b, c, d, e, f, g] = made;
-        each_counts(made, a, b, c, d, e, f, g);
-    }
-    {
-        ReaderDetails made{UniqueReaderId(11, 12, 13, 14), node};
-        port(made);
-        auto& [a, b] = made;
-        each_counts(made, a, b);
-    }
-    {
-        WriterDetails made{UniqueWriterId(11, 12, 13, 14), node};
-        port(made);
-        auto& [a, b] = made;
-        each_counts(made, a, b);
-    }
+    const auto segment = &Port::data_segment;
+    const auto slices = &Port::max_slice_len;
+    const auto segments = &Port::max_number_of_segments;
+    PublisherDetails publisher{UniquePublisherId(id), node, 31, 37, grows, 38};
+    port(publisher, &Port::number_of_samples, slices, segment, segments);
+    EACH_COUNTS(publisher, a, b, c, d, e, f);
+    SubscriberDetails subscriber{UniqueSubscriberId(id), node, 32};
+    port(subscriber, &Port::buffer_size);
+    EACH_COUNTS(subscriber, a, b, c);
+    NotifierDetails notifier{UniqueNotifierId(id), node};
+    port(notifier);
+    EACH_COUNTS(notifier, a, b);
+    ListenerDetails listener{UniqueListenerId(id), node};
+    port(listener);
+    EACH_COUNTS(listener, a, b);
+    ClientDetails client{UniqueClientId(id), node, 35, 36, 37, grows, 38};
+    port(client, &Port::number_of_requests, &Port::response_buffer_size, slices, segment, segments);
+    EACH_COUNTS(client, a, b, c, d, e, f, g);
+    ServerDetails server{UniqueServerId(id), node, 33, 34, 37, grows, 38};
+    port(server, &Port::request_buffer_size, &Port::number_of_responses, slices, segment, segments);
+    EACH_COUNTS(server, a, b, c, d, e, f, g);
+    ReaderDetails reader{UniqueReaderId(id), node};
+    port(reader);
+    EACH_COUNTS(reader, a, b);
+    WriterDetails writer{UniqueWriterId(id), node};
+    port(writer);
+    EACH_COUNTS(writer, a, b);
     std::vector<PortDetails> kinds;
     for (std::uint64_t role = IOX2SD_ROLE_PUBLISHER; role <= IOX2SD_ROLE_WRITER; ++role) {
         kinds.push_back(detail::port_details(c_port(Role{role})));
@@ -440,32 +375,18 @@ iox2sd_request_response_settings __wrap_iox2sd_request_response_defaults() {
 
 iox2sd_blackboard_settings __wrap_iox2sd_blackboard_defaults() { return {1, 2}; }
 
-/// What a check was given last.
-static iox2sd_global_settings given_global;
-static iox2sd_publish_subscribe_settings given_samples;
-static iox2sd_event_settings given_events;
-static iox2sd_request_response_settings given_requests;
-
-iox2sd_field_answer __wrap_iox2sd_global_settings_check_at(const iox2sd_global_settings* settings,
-                                                           size_t) {
-    given_global = *settings;
-    return {IOX2SD_STATUS_DONE, 0, 0};
-}
-iox2sd_field_answer __wrap_iox2sd_publish_subscribe_settings_check_at(
-    const iox2sd_publish_subscribe_settings* settings, size_t) {
-    given_samples = *settings;
-    return {IOX2SD_STATUS_DONE, 0, 0};
-}
-iox2sd_field_answer __wrap_iox2sd_event_settings_check_at(const iox2sd_event_settings* settings,
-                                                          size_t) {
-    given_events = *settings;
-    return {IOX2SD_STATUS_DONE, 0, 0};
-}
-iox2sd_field_answer __wrap_iox2sd_request_response_settings_check_at(
-    const iox2sd_request_response_settings* settings, size_t) {
-    given_requests = *settings;
-    return {IOX2SD_STATUS_DONE, 0, 0};
-}
+/// Defines a check of settings that keeps what it was given.
+#define KEEPS(pattern)                                                               \
+    static iox2sd_##pattern##_settings given_##pattern;                              \
+    iox2sd_field_answer __wrap_iox2sd_##pattern##_settings_check_at(                 \
+        const iox2sd_##pattern##_settings* settings, size_t) {                       \
+        given_##pattern = *settings;                                                 \
+        return {IOX2SD_STATUS_DONE, 0, 0};                                           \
+    }
+KEEPS(global)
+KEEPS(publish_subscribe)
+KEEPS(event)
+KEEPS(request_response)
 
 /// With what a service was to be made last. None is made.
 static iox2sd_capacities given_capacities;
@@ -530,90 +451,40 @@ void crossing_services() {
     CHECK(Service::create(events, 11, 12).has_value() && given(PatternKind::Event, 11, 12));
 }
 
-void crossing_settings() {
-    const GlobalSettings global = GlobalSettings::defaults();
-    CHECK(global.creation_timeout == Duration{1, 2} && global.cleanup_dead_nodes_on_open);
-    CHECK(!global.cleanup_dead_nodes_on_creation && global.cleanup_dead_nodes_on_destruction);
-    CHECK(global.check().has_value() && given_global.creation_timeout.seconds == 1);
-    CHECK(given_global.creation_timeout.nanoseconds == 2 && given_global.cleanup_dead_nodes_on_open);
-    CHECK(!given_global.cleanup_dead_nodes_on_creation);
-    CHECK(given_global.cleanup_dead_nodes_on_destruction);
-
-    const EventSettings events = EventSettings::defaults();
-    CHECK(events.max_listeners == 1 && events.max_notifiers == 2 && events.max_nodes == 3);
-    CHECK(events.event_id_max_value == 4 && events.deadline == Duration{5, 6});
-    CHECK(events.notifier_created_event == EventId{7});
-    CHECK(events.notifier_dropped_event == EventId{8} && events.notifier_dead_event == EventId{9});
-    CHECK(events.check().has_value() && given_events.max_listeners == 1);
-    CHECK(given_events.max_notifiers == 2 && given_events.max_nodes == 3);
-    CHECK(given_events.event_id_max_value == 4 && given_events.deadline.is_some);
-    CHECK(given_events.deadline.seconds == 5 && given_events.deadline.nanoseconds == 6);
-    CHECK(given_events.notifier_created_event.is_some && given_events.notifier_dead_event.is_some);
-    CHECK(given_events.notifier_created_event.number == 7);
-    CHECK(given_events.notifier_dropped_event.number == 8);
-    CHECK(given_events.notifier_dead_event.number == 9);
-
-    const BlackboardSettings boards = BlackboardSettings::defaults();
-    CHECK(boards.max_readers == 1 && boards.max_nodes == 2);
+/// Settings are read as the library gives them, field by field, and passed as they were read.
+template <class Settings, class C>
+void crosses(const Settings& expected, const C& given) {
+    CHECK(Settings::defaults() == expected && Settings::defaults().check().has_value());
+    CHECK(Settings::from_c(given) == expected);
 }
 
-void crossing_samples() {
-    const PublishSubscribeSettings read = PublishSubscribeSettings::defaults();
-    CHECK(read.max_subscribers == 1 && read.max_publishers == 2 && read.max_nodes == 3);
-    CHECK(read.subscriber_max_buffer_size == 4 && read.subscriber_max_borrowed_samples == 5);
-    CHECK(read.publisher_max_loaned_samples == 6 && read.publisher_history_size == 7);
-    CHECK(read.subscriber_expired_connection_buffer == 8 && read.enable_safe_overflow);
-    CHECK(read.backpressure_strategy == BackpressureStrategy::DiscardData);
-    CHECK(read.publisher_allocation_strategy == AllocationStrategy::Static);
-    CHECK(read.check().has_value());
-    const iox2sd_publish_subscribe_settings& c = given_samples;
-    CHECK(c.max_subscribers == 1 && c.max_publishers == 2 && c.max_nodes == 3);
-    CHECK(c.subscriber_max_buffer_size == 4 && c.subscriber_max_borrowed_samples == 5);
-    CHECK(c.publisher_max_loaned_samples == 6 && c.publisher_history_size == 7);
-    CHECK(c.subscriber_expired_connection_buffer == 8 && c.enable_safe_overflow);
-    CHECK(c.backpressure_strategy == IOX2SD_BACKPRESSURE_DISCARD_DATA);
-    CHECK(c.publisher_allocation_strategy == IOX2SD_ALLOCATION_STATIC);
+void crossing_settings() {
+    crosses(GlobalSettings{{1, 2}, true, false, true}, given_global);
+    crosses(EventSettings{1, 2, 3, 4, Duration{5, 6}, EventId{7}, EventId{8}, EventId{9}},
+            given_event);
+    CHECK((BlackboardSettings::defaults() == BlackboardSettings{1, 2}));
 
-    const PublishSubscribeStaticConfig fixed(read, message("p"));
+    const BackpressureStrategy discard = BackpressureStrategy::DiscardData;
+    const AllocationStrategy fixed_size = AllocationStrategy::Static;
+    const PublishSubscribeSettings samples{1, 2, 3, 4, 5, 6, 7, 8, discard, fixed_size, true};
+    crosses(samples, given_publish_subscribe);
+    const PublishSubscribeStaticConfig fixed(samples, message("p"));
     CHECK(fixed.max_subscribers == 1 && fixed.max_publishers == 2 && fixed.max_nodes == 3);
     CHECK(fixed.history_size == 7 && fixed.subscriber_max_buffer_size == 4);
     CHECK(fixed.subscriber_max_borrowed_samples == 5 && fixed.enable_safe_overflow);
-}
 
-void crossing_requests() {
-    const RequestResponseSettings read = RequestResponseSettings::defaults();
-    CHECK(read.max_active_requests_per_client == 1 && read.max_response_buffer_size == 2);
-    CHECK(read.max_servers == 3 && read.max_clients == 4 && read.max_nodes == 5);
-    CHECK(read.max_borrowed_responses_per_pending_response == 6 && read.max_loaned_requests == 7);
-    CHECK(read.server_max_loaned_responses_per_request == 8);
-    CHECK(read.client_expired_connection_buffer == 9 && read.server_expired_connection_buffer == 10);
-    CHECK(read.client_backpressure_strategy == BackpressureStrategy::DiscardData);
-    CHECK(read.server_backpressure_strategy == BackpressureStrategy::RetryUntilDelivered);
-    CHECK(read.client_allocation_strategy == AllocationStrategy::Static);
-    CHECK(read.server_allocation_strategy == AllocationStrategy::PowerOfTwo);
-    CHECK(read.enable_safe_overflow_for_requests && !read.enable_safe_overflow_for_responses);
-    CHECK(read.enable_fire_and_forget_requests && read.check().has_value());
-    const iox2sd_request_response_settings& c = given_requests;
-    CHECK(c.max_active_requests_per_client == 1 && c.max_response_buffer_size == 2);
-    CHECK(c.max_servers == 3 && c.max_clients == 4 && c.max_nodes == 5);
-    CHECK(c.max_borrowed_responses_per_pending_response == 6 && c.max_loaned_requests == 7);
-    CHECK(c.server_max_loaned_responses_per_request == 8);
-    CHECK(c.client_expired_connection_buffer == 9 && c.server_expired_connection_buffer == 10);
-    CHECK(c.client_backpressure_strategy == IOX2SD_BACKPRESSURE_DISCARD_DATA);
-    CHECK(c.server_backpressure_strategy == IOX2SD_BACKPRESSURE_RETRY_UNTIL_DELIVERED);
-    CHECK(c.client_allocation_strategy == IOX2SD_ALLOCATION_STATIC);
-    CHECK(c.server_allocation_strategy == IOX2SD_ALLOCATION_POWER_OF_TWO);
-    CHECK(c.enable_safe_overflow_for_requests && !c.enable_safe_overflow_for_responses);
-    CHECK(c.enable_fire_and_forget_requests);
-
-    const RequestResponseStaticConfig fixed(read, message("p"), message("q"));
-    CHECK(fixed.max_active_requests_per_client == 1 && fixed.max_response_buffer_size == 2);
-    CHECK(fixed.max_servers == 3 && fixed.max_clients == 4 && fixed.max_nodes == 5);
-    CHECK(fixed.max_borrowed_responses_per_pending_response == 6 && fixed.max_loaned_requests == 7);
-    CHECK(fixed.enable_safe_overflow_for_requests && !fixed.enable_safe_overflow_for_responses);
-    CHECK(fixed.enable_fire_and_forget_requests);
-    CHECK(fixed.request_message_type_details == message("p"));
-    CHECK(fixed.response_message_type_details == message("q"));
+    const RequestResponseSettings requests{
+        1, 2, 3, 4, 5, 6, 7, 8, 9, 10, discard, BackpressureStrategy::RetryUntilDelivered,
+        fixed_size, AllocationStrategy::PowerOfTwo, true, false, true};
+    crosses(requests, given_request_response);
+    const RequestResponseStaticConfig of(requests, message("p"), message("q"));
+    CHECK(of.max_active_requests_per_client == 1 && of.max_response_buffer_size == 2);
+    CHECK(of.max_servers == 3 && of.max_clients == 4 && of.max_nodes == 5);
+    CHECK(of.max_borrowed_responses_per_pending_response == 6 && of.max_loaned_requests == 7);
+    CHECK(of.enable_safe_overflow_for_requests && !of.enable_safe_overflow_for_responses);
+    CHECK(of.enable_fire_and_forget_requests);
+    CHECK(of.request_message_type_details == message("p"));
+    CHECK(of.response_message_type_details == message("q"));
 }
 
 }  // namespace
@@ -631,7 +502,5 @@ int main() {
     scripts();
     crossing_services();
     crossing_settings();
-    crossing_samples();
-    crossing_requests();
     return end_of_checks();
 }

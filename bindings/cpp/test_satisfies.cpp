@@ -1,5 +1,5 @@
-// Whether a service meets what an opener requires, capacities by settings, and numbers for services.
-// The last line is 'N checks, N failed'.
+// Whether a service meets what an opener requires, and numbers for services. The last line is
+// 'N checks, N failed'.
 #include "iox2sd.hpp"
 
 #include "check.hpp"
@@ -23,19 +23,20 @@ bool is_unmet(const Fixed& service, SettingsField field, Change change) {
            answer.error() == SettingsError{Status::Unmet, field};
 }
 
+/// A service does not meet a requirement `r` in this field where it is changed so.
+#define UNMET(field, ...) \
+    CHECK(is_unmet(service, SettingsField::field, [](Fixed& r) { __VA_ARGS__; }))
+
 void publish_subscribe() {
     using Fixed = PublishSubscribeStaticConfig;
     const Fixed service(PublishSubscribeSettings::defaults(), message);
-    CHECK(is_unmet(service, SettingsField::MaxSubscribers, [](Fixed& r) { ++r.max_subscribers; }));
-    CHECK(is_unmet(service, SettingsField::MaxPublishers, [](Fixed& r) { ++r.max_publishers; }));
-    CHECK(is_unmet(service, SettingsField::MaxNodes, [](Fixed& r) { ++r.max_nodes; }));
-    CHECK(is_unmet(service, SettingsField::HistorySize, [](Fixed& r) { ++r.history_size; }));
-    CHECK(is_unmet(service, SettingsField::SubscriberMaxBufferSize,
-                   [](Fixed& r) { ++r.subscriber_max_buffer_size; }));
-    CHECK(is_unmet(service, SettingsField::SubscriberMaxBorrowedSamples,
-                   [](Fixed& r) { ++r.subscriber_max_borrowed_samples; }));
-    CHECK(is_unmet(service, SettingsField::EnableSafeOverflow,
-                   [](Fixed& r) { r.enable_safe_overflow = false; }));
+    UNMET(MaxSubscribers, ++r.max_subscribers);
+    UNMET(MaxPublishers, ++r.max_publishers);
+    UNMET(MaxNodes, ++r.max_nodes);
+    UNMET(HistorySize, ++r.history_size);
+    UNMET(SubscriberMaxBufferSize, ++r.subscriber_max_buffer_size);
+    UNMET(SubscriberMaxBorrowedSamples, ++r.subscriber_max_borrowed_samples);
+    UNMET(EnableSafeOverflow, r.enable_safe_overflow = false);
     Fixed fewer = service;
     --fewer.max_nodes;
     CHECK(service.satisfies(fewer).has_value());
@@ -45,19 +46,14 @@ void event() {
     using Fixed = EventStaticConfig;
     Fixed service = EventSettings::defaults();
     service.deadline = Duration(1, 2);
-    CHECK(is_unmet(service, SettingsField::MaxNotifiers, [](Fixed& r) { ++r.max_notifiers; }));
-    CHECK(is_unmet(service, SettingsField::MaxListeners, [](Fixed& r) { ++r.max_listeners; }));
-    CHECK(is_unmet(service, SettingsField::MaxNodes, [](Fixed& r) { ++r.max_nodes; }));
-    CHECK(is_unmet(service, SettingsField::EventIdMaxValue,
-                   [](Fixed& r) { ++r.event_id_max_value; }));
-    CHECK(is_unmet(service, SettingsField::Deadline,
-                   [](Fixed& r) { r.deadline = std::nullopt; }));
-    CHECK(is_unmet(service, SettingsField::NotifierCreatedEvent,
-                   [](Fixed& r) { r.notifier_created_event = EventId{0}; }));
-    CHECK(is_unmet(service, SettingsField::NotifierDroppedEvent,
-                   [](Fixed& r) { r.notifier_dropped_event = EventId{0}; }));
-    CHECK(is_unmet(service, SettingsField::NotifierDeadEvent,
-                   [](Fixed& r) { r.notifier_dead_event = EventId{0}; }));
+    UNMET(MaxNotifiers, ++r.max_notifiers);
+    UNMET(MaxListeners, ++r.max_listeners);
+    UNMET(MaxNodes, ++r.max_nodes);
+    UNMET(EventIdMaxValue, ++r.event_id_max_value);
+    UNMET(Deadline, r.deadline = std::nullopt);
+    UNMET(NotifierCreatedEvent, r.notifier_created_event = EventId{0});
+    UNMET(NotifierDroppedEvent, r.notifier_dropped_event = EventId{0});
+    UNMET(NotifierDeadEvent, r.notifier_dead_event = EventId{0});
     Fixed required = service;
     required.deadline = Duration(1, 1000000000);
     const SettingsError invalid{Status::BadDuration, SettingsField::Deadline};
@@ -68,46 +64,24 @@ void event() {
 void request_response() {
     using Fixed = RequestResponseStaticConfig;
     const Fixed service(RequestResponseSettings::defaults(), message, message);
-    CHECK(is_unmet(service, SettingsField::EnableSafeOverflowForRequests,
-                   [](Fixed& r) { r.enable_safe_overflow_for_requests = false; }));
-    CHECK(is_unmet(service, SettingsField::EnableSafeOverflowForResponses,
-                   [](Fixed& r) { r.enable_safe_overflow_for_responses = false; }));
-    CHECK(is_unmet(service, SettingsField::EnableFireAndForgetRequests,
-                   [](Fixed& r) { r.enable_fire_and_forget_requests = false; }));
-    CHECK(is_unmet(service, SettingsField::MaxActiveRequestsPerClient,
-                   [](Fixed& r) { ++r.max_active_requests_per_client; }));
-    CHECK(is_unmet(service, SettingsField::MaxLoanedRequests,
-                   [](Fixed& r) { ++r.max_loaned_requests; }));
-    CHECK(is_unmet(service, SettingsField::MaxResponseBufferSize,
-                   [](Fixed& r) { ++r.max_response_buffer_size; }));
-    CHECK(is_unmet(service, SettingsField::MaxServers, [](Fixed& r) { ++r.max_servers; }));
-    CHECK(is_unmet(service, SettingsField::MaxClients, [](Fixed& r) { ++r.max_clients; }));
-    CHECK(is_unmet(service, SettingsField::MaxNodes, [](Fixed& r) { ++r.max_nodes; }));
-    CHECK(is_unmet(service, SettingsField::MaxBorrowedResponsesPerPendingResponse,
-                   [](Fixed& r) { ++r.max_borrowed_responses_per_pending_response; }));
+    UNMET(EnableSafeOverflowForRequests, r.enable_safe_overflow_for_requests = false);
+    UNMET(EnableSafeOverflowForResponses, r.enable_safe_overflow_for_responses = false);
+    UNMET(EnableFireAndForgetRequests, r.enable_fire_and_forget_requests = false);
+    UNMET(MaxActiveRequestsPerClient, ++r.max_active_requests_per_client);
+    UNMET(MaxLoanedRequests, ++r.max_loaned_requests);
+    UNMET(MaxResponseBufferSize, ++r.max_response_buffer_size);
+    UNMET(MaxServers, ++r.max_servers);
+    UNMET(MaxClients, ++r.max_clients);
+    UNMET(MaxNodes, ++r.max_nodes);
+    UNMET(MaxBorrowedResponsesPerPendingResponse, ++r.max_borrowed_responses_per_pending_response);
 }
 
 void blackboard() {
     using Fixed = BlackboardStaticConfig;
     const Fixed service(BlackboardSettings::defaults(), number);
-    CHECK(is_unmet(service, SettingsField::MaxReaders, [](Fixed& r) { ++r.max_readers; }));
-    CHECK(is_unmet(service, SettingsField::MaxWriters, [](Fixed& r) { ++r.max_writers; }));
-    CHECK(is_unmet(service, SettingsField::MaxNodes, [](Fixed& r) { ++r.max_nodes; }));
-}
-
-void capacities_by_settings() {
-    PublishSubscribeSettings samples = PublishSubscribeSettings::defaults();
-    samples.max_nodes = 3, samples.max_publishers = 4, samples.max_subscribers = 5;
-    CHECK(capacities(samples) == Capacities{3, 4, 5});
-    EventSettings events = EventSettings::defaults();
-    events.max_nodes = 3, events.max_listeners = 4, events.max_notifiers = 5;
-    CHECK(capacities(events) == Capacities{3, 4, 5});
-    RequestResponseSettings requests = RequestResponseSettings::defaults();
-    requests.max_nodes = 3, requests.max_servers = 4, requests.max_clients = 5;
-    CHECK(capacities(requests) == Capacities{3, 4, 5});
-    BlackboardSettings values = BlackboardSettings::defaults();
-    values.max_nodes = 3, values.max_readers = 4;
-    CHECK(capacities(values) == Capacities{3, 4, 1});
+    UNMET(MaxReaders, ++r.max_readers);
+    UNMET(MaxWriters, ++r.max_writers);
+    UNMET(MaxNodes, ++r.max_nodes);
 }
 
 void service_numbers() {
@@ -126,7 +100,6 @@ int main() {
     event();
     request_response();
     blackboard();
-    capacities_by_settings();
     service_numbers();
     return end_of_checks();
 }

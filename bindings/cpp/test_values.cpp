@@ -3,7 +3,6 @@
 #include <sys/mman.h>
 
 #include <chrono>
-#include <set>
 #include <sstream>
 #include <string>
 #include <type_traits>
@@ -49,71 +48,7 @@ AttributeKey key(std::string_view text) { return AttributeKey::create(text).valu
 AttributeValue value(std::string_view text) { return AttributeValue::create(text).value(); }
 Path path(std::string_view text) { return Path::create(text).value(); }
 
-void statuses() {
-    constexpr Status all[] = {Status::Done,
-                              Status::DoneLocked,
-                              Status::BufferTooShort,
-                              Status::NoMemory,
-                              Status::NoService,
-                              Status::HasService,
-                              Status::UnknownPattern,
-                              Status::UnknownRole,
-                              Status::NoNode,
-                              Status::IsLocked,
-                              Status::OutOfSpace,
-                              Status::ForeignHandle,
-                              Status::PortsStillAttached,
-                              Status::NodeNotRegistered,
-                              Status::RoleNotInPattern,
-                              Status::UnknownSegment,
-                              Status::BadKey,
-                              Status::BadValue,
-                              Status::TooMany,
-                              Status::Null,
-                              Status::Empty,
-                              Status::TooLong,
-                              Status::IllegalByte,
-                              Status::NoFileName,
-                              Status::ReservedPrefix,
-                              Status::NotUtf8,
-                              Status::BadServiceName,
-                              Status::BadPath,
-                              Status::BadEntry,
-                              Status::IllegalHash,
-                              Status::BadRequiredKey,
-                              Status::BadRequiredValue,
-                              Status::BadAskedKey,
-                              Status::TooManyRequired,
-                              Status::MissingPair,
-                              Status::MissingKey,
-                              Status::NoSuchValue,
-                              Status::BadAlignment,
-                              Status::TooLarge,
-                              Status::UnknownVariant,
-                              Status::OtherName,
-                              Status::OtherVariant,
-                              Status::OtherSize,
-                              Status::OtherAlignment,
-                              Status::GreaterAlignment,
-                              Status::UnknownText,
-                              Status::BadLine,
-                              Status::UnknownStrategy,
-                              Status::BadDuration,
-                              Status::NotToml,
-                              Status::WrongType,
-                              Status::BelowZero,
-                              Status::NoDuration,
-                              Status::NoTomlInteger,
-                              Status::NoFile};
-    std::set<string> texts;
-    for (Status status : all) {
-        CHECK(text(status) != text(Status::UnknownStatus));
-        CHECK(texts.insert(string(text(status))).second);
-    }
-    CHECK(text(Status::Done) == "done");
-    CHECK(text(Status::OutOfSpace) == "no slot or no ticket is left");
-    CHECK(text(Status{4000000000}) == "unknown status" &&
-          text(Status::UnknownStatus) == text(Status{1000}));
+void versions() {
     CHECK(abi() == IOX2SD_ABI && version() == "0.1.0" && layer_version() == "0.9.3");
 }
 
@@ -525,26 +460,11 @@ void settings() {
     CHECK(ordered(EventId{3}, EventId{4}));
     CHECK(ordered(BlackboardSettings{8, 20}, BlackboardSettings{9, 0}));
 
-    const char* const expected[] = {"/tmp/iceoryx2/",
-                                    "iox2_",
-                                    "services",
-                                    ".data",
-                                    ".service",
-                                    ".dynamic",
-                                    ".connection",
-                                    ".event",
-                                    ".blackboard_mgmt",
-                                    ".blackboard_data",
-                                    "nodes",
-                                    ".node_monitor",
-                                    ".details",
-                                    ".service_tag",
-                                    ".port_tag",
-                                    ".global_mgmt",
-                                    "iceoryx2.toml",
-                                    "config/iceoryx2.toml",
-                                    "iceoryx2",
-                                    "iceoryx2/iceoryx2.toml"};
+    const char* const expected[] = {
+        "/tmp/iceoryx2/", "iox2_", "services", ".data", ".service", ".dynamic", ".connection",
+        ".event", ".blackboard_mgmt", ".blackboard_data", "nodes", ".node_monitor", ".details",
+        ".service_tag", ".port_tag", ".global_mgmt", "iceoryx2.toml", "config/iceoryx2.toml",
+        "iceoryx2", "iceoryx2/iceoryx2.toml"};
     std::uint32_t entry = 0;
     for (const char* text : expected) CHECK(*default_text(ConfigEntry{entry++}) == text);
     CHECK(default_text(ConfigEntry{entry}).status() == Status::UnknownText);
@@ -563,17 +483,15 @@ void validity() {
     late.creation_timeout = {1, 999999999};
     CHECK(late.check() && ordered(g, late));
     late.creation_timeout = {1, 1000000000};
-    CHECK(late.check().error() ==
-          SettingsError{Status::BadDuration, SettingsField::CreationTimeout});
+    CHECK(late.check() == SettingsError{Status::BadDuration, SettingsField::CreationTimeout});
 
     PublishSubscribeSettings p = PublishSubscribeSettings::defaults();
     CHECK(p.check());
     p.publisher_allocation_strategy = AllocationStrategy{3};
-    CHECK(p.check().error() ==
-          SettingsError{Status::UnknownStrategy, SettingsField::PublisherAllocationStrategy});
+    const Status unknown = Status::UnknownStrategy;
+    CHECK(p.check() == SettingsError{unknown, SettingsField::PublisherAllocationStrategy});
     p.backpressure_strategy = BackpressureStrategy{2};
-    CHECK(p.check().error() ==
-          SettingsError{Status::UnknownStrategy, SettingsField::BackpressureStrategy});
+    CHECK(p.check() == SettingsError{unknown, SettingsField::BackpressureStrategy});
     CHECK(p.check().status() == Status::UnknownStrategy);
 
     EventSettings e = EventSettings::defaults();
@@ -741,82 +659,69 @@ StaticConfig shown(const Part& part) {
 
 /// A description has the fields that the library fills in for C from the same settings.
 void descriptions_of_the_library() {
-    iox2sd_publish_subscribe_settings ps = iox2sd_publish_subscribe_defaults();
-    ps.max_subscribers = 11, ps.max_publishers = 12, ps.max_nodes = 13;
-    ps.publisher_history_size = 14, ps.subscriber_max_buffer_size = 15;
-    ps.subscriber_max_borrowed_samples = 16, ps.enable_safe_overflow = false;
-    PublishSubscribeSettings p = PublishSubscribeSettings::defaults();
-    p.max_subscribers = 11, p.max_publishers = 12, p.max_nodes = 13;
-    p.publisher_history_size = 14, p.subscriber_max_buffer_size = 15;
-    p.subscriber_max_borrowed_samples = 16, p.enable_safe_overflow = false;
-    const auto& a = described(ps, iox2sd_describe_publish_subscribe).publish_subscribe;
-    const StaticConfig of_p = shown(PublishSubscribeStaticConfig(p, details(8, 8)));
-    const PublishSubscribeStaticConfig& b = *of_p.publish_subscribe();
-    CHECK(b.max_subscribers == a.max_subscribers && b.max_publishers == a.max_publishers);
-    CHECK(b.max_nodes == a.max_nodes && b.history_size == a.history_size);
-    CHECK(b.subscriber_max_buffer_size == a.subscriber_max_buffer_size);
-    CHECK(b.subscriber_max_borrowed_samples == a.subscriber_max_borrowed_samples);
-    CHECK(b.enable_safe_overflow == a.enable_safe_overflow);
-
-    iox2sd_event_settings es = iox2sd_event_defaults();
-    es.max_listeners = 21, es.max_notifiers = 22, es.max_nodes = 23, es.event_id_max_value = 24;
-    EventStaticConfig q = EventSettings::defaults();
-    q.max_listeners = 21, q.max_notifiers = 22, q.max_nodes = 23, q.event_id_max_value = 24;
-    const auto& c = described(es, iox2sd_describe_event).event;
-    const StaticConfig of_q = shown(q);
-    CHECK(*of_q.event() == q);
-    q.deadline = Duration{1, 999999999};
-    q.notifier_created_event = EventId{25}, q.notifier_dropped_event = EventId{26};
-    q.notifier_dead_event = EventId{27};
-    shown(q);
-    q.deadline->nanoseconds = 1000000000;
-    CHECK(StaticConfig::create(of_q.name(), of_q.unique_service_id(), of_q.attributes(), q)
-              .status() == Status::BadDuration);
-    q = *of_q.event();
-    CHECK(q.max_listeners == c.max_listeners && q.max_notifiers == c.max_notifiers);
-    CHECK(q.max_nodes == c.max_nodes && q.event_id_max_value == c.event_id_max_value);
-    CHECK(q.deadline.has_value() == c.deadline.is_some);
-    CHECK(q.notifier_created_event.has_value() == c.notifier_created_event.is_some);
-    CHECK(q.notifier_dropped_event.has_value() == c.notifier_dropped_event.is_some);
-    CHECK(q.notifier_dead_event.has_value() == c.notifier_dead_event.is_some);
-
-    iox2sd_request_response_settings rs = iox2sd_request_response_defaults();
-    rs.max_active_requests_per_client = 31, rs.max_loaned_requests = 32;
-    rs.max_response_buffer_size = 33, rs.max_servers = 34, rs.max_clients = 35, rs.max_nodes = 36;
-    rs.max_borrowed_responses_per_pending_response = 37;
-    rs.enable_safe_overflow_for_requests = rs.enable_fire_and_forget_requests = false;
-    RequestResponseSettings r = RequestResponseSettings::defaults();
-    r.max_active_requests_per_client = 31, r.max_loaned_requests = 32;
-    r.max_response_buffer_size = 33, r.max_servers = 34, r.max_clients = 35, r.max_nodes = 36;
-    r.max_borrowed_responses_per_pending_response = 37;
-    r.enable_safe_overflow_for_requests = r.enable_fire_and_forget_requests = false;
-    const auto& d = described(rs, iox2sd_describe_request_response).request_response;
-    const StaticConfig of_r =
-        shown(RequestResponseStaticConfig(r, details(8, 8), details(16, 8)));
-    const RequestResponseStaticConfig& e = *of_r.request_response();
-    CHECK(e.max_active_requests_per_client == d.max_active_requests_per_client);
-    CHECK(e.max_loaned_requests == d.max_loaned_requests && e.max_nodes == d.max_nodes);
-    CHECK(e.max_response_buffer_size == d.max_response_buffer_size);
-    CHECK(e.max_servers == d.max_servers && e.max_clients == d.max_clients);
-    CHECK(e.max_borrowed_responses_per_pending_response ==
-          d.max_borrowed_responses_per_pending_response);
-    CHECK(e.enable_safe_overflow_for_requests == d.enable_safe_overflow_for_requests);
-    CHECK(e.enable_safe_overflow_for_responses == d.enable_safe_overflow_for_responses);
-    CHECK(e.enable_fire_and_forget_requests == d.enable_fire_and_forget_requests);
-
-    const iox2sd_blackboard_settings bs = {41, 42};
-    const auto& f = described(bs, iox2sd_describe_blackboard).blackboard;
-    const StaticConfig of_g =
-        shown(BlackboardStaticConfig(BlackboardSettings{41, 42}, type("u8", 1, 1)));
-    const BlackboardStaticConfig& g = *of_g.blackboard();
-    CHECK(g.max_readers == f.max_readers && g.max_writers == f.max_writers);
-    CHECK(g.max_nodes == f.max_nodes);
+#define SAME(name) CHECK(cpp.name == c.name);
+    {
+        PublishSubscribeSettings settings = PublishSubscribeSettings::defaults();
+        settings.max_subscribers = 11, settings.max_publishers = 12, settings.max_nodes = 13;
+        settings.publisher_history_size = 14, settings.subscriber_max_buffer_size = 15;
+        settings.subscriber_max_borrowed_samples = 16, settings.enable_safe_overflow = false;
+        const iox2sd_publish_subscribe_config c =
+            described(settings.as_c(), iox2sd_describe_publish_subscribe).publish_subscribe;
+        const StaticConfig made = shown(PublishSubscribeStaticConfig(settings, details(8, 8)));
+        const PublishSubscribeStaticConfig& cpp = *made.publish_subscribe();
+        IOX2SD_EACH(SAME, max_subscribers, max_publishers, max_nodes, history_size,
+                    subscriber_max_buffer_size, subscriber_max_borrowed_samples,
+                    enable_safe_overflow)
+    }
+    {
+        EventStaticConfig cpp = EventSettings::defaults();
+        cpp.max_listeners = 21, cpp.max_notifiers = 22, cpp.max_nodes = 23;
+        cpp.event_id_max_value = 24;
+        const auto c = described(cpp.as_c(), iox2sd_describe_event).event;
+        const StaticConfig made = shown(cpp);
+        CHECK(*made.event() == cpp);
+        IOX2SD_EACH(SAME, max_listeners, max_notifiers, max_nodes, event_id_max_value)
+#define SAME_OPTION(name) CHECK(cpp.name.has_value() == c.name.is_some);
+        IOX2SD_EACH(SAME_OPTION, deadline, notifier_created_event, notifier_dropped_event,
+                    notifier_dead_event)
+        cpp.deadline = Duration{1, 999999999};
+        cpp.notifier_created_event = EventId{25}, cpp.notifier_dropped_event = EventId{26};
+        cpp.notifier_dead_event = EventId{27};
+        shown(cpp);
+        cpp.deadline->nanoseconds = 1000000000;
+        const auto refused =
+            StaticConfig::create(made.name(), made.unique_service_id(), made.attributes(), cpp);
+        CHECK(refused.status() == Status::BadDuration);
+    }
+    {
+        RequestResponseSettings settings = RequestResponseSettings::defaults();
+        settings.max_active_requests_per_client = 31, settings.max_loaned_requests = 32;
+        settings.max_response_buffer_size = 33, settings.max_servers = 34;
+        settings.max_clients = 35, settings.max_nodes = 36;
+        settings.max_borrowed_responses_per_pending_response = 37;
+        settings.enable_safe_overflow_for_requests = false;
+        settings.enable_fire_and_forget_requests = false;
+        const iox2sd_request_response_config c =
+            described(settings.as_c(), iox2sd_describe_request_response).request_response;
+        const StaticConfig made =
+            shown(RequestResponseStaticConfig(settings, details(8, 8), details(16, 8)));
+        const RequestResponseStaticConfig& cpp = *made.request_response();
+        IOX2SD_EACH(SAME, max_active_requests_per_client, max_loaned_requests,
+                    max_response_buffer_size, max_servers, max_clients, max_nodes,
+                    max_borrowed_responses_per_pending_response, enable_safe_overflow_for_requests,
+                    enable_safe_overflow_for_responses, enable_fire_and_forget_requests)
+    }
+    const BlackboardSettings settings{41, 42};
+    const auto c = described(settings.as_c(), iox2sd_describe_blackboard).blackboard;
+    const StaticConfig made = shown(BlackboardStaticConfig(settings, type("u8", 1, 1)));
+    const BlackboardStaticConfig& cpp = *made.blackboard();
+    IOX2SD_EACH(SAME, max_readers, max_writers, max_nodes)
 }
 
 }  // namespace
 
 int main() {
-    statuses();
+    versions();
     results();
     copies_and_moves();
     texts();

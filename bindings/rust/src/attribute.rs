@@ -49,15 +49,10 @@ kind! {
 
 /// A key with a value. Attributes are compared by their keys, and then by their values.
 ///
-/// ```
-/// use iox2sd::attribute::Attribute;
-///
-/// let one = Attribute::new(&"site".try_into()?, &"east".try_into()?);
-/// let other = Attribute::new(&"site".try_into()?, &"north".try_into()?);
-/// assert_eq!(one.key(), other.key());
-/// assert!(one < other);
-/// # Ok::<(), iox2sd::semantic_string::SemanticStringError>(())
-/// ```
+#[doc = example!(attributes)]
+/// assert_eq!(set[0].key(), set[1].key());
+/// assert!(set[0] < set[1]);
+#[doc = example!(end)]
 #[derive(Clone, Copy, Debug, PartialEq, Eq, PartialOrd, Ord, Hash)]
 pub struct Attribute {
     key: AttributeKey,
@@ -67,15 +62,9 @@ pub struct Attribute {
 impl Attribute {
     /// The attribute with this key and this value.
     ///
-    /// ```
-    /// use iox2sd::attribute::{Attribute, AttributeSet};
-    ///
-    /// let (site, north) = ("site".try_into()?, "north".try_into()?);
-    /// let mut set = AttributeSet::new();
-    /// set.add(&site, &north)?;
-    /// assert_eq!(set[0], Attribute::new(&site, &north));
-    /// # Ok::<(), Box<dyn std::error::Error>>(())
-    /// ```
+    #[doc = example!(attributes)]
+    /// assert_eq!(set[0], Attribute::new(&site, &east));
+    #[doc = example!(end)]
     #[must_use]
     pub fn new(key: &AttributeKey, value: &AttributeValue) -> Self {
         Attribute {

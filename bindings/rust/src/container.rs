@@ -1,15 +1,9 @@
 //! What the entries of a service are, and the handles by which they are removed.
 //!
-//! ```
-//! use iox2sd::prelude::*;
-//!
-//! let mut service = DynamicConfig::with_capacities(&Config::default().defaults.event, 7)?;
-//! let node = UniqueNodeId::new(1, 0, 0, 1).expect("the id of a node");
-//! service.register_node_id(node)?;
-//! let second = service.register_node_id(node)?;
+#![doc = example!(node)]
+//! let second = service.register_node_id(node_id)?;
 //! assert_eq!((second.role(), second.slot(), second.ticket()), (Role::Node, 1, 1));
-//! # Ok::<(), Box<dyn std::error::Error>>(())
-//! ```
+#![doc = example!(end)]
 
 use crate::display::{choices, errors, getters};
 use crate::library;
@@ -128,18 +122,11 @@ impl Plain for ContainerHandle {
 errors! {
     /// Why nothing was released.
     ///
-    /// ```
-    /// use iox2sd::prelude::*;
-    ///
-    /// let mut service = DynamicConfig::with_capacities(&Config::default().defaults.event, 7)?;
+    #[doc = example!(service)]
     /// let foreign = ContainerHandle::from_parts(8, Role::Listener, 0, 0);
-    /// let refused = service.release_port(foreign).unwrap_err();
-    /// assert_eq!(
-    ///     refused.to_string(),
-    ///     "ContainerRemoveError::ContainerHandleNotOwnedByContainer"
-    /// );
-    /// # Ok::<(), Box<dyn std::error::Error>>(())
-    /// ```
+    /// let refused = service.release_port(foreign).unwrap_err().to_string();
+    /// assert_eq!(refused, "ContainerRemoveError::ContainerHandleNotOwnedByContainer");
+    #[doc = example!(end)]
     ContainerRemoveError {
         /// No entry of the service has this handle.
         ContainerHandleNotOwnedByContainer = IOX2SD_STATUS_FOREIGN_HANDLE,
@@ -204,17 +191,11 @@ impl FusedIterator for ServiceNumbers {}
 
 /// The entries that were there when they were listed, by rising slot.
 ///
-/// ```
-/// use iox2sd::prelude::*;
-///
-/// let mut service = DynamicConfig::with_capacities(&Config::default().defaults.event, 7)?;
-/// let node = UniqueNodeId::new(1, 0, 0, 1).expect("the id of a node");
-/// service.register_node_id(node)?;
+#[doc = example!(node)]
 /// let mut nodes = service.nodes();
-/// assert_eq!((nodes.len(), nodes.as_slice()), (1, &[node][..]));
-/// assert_eq!((nodes.next(), nodes.next()), (Some(node), None));
-/// # Ok::<(), Box<dyn std::error::Error>>(())
-/// ```
+/// assert_eq!((nodes.len(), nodes.as_slice()), (1, &[node_id][..]));
+/// assert_eq!((nodes.next(), nodes.next()), (Some(node_id), None));
+#[doc = example!(end)]
 #[derive(Clone, Debug)]
 pub struct Entries<T> {
     entries: vec::IntoIter<T>,
@@ -223,13 +204,9 @@ pub struct Entries<T> {
 impl<T> Entries<T> {
     /// Those that are left.
     ///
-    /// ```
-    /// use iox2sd::prelude::*;
-    ///
-    /// let service = DynamicConfig::with_capacities(&Config::default().defaults.event, 7)?;
+    #[doc = example!(service)]
     /// assert!(service.nodes().as_slice().is_empty());
-    /// # Ok::<(), iox2sd::dynamic_config::AllocError>(())
-    /// ```
+    #[doc = example!(end)]
     #[must_use]
     pub fn as_slice(&self) -> &[T] {
         self.entries.as_slice()

@@ -189,6 +189,53 @@ impl fmt::Display for UnknownName {
 
 impl Error for UnknownName {}
 
+/// Defines a type that is one number, and prints as it does.
+macro_rules! number {
+    (
+        $(#[$documentation:meta])*
+        $name:ident of $number:ident in $module:literal, $getter:ident
+    ) => {
+        $(#[$documentation])*
+        #[derive(Clone, Copy, Debug, PartialEq, Eq, PartialOrd, Ord, Hash)]
+        pub struct $name {
+            value: $number,
+        }
+
+        impl $name {
+            /// The one of this number.
+            ///
+            /// ```
+            #[doc = concat!("use iox2sd::", $module, "::", stringify!($name), ";")]
+            #[doc = concat!("assert_eq!(", stringify!($name), "::new(2).to_string(), \"2\");")]
+            /// ```
+            #[must_use]
+            pub fn new(value: $number) -> Self {
+                $name { value }
+            }
+
+            /// Its number.
+            ///
+            /// ```
+            #[doc = concat!("use iox2sd::", $module, "::", stringify!($name), ";")]
+            #[doc = concat!(
+                "assert_eq!(", stringify!($name), "::new(2).", stringify!($getter), "(), 2);"
+            )]
+            /// ```
+            #[must_use]
+            pub fn $getter(&self) -> $number {
+                self.value
+            }
+        }
+
+        impl ::std::fmt::Display for $name {
+            fn fmt(&self, f: &mut ::std::fmt::Formatter<'_>) -> ::std::fmt::Result {
+                ::std::fmt::Display::fmt(&self.value, f)
+            }
+        }
+    };
+}
+pub(crate) use number;
+
 /// Defines getters, each with what an example says of a value that the same lines make.
 macro_rules! getters {
     ($made:tt $(

@@ -22,11 +22,6 @@
 //! # Ok::<(), Box<dyn std::error::Error>>(())
 //! ```
 
-pub mod blackboard;
-pub mod event;
-pub mod publish_subscribe;
-pub mod request_response;
-
 mod answers;
 mod details;
 mod listing;
@@ -41,3 +36,27 @@ pub use details::{
     ReaderDetails, ServerDetails, SubscriberDetails, WriterDetails,
 };
 pub use service::{Capacities, DynamicConfig, MessagingPatternSettings};
+
+listing::ports_of_pattern! {
+    "a publish-subscribe" PublishSubscribe publish_subscribe iox2sd_publish_subscribe_capacities:
+    publishers number_of_publishers max_publishers PublisherDetails,
+    subscribers number_of_subscribers max_subscribers SubscriberDetails,
+}
+
+listing::ports_of_pattern! {
+    "an event" Event event iox2sd_event_capacities:
+    listeners number_of_listeners max_listeners ListenerDetails,
+    notifiers number_of_notifiers max_notifiers NotifierDetails,
+}
+
+listing::ports_of_pattern! {
+    "a request-response" RequestResonse request_response iox2sd_request_response_capacities:
+    servers number_of_servers max_servers ServerDetails,
+    clients number_of_clients max_clients ClientDetails,
+}
+
+listing::ports_of_pattern! {
+    "a blackboard" Blackboard blackboard iox2sd_blackboard_capacities:
+    readers number_of_readers max_readers ReaderDetails,
+    writers number_of_writers max_writers WriterDetails,
+}

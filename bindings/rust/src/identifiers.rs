@@ -15,7 +15,7 @@
 //! ```
 
 use crate::container::Role;
-use crate::display::getters;
+use crate::display::{getters, number};
 use crate::dynamic_config::OtherRole;
 use crate::library;
 use crate::plain::Plain;
@@ -26,48 +26,14 @@ use std::fmt;
 use std::mem::size_of;
 use std::str::FromStr;
 
-/// The number that the operating system gives a process.
-///
-/// ```
-/// use iox2sd::identifiers::{ProcessId, UniqueServiceId};
-///
-/// assert_eq!(UniqueServiceId::new(17, 0, 0, 1).pid(), ProcessId::new(17));
-/// assert_eq!(ProcessId::new(17).to_string(), "17");
-/// ```
-#[derive(Clone, Copy, Debug, PartialEq, Eq, PartialOrd, Ord, Hash)]
-pub struct ProcessId {
-    value: u32,
-}
-
-impl ProcessId {
-    /// The process of this number.
+number! {
+    /// The number that the operating system gives a process.
     ///
     /// ```
-    /// use iox2sd::identifiers::ProcessId;
-    /// assert_ne!(ProcessId::new(17), ProcessId::new(18));
+    /// use iox2sd::identifiers::{ProcessId, UniqueServiceId};
+    /// assert_eq!(UniqueServiceId::new(17, 0, 0, 1).pid(), ProcessId::new(17));
     /// ```
-    #[must_use]
-    pub fn new(value: u32) -> Self {
-        ProcessId { value }
-    }
-
-    /// Its number.
-    ///
-    /// ```
-    /// use iox2sd::identifiers::ProcessId;
-    /// assert_eq!(ProcessId::new(17).value(), 17);
-    /// ```
-    #[must_use]
-    pub fn value(&self) -> u32 {
-        self.value
-    }
-}
-
-/// The number of the process.
-impl fmt::Display for ProcessId {
-    fn fmt(&self, f: &mut fmt::Formatter<'_>) -> fmt::Result {
-        fmt::Display::fmt(&self.value, f)
-    }
+    ProcessId of u32 in "identifiers", value
 }
 
 /// A time: whole seconds, and the nanoseconds beside them, which may be any number of their type.

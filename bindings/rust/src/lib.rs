@@ -41,6 +41,9 @@
     clippy::undocumented_unsafe_blocks
 )]
 
+#[macro_use]
+mod examples;
+
 pub mod attribute;
 pub mod config;
 pub mod conform;

@@ -1,6 +1,6 @@
 //! The limits that the library sets, in bytes of texts and in pairs, and what the names of the
-//! system's own services begin with. They stand here alone, so that they are constants, and
-//! `tests/conveniences.rs` compares each with what the library answers.
+//! system's own services begin with. They stand here alone, so that they are constants, and tests
+//! compare each with what the library answers.
 
 pub(crate) const ATTRIBUTES: usize = 16;
 pub(crate) const ATTRIBUTE_KEY: usize = 64;

@@ -15,12 +15,9 @@
 
 use crate::display::{errors, getters};
 use crate::plain::Plain;
-use crate::text::{shown_as_text, Text};
+use crate::text::{made_of_texts, shown_as_text, Text};
 pub use crate::text::{TextCause, TextFault};
-use std::cmp::Ordering;
-use std::hash::{Hash, Hasher};
 use std::marker::PhantomData;
-use std::str::FromStr;
 
 errors! {
     /// Why a text is no semantic string.
@@ -83,9 +80,11 @@ impl<K: kind::Kind> Content for K {}
 
 pub(crate) mod kind {
     use crate::sys;
+    use std::fmt::Debug;
+    use std::hash::Hash;
 
     /// A kind of semantic strings, by the check of the library.
-    pub trait Kind {
+    pub trait Kind: Copy + Debug + Ord + Hash {
         #[doc(hidden)]
         fn check(text: &[u8]) -> sys::iox2sd_place_answer;
 
@@ -118,7 +117,7 @@ pub(crate) mod kind {
                 "\").is_err());"
             )]
             /// ```
-            #[derive(Clone, Copy, Debug)]
+            #[derive(Clone, Copy, Debug, PartialEq, Eq, PartialOrd, Ord, Hash)]
             pub enum $content {}
 
             impl $crate::semantic_string::kind::Kind for $content {
@@ -156,6 +155,7 @@ pub(crate) mod kind {
 /// assert_eq!(AttributeKey::new(b""), Err(SemanticStringError::InvalidContent));
 /// # Ok::<(), SemanticStringError>(())
 /// ```
+#[derive(Clone, Copy, PartialEq, Eq, PartialOrd, Ord, Hash)]
 pub struct SemanticString<C: Content> {
     text: Text,
     kind: PhantomData<fn() -> C>,
@@ -247,40 +247,6 @@ impl<C: Content> SemanticString<C> {
     }
 }
 
-impl<C: Content> Clone for SemanticString<C> {
-    fn clone(&self) -> Self {
-        *self
-    }
-}
-
-impl<C: Content> Copy for SemanticString<C> {}
-
-impl<C: Content> PartialEq for SemanticString<C> {
-    fn eq(&self, other: &Self) -> bool {
-        self.text == other.text
-    }
-}
-
-impl<C: Content> Eq for SemanticString<C> {}
-
-impl<C: Content> PartialOrd for SemanticString<C> {
-    fn partial_cmp(&self, other: &Self) -> Option<Ordering> {
-        Some(self.cmp(other))
-    }
-}
-
-impl<C: Content> Ord for SemanticString<C> {
-    fn cmp(&self, other: &Self) -> Ordering {
-        self.text.cmp(&other.text)
-    }
-}
-
-impl<C: Content> Hash for SemanticString<C> {
-    fn hash<H: Hasher>(&self, state: &mut H) {
-        self.text.hash(state);
-    }
-}
-
 impl<C: Content> TryFrom<&str> for SemanticString<C> {
     type Error = SemanticStringError;
 
@@ -290,22 +256,5 @@ impl<C: Content> TryFrom<&str> for SemanticString<C> {
     }
 }
 
-impl<C: Content> TryFrom<String> for SemanticString<C> {
-    type Error = SemanticStringError;
-
-    /// As of a `&str`.
-    fn try_from(text: String) -> Result<Self, SemanticStringError> {
-        Self::new(text.as_bytes())
-    }
-}
-
-impl<C: Content> FromStr for SemanticString<C> {
-    type Err = SemanticStringError;
-
-    /// As [`SemanticString::new`] of the text's bytes.
-    fn from_str(text: &str) -> Result<Self, SemanticStringError> {
-        Self::new(text.as_bytes())
-    }
-}
-
+made_of_texts!({C: Content} SemanticString<C>: SemanticStringError, |text| Self::new(text.as_bytes()));
 shown_as_text!({C: Content} SemanticString<C>);

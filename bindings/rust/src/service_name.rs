@@ -12,9 +12,8 @@ use crate::display::errors;
 use crate::library;
 use crate::limits;
 use crate::plain::Plain;
-use crate::text::{shown_as_text, Text, TextFault};
+use crate::text::{made_of_texts, shown_as_text, Text, TextFault};
 use std::ops::Deref;
-use std::str::FromStr;
 
 /// What the names of the system's own services begin with.
 ///
@@ -204,29 +203,14 @@ impl ServiceName {
 impl TryFrom<&str> for ServiceName {
     type Error = ServiceNameError;
 
-    /// As [`ServiceName::internal_new`], so a name with the prefix is taken, as in iceoryx2.
+    /// As [`ServiceName::internal_new`], so a name with the prefix is taken, as in iceoryx2. One that
+    /// is parsed, or made of a `String`, is made as by [`ServiceName::new`], which refuses it.
     fn try_from(name: &str) -> Result<Self, ServiceNameError> {
         Self::internal_new(name)
     }
 }
 
-impl TryFrom<String> for ServiceName {
-    type Error = ServiceNameError;
-
-    /// As [`ServiceName::new`], so the prefix is refused.
-    fn try_from(name: String) -> Result<Self, ServiceNameError> {
-        Self::new(&name)
-    }
-}
-
-impl FromStr for ServiceName {
-    type Err = ServiceNameError;
-
-    /// As [`ServiceName::new`], so the prefix is refused.
-    fn from_str(name: &str) -> Result<Self, ServiceNameError> {
-        Self::new(name)
-    }
-}
+made_of_texts!(ServiceName: ServiceNameError, |name| Self::new(name));
 
 impl Deref for ServiceName {
     type Target = str;

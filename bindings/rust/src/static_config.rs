@@ -43,17 +43,10 @@ use opener::Both;
 /// The description of a service: its name, its hash text, its id, its attributes, and what is fixed
 /// by its pattern.
 ///
-/// ```
-/// use iox2sd::config::Config;
-/// use iox2sd::identifiers::UniqueServiceId;
-/// use iox2sd::static_config::StaticConfig;
-///
-/// let (name, id) = ("front".try_into()?, UniqueServiceId::new(1, 0, 0, 1));
-/// let service = StaticConfig::new_event(&name, &Config::default(), id)?;
+#[doc = example!(description of event)]
 /// assert_eq!(service, service.clone());
 /// assert_eq!((service.name(), service.unique_service_id()), (&name, id));
-/// # Ok::<(), Box<dyn std::error::Error>>(())
-/// ```
+#[doc = example!(end)]
 #[derive(Clone, Debug, PartialEq, Eq, Hash)]
 pub struct StaticConfig {
     service_hash: ServiceHash,
@@ -78,16 +71,10 @@ macro_rules! of_pattern {
         ///
         /// # Examples
         ///
-        /// ```
-        /// use iox2sd::prelude::*;
-        ///
-        /// let (name, id) = ("front".parse()?, UniqueServiceId::new(1, 0, 0, 1));
-        #[doc = concat!(
-            "let service = StaticConfig::", stringify!($make), "(&name, &Config::default(), id)?;"
-        )]
-        #[doc = concat!("assert!(service.", stringify!($is), "());")]
-        /// # Ok::<(), Box<dyn std::error::Error>>(())
-        /// ```
+        #[doc = example!(description of $module)]
+        #[doc = concat!("let other = StaticConfig::", stringify!($make), "(&name, &Config::default(), id)?;")]
+        /// assert_eq!(other, service);
+        #[doc = example!(end)]
         pub fn $make(
             service_name: &ServiceName,
             config: &Config,
@@ -98,14 +85,9 @@ macro_rules! of_pattern {
 
         #[doc = concat!("Whether it is ", $kind, " service.")]
         ///
-        /// ```
-        /// # use iox2sd::prelude::*;
-        /// # let (name, id) = ("front".parse()?, UniqueServiceId::new(1, 0, 0, 1));
-        #[doc = concat!("let settings = Config::default().defaults.", stringify!($module), ";")]
-        /// let service = StaticConfig::new(&name, &settings, id)?;
+        #[doc = example!(description of $module)]
         #[doc = concat!("assert!(service.", stringify!($is), "());")]
-        /// # Ok::<(), Box<dyn std::error::Error>>(())
-        /// ```
+        #[doc = example!(end)]
         #[must_use]
         pub fn $is(&self) -> bool {
             self.$as().is_some()
@@ -113,15 +95,10 @@ macro_rules! of_pattern {
 
         #[doc = concat!("What is fixed of ", $kind, " service; `None` for each other pattern.")]
         ///
-        /// ```
-        /// # use iox2sd::prelude::*;
-        /// # let (name, id) = ("front".parse()?, UniqueServiceId::new(1, 0, 0, 1));
-        #[doc = concat!("let settings = Config::default().defaults.", stringify!($module), ";")]
-        /// let service = StaticConfig::new(&name, &settings, id)?;
+        #[doc = example!(description of $module)]
         #[doc = concat!("let fixed = service.", stringify!($as), "().ok_or(\"another pattern\")?;")]
         /// assert_eq!(fixed.max_nodes(), settings.max_nodes);
-        /// # Ok::<(), Box<dyn std::error::Error>>(())
-        /// ```
+        #[doc = example!(end)]
         #[must_use]
         pub fn $as(&self) -> Option<&$module::StaticConfig> {
             match &self.messaging_pattern {
@@ -133,17 +110,12 @@ macro_rules! of_pattern {
         #[doc = concat!("The same as [`", stringify!($as), "`](Self::", stringify!($as), "),")]
         /// to be changed.
         ///
-        /// ```
-        /// # use iox2sd::prelude::*;
-        /// # let (name, id) = ("front".parse()?, UniqueServiceId::new(1, 0, 0, 1));
-        #[doc = concat!("let settings = Config::default().defaults.", stringify!($module), ";")]
-        /// let mut service = StaticConfig::new(&name, &settings, id)?;
+        #[doc = example!(description of $module)]
         #[doc = concat!("if let Some(fixed) = service.", stringify!($as_mut), "() {")]
         ///     fixed.max_nodes = 1;
         /// }
         #[doc = concat!("assert_eq!(service.", stringify!($module), "().max_nodes(), 1);")]
-        /// # Ok::<(), Box<dyn std::error::Error>>(())
-        /// ```
+        #[doc = example!(end)]
         #[must_use]
         pub fn $as_mut(&mut self) -> Option<&mut $module::StaticConfig> {
             match &mut self.messaging_pattern {
@@ -158,15 +130,10 @@ macro_rules! of_pattern {
         ///
         #[doc = concat!("Where [`Self::", stringify!($as), "`] is `None`.")]
         ///
-        /// ```
-        /// # use iox2sd::prelude::*;
-        /// # let (name, id) = ("front".parse()?, UniqueServiceId::new(1, 0, 0, 1));
-        #[doc = concat!("let settings = Config::default().defaults.", stringify!($module), ";")]
-        /// let service = StaticConfig::new(&name, &settings, id)?;
+        #[doc = example!(description of $module)]
         #[doc = concat!("let fixed = service.", stringify!($module), "();")]
         /// assert_eq!(fixed.max_nodes(), settings.max_nodes);
-        /// # Ok::<(), Box<dyn std::error::Error>>(())
-        /// ```
+        #[doc = example!(end)]
         #[must_use]
         pub fn $module(&self) -> &$module::StaticConfig {
             match &self.messaging_pattern {
@@ -181,15 +148,10 @@ macro_rules! of_pattern {
         ///
         #[doc = concat!("Where [`Self::", stringify!($as), "`] is `None`.")]
         ///
-        /// ```
-        /// # use iox2sd::prelude::*;
-        /// # let (name, id) = ("front".parse()?, UniqueServiceId::new(1, 0, 0, 1));
-        #[doc = concat!("let settings = Config::default().defaults.", stringify!($module), ";")]
-        /// let mut service = StaticConfig::new(&name, &settings, id)?;
+        #[doc = example!(description of $module)]
         #[doc = concat!("service.", stringify!($get_mut), "().max_nodes = 1;")]
         #[doc = concat!("assert_eq!(service.", stringify!($module), "().max_nodes(), 1);")]
-        /// # Ok::<(), Box<dyn std::error::Error>>(())
-        /// ```
+        #[doc = example!(end)]
         #[must_use]
         pub fn $get_mut(&mut self) -> &mut $module::StaticConfig {
             match &mut self.messaging_pattern {
@@ -209,16 +171,9 @@ impl StaticConfig {
     ///
     /// # Examples
     ///
-    /// ```
-    /// use iox2sd::prelude::*;
-    ///
-    /// let mut settings = Config::default().defaults.event;
-    /// settings.max_listeners = 3;
-    /// let (name, id) = ("front".parse()?, UniqueServiceId::new(1, 0, 0, 1));
-    /// let service = StaticConfig::new(&name, &settings, id)?;
-    /// assert_eq!(service.event().max_listeners(), 3);
-    /// # Ok::<(), Box<dyn std::error::Error>>(())
-    /// ```
+    #[doc = example!(description of event)]
+    /// assert_eq!(service.event().max_listeners(), settings.max_listeners);
+    #[doc = example!(end)]
     pub fn new<S: PatternSettings>(
         service_name: &ServiceName,
         settings: &S,
@@ -257,17 +212,11 @@ impl StaticConfig {
 
     /// The same service with these attributes in place of those that it had.
     ///
-    /// ```
-    /// use iox2sd::attribute::AttributeSpecifier;
-    /// # use iox2sd::prelude::*;
-    /// let (name, id) = ("front".try_into()?, UniqueServiceId::new(1, 0, 0, 1));
-    /// let site = "site".try_into()?;
-    /// let specifier = AttributeSpecifier::new().define(&site, &"north".try_into()?)?;
-    /// let service = StaticConfig::new_event(&name, &Config::default(), id)?
-    ///     .with_attributes(specifier.attributes());
+    #[doc = example!(description of event)]
+    /// let specifier = AttributeSpecifier::new().define(&"site".parse()?, &"north".parse()?)?;
+    /// service = service.with_attributes(specifier.attributes());
     /// assert_eq!(service.attributes(), specifier.attributes());
-    /// # Ok::<(), Box<dyn std::error::Error>>(())
-    /// ```
+    #[doc = example!(end)]
     #[must_use]
     pub fn with_attributes(self, attributes: &AttributeSet) -> Self {
         StaticConfig {
@@ -300,15 +249,11 @@ impl StaticConfig {
 
     /// Whether both services have one pattern, whatever is fixed by it.
     ///
-    /// ```
-    /// # use iox2sd::prelude::*;
-    /// let (name, id) = ("front".try_into()?, UniqueServiceId::new(1, 0, 0, 1));
-    /// let events = StaticConfig::new_event(&name, &Config::default(), id)?;
+    #[doc = example!(description of event)]
     /// let board = StaticConfig::new_blackboard(&name, &Config::default(), id)?;
-    /// assert!(events.has_same_messaging_pattern(&events));
-    /// assert!(!events.has_same_messaging_pattern(&board));
-    /// # Ok::<(), Box<dyn std::error::Error>>(())
-    /// ```
+    /// assert!(service.has_same_messaging_pattern(&service));
+    /// assert!(!service.has_same_messaging_pattern(&board));
+    #[doc = example!(end)]
     #[must_use]
     pub fn has_same_messaging_pattern(&self, rhs: &StaticConfig) -> bool {
         self.messaging_pattern
@@ -318,20 +263,15 @@ impl StaticConfig {
     /// Whether the service meets what an opener requires of its pattern and its settings, as
     /// [`MessagingPattern::satisfies`] says.
     ///
-    /// ```
-    /// # use iox2sd::prelude::*;
-    /// use iox2sd::static_config::event;
+    #[doc = example!(description of event)]
     /// use iox2sd::static_config::messaging_pattern::MessagingPattern;
     ///
-    /// let (name, id) = ("front".try_into()?, UniqueServiceId::new(1, 0, 0, 1));
-    /// let service = StaticConfig::new_event(&name, &Config::default(), id)?;
-    /// let mut required = event::StaticConfig::new(&Config::default());
+    /// let mut required = *service.event();
     /// required.max_nodes = 1;
     /// assert!(service.satisfies(&MessagingPattern::Event(required)));
     /// required.max_nodes = 100;
     /// assert!(!service.satisfies(&MessagingPattern::Event(required)));
-    /// # Ok::<(), Box<dyn std::error::Error>>(())
-    /// ```
+    #[doc = example!(end)]
     #[must_use]
     pub fn satisfies(&self, required: &MessagingPattern) -> bool {
         self.messaging_pattern.satisfies(required)
@@ -346,20 +286,15 @@ impl StaticConfig {
     ///
     /// # Examples
     ///
-    /// ```
-    /// # use iox2sd::prelude::*;
+    #[doc = example!(description of event)]
     /// use iox2sd::static_config::Unmet;
     ///
-    /// let (name, id) = ("front".try_into()?, UniqueServiceId::new(1, 0, 0, 1));
-    /// let service = StaticConfig::new_event(&name, &Config::default(), id)?;
     /// let required = *service.messaging_pattern();
     /// assert_eq!(service.verify_opener(&required, &AttributeVerifier::new()), Ok(()));
-    ///
-    /// let verifier = AttributeVerifier::new().require_key(&"site".try_into()?)?;
+    /// let verifier = AttributeVerifier::new().require_key(&"site".parse()?)?;
     /// let refused = service.verify_opener(&required, &verifier).unwrap_err();
     /// assert!(matches!(refused, Unmet::Attributes(_)));
-    /// # Ok::<(), Box<dyn std::error::Error>>(())
-    /// ```
+    #[doc = example!(end)]
     pub fn verify_opener(
         &self,
         required: &MessagingPattern,

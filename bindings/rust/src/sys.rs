@@ -1,954 +1,346 @@
-//! The declarations of the headers that this crate uses, under their names
-//! there. `tests/declarations.rs` compares them with the headers.
+//! The declarations of the headers that this crate uses, under their names there. `bindings/fields`
+//! compares the structs with the headers, and `tests/declarations.rs` the numbers and functions.
 #![allow(non_camel_case_types)]
 
 use std::ffi::c_void;
 
-pub const IOX2SD_STATUS_DONE: u32 = 0;
-pub const IOX2SD_STATUS_DONE_LOCKED: u32 = 1;
-pub const IOX2SD_STATUS_BUFFER_TOO_SHORT: u32 = 2;
-pub const IOX2SD_STATUS_NO_MEMORY: u32 = 3;
-pub const IOX2SD_STATUS_IS_LOCKED: u32 = 9;
-pub const IOX2SD_STATUS_OUT_OF_SPACE: u32 = 10;
-pub const IOX2SD_STATUS_FOREIGN_HANDLE: u32 = 11;
-pub const IOX2SD_STATUS_PORTS_STILL_ATTACHED: u32 = 12;
-pub const IOX2SD_STATUS_NODE_NOT_REGISTERED: u32 = 13;
-pub const IOX2SD_STATUS_ROLE_NOT_IN_PATTERN: u32 = 14;
-pub const IOX2SD_STATUS_TOO_MANY: u32 = 18;
-pub const IOX2SD_STATUS_EMPTY: u32 = 40;
-pub const IOX2SD_STATUS_TOO_LONG: u32 = 41;
-pub const IOX2SD_STATUS_ILLEGAL_BYTE: u32 = 42;
-pub const IOX2SD_STATUS_NO_FILE_NAME: u32 = 43;
-pub const IOX2SD_STATUS_RESERVED_PREFIX: u32 = 44;
-pub const IOX2SD_STATUS_BAD_PATH: u32 = 47;
-pub const IOX2SD_STATUS_ILLEGAL_HASH: u32 = 49;
-pub const IOX2SD_STATUS_TOO_MANY_REQUIRED: u32 = 53;
-pub const IOX2SD_STATUS_MISSING_PAIR: u32 = 54;
-pub const IOX2SD_STATUS_MISSING_KEY: u32 = 55;
-pub const IOX2SD_STATUS_NO_SUCH_VALUE: u32 = 56;
-pub const IOX2SD_STATUS_BAD_ALIGNMENT: u32 = 57;
-pub const IOX2SD_STATUS_TOO_LARGE: u32 = 58;
-pub const IOX2SD_STATUS_UNKNOWN_VARIANT: u32 = 59;
-pub const IOX2SD_STATUS_OTHER_NAME: u32 = 60;
-pub const IOX2SD_STATUS_OTHER_VARIANT: u32 = 61;
-pub const IOX2SD_STATUS_OTHER_SIZE: u32 = 62;
-pub const IOX2SD_STATUS_OTHER_ALIGNMENT: u32 = 63;
-pub const IOX2SD_STATUS_GREATER_ALIGNMENT: u32 = 64;
-pub const IOX2SD_STATUS_BAD_LINE: u32 = 66;
-pub const IOX2SD_STATUS_BAD_DURATION: u32 = 68;
-pub const IOX2SD_STATUS_UNMET: u32 = 69;
-pub const IOX2SD_STATUS_NOT_TOML: u32 = 80;
-pub const IOX2SD_STATUS_WRONG_TYPE: u32 = 81;
-pub const IOX2SD_STATUS_BELOW_ZERO: u32 = 82;
-pub const IOX2SD_STATUS_NO_DURATION: u32 = 83;
-pub const IOX2SD_STATUS_NO_TOML_INTEGER: u32 = 84;
-pub const IOX2SD_STATUS_TOO_DEEP: u32 = 86;
-pub const IOX2SD_STATUS_NO_RUN: u32 = 90;
-pub const IOX2SD_STATUS_NO_SERVICE_LINE: u32 = 91;
-pub const IOX2SD_STATUS_NO_COMMAND_LINE: u32 = 92;
-pub const IOX2SD_STATUS_NO_REPLY_LINE: u32 = 93;
-pub const IOX2SD_STATUS_NO_ORDER: u32 = 94;
-pub const IOX2SD_STATUS_TOO_MANY_STATES: u32 = 95;
-pub const IOX2SD_STATUS_NO_GROUP_LINE: u32 = 96;
-pub const IOX2SD_STATUS_NO_GROUP_END: u32 = 97;
-
-pub const IOX2SD_FIELD_DEADLINE: u32 = 2;
-pub const IOX2SD_FIELD_MAX_SUBSCRIBERS: u32 = 8;
-pub const IOX2SD_FIELD_MAX_PUBLISHERS: u32 = 9;
-pub const IOX2SD_FIELD_HISTORY_SIZE: u32 = 10;
-pub const IOX2SD_FIELD_SUBSCRIBER_MAX_BUFFER_SIZE: u32 = 11;
-pub const IOX2SD_FIELD_SUBSCRIBER_MAX_BORROWED_SAMPLES: u32 = 12;
-pub const IOX2SD_FIELD_ENABLE_SAFE_OVERFLOW: u32 = 13;
-pub const IOX2SD_FIELD_MAX_NOTIFIERS: u32 = 14;
-pub const IOX2SD_FIELD_MAX_LISTENERS: u32 = 15;
-pub const IOX2SD_FIELD_EVENT_ID_MAX_VALUE: u32 = 16;
-pub const IOX2SD_FIELD_NOTIFIER_CREATED_EVENT: u32 = 17;
-pub const IOX2SD_FIELD_NOTIFIER_DROPPED_EVENT: u32 = 18;
-pub const IOX2SD_FIELD_NOTIFIER_DEAD_EVENT: u32 = 19;
-pub const IOX2SD_FIELD_ENABLE_SAFE_OVERFLOW_FOR_REQUESTS: u32 = 20;
-pub const IOX2SD_FIELD_ENABLE_SAFE_OVERFLOW_FOR_RESPONSES: u32 = 21;
-pub const IOX2SD_FIELD_ENABLE_FIRE_AND_FORGET_REQUESTS: u32 = 22;
-pub const IOX2SD_FIELD_MAX_ACTIVE_REQUESTS_PER_CLIENT: u32 = 23;
-pub const IOX2SD_FIELD_MAX_LOANED_REQUESTS: u32 = 24;
-pub const IOX2SD_FIELD_MAX_RESPONSE_BUFFER_SIZE: u32 = 25;
-pub const IOX2SD_FIELD_MAX_SERVERS: u32 = 26;
-pub const IOX2SD_FIELD_MAX_CLIENTS: u32 = 27;
-pub const IOX2SD_FIELD_MAX_BORROWED_RESPONSES_PER_PENDING_RESPONSE: u32 = 28;
-pub const IOX2SD_FIELD_MAX_READERS: u32 = 29;
-pub const IOX2SD_FIELD_MAX_WRITERS: u32 = 30;
-pub const IOX2SD_FIELD_MAX_NODES: u32 = 31;
-
-pub const IOX2SD_PATTERN_PUBLISH_SUBSCRIBE: u64 = 0;
-pub const IOX2SD_PATTERN_EVENT: u64 = 1;
-pub const IOX2SD_PATTERN_REQUEST_RESPONSE: u64 = 2;
-pub const IOX2SD_PATTERN_BLACKBOARD: u64 = 3;
-
-pub const IOX2SD_ROLE_NODE: u64 = 0;
-pub const IOX2SD_ROLE_PUBLISHER: u64 = 1;
-pub const IOX2SD_ROLE_SUBSCRIBER: u64 = 2;
-pub const IOX2SD_ROLE_NOTIFIER: u64 = 3;
-pub const IOX2SD_ROLE_LISTENER: u64 = 4;
-pub const IOX2SD_ROLE_CLIENT: u64 = 5;
-pub const IOX2SD_ROLE_SERVER: u64 = 6;
-pub const IOX2SD_ROLE_READER: u64 = 7;
-pub const IOX2SD_ROLE_WRITER: u64 = 8;
-
-pub const IOX2SD_SEGMENT_DYNAMIC: u32 = 0;
-pub const IOX2SD_SEGMENT_STATIC: u32 = 1;
-
-pub const IOX2SD_VARIANT_FIXED_SIZE: u32 = 0;
-pub const IOX2SD_VARIANT_DYNAMIC: u32 = 1;
-
-pub const IOX2SD_PART_HEADER: u32 = 0;
-pub const IOX2SD_PART_USER_HEADER: u32 = 1;
-pub const IOX2SD_PART_PAYLOAD: u32 = 2;
-
-pub const IOX2SD_BACKPRESSURE_RETRY_UNTIL_DELIVERED: u32 = 0;
-pub const IOX2SD_BACKPRESSURE_DISCARD_DATA: u32 = 1;
-
-pub const IOX2SD_ALLOCATION_BEST_FIT: u32 = 0;
-pub const IOX2SD_ALLOCATION_POWER_OF_TWO: u32 = 1;
-pub const IOX2SD_ALLOCATION_STATIC: u32 = 2;
-
-pub const IOX2SD_TEXT_ROOT_PATH: u32 = 0;
-pub const IOX2SD_TEXT_PREFIX: u32 = 1;
-pub const IOX2SD_TEXT_SERVICE_DIRECTORY: u32 = 2;
-pub const IOX2SD_TEXT_DATA_SEGMENT_SUFFIX: u32 = 3;
-pub const IOX2SD_TEXT_STATIC_CONFIG_STORAGE_SUFFIX: u32 = 4;
-pub const IOX2SD_TEXT_DYNAMIC_CONFIG_STORAGE_SUFFIX: u32 = 5;
-pub const IOX2SD_TEXT_CONNECTION_SUFFIX: u32 = 6;
-pub const IOX2SD_TEXT_EVENT_CONNECTION_SUFFIX: u32 = 7;
-pub const IOX2SD_TEXT_BLACKBOARD_MGMT_SUFFIX: u32 = 8;
-pub const IOX2SD_TEXT_BLACKBOARD_DATA_SUFFIX: u32 = 9;
-pub const IOX2SD_TEXT_NODE_DIRECTORY: u32 = 10;
-pub const IOX2SD_TEXT_MONITOR_SUFFIX: u32 = 11;
-pub const IOX2SD_TEXT_NODE_STATIC_CONFIG_SUFFIX: u32 = 12;
-pub const IOX2SD_TEXT_SERVICE_TAG_SUFFIX: u32 = 13;
-pub const IOX2SD_TEXT_PORT_TAG_SUFFIX: u32 = 14;
-pub const IOX2SD_TEXT_GLOBAL_MGMT_SUFFIX: u32 = 15;
-pub const IOX2SD_TEXT_CONFIG_FILE_NAME: u32 = 16;
-pub const IOX2SD_TEXT_CONFIG_FILE_PATH: u32 = 17;
-pub const IOX2SD_TEXT_RELATIVE_CONFIG_PATH: u32 = 18;
-pub const IOX2SD_TEXT_USER_CONFIG_FILE_PATH: u32 = 19;
-
-pub const IOX2SD_TOML_STRING: u32 = 1;
-pub const IOX2SD_TOML_INTEGER: u32 = 2;
-pub const IOX2SD_TOML_FLOAT: u32 = 3;
-pub const IOX2SD_TOML_BOOLEAN: u32 = 4;
-pub const IOX2SD_TOML_DATETIME: u32 = 5;
-pub const IOX2SD_TOML_ARRAY: u32 = 6;
-pub const IOX2SD_TOML_TABLE: u32 = 7;
-
-pub const IOX2SD_KIND_TABLE: u32 = 1;
-pub const IOX2SD_KIND_NUMBER: u32 = 2;
-pub const IOX2SD_KIND_FLAG: u32 = 3;
-pub const IOX2SD_KIND_PATH: u32 = 4;
-pub const IOX2SD_KIND_FILE_NAME: u32 = 5;
-pub const IOX2SD_KIND_BACKPRESSURE: u32 = 6;
-pub const IOX2SD_KIND_ALLOCATION: u32 = 7;
-pub const IOX2SD_KIND_DURATION: u32 = 8;
-
-#[repr(C)]
-#[derive(Clone, Copy, Debug, Default, PartialEq, Eq, Hash)]
-pub struct iox2sd_id {
-    pub process: u32,
-    pub seconds: u32,
-    pub nanoseconds: u32,
-    pub counter: u32,
+/// Numbers of the headers, by their type.
+macro_rules! numbers {
+    ($($type:ty: $($name:ident = $number:literal)+;)+) => {
+        $($(pub const $name: $type = $number;)+)+
+    };
 }
 
-#[repr(C)]
-#[derive(Clone, Copy, Debug, Default, PartialEq, Eq)]
-pub struct iox2sd_handle {
-    pub service: u64,
-    pub role: u64,
-    pub slot: usize,
-    pub ticket: u64,
+/// Structs of the headers. Fields of one type stand side by side.
+macro_rules! structs {
+    ($($(#[$attribute:meta])* $struct:ident { $($($field:ident)+: $type:ty,)+ })+) => {
+        $(
+            #[repr(C)]
+            $(#[$attribute])*
+            pub struct $struct {
+                $($(pub $field: $type,)+)+
+            }
+        )+
+    };
 }
 
-#[repr(C)]
-#[derive(Clone, Copy, Debug, Default, PartialEq, Eq)]
-pub struct iox2sd_port_details {
-    pub role: u64,
-    pub port: iox2sd_id,
-    pub node: iox2sd_id,
-    pub number_of_samples: usize,
-    pub buffer_size: usize,
-    pub request_buffer_size: usize,
-    pub number_of_responses: usize,
-    pub number_of_requests: usize,
-    pub response_buffer_size: usize,
-    pub max_slice_len: usize,
-    pub data_segment: u32,
-    pub max_number_of_segments: u8,
+/// Functions of the headers, by what they take and answer.
+macro_rules! functions {
+    ($($arguments:tt -> $answer:ty: $($name:ident)+;)+) => {
+        extern "C" {
+            $($(pub fn $name $arguments -> $answer;)+)+
+        }
+    };
 }
 
-#[repr(C)]
-#[derive(Clone, Copy, Debug, Default, PartialEq, Eq)]
-pub struct iox2sd_port_id {
-    pub role: u64,
-    pub port: iox2sd_id,
+numbers! {
+    u32: IOX2SD_STATUS_DONE = 0 IOX2SD_STATUS_DONE_LOCKED = 1 IOX2SD_STATUS_BUFFER_TOO_SHORT = 2
+    IOX2SD_STATUS_NO_MEMORY = 3 IOX2SD_STATUS_IS_LOCKED = 9 IOX2SD_STATUS_OUT_OF_SPACE = 10
+    IOX2SD_STATUS_FOREIGN_HANDLE = 11 IOX2SD_STATUS_PORTS_STILL_ATTACHED = 12
+    IOX2SD_STATUS_NODE_NOT_REGISTERED = 13 IOX2SD_STATUS_ROLE_NOT_IN_PATTERN = 14
+    IOX2SD_STATUS_TOO_MANY = 18 IOX2SD_STATUS_EMPTY = 40 IOX2SD_STATUS_TOO_LONG = 41
+    IOX2SD_STATUS_ILLEGAL_BYTE = 42 IOX2SD_STATUS_NO_FILE_NAME = 43
+    IOX2SD_STATUS_RESERVED_PREFIX = 44 IOX2SD_STATUS_BAD_PATH = 47 IOX2SD_STATUS_ILLEGAL_HASH = 49
+    IOX2SD_STATUS_TOO_MANY_REQUIRED = 53 IOX2SD_STATUS_MISSING_PAIR = 54
+    IOX2SD_STATUS_MISSING_KEY = 55 IOX2SD_STATUS_NO_SUCH_VALUE = 56 IOX2SD_STATUS_BAD_ALIGNMENT = 57
+    IOX2SD_STATUS_TOO_LARGE = 58 IOX2SD_STATUS_UNKNOWN_VARIANT = 59 IOX2SD_STATUS_OTHER_NAME = 60
+    IOX2SD_STATUS_OTHER_VARIANT = 61 IOX2SD_STATUS_OTHER_SIZE = 62
+    IOX2SD_STATUS_OTHER_ALIGNMENT = 63 IOX2SD_STATUS_GREATER_ALIGNMENT = 64
+    IOX2SD_STATUS_BAD_LINE = 66 IOX2SD_STATUS_BAD_DURATION = 68 IOX2SD_STATUS_UNMET = 69
+    IOX2SD_STATUS_NOT_TOML = 80 IOX2SD_STATUS_WRONG_TYPE = 81 IOX2SD_STATUS_BELOW_ZERO = 82
+    IOX2SD_STATUS_NO_DURATION = 83 IOX2SD_STATUS_NO_TOML_INTEGER = 84 IOX2SD_STATUS_TOO_DEEP = 86
+    IOX2SD_STATUS_NO_RUN = 90 IOX2SD_STATUS_NO_SERVICE_LINE = 91 IOX2SD_STATUS_NO_COMMAND_LINE = 92
+    IOX2SD_STATUS_NO_REPLY_LINE = 93 IOX2SD_STATUS_NO_ORDER = 94 IOX2SD_STATUS_TOO_MANY_STATES = 95
+    IOX2SD_STATUS_NO_GROUP_LINE = 96 IOX2SD_STATUS_NO_GROUP_END = 97;
+    u32: IOX2SD_FIELD_DEADLINE = 2 IOX2SD_FIELD_MAX_SUBSCRIBERS = 8 IOX2SD_FIELD_MAX_PUBLISHERS = 9
+    IOX2SD_FIELD_HISTORY_SIZE = 10 IOX2SD_FIELD_SUBSCRIBER_MAX_BUFFER_SIZE = 11
+    IOX2SD_FIELD_SUBSCRIBER_MAX_BORROWED_SAMPLES = 12 IOX2SD_FIELD_ENABLE_SAFE_OVERFLOW = 13
+    IOX2SD_FIELD_MAX_NOTIFIERS = 14 IOX2SD_FIELD_MAX_LISTENERS = 15
+    IOX2SD_FIELD_EVENT_ID_MAX_VALUE = 16 IOX2SD_FIELD_NOTIFIER_CREATED_EVENT = 17
+    IOX2SD_FIELD_NOTIFIER_DROPPED_EVENT = 18 IOX2SD_FIELD_NOTIFIER_DEAD_EVENT = 19
+    IOX2SD_FIELD_ENABLE_SAFE_OVERFLOW_FOR_REQUESTS = 20
+    IOX2SD_FIELD_ENABLE_SAFE_OVERFLOW_FOR_RESPONSES = 21
+    IOX2SD_FIELD_ENABLE_FIRE_AND_FORGET_REQUESTS = 22
+    IOX2SD_FIELD_MAX_ACTIVE_REQUESTS_PER_CLIENT = 23 IOX2SD_FIELD_MAX_LOANED_REQUESTS = 24
+    IOX2SD_FIELD_MAX_RESPONSE_BUFFER_SIZE = 25 IOX2SD_FIELD_MAX_SERVERS = 26
+    IOX2SD_FIELD_MAX_CLIENTS = 27 IOX2SD_FIELD_MAX_BORROWED_RESPONSES_PER_PENDING_RESPONSE = 28
+    IOX2SD_FIELD_MAX_READERS = 29 IOX2SD_FIELD_MAX_WRITERS = 30 IOX2SD_FIELD_MAX_NODES = 31;
+    u64: IOX2SD_PATTERN_PUBLISH_SUBSCRIBE = 0 IOX2SD_PATTERN_EVENT = 1
+    IOX2SD_PATTERN_REQUEST_RESPONSE = 2 IOX2SD_PATTERN_BLACKBOARD = 3;
+    u64: IOX2SD_ROLE_NODE = 0 IOX2SD_ROLE_PUBLISHER = 1 IOX2SD_ROLE_SUBSCRIBER = 2
+    IOX2SD_ROLE_NOTIFIER = 3 IOX2SD_ROLE_LISTENER = 4 IOX2SD_ROLE_CLIENT = 5 IOX2SD_ROLE_SERVER = 6
+    IOX2SD_ROLE_READER = 7 IOX2SD_ROLE_WRITER = 8;
+    u32: IOX2SD_SEGMENT_DYNAMIC = 0 IOX2SD_SEGMENT_STATIC = 1;
+    u32: IOX2SD_VARIANT_FIXED_SIZE = 0 IOX2SD_VARIANT_DYNAMIC = 1;
+    u32: IOX2SD_PART_HEADER = 0 IOX2SD_PART_USER_HEADER = 1 IOX2SD_PART_PAYLOAD = 2;
+    u32: IOX2SD_BACKPRESSURE_RETRY_UNTIL_DELIVERED = 0 IOX2SD_BACKPRESSURE_DISCARD_DATA = 1;
+    u32: IOX2SD_ALLOCATION_BEST_FIT = 0 IOX2SD_ALLOCATION_POWER_OF_TWO = 1
+    IOX2SD_ALLOCATION_STATIC = 2;
+    u32: IOX2SD_TEXT_ROOT_PATH = 0 IOX2SD_TEXT_PREFIX = 1 IOX2SD_TEXT_SERVICE_DIRECTORY = 2
+    IOX2SD_TEXT_DATA_SEGMENT_SUFFIX = 3 IOX2SD_TEXT_STATIC_CONFIG_STORAGE_SUFFIX = 4
+    IOX2SD_TEXT_DYNAMIC_CONFIG_STORAGE_SUFFIX = 5 IOX2SD_TEXT_CONNECTION_SUFFIX = 6
+    IOX2SD_TEXT_EVENT_CONNECTION_SUFFIX = 7 IOX2SD_TEXT_BLACKBOARD_MGMT_SUFFIX = 8
+    IOX2SD_TEXT_BLACKBOARD_DATA_SUFFIX = 9 IOX2SD_TEXT_NODE_DIRECTORY = 10
+    IOX2SD_TEXT_MONITOR_SUFFIX = 11 IOX2SD_TEXT_NODE_STATIC_CONFIG_SUFFIX = 12
+    IOX2SD_TEXT_SERVICE_TAG_SUFFIX = 13 IOX2SD_TEXT_PORT_TAG_SUFFIX = 14
+    IOX2SD_TEXT_GLOBAL_MGMT_SUFFIX = 15 IOX2SD_TEXT_CONFIG_FILE_NAME = 16
+    IOX2SD_TEXT_CONFIG_FILE_PATH = 17 IOX2SD_TEXT_RELATIVE_CONFIG_PATH = 18
+    IOX2SD_TEXT_USER_CONFIG_FILE_PATH = 19;
+    u32: IOX2SD_TOML_STRING = 1 IOX2SD_TOML_INTEGER = 2 IOX2SD_TOML_FLOAT = 3
+    IOX2SD_TOML_BOOLEAN = 4 IOX2SD_TOML_DATETIME = 5 IOX2SD_TOML_ARRAY = 6 IOX2SD_TOML_TABLE = 7;
+    u32: IOX2SD_KIND_TABLE = 1 IOX2SD_KIND_NUMBER = 2 IOX2SD_KIND_FLAG = 3 IOX2SD_KIND_PATH = 4
+    IOX2SD_KIND_FILE_NAME = 5 IOX2SD_KIND_BACKPRESSURE = 6 IOX2SD_KIND_ALLOCATION = 7
+    IOX2SD_KIND_DURATION = 8;
 }
 
-#[repr(C)]
-#[derive(Clone, Copy, Debug)]
-pub struct iox2sd_capacities {
-    pub nodes: usize,
-    pub first: usize,
-    pub second: usize,
+structs! {
+    #[derive(Clone, Copy, Debug, Default, PartialEq, Eq, Hash)]
+    iox2sd_id { process seconds nanoseconds counter: u32, }
+    #[derive(Clone, Copy, Debug, Default, PartialEq, Eq)]
+    iox2sd_handle { service role: u64, slot: usize, ticket: u64, }
+    #[derive(Clone, Copy, Debug, Default, PartialEq, Eq)]
+    iox2sd_port_details {
+        role: u64, port node: iox2sd_id, number_of_samples buffer_size request_buffer_size
+        number_of_responses number_of_requests response_buffer_size max_slice_len: usize,
+        data_segment: u32, max_number_of_segments: u8,
+    }
+    #[derive(Clone, Copy, Debug, Default, PartialEq, Eq)]
+    iox2sd_port_id { role: u64, port: iox2sd_id, }
+    #[derive(Clone, Copy, Debug)]
+    iox2sd_capacities { nodes first second: usize, }
+    #[derive(Debug)]
+    iox2sd_service { full: bool, at: *mut c_void, }
+    iox2sd_handle_answer { status: u32, handle: iox2sd_handle, }
+    iox2sd_count_answer { status cause: u32, count: usize, }
+    iox2sd_text_answer { status cause: u32, length: usize, }
+    iox2sd_number_answer { status: u32, number: u64, }
+    iox2sd_roles_answer { status: u32, first second: u64, }
+    iox2sd_flag_answer { status: u32, yes: bool, }
+    iox2sd_id_answer { status: u32, id: iox2sd_id, }
+    iox2sd_port_answer { status: u32, port: iox2sd_port_details, }
+    iox2sd_dead_node_removal { status: u32, first second: usize, }
+    iox2sd_place_answer { status cause: u32, at: usize, }
+    #[derive(Clone, Copy)]
+    iox2sd_attribute { key: *const u8, key_length: usize, value: *const u8, value_length: usize, }
+    iox2sd_key { text: *const u8, length: usize, }
+    iox2sd_type_detail { name: *const u8, name_length: usize, variant: u32, size alignment: usize, }
+    iox2sd_message_details { header user_header payload: iox2sd_type_detail, }
+    iox2sd_layout_answer { status: u32, size alignment: usize, }
+    iox2sd_places_answer { status: u32, user_header payload: usize, }
+    iox2sd_part_answer { status side part: u32, }
+    iox2sd_script_answer { status verdict: u32, line length: usize, }
+    iox2sd_conform_answer { status verdict: u32, line calls length: usize, }
+    iox2sd_duration { seconds: u64, nanoseconds: u32, }
+    iox2sd_global_settings {
+        creation_timeout: iox2sd_duration, cleanup_dead_nodes_on_open cleanup_dead_nodes_on_creation
+        cleanup_dead_nodes_on_destruction: bool,
+    }
+    iox2sd_optional_duration { seconds: u64, nanoseconds: u32, is_some: bool, }
+    iox2sd_optional_event_id { number: usize, is_some: bool, }
+    iox2sd_publish_subscribe_settings {
+        max_subscribers max_publishers max_nodes subscriber_max_buffer_size
+        subscriber_max_borrowed_samples publisher_max_loaned_samples publisher_history_size
+        subscriber_expired_connection_buffer: usize, backpressure_strategy
+        publisher_allocation_strategy: u32, enable_safe_overflow: bool,
+    }
+    iox2sd_event_settings {
+        max_listeners max_notifiers max_nodes event_id_max_value: usize,
+        deadline: iox2sd_optional_duration, notifier_created_event notifier_dropped_event
+        notifier_dead_event: iox2sd_optional_event_id,
+    }
+    iox2sd_request_response_settings {
+        max_active_requests_per_client max_response_buffer_size max_servers max_clients max_nodes
+        max_borrowed_responses_per_pending_response max_loaned_requests
+        server_max_loaned_responses_per_request client_expired_connection_buffer
+        server_expired_connection_buffer: usize, client_backpressure_strategy
+        server_backpressure_strategy client_allocation_strategy server_allocation_strategy: u32,
+        enable_safe_overflow_for_requests enable_safe_overflow_for_responses
+        enable_fire_and_forget_requests: bool,
+    }
+    iox2sd_blackboard_settings { max_readers max_nodes: usize, }
+    iox2sd_publish_subscribe_capacities { nodes publishers subscribers: usize, }
+    iox2sd_event_capacities { nodes listeners notifiers: usize, }
+    iox2sd_request_response_capacities { nodes servers clients: usize, }
+    iox2sd_blackboard_capacities { nodes readers writers: usize, }
+    iox2sd_service_numbers { last: u64, }
+    iox2sd_field_answer { status field cause: u32, }
+    iox2sd_publish_subscribe_config {
+        max_subscribers max_publishers max_nodes history_size subscriber_max_buffer_size
+        subscriber_max_borrowed_samples: usize, enable_safe_overflow: bool,
+    }
+    iox2sd_event_config {
+        max_notifiers max_listeners max_nodes event_id_max_value: usize,
+        deadline: iox2sd_optional_duration, notifier_created_event notifier_dropped_event
+        notifier_dead_event: iox2sd_optional_event_id,
+    }
+    iox2sd_request_response_config {
+        max_active_requests_per_client max_loaned_requests max_response_buffer_size max_servers
+        max_clients max_nodes max_borrowed_responses_per_pending_response: usize,
+        enable_safe_overflow_for_requests enable_safe_overflow_for_responses
+        enable_fire_and_forget_requests: bool,
+    }
+    iox2sd_blackboard_config { max_readers max_writers max_nodes: usize, }
+    iox2sd_description {
+        name: [u8; 256], name_length: usize, id: iox2sd_id, hash: [u8; 64], hash_length: usize,
+        pattern: u64, publish_subscribe: iox2sd_publish_subscribe_config,
+        event: iox2sd_event_config, request_response: iox2sd_request_response_config,
+        blackboard: iox2sd_blackboard_config,
+    }
+    iox2sd_config_text { bytes: [u8; 256], length: usize, }
+    iox2sd_config_texts {
+        root_path prefix service_directory data_segment_suffix static_config_storage_suffix
+        dynamic_config_storage_suffix connection_suffix event_connection_suffix
+        blackboard_mgmt_suffix blackboard_data_suffix node_directory monitor_suffix
+        node_static_config_suffix service_tag_suffix port_tag_suffix
+        global_mgmt_suffix: iox2sd_config_text,
+    }
+    iox2sd_config {
+        global: iox2sd_global_settings, texts: iox2sd_config_texts,
+        publish_subscribe: iox2sd_publish_subscribe_settings, event: iox2sd_event_settings,
+        request_response: iox2sd_request_response_settings, blackboard: iox2sd_blackboard_settings,
+    }
+    iox2sd_config_fault {
+        status table found wanted: u32, key: [u8; 80], key_length: usize, reason: [u8; 256],
+        reason_length: usize,
+    }
+    iox2sd_config_answer { status: u32, unknown: usize, fault: iox2sd_config_fault, }
+    iox2sd_unknown_key { table: u32, key_length: usize, meant: [u8; 80], meant_length: usize, }
+    iox2sd_unknown_answer { status: u32, count length: usize, }
+    iox2sd_config_write_answer {
+        status field: u32, length: usize, key: [u8; 80], key_length: usize,
+    }
 }
 
-#[repr(C)]
-#[derive(Debug)]
-pub struct iox2sd_service {
-    pub full: bool,
-    pub at: *mut c_void,
-}
-
-#[repr(C)]
-pub struct iox2sd_handle_answer {
-    pub status: u32,
-    pub handle: iox2sd_handle,
-}
-
-#[repr(C)]
-pub struct iox2sd_count_answer {
-    pub status: u32,
-    pub cause: u32,
-    pub count: usize,
-}
-
-#[repr(C)]
-pub struct iox2sd_text_answer {
-    pub status: u32,
-    pub cause: u32,
-    pub length: usize,
-}
-
-#[repr(C)]
-pub struct iox2sd_number_answer {
-    pub status: u32,
-    pub number: u64,
-}
-
-#[repr(C)]
-pub struct iox2sd_roles_answer {
-    pub status: u32,
-    pub first: u64,
-    pub second: u64,
-}
-
-#[repr(C)]
-pub struct iox2sd_flag_answer {
-    pub status: u32,
-    pub yes: bool,
-}
-
-#[repr(C)]
-pub struct iox2sd_id_answer {
-    pub status: u32,
-    pub id: iox2sd_id,
-}
-
-#[repr(C)]
-pub struct iox2sd_port_answer {
-    pub status: u32,
-    pub port: iox2sd_port_details,
-}
-
-#[repr(C)]
-pub struct iox2sd_dead_node_removal {
-    pub status: u32,
-    pub first: usize,
-    pub second: usize,
-}
-
-#[repr(C)]
-pub struct iox2sd_place_answer {
-    pub status: u32,
-    pub cause: u32,
-    pub at: usize,
-}
-
-#[repr(C)]
-#[derive(Clone, Copy)]
-pub struct iox2sd_attribute {
-    pub key: *const u8,
-    pub key_length: usize,
-    pub value: *const u8,
-    pub value_length: usize,
-}
-
-#[repr(C)]
-pub struct iox2sd_key {
-    pub text: *const u8,
-    pub length: usize,
-}
-
-#[repr(C)]
-pub struct iox2sd_type_detail {
-    pub name: *const u8,
-    pub name_length: usize,
-    pub variant: u32,
-    pub size: usize,
-    pub alignment: usize,
-}
-
-#[repr(C)]
-pub struct iox2sd_message_details {
-    pub header: iox2sd_type_detail,
-    pub user_header: iox2sd_type_detail,
-    pub payload: iox2sd_type_detail,
-}
-
-#[repr(C)]
-pub struct iox2sd_layout_answer {
-    pub status: u32,
-    pub size: usize,
-    pub alignment: usize,
-}
-
-#[repr(C)]
-pub struct iox2sd_places_answer {
-    pub status: u32,
-    pub user_header: usize,
-    pub payload: usize,
-}
-
-#[repr(C)]
-pub struct iox2sd_part_answer {
-    pub status: u32,
-    pub side: u32,
-    pub part: u32,
-}
-
-#[repr(C)]
-pub struct iox2sd_script_answer {
-    pub status: u32,
-    pub verdict: u32,
-    pub line: usize,
-    pub length: usize,
-}
-
-#[repr(C)]
-pub struct iox2sd_conform_answer {
-    pub status: u32,
-    pub verdict: u32,
-    pub line: usize,
-    pub calls: usize,
-    pub length: usize,
-}
-
-#[repr(C)]
-pub struct iox2sd_duration {
-    pub seconds: u64,
-    pub nanoseconds: u32,
-}
-
-#[repr(C)]
-pub struct iox2sd_global_settings {
-    pub creation_timeout: iox2sd_duration,
-    pub cleanup_dead_nodes_on_open: bool,
-    pub cleanup_dead_nodes_on_creation: bool,
-    pub cleanup_dead_nodes_on_destruction: bool,
-}
-
-#[repr(C)]
-pub struct iox2sd_optional_duration {
-    pub seconds: u64,
-    pub nanoseconds: u32,
-    pub is_some: bool,
-}
-
-#[repr(C)]
-pub struct iox2sd_optional_event_id {
-    pub number: usize,
-    pub is_some: bool,
-}
-
-#[repr(C)]
-pub struct iox2sd_publish_subscribe_settings {
-    pub max_subscribers: usize,
-    pub max_publishers: usize,
-    pub max_nodes: usize,
-    pub subscriber_max_buffer_size: usize,
-    pub subscriber_max_borrowed_samples: usize,
-    pub publisher_max_loaned_samples: usize,
-    pub publisher_history_size: usize,
-    pub subscriber_expired_connection_buffer: usize,
-    pub backpressure_strategy: u32,
-    pub publisher_allocation_strategy: u32,
-    pub enable_safe_overflow: bool,
-}
-
-#[repr(C)]
-pub struct iox2sd_event_settings {
-    pub max_listeners: usize,
-    pub max_notifiers: usize,
-    pub max_nodes: usize,
-    pub event_id_max_value: usize,
-    pub deadline: iox2sd_optional_duration,
-    pub notifier_created_event: iox2sd_optional_event_id,
-    pub notifier_dropped_event: iox2sd_optional_event_id,
-    pub notifier_dead_event: iox2sd_optional_event_id,
-}
-
-#[repr(C)]
-pub struct iox2sd_request_response_settings {
-    pub max_active_requests_per_client: usize,
-    pub max_response_buffer_size: usize,
-    pub max_servers: usize,
-    pub max_clients: usize,
-    pub max_nodes: usize,
-    pub max_borrowed_responses_per_pending_response: usize,
-    pub max_loaned_requests: usize,
-    pub server_max_loaned_responses_per_request: usize,
-    pub client_expired_connection_buffer: usize,
-    pub server_expired_connection_buffer: usize,
-    pub client_backpressure_strategy: u32,
-    pub server_backpressure_strategy: u32,
-    pub client_allocation_strategy: u32,
-    pub server_allocation_strategy: u32,
-    pub enable_safe_overflow_for_requests: bool,
-    pub enable_safe_overflow_for_responses: bool,
-    pub enable_fire_and_forget_requests: bool,
-}
-
-#[repr(C)]
-pub struct iox2sd_blackboard_settings {
-    pub max_readers: usize,
-    pub max_nodes: usize,
-}
-
-#[repr(C)]
-pub struct iox2sd_publish_subscribe_capacities {
-    pub nodes: usize,
-    pub publishers: usize,
-    pub subscribers: usize,
-}
-
-#[repr(C)]
-pub struct iox2sd_event_capacities {
-    pub nodes: usize,
-    pub listeners: usize,
-    pub notifiers: usize,
-}
-
-#[repr(C)]
-pub struct iox2sd_request_response_capacities {
-    pub nodes: usize,
-    pub servers: usize,
-    pub clients: usize,
-}
-
-#[repr(C)]
-pub struct iox2sd_blackboard_capacities {
-    pub nodes: usize,
-    pub readers: usize,
-    pub writers: usize,
-}
-
-#[repr(C)]
-pub struct iox2sd_service_numbers {
-    pub last: u64,
-}
-
-#[repr(C)]
-pub struct iox2sd_field_answer {
-    pub status: u32,
-    pub field: u32,
-    pub cause: u32,
-}
-
-#[repr(C)]
-pub struct iox2sd_publish_subscribe_config {
-    pub max_subscribers: usize,
-    pub max_publishers: usize,
-    pub max_nodes: usize,
-    pub history_size: usize,
-    pub subscriber_max_buffer_size: usize,
-    pub subscriber_max_borrowed_samples: usize,
-    pub enable_safe_overflow: bool,
-}
-
-#[repr(C)]
-pub struct iox2sd_event_config {
-    pub max_notifiers: usize,
-    pub max_listeners: usize,
-    pub max_nodes: usize,
-    pub event_id_max_value: usize,
-    pub deadline: iox2sd_optional_duration,
-    pub notifier_created_event: iox2sd_optional_event_id,
-    pub notifier_dropped_event: iox2sd_optional_event_id,
-    pub notifier_dead_event: iox2sd_optional_event_id,
-}
-
-#[repr(C)]
-pub struct iox2sd_request_response_config {
-    pub max_active_requests_per_client: usize,
-    pub max_loaned_requests: usize,
-    pub max_response_buffer_size: usize,
-    pub max_servers: usize,
-    pub max_clients: usize,
-    pub max_nodes: usize,
-    pub max_borrowed_responses_per_pending_response: usize,
-    pub enable_safe_overflow_for_requests: bool,
-    pub enable_safe_overflow_for_responses: bool,
-    pub enable_fire_and_forget_requests: bool,
-}
-
-#[repr(C)]
-pub struct iox2sd_blackboard_config {
-    pub max_readers: usize,
-    pub max_writers: usize,
-    pub max_nodes: usize,
-}
-
-#[repr(C)]
-pub struct iox2sd_description {
-    pub name: [u8; 256],
-    pub name_length: usize,
-    pub id: iox2sd_id,
-    pub hash: [u8; 64],
-    pub hash_length: usize,
-    pub pattern: u64,
-    pub publish_subscribe: iox2sd_publish_subscribe_config,
-    pub event: iox2sd_event_config,
-    pub request_response: iox2sd_request_response_config,
-    pub blackboard: iox2sd_blackboard_config,
-}
-
-#[repr(C)]
-pub struct iox2sd_config_text {
-    pub bytes: [u8; 256],
-    pub length: usize,
-}
-
-#[repr(C)]
-pub struct iox2sd_config_texts {
-    pub root_path: iox2sd_config_text,
-    pub prefix: iox2sd_config_text,
-    pub service_directory: iox2sd_config_text,
-    pub data_segment_suffix: iox2sd_config_text,
-    pub static_config_storage_suffix: iox2sd_config_text,
-    pub dynamic_config_storage_suffix: iox2sd_config_text,
-    pub connection_suffix: iox2sd_config_text,
-    pub event_connection_suffix: iox2sd_config_text,
-    pub blackboard_mgmt_suffix: iox2sd_config_text,
-    pub blackboard_data_suffix: iox2sd_config_text,
-    pub node_directory: iox2sd_config_text,
-    pub monitor_suffix: iox2sd_config_text,
-    pub node_static_config_suffix: iox2sd_config_text,
-    pub service_tag_suffix: iox2sd_config_text,
-    pub port_tag_suffix: iox2sd_config_text,
-    pub global_mgmt_suffix: iox2sd_config_text,
-}
-
-#[repr(C)]
-pub struct iox2sd_config {
-    pub global: iox2sd_global_settings,
-    pub texts: iox2sd_config_texts,
-    pub publish_subscribe: iox2sd_publish_subscribe_settings,
-    pub event: iox2sd_event_settings,
-    pub request_response: iox2sd_request_response_settings,
-    pub blackboard: iox2sd_blackboard_settings,
-}
-
-#[repr(C)]
-pub struct iox2sd_config_fault {
-    pub status: u32,
-    pub table: u32,
-    pub found: u32,
-    pub wanted: u32,
-    pub key: [u8; 80],
-    pub key_length: usize,
-    pub reason: [u8; 256],
-    pub reason_length: usize,
-}
-
-#[repr(C)]
-pub struct iox2sd_config_answer {
-    pub status: u32,
-    pub unknown: usize,
-    pub fault: iox2sd_config_fault,
-}
-
-#[repr(C)]
-pub struct iox2sd_unknown_key {
-    pub table: u32,
-    pub key_length: usize,
-    pub meant: [u8; 80],
-    pub meant_length: usize,
-}
-
-#[repr(C)]
-pub struct iox2sd_unknown_answer {
-    pub status: u32,
-    pub count: usize,
-    pub length: usize,
-}
-
-#[repr(C)]
-pub struct iox2sd_config_write_answer {
-    pub status: u32,
-    pub field: u32,
-    pub length: usize,
-    pub key: [u8; 80],
-    pub key_length: usize,
-}
-
-extern "C" {
-    pub fn iox2sd_status_text_at(status: u32, out: *mut u8, capacity: usize) -> iox2sd_text_answer;
-    pub fn iox2sd_version_at(out: *mut u8, capacity: usize) -> iox2sd_text_answer;
-    pub fn iox2sd_layer_version_at(out: *mut u8, capacity: usize) -> iox2sd_text_answer;
-
-    pub fn iox2sd_id_is_node(id: iox2sd_id) -> bool;
-    pub fn iox2sd_id_owner_id(id: iox2sd_id) -> u64;
-    pub fn iox2sd_id_is_before(id: iox2sd_id, other: iox2sd_id) -> bool;
-    pub fn iox2sd_id_text_at(id: iox2sd_id, out: *mut u8, capacity: usize) -> iox2sd_text_answer;
-
-    pub fn iox2sd_service_create_at(
-        places: *mut iox2sd_service,
-        count: usize,
-        pattern: u64,
-        number: u64,
-        capacities: iox2sd_capacities,
-        tickets: u64,
-    ) -> u32;
-    pub fn iox2sd_service_free_at(places: *mut iox2sd_service, count: usize) -> u32;
-    pub fn iox2sd_register_node_id_at(
-        places: *mut iox2sd_service,
-        count: usize,
-        node: iox2sd_id,
-    ) -> iox2sd_handle_answer;
-    pub fn iox2sd_deregister_node_id_at(
-        places: *mut iox2sd_service,
-        count: usize,
-        handle: iox2sd_handle,
-    ) -> u32;
-    pub fn iox2sd_attach_at(
-        places: *mut iox2sd_service,
-        count: usize,
-        ports: *const iox2sd_port_details,
-        port_count: usize,
-    ) -> iox2sd_handle_answer;
-    pub fn iox2sd_next_service_number_at(
-        numbers: *mut iox2sd_service_numbers,
-        count: usize,
-    ) -> iox2sd_number_answer;
-    pub fn iox2sd_release_port_at(
-        places: *mut iox2sd_service,
-        count: usize,
-        handle: iox2sd_handle,
-    ) -> u32;
-    pub fn iox2sd_remove_dead_node_id_at(
-        places: *mut iox2sd_service,
-        count: usize,
-        dead: iox2sd_id,
-        kept: *const iox2sd_port_id,
-        kept_count: usize,
-    ) -> iox2sd_dead_node_removal;
-    pub fn iox2sd_service_number_at(
-        places: *const iox2sd_service,
-        count: usize,
-    ) -> iox2sd_number_answer;
-    pub fn iox2sd_port_roles_at(places: *const iox2sd_service, count: usize)
-        -> iox2sd_roles_answer;
-    pub fn iox2sd_has_role_at(
-        places: *const iox2sd_service,
-        count: usize,
-        role: u64,
-    ) -> iox2sd_flag_answer;
-    pub fn iox2sd_is_locked_at(places: *const iox2sd_service, count: usize) -> iox2sd_flag_answer;
-    pub fn iox2sd_number_of_nodes_at(
-        places: *const iox2sd_service,
-        count: usize,
-    ) -> iox2sd_count_answer;
-    pub fn iox2sd_max_nodes_at(places: *const iox2sd_service, count: usize) -> iox2sd_count_answer;
-    pub fn iox2sd_has_room_for_node_at(
-        places: *const iox2sd_service,
-        count: usize,
-    ) -> iox2sd_flag_answer;
-    pub fn iox2sd_count_ports_at(
-        places: *const iox2sd_service,
-        count: usize,
-        role: u64,
-    ) -> iox2sd_count_answer;
-    pub fn iox2sd_max_ports_at(
-        places: *const iox2sd_service,
-        count: usize,
-        role: u64,
-    ) -> iox2sd_count_answer;
-    pub fn iox2sd_has_room_at(
-        places: *const iox2sd_service,
-        count: usize,
-        role: u64,
-    ) -> iox2sd_flag_answer;
-    pub fn iox2sd_node_at(
-        places: *const iox2sd_service,
-        count: usize,
-        handle: iox2sd_handle,
-    ) -> iox2sd_id_answer;
-    pub fn iox2sd_port_at(
-        places: *const iox2sd_service,
-        count: usize,
-        handle: iox2sd_handle,
-    ) -> iox2sd_port_answer;
-    pub fn iox2sd_nodes_at(
-        places: *const iox2sd_service,
-        count: usize,
-        out: *mut iox2sd_id,
-        capacity: usize,
-    ) -> iox2sd_count_answer;
-    pub fn iox2sd_ports_at(
-        places: *const iox2sd_service,
-        count: usize,
-        role: u64,
-        out: *mut iox2sd_port_details,
-        capacity: usize,
-    ) -> iox2sd_count_answer;
-    pub fn iox2sd_ports_of_at(
-        places: *const iox2sd_service,
-        count: usize,
-        node: iox2sd_id,
-        out: *mut iox2sd_port_details,
-        capacity: usize,
-    ) -> iox2sd_count_answer;
-
-    pub fn iox2sd_script_run_at(
-        script: *const u8,
-        length: usize,
-        out: *mut u8,
-        capacity: usize,
-    ) -> iox2sd_script_answer;
-
-    pub fn iox2sd_conform_run_at(
-        log: *const u8,
-        length: usize,
-        out: *mut u8,
-        capacity: usize,
-    ) -> iox2sd_conform_answer;
-
-    pub fn iox2sd_service_name_check_at(text: *const u8, length: usize) -> iox2sd_place_answer;
-    pub fn iox2sd_internal_service_name_check_at(
-        text: *const u8,
-        length: usize,
-    ) -> iox2sd_place_answer;
-    pub fn iox2sd_has_iox2_prefix_at(text: *const u8, length: usize) -> bool;
-    pub fn iox2sd_internal_service_name_at(
-        text: *const u8,
-        length: usize,
-        out: *mut u8,
-        capacity: usize,
-    ) -> iox2sd_text_answer;
-    pub fn iox2sd_attribute_key_check_at(text: *const u8, length: usize) -> iox2sd_place_answer;
-    pub fn iox2sd_attribute_value_check_at(text: *const u8, length: usize) -> iox2sd_place_answer;
-    pub fn iox2sd_path_check_at(text: *const u8, length: usize) -> iox2sd_place_answer;
-    pub fn iox2sd_file_name_check_at(text: *const u8, length: usize) -> iox2sd_place_answer;
-    pub fn iox2sd_file_path_check_at(text: *const u8, length: usize) -> iox2sd_place_answer;
-    pub fn iox2sd_restricted_file_name_check_at(
-        text: *const u8,
-        length: usize,
-    ) -> iox2sd_place_answer;
-    pub fn iox2sd_path_add_path_entry_at(
-        path: *const u8,
-        path_length: usize,
-        entry: *const u8,
-        entry_length: usize,
-        out: *mut u8,
-        capacity: usize,
-    ) -> iox2sd_text_answer;
-    pub fn iox2sd_file_path_from_path_and_file_at(
-        path: *const u8,
-        path_length: usize,
-        file: *const u8,
-        file_length: usize,
-        out: *mut u8,
-        capacity: usize,
-    ) -> iox2sd_text_answer;
-    pub fn iox2sd_internal_hash_text_at(
-        pattern: u64,
-        name: *const u8,
-        length: usize,
-        out: *mut u8,
-        capacity: usize,
-    ) -> iox2sd_text_answer;
-
-    pub fn iox2sd_attributes_sort_at(
-        pairs: *mut iox2sd_attribute,
-        length: usize,
-    ) -> iox2sd_place_answer;
-    pub fn iox2sd_attributes_number_of_key_values_at(
-        pairs: *const iox2sd_attribute,
-        length: usize,
-        key: *const u8,
-        key_length: usize,
-    ) -> iox2sd_count_answer;
-    pub fn iox2sd_attributes_key_value_at(
-        pairs: *const iox2sd_attribute,
-        length: usize,
-        key: *const u8,
-        key_length: usize,
-        index: usize,
-        out: *mut u8,
-        capacity: usize,
-    ) -> iox2sd_text_answer;
-    pub fn iox2sd_attributes_verify_at(
-        pairs: *const iox2sd_attribute,
-        length: usize,
-        required: *const iox2sd_attribute,
-        required_length: usize,
-        keys: *const iox2sd_key,
-        keys_length: usize,
-    ) -> iox2sd_place_answer;
-
-    pub fn iox2sd_type_detail_check_at(detail: *const iox2sd_type_detail, count: usize) -> u32;
-    pub fn iox2sd_message_sample_layout_at(
-        details: *const iox2sd_message_details,
-        count: usize,
-        elements: usize,
-    ) -> iox2sd_layout_answer;
-    pub fn iox2sd_message_places_at(
-        details: *const iox2sd_message_details,
-        count: usize,
-        header: usize,
-    ) -> iox2sd_places_answer;
-    pub fn iox2sd_message_is_compatible_to_at(
-        service: *const iox2sd_message_details,
-        service_count: usize,
-        opener: *const iox2sd_message_details,
-        opener_count: usize,
-    ) -> iox2sd_part_answer;
-    pub fn iox2sd_required_amount_of_samples_per_data_segment(
-        max_subscribers: usize,
-        subscriber_max_buffer_size: usize,
-        subscriber_max_borrowed_samples: usize,
-        history_size: usize,
-        loaned_samples: usize,
-    ) -> iox2sd_count_answer;
-    pub fn iox2sd_required_amount_of_chunks_per_client_data_segment(
-        max_servers: usize,
-        max_active_requests_per_client: usize,
-        loaned_requests: usize,
-    ) -> iox2sd_count_answer;
-    pub fn iox2sd_required_amount_of_chunks_per_server_data_segment(
-        max_clients: usize,
-        max_active_requests_per_client: usize,
-        max_response_buffer_size: usize,
-        max_borrowed_responses_per_pending_response: usize,
-        loaned_responses: usize,
-    ) -> iox2sd_count_answer;
-
-    pub fn iox2sd_global_defaults() -> iox2sd_global_settings;
-    pub fn iox2sd_publish_subscribe_defaults() -> iox2sd_publish_subscribe_settings;
-    pub fn iox2sd_event_defaults() -> iox2sd_event_settings;
-    pub fn iox2sd_request_response_defaults() -> iox2sd_request_response_settings;
-    pub fn iox2sd_blackboard_defaults() -> iox2sd_blackboard_settings;
-    pub fn iox2sd_describe_publish_subscribe_at(
-        settings: *const iox2sd_publish_subscribe_settings,
-        count: usize,
-        name: *const u8,
-        length: usize,
-        internal: bool,
-        id: iox2sd_id,
-        out: *mut iox2sd_description,
-        out_count: usize,
-    ) -> iox2sd_field_answer;
-    pub fn iox2sd_describe_event_at(
-        settings: *const iox2sd_event_settings,
-        count: usize,
-        name: *const u8,
-        length: usize,
-        internal: bool,
-        id: iox2sd_id,
-        out: *mut iox2sd_description,
-        out_count: usize,
-    ) -> iox2sd_field_answer;
-    pub fn iox2sd_describe_request_response_at(
-        settings: *const iox2sd_request_response_settings,
-        count: usize,
-        name: *const u8,
-        length: usize,
-        internal: bool,
-        id: iox2sd_id,
-        out: *mut iox2sd_description,
-        out_count: usize,
-    ) -> iox2sd_field_answer;
-    pub fn iox2sd_describe_blackboard_at(
-        settings: *const iox2sd_blackboard_settings,
-        count: usize,
-        name: *const u8,
-        length: usize,
-        internal: bool,
-        id: iox2sd_id,
-        out: *mut iox2sd_description,
-        out_count: usize,
-    ) -> iox2sd_field_answer;
-    pub fn iox2sd_publish_subscribe_satisfies_at(
-        service: *const iox2sd_publish_subscribe_config,
-        count: usize,
-        required: *const iox2sd_publish_subscribe_config,
-        required_count: usize,
-    ) -> iox2sd_field_answer;
-    pub fn iox2sd_event_satisfies_at(
-        service: *const iox2sd_event_config,
-        count: usize,
-        required: *const iox2sd_event_config,
-        required_count: usize,
-    ) -> iox2sd_field_answer;
-    pub fn iox2sd_request_response_satisfies_at(
-        service: *const iox2sd_request_response_config,
-        count: usize,
-        required: *const iox2sd_request_response_config,
-        required_count: usize,
-    ) -> iox2sd_field_answer;
-    pub fn iox2sd_blackboard_satisfies_at(
-        service: *const iox2sd_blackboard_config,
-        count: usize,
-        required: *const iox2sd_blackboard_config,
-        required_count: usize,
-    ) -> iox2sd_field_answer;
-    pub fn iox2sd_publish_subscribe_capacities_of_settings_at(
-        settings: *const iox2sd_publish_subscribe_settings,
-        count: usize,
-    ) -> iox2sd_publish_subscribe_capacities;
-    pub fn iox2sd_event_capacities_of_settings_at(
-        settings: *const iox2sd_event_settings,
-        count: usize,
-    ) -> iox2sd_event_capacities;
-    pub fn iox2sd_request_response_capacities_of_settings_at(
-        settings: *const iox2sd_request_response_settings,
-        count: usize,
-    ) -> iox2sd_request_response_capacities;
-    pub fn iox2sd_blackboard_capacities_of_settings_at(
-        settings: *const iox2sd_blackboard_settings,
-        count: usize,
-    ) -> iox2sd_blackboard_capacities;
-    pub fn iox2sd_default_text_at(which: u32, out: *mut u8, capacity: usize) -> iox2sd_text_answer;
-    pub fn iox2sd_config_read_at(
-        text: *const u8,
-        length: usize,
-        out: *mut iox2sd_config,
-        out_count: usize,
-    ) -> iox2sd_config_answer;
-    pub fn iox2sd_config_faults_at(
-        text: *const u8,
-        length: usize,
-        out: *mut iox2sd_config_fault,
-        capacity: usize,
-    ) -> iox2sd_count_answer;
-    pub fn iox2sd_config_unknown_at(
-        text: *const u8,
-        length: usize,
-        out: *mut iox2sd_unknown_key,
-        capacity: usize,
-        paths: *mut u8,
-        paths_capacity: usize,
-    ) -> iox2sd_unknown_answer;
-    pub fn iox2sd_config_write_at(
-        settings: *const iox2sd_config,
-        count: usize,
-        out: *mut u8,
-        capacity: usize,
-    ) -> iox2sd_config_write_answer;
+functions! {
+    (status: u32, out: *mut u8, capacity: usize) -> iox2sd_text_answer: iox2sd_status_text_at;
+    (out: *mut u8, capacity: usize) -> iox2sd_text_answer:
+        iox2sd_version_at iox2sd_layer_version_at;
+    (id: iox2sd_id) -> bool: iox2sd_id_is_node;
+    (id: iox2sd_id) -> u64: iox2sd_id_owner_id;
+    (id: iox2sd_id, other: iox2sd_id) -> bool: iox2sd_id_is_before;
+    (id: iox2sd_id, out: *mut u8, capacity: usize) -> iox2sd_text_answer: iox2sd_id_text_at;
+    (places: *mut iox2sd_service, count: usize, pattern: u64, number: u64,
+     capacities: iox2sd_capacities, tickets: u64) -> u32: iox2sd_service_create_at;
+    (places: *mut iox2sd_service, count: usize) -> u32: iox2sd_service_free_at;
+    (places: *mut iox2sd_service, count: usize, node: iox2sd_id) -> iox2sd_handle_answer:
+        iox2sd_register_node_id_at;
+    (places: *mut iox2sd_service, count: usize, handle: iox2sd_handle) -> u32:
+        iox2sd_deregister_node_id_at iox2sd_release_port_at;
+    (places: *mut iox2sd_service, count: usize, ports: *const iox2sd_port_details,
+     port_count: usize) -> iox2sd_handle_answer: iox2sd_attach_at;
+    (numbers: *mut iox2sd_service_numbers, count: usize) -> iox2sd_number_answer:
+        iox2sd_next_service_number_at;
+    (places: *mut iox2sd_service, count: usize, dead: iox2sd_id, kept: *const iox2sd_port_id,
+     kept_count: usize) -> iox2sd_dead_node_removal: iox2sd_remove_dead_node_id_at;
+    (places: *const iox2sd_service, count: usize) -> iox2sd_number_answer: iox2sd_service_number_at;
+    (places: *const iox2sd_service, count: usize) -> iox2sd_roles_answer: iox2sd_port_roles_at;
+    (places: *const iox2sd_service, count: usize, role: u64) -> iox2sd_flag_answer:
+        iox2sd_has_role_at iox2sd_has_room_at;
+    (places: *const iox2sd_service, count: usize) -> iox2sd_flag_answer:
+        iox2sd_is_locked_at iox2sd_has_room_for_node_at;
+    (places: *const iox2sd_service, count: usize) -> iox2sd_count_answer:
+        iox2sd_number_of_nodes_at iox2sd_max_nodes_at;
+    (places: *const iox2sd_service, count: usize, role: u64) -> iox2sd_count_answer:
+        iox2sd_count_ports_at iox2sd_max_ports_at;
+    (places: *const iox2sd_service, count: usize, handle: iox2sd_handle) -> iox2sd_id_answer:
+        iox2sd_node_at;
+    (places: *const iox2sd_service, count: usize, handle: iox2sd_handle) -> iox2sd_port_answer:
+        iox2sd_port_at;
+    (places: *const iox2sd_service, count: usize, out: *mut iox2sd_id,
+     capacity: usize) -> iox2sd_count_answer: iox2sd_nodes_at;
+    (places: *const iox2sd_service, count: usize, role: u64, out: *mut iox2sd_port_details,
+     capacity: usize) -> iox2sd_count_answer: iox2sd_ports_at;
+    (places: *const iox2sd_service, count: usize, node: iox2sd_id, out: *mut iox2sd_port_details,
+     capacity: usize) -> iox2sd_count_answer: iox2sd_ports_of_at;
+    (script: *const u8, length: usize, out: *mut u8, capacity: usize) -> iox2sd_script_answer:
+        iox2sd_script_run_at;
+    (log: *const u8, length: usize, out: *mut u8, capacity: usize) -> iox2sd_conform_answer:
+        iox2sd_conform_run_at;
+    (text: *const u8, length: usize) -> iox2sd_place_answer:
+        iox2sd_service_name_check_at iox2sd_internal_service_name_check_at
+        iox2sd_attribute_key_check_at iox2sd_attribute_value_check_at iox2sd_path_check_at
+        iox2sd_file_name_check_at iox2sd_file_path_check_at iox2sd_restricted_file_name_check_at;
+    (text: *const u8, length: usize) -> bool: iox2sd_has_iox2_prefix_at;
+    (text: *const u8, length: usize, out: *mut u8, capacity: usize) -> iox2sd_text_answer:
+        iox2sd_internal_service_name_at;
+    (path: *const u8, path_length: usize, entry: *const u8, entry_length: usize, out: *mut u8,
+     capacity: usize) -> iox2sd_text_answer: iox2sd_path_add_path_entry_at;
+    (path: *const u8, path_length: usize, file: *const u8, file_length: usize, out: *mut u8,
+     capacity: usize) -> iox2sd_text_answer: iox2sd_file_path_from_path_and_file_at;
+    (pattern: u64, name: *const u8, length: usize, out: *mut u8,
+     capacity: usize) -> iox2sd_text_answer: iox2sd_internal_hash_text_at;
+    (pairs: *mut iox2sd_attribute, length: usize) -> iox2sd_place_answer: iox2sd_attributes_sort_at;
+    (pairs: *const iox2sd_attribute, length: usize, key: *const u8,
+     key_length: usize) -> iox2sd_count_answer: iox2sd_attributes_number_of_key_values_at;
+    (pairs: *const iox2sd_attribute, length: usize, key: *const u8, key_length: usize, index: usize,
+     out: *mut u8, capacity: usize) -> iox2sd_text_answer: iox2sd_attributes_key_value_at;
+    (pairs: *const iox2sd_attribute, length: usize, required: *const iox2sd_attribute,
+     required_length: usize, keys: *const iox2sd_key, keys_length: usize) -> iox2sd_place_answer:
+        iox2sd_attributes_verify_at;
+    (detail: *const iox2sd_type_detail, count: usize) -> u32: iox2sd_type_detail_check_at;
+    (details: *const iox2sd_message_details, count: usize, elements: usize) -> iox2sd_layout_answer:
+        iox2sd_message_sample_layout_at;
+    (details: *const iox2sd_message_details, count: usize, header: usize) -> iox2sd_places_answer:
+        iox2sd_message_places_at;
+    (service: *const iox2sd_message_details, service_count: usize,
+     opener: *const iox2sd_message_details, opener_count: usize) -> iox2sd_part_answer:
+        iox2sd_message_is_compatible_to_at;
+    (max_subscribers: usize, subscriber_max_buffer_size: usize,
+     subscriber_max_borrowed_samples: usize, history_size: usize,
+     loaned_samples: usize) -> iox2sd_count_answer:
+        iox2sd_required_amount_of_samples_per_data_segment;
+    (max_servers: usize, max_active_requests_per_client: usize,
+     loaned_requests: usize) -> iox2sd_count_answer:
+        iox2sd_required_amount_of_chunks_per_client_data_segment;
+    (max_clients: usize, max_active_requests_per_client: usize, max_response_buffer_size: usize,
+     max_borrowed_responses_per_pending_response: usize,
+     loaned_responses: usize) -> iox2sd_count_answer:
+        iox2sd_required_amount_of_chunks_per_server_data_segment;
+    () -> iox2sd_global_settings: iox2sd_global_defaults;
+    () -> iox2sd_publish_subscribe_settings: iox2sd_publish_subscribe_defaults;
+    () -> iox2sd_event_settings: iox2sd_event_defaults;
+    () -> iox2sd_request_response_settings: iox2sd_request_response_defaults;
+    () -> iox2sd_blackboard_settings: iox2sd_blackboard_defaults;
+    (settings: *const iox2sd_publish_subscribe_settings, count: usize, name: *const u8,
+     length: usize, internal: bool, id: iox2sd_id, out: *mut iox2sd_description,
+     out_count: usize) -> iox2sd_field_answer: iox2sd_describe_publish_subscribe_at;
+    (settings: *const iox2sd_event_settings, count: usize, name: *const u8, length: usize,
+     internal: bool, id: iox2sd_id, out: *mut iox2sd_description,
+     out_count: usize) -> iox2sd_field_answer: iox2sd_describe_event_at;
+    (settings: *const iox2sd_request_response_settings, count: usize, name: *const u8,
+     length: usize, internal: bool, id: iox2sd_id, out: *mut iox2sd_description,
+     out_count: usize) -> iox2sd_field_answer: iox2sd_describe_request_response_at;
+    (settings: *const iox2sd_blackboard_settings, count: usize, name: *const u8, length: usize,
+     internal: bool, id: iox2sd_id, out: *mut iox2sd_description,
+     out_count: usize) -> iox2sd_field_answer: iox2sd_describe_blackboard_at;
+    (service: *const iox2sd_publish_subscribe_config, count: usize,
+     required: *const iox2sd_publish_subscribe_config,
+     required_count: usize) -> iox2sd_field_answer: iox2sd_publish_subscribe_satisfies_at;
+    (service: *const iox2sd_event_config, count: usize, required: *const iox2sd_event_config,
+     required_count: usize) -> iox2sd_field_answer: iox2sd_event_satisfies_at;
+    (service: *const iox2sd_request_response_config, count: usize,
+     required: *const iox2sd_request_response_config, required_count: usize) -> iox2sd_field_answer:
+        iox2sd_request_response_satisfies_at;
+    (service: *const iox2sd_blackboard_config, count: usize,
+     required: *const iox2sd_blackboard_config, required_count: usize) -> iox2sd_field_answer:
+        iox2sd_blackboard_satisfies_at;
+    (settings: *const iox2sd_publish_subscribe_settings,
+     count: usize) -> iox2sd_publish_subscribe_capacities:
+        iox2sd_publish_subscribe_capacities_of_settings_at;
+    (settings: *const iox2sd_event_settings, count: usize) -> iox2sd_event_capacities:
+        iox2sd_event_capacities_of_settings_at;
+    (settings: *const iox2sd_request_response_settings,
+     count: usize) -> iox2sd_request_response_capacities:
+        iox2sd_request_response_capacities_of_settings_at;
+    (settings: *const iox2sd_blackboard_settings, count: usize) -> iox2sd_blackboard_capacities:
+        iox2sd_blackboard_capacities_of_settings_at;
+    (which: u32, out: *mut u8, capacity: usize) -> iox2sd_text_answer: iox2sd_default_text_at;
+    (text: *const u8, length: usize, out: *mut iox2sd_config,
+     out_count: usize) -> iox2sd_config_answer: iox2sd_config_read_at;
+    (text: *const u8, length: usize, out: *mut iox2sd_config_fault,
+     capacity: usize) -> iox2sd_count_answer: iox2sd_config_faults_at;
+    (text: *const u8, length: usize, out: *mut iox2sd_unknown_key, capacity: usize, paths: *mut u8,
+     paths_capacity: usize) -> iox2sd_unknown_answer: iox2sd_config_unknown_at;
+    (settings: *const iox2sd_config, count: usize, out: *mut u8,
+     capacity: usize) -> iox2sd_config_write_answer: iox2sd_config_write_at;
 }

@@ -103,6 +103,29 @@ macro_rules! shown_as_text {
 }
 pub(crate) use shown_as_text;
 
+/// Makes a type of a `String` and of a text that is parsed, by what makes it of a `&str`.
+macro_rules! made_of_texts {
+    ($({$($generics:tt)*})? $name:ty: $error:ty, |$text:ident| $made:expr) => {
+        impl$(<$($generics)*>)? TryFrom<String> for $name {
+            type Error = $error;
+
+            /// As it is parsed.
+            fn try_from(text: String) -> Result<Self, $error> {
+                text.parse()
+            }
+        }
+
+        impl$(<$($generics)*>)? ::std::str::FromStr for $name {
+            type Err = $error;
+
+            fn from_str($text: &str) -> Result<Self, $error> {
+                $made
+            }
+        }
+    };
+}
+pub(crate) use made_of_texts;
+
 /// Compares a type with `as_str` with another type of texts, both ways.
 macro_rules! compared_with {
     ($({$($generics:tt)*})? $name:ty, $other:ty) => {

@@ -1,6 +1,9 @@
 //! Sets of attributes, and what openers require of them.
 #![forbid(unsafe_code)]
 
+#[macro_use]
+mod common;
+
 use iox2sd::attribute::{
     Attribute, AttributeDefinitionError, AttributeKey, AttributeSet, AttributeSpecifier,
     AttributeValue, AttributeVerificationError, AttributeVerifier,
@@ -23,6 +26,15 @@ fn set(pairs: &[(&str, &str)]) -> AttributeSet {
     set
 }
 
+/// A verifier that requires these, in this order: pairs, and keys without a value.
+fn requiring(all: &[(&str, Option<&str>)]) -> AttributeVerifier {
+    let require = |verifier: AttributeVerifier, (name, text): &(&str, Option<&str>)| match text {
+        Some(text) => verifier.require(&key(name), &value(text)).unwrap(),
+        None => verifier.require_key(&key(name)).unwrap(),
+    };
+    all.iter().fold(AttributeVerifier::default(), require)
+}
+
 fn texts(set: &AttributeSet) -> Vec<(&str, &str)> {
     set.iter()
         .map(|a| (a.key().as_str(), a.value().as_str()))
@@ -42,10 +54,9 @@ fn sets_are_in_the_order_of_keys_and_values() {
 
 #[test]
 fn equal_sets_have_the_same_pairs_in_any_order() {
-    assert_eq!(
-        set(&[("a", "1"), ("b", "2")]),
-        set(&[("b", "2"), ("a", "1")])
-    );
+    equal! {
+        set(&[("a", "1"), ("b", "2")]) => set(&[("b", "2"), ("a", "1")]);
+    }
     assert_ne!(set(&[("a", "1")]), set(&[("a", "1"), ("a", "1")]));
     assert_eq!(AttributeSet::new(), AttributeSet::default());
 }
@@ -85,19 +96,16 @@ fn a_set_takes_sixteen_pairs() {
     assert_eq!(AttributeSet::capacity(), 16);
     let mut full = AttributeSpecifier::new();
     for number in 0..16 {
-        full = full
-            .define(&key("k"), &value(&format!("{number:02}")))
-            .unwrap();
+        let defined = full.define(&key("k"), &value(&format!("{number:02}")));
+        full = defined.unwrap();
     }
     let mut set = full.attributes().clone();
     let error = AttributeDefinitionError::ExceedsMaxSupportedAttributes;
-    assert_eq!(set.add(&key("a"), &value("a")), Err(error));
-    assert_eq!(&set, full.attributes());
-    assert_eq!(full.define(&key("a"), &value("a")).unwrap_err(), error);
-    assert_eq!(
-        error.to_string(),
-        "AttributeDefinitionError::ExceedsMaxSupportedAttributes"
-    );
+    equal! {
+        set.add(&key("a"), &value("a")) => Err(error);
+        &set => full.attributes();
+        full.define(&key("a"), &value("a")).unwrap_err() => error;
+    }
 }
 
 #[test]
@@ -122,20 +130,11 @@ fn a_verifier_takes_sixteen_pairs_and_keys_together() {
 
 #[test]
 fn what_is_required_is_kept() {
-    let verifier = AttributeVerifier::default()
-        .require(&key("b"), &value("2"))
-        .unwrap()
-        .require_key(&key("z"))
-        .unwrap()
-        .require(&key("a"), &value("1"))
-        .unwrap()
-        .require_key(&key("y"))
-        .unwrap();
-    assert_eq!(
-        texts(verifier.required_attributes()),
-        [("a", "1"), ("b", "2")]
-    );
-    assert_eq!(verifier.required_keys(), [key("z"), key("y")]);
+    let verifier = requiring(&[("b", Some("2")), ("z", None), ("a", Some("1")), ("y", None)]);
+    equal! {
+        texts(verifier.required_attributes()) => [("a", "1"), ("b", "2")];
+        verifier.required_keys() => [key("z"), key("y")];
+    }
 }
 
 #[test]
@@ -143,48 +142,30 @@ fn a_set_is_verified() {
     let service = set(&[("site", "north"), ("site", "east"), ("robot", "r2")]);
     let verifier = AttributeVerifier::new();
     assert_eq!(verifier.verify_requirements(&AttributeSet::new()), Ok(()));
-    let verifier = verifier
-        .require(&key("site"), &value("east"))
-        .unwrap()
-        .require(&key("site"), &value("east"))
-        .unwrap()
-        .require_key(&key("robot"))
-        .unwrap();
+    let east = ("site", Some("east"));
+    let verifier = requiring(&[east, east, ("robot", None)]);
     assert_eq!(verifier.verify_requirements(&service), Ok(()));
 }
 
 #[test]
 fn the_least_missing_pair_is_reported_before_the_first_missing_key() {
     let service = set(&[("site", "north")]);
-    let verifier = AttributeVerifier::new()
-        .require_key(&key("z"))
-        .unwrap()
-        .require_key(&key("a"))
-        .unwrap();
-    let error = verifier.verify_requirements(&service).unwrap_err();
-    assert_eq!(error, AttributeVerificationError::NonExistingKey(key("z")));
-    assert_eq!(
-        error.to_string(),
-        "AttributeVerificationError::NonExistingKey(\"z\")"
-    );
-
-    let verifier = verifier
-        .require(&key("site"), &value("west"))
-        .unwrap()
-        .require(&key("site"), &value("north"))
-        .unwrap()
-        .require(&key("robot"), &value("\"r2\""))
-        .unwrap();
-    let error = verifier.verify_requirements(&service).unwrap_err();
+    let refused = |all: &[_]| requiring(all).verify_requirements(&service).unwrap_err();
+    let keys = [("z", None), ("a", None)];
+    let error = refused(&keys);
+    equal! {
+        error => AttributeVerificationError::NonExistingKey(key("z"));
+        error.to_string() => "AttributeVerificationError::NonExistingKey(\"z\")";
+    }
+    let (west, north) = (("site", Some("west")), ("site", Some("north")));
+    let error = refused(&[keys[0], keys[1], west, north, ("robot", Some("\"r2\""))]);
     let missing = (key("robot"), value("\"r2\""));
+    let text = "AttributeVerificationError::IncompatibleAttribute((\"robot\", \"\"r2\"\"))";
     assert_eq!(
         error,
         AttributeVerificationError::IncompatibleAttribute(missing)
     );
-    assert_eq!(
-        error.to_string(),
-        "AttributeVerificationError::IncompatibleAttribute((\"robot\", \"\"r2\"\"))"
-    );
+    assert_eq!(error.to_string(), text);
 }
 
 #[test]

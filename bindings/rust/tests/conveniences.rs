@@ -1,28 +1,26 @@
-//! Conversions, limits and paths of names.
+//! Conversions and paths of names.
 #![forbid(unsafe_code)]
 
+#[macro_use]
 mod common;
 
 use common::settings;
-use iox2sd::attribute::{
-    Attribute, AttributeKey, AttributeSet, AttributeSpecifier, AttributeValue, AttributeVerifier,
-};
+use iox2sd::attribute::*;
 use iox2sd::config::Config;
 use iox2sd::dynamic_config::{
     blackboard, event, publish_subscribe, request_response, MessagingPatternSettings,
 };
 use iox2sd::identifiers::{UniqueNodeId, UniqueServiceId};
 use iox2sd::messaging_pattern::MessagingPattern;
-use iox2sd::paths::{FileName, FilePath, Path, RestrictedFileName};
-use iox2sd::semantic_string::{Content, SemanticString, SemanticStringError};
+use iox2sd::paths::{FileName, FilePath, RestrictedFileName};
+use iox2sd::semantic_string::SemanticStringError;
 use iox2sd::service::dynamic_config::publish_subscribe::PublisherDetails;
 use iox2sd::service_hash::ServiceHash;
-use iox2sd::service_name::{ServiceName, ServiceNameError, INTERNAL_SERVICE_PREFIX};
+use iox2sd::service_name::{ServiceName, INTERNAL_SERVICE_PREFIX};
 use iox2sd::static_config::message_type_details::TypeName;
 use iox2sd::static_config::StaticConfig;
 use std::any::TypeId;
 use std::collections::hash_map::DefaultHasher;
-use std::collections::{BTreeSet, HashSet};
 use std::error::Error;
 use std::hash::{Hash, Hasher};
 
@@ -30,43 +28,6 @@ fn hash(value: &impl Hash) -> u64 {
     let mut hasher = DefaultHasher::new();
     value.hash(&mut hasher);
     hasher.finish()
-}
-
-/// The capacity of a kind is the greatest length that the library takes.
-fn is_limit<C: Content>(capacity: usize) {
-    assert_eq!(SemanticString::<C>::capacity(), capacity);
-    let text = vec![b'a'; capacity + 1];
-    let longest = SemanticString::<C>::new(&text[1..]);
-    assert_eq!(longest.map(|text| text.len()), Ok(capacity));
-    let refused = SemanticString::<C>::new(&text);
-    assert_eq!(refused, Err(SemanticStringError::ExceedsMaximumLength));
-}
-
-#[test]
-fn limits_are_constants_and_those_of_the_library() {
-    const KEYS: usize = AttributeKey::capacity();
-    const VALUES: usize = AttributeValue::capacity();
-    const PAIRS: usize = AttributeSet::capacity();
-    const NAMES: usize = ServiceName::max_len();
-    const HASHES: usize = ServiceHash::max_number_of_characters();
-    is_limit::<iox2sd::attribute::AttributeKeyContent>(KEYS);
-    is_limit::<iox2sd::attribute::AttributeValueContent>(VALUES);
-    is_limit::<iox2sd::paths::PathContent>(Path::capacity());
-    is_limit::<iox2sd::paths::FileNameContent>(FileName::capacity());
-    is_limit::<iox2sd::paths::FilePathContent>(FilePath::capacity());
-    is_limit::<iox2sd::paths::RestrictedFileNameContent>(HASHES);
-
-    let text = "a".repeat(NAMES + 1);
-    assert!(ServiceName::new(&text[1..]).is_ok());
-    let refused = ServiceName::new(&text);
-    assert_eq!(refused, Err(ServiceNameError::ExceedsMaximumLength));
-
-    let (key, value) = ("k".parse().unwrap(), "v".parse().unwrap());
-    let mut set = AttributeSet::new();
-    for _ in 0..PAIRS {
-        set.add(&key, &value).unwrap();
-    }
-    assert!(set.add(&key, &value).is_err());
 }
 
 #[test]
@@ -133,10 +94,9 @@ fn names_of_files_come_from_hash_texts_and_paths() -> Result<(), Box<dyn Error>>
     let file: FileName = "x.service".parse()?;
     let directory_path: &std::path::Path = directory.as_ref();
     let joined = FilePath::from_path_and_file(&directory, &file)?;
-    assert_eq!(
-        directory_path.join(file),
-        AsRef::<std::path::Path>::as_ref(&joined)
-    );
+    equal! {
+        directory_path.join(file) => AsRef::<std::path::Path>::as_ref(&joined);
+    }
     Ok(())
 }
 
@@ -153,14 +113,6 @@ fn sets_are_ordered_hashed_and_taken_apart() -> Result<(), Box<dyn Error>> {
         Ok(set)
     };
     let (a, b) = (pair("a", "2")?, pair("b", "1")?);
-    let rising = [set(&[])?, set(&[a])?, set(&[b, a])?, set(&[b])?];
-    assert_eq!(
-        BTreeSet::from(rising.clone())
-            .into_iter()
-            .collect::<Vec<_>>(),
-        rising
-    );
-    assert_eq!(HashSet::from(rising.clone()).len(), rising.len());
     let taken: Vec<Attribute> = set(&[b, a])?.into_iter().collect();
     assert_eq!(taken, [a, b]);
 

@@ -4,20 +4,17 @@
 #[macro_use]
 mod common;
 
-use iox2sd::config::{
-    AllocationStrategy, BackpressureStrategy, Blackboard, Config, DataSegmentType, Defaults, Event,
-    EventId, PublishSubscribe, RequestResonse,
-};
+use common::{descriptions, KINDS};
+use iox2sd::config::*;
 use iox2sd::dynamic_config::{DeregisterNodeState, PortCleanupAction};
 use iox2sd::identifiers::UniqueServiceId;
 use iox2sd::messaging_pattern::MessagingPattern as Kind;
 use iox2sd::paths::Path;
 use iox2sd::semantic_string::SemanticStringError;
-use iox2sd::service::static_config::messaging_pattern::MessagingPattern;
-use iox2sd::service_hash::{ServiceHash, ServiceHashError};
+use iox2sd::service_hash::ServiceHash;
 use iox2sd::service_name::ServiceName;
 use iox2sd::static_config::message_type_details::TypeVariant;
-use iox2sd::static_config::{blackboard, event, publish_subscribe, request_response, StaticConfig};
+use iox2sd::static_config::{publish_subscribe, request_response};
 use iox2sd::CallbackProgression;
 use std::time::Duration;
 
@@ -25,64 +22,36 @@ fn id() -> UniqueServiceId {
     UniqueServiceId::new(1, 2, 3, 4)
 }
 
-fn descriptions(config: &Config) -> [StaticConfig; 4] {
-    let name = ServiceName::new("lidar/front").unwrap();
-    [
-        StaticConfig::new_publish_subscribe(&name, config, id()).unwrap(),
-        StaticConfig::new_event(&name, config, id()).unwrap(),
-        StaticConfig::new_request_response(&name, config, id()).unwrap(),
-        StaticConfig::new_blackboard(&name, config, id()).unwrap(),
-    ]
-}
-
 #[test]
 fn settings_have_defaults() {
     let expected = with!(Defaults::default();
         publish_subscribe: with!(PublishSubscribe::default();
-            max_subscribers: 8,
-            max_publishers: 2,
-            max_nodes: 20,
-            subscriber_max_buffer_size: 2,
-            subscriber_max_borrowed_samples: 2,
-            publisher_max_loaned_samples: 2,
-            publisher_history_size: 0,
-            enable_safe_overflow: true,
+            max_subscribers: 8, max_publishers: 2, max_nodes: 20, subscriber_max_buffer_size: 2,
+            subscriber_max_borrowed_samples: 2, publisher_max_loaned_samples: 2,
+            publisher_history_size: 0, enable_safe_overflow: true,
             backpressure_strategy: BackpressureStrategy::RetryUntilDelivered,
             subscriber_expired_connection_buffer: 128,
             publisher_allocation_strategy: AllocationStrategy::Static,
         ),
         event: with!(Event::default();
-            max_listeners: 16,
-            max_notifiers: 16,
-            max_nodes: 36,
-            event_id_max_value: 255,
-            deadline: None,
-            notifier_created_event: None,
-            notifier_dropped_event: None,
+            max_listeners: 16, max_notifiers: 16, max_nodes: 36, event_id_max_value: 255,
+            deadline: None, notifier_created_event: None, notifier_dropped_event: None,
             notifier_dead_event: None,
         ),
         request_response: with!(RequestResonse::default();
-            enable_safe_overflow_for_requests: true,
-            enable_safe_overflow_for_responses: true,
-            max_active_requests_per_client: 4,
-            max_response_buffer_size: 2,
-            max_servers: 2,
-            max_clients: 8,
-            max_nodes: 20,
-            max_borrowed_responses_per_pending_response: 2,
-            max_loaned_requests: 2,
-            server_max_loaned_responses_per_request: 2,
+            enable_safe_overflow_for_requests: true, enable_safe_overflow_for_responses: true,
+            max_active_requests_per_client: 4, max_response_buffer_size: 2, max_servers: 2,
+            max_clients: 8, max_nodes: 20, max_borrowed_responses_per_pending_response: 2,
+            max_loaned_requests: 2, server_max_loaned_responses_per_request: 2,
             client_backpressure_strategy: BackpressureStrategy::RetryUntilDelivered,
             server_backpressure_strategy: BackpressureStrategy::RetryUntilDelivered,
-            client_expired_connection_buffer: 128,
-            server_expired_connection_buffer: 128,
+            client_expired_connection_buffer: 128, server_expired_connection_buffer: 128,
             enable_fire_and_forget_requests: true,
             client_allocation_strategy: AllocationStrategy::Static,
             server_allocation_strategy: AllocationStrategy::Static,
         ),
         blackboard: with!(Blackboard::default();
-            max_readers: 8,
-            max_nodes: 20,
+            max_readers: 8, max_nodes: 20,
         ),
     );
     assert_eq!(Config::default().defaults, expected);
@@ -96,46 +65,26 @@ fn files_have_default_names() {
     assert!(global.service.cleanup_dead_nodes_on_open);
     assert!(global.node.cleanup_dead_nodes_on_creation);
     assert!(global.node.cleanup_dead_nodes_on_destruction);
-    for (text, expected) in [
-        (global.prefix.as_str(), "iox2_"),
-        (global.service.directory.as_str(), "services"),
-        (global.service.data_segment_suffix.as_str(), ".data"),
-        (
-            global.service.static_config_storage_suffix.as_str(),
-            ".service",
-        ),
-        (
-            global.service.dynamic_config_storage_suffix.as_str(),
-            ".dynamic",
-        ),
-        (global.service.connection_suffix.as_str(), ".connection"),
-        (global.service.event_connection_suffix.as_str(), ".event"),
-        (
-            global.service.blackboard_mgmt_suffix.as_str(),
-            ".blackboard_mgmt",
-        ),
-        (
-            global.service.blackboard_data_suffix.as_str(),
-            ".blackboard_data",
-        ),
-        (global.node.directory.as_str(), "nodes"),
-        (global.node.monitor_suffix.as_str(), ".node_monitor"),
-        (global.node.static_config_suffix.as_str(), ".details"),
-        (global.node.service_tag_suffix.as_str(), ".service_tag"),
-        (global.node.port_tag_suffix.as_str(), ".port_tag"),
-        (global.node.global_mgmt_suffix.as_str(), ".global_mgmt"),
-        (Config::default_config_file_name().as_str(), "iceoryx2.toml"),
-        (
-            Config::default_config_file_path().as_str(),
-            "config/iceoryx2.toml",
-        ),
-        (Config::relative_config_path().as_str(), "iceoryx2"),
-        (
-            Config::default_user_config_file_path().as_str(),
-            "iceoryx2/iceoryx2.toml",
-        ),
-    ] {
-        assert_eq!(text, expected);
+    equal! {
+        global.prefix => "iox2_";
+        global.service.directory => "services";
+        global.service.data_segment_suffix => ".data";
+        global.service.static_config_storage_suffix => ".service";
+        global.service.dynamic_config_storage_suffix => ".dynamic";
+        global.service.connection_suffix => ".connection";
+        global.service.event_connection_suffix => ".event";
+        global.service.blackboard_mgmt_suffix => ".blackboard_mgmt";
+        global.service.blackboard_data_suffix => ".blackboard_data";
+        global.node.directory => "nodes";
+        global.node.monitor_suffix => ".node_monitor";
+        global.node.static_config_suffix => ".details";
+        global.node.service_tag_suffix => ".service_tag";
+        global.node.port_tag_suffix => ".port_tag";
+        global.node.global_mgmt_suffix => ".global_mgmt";
+        Config::default_config_file_name() => "iceoryx2.toml";
+        Config::default_config_file_path() => "config/iceoryx2.toml";
+        Config::relative_config_path() => "iceoryx2";
+        Config::default_user_config_file_path() => "iceoryx2/iceoryx2.toml";
     }
 }
 
@@ -159,24 +108,17 @@ fn directories_lie_below_the_root_path() {
 #[test]
 fn a_description_has_what_it_was_made_of() {
     let config = Config::default();
-    let name = ServiceName::new("lidar/front").unwrap();
-    let kinds = [
-        Kind::PublishSubscribe,
-        Kind::Event,
-        Kind::RequestResponse,
-        Kind::Blackboard,
-    ];
+    let name = ServiceName::new("a").unwrap();
     let names = ["PublishSubscribe", "Event", "RequestResponse", "Blackboard"];
-    for ((service, kind), text) in descriptions(&config).iter().zip(kinds).zip(names) {
-        assert_eq!(service.name(), &name);
-        assert_eq!(service.unique_service_id(), id());
-        assert_eq!(
-            service.service_hash(),
-            &ServiceHash::new(&name, kind).unwrap()
-        );
-        assert_eq!(service.messaging_pattern().kind(), kind);
-        assert_eq!(service.messaging_pattern().to_string(), text);
-        assert_eq!(kind.to_string(), text);
+    for ((service, (kind, ..)), text) in descriptions(&config, id()).iter().zip(KINDS).zip(names) {
+        equal! {
+            service.name() => &name;
+            service.unique_service_id() => id();
+            service.service_hash() => &ServiceHash::new(&name, kind).unwrap();
+            service.messaging_pattern().kind() => kind;
+            service.messaging_pattern().to_string() => text;
+            kind.to_string() => text;
+        }
         assert!(service.attributes().is_empty());
     }
 }
@@ -190,20 +132,21 @@ fn patterns_are_the_same_whatever_is_fixed_by_them() {
     other.defaults.request_response.max_nodes -= 1;
     other.defaults.blackboard.max_nodes -= 1;
     assert_ne!(config, other);
-    let (ones, others) = (descriptions(&config), descriptions(&other));
+    let (ones, others) = (descriptions(&config, id()), descriptions(&other, id()));
     for (i, one) in ones.iter().enumerate() {
         for (j, other) in others.iter().enumerate() {
+            let (pattern, other_pattern) = (one.messaging_pattern(), other.messaging_pattern());
             assert_eq!(one.has_same_messaging_pattern(other), i == j);
-            assert_ne!(one, other);
+            assert_eq!(pattern.is_same_pattern(other_pattern), i == j);
+            assert!(one != other && pattern != other_pattern);
         }
         let is = [
             one.is_publish_subscribe(),
             one.is_event(),
             one.is_request_response(),
-            one.is_blackboard(),
         ];
-        assert_eq!(is.iter().position(|yes| *yes), Some(i));
-        assert_eq!(is.iter().filter(|yes| **yes).count(), 1);
+        assert_eq!(is, [i == 0, i == 1, i == 2]);
+        assert_eq!(one.is_blackboard(), i == 3);
     }
 }
 
@@ -226,44 +169,41 @@ fn what_is_fixed_comes_from_the_defaults() {
     requests.max_response_buffer_size = 10;
     requests.max_borrowed_responses_per_pending_response = 11;
     config.defaults.blackboard.max_readers = 3;
-    let [publish_subscribe, event, request_response, blackboard] = descriptions(&config);
+    let [publish_subscribe, event, request_response, blackboard] = descriptions(&config, id());
 
     let service = publish_subscribe.publish_subscribe();
-    assert_eq!(service.history_size(), 5);
-    assert_eq!(
-        (service.max_publishers(), service.max_subscribers()),
-        (2, 8)
-    );
-    assert_eq!(service.max_nodes(), 20);
-    assert_eq!(service.subscriber_max_buffer_size(), 6);
-    assert_eq!(service.subscriber_max_borrowed_samples(), 7);
+    equal! {
+        service.history_size() => 5;
+        (service.max_publishers(), service.max_subscribers()) => (2, 8);
+        service.max_nodes() => 20;
+        service.subscriber_max_buffer_size() => 6;
+        service.subscriber_max_borrowed_samples() => 7;
+    }
     assert!(service.has_safe_overflow());
     assert!(!service.message_type_details().has_alignments());
 
     let service = event.event();
-    assert_eq!(service.deadline(), Some(Duration::new(3, 4)));
-    assert_eq!(service.notifier_dead_event(), Some(EventId::new(9)));
-    assert_eq!(service.notifier_dead_event().unwrap().to_string(), "9");
-    assert_eq!(service.notifier_created_event(), Some(EventId::new(8)));
-    assert_eq!(service.notifier_dropped_event(), None);
-    assert_eq!((service.max_listeners(), service.max_notifiers()), (15, 16));
-    assert_eq!(
-        (service.max_nodes(), service.event_id_max_value()),
-        (36, 255)
-    );
+    equal! {
+        service.deadline() => Some(Duration::new(3, 4));
+        service.notifier_dead_event() => Some(EventId::new(9));
+        service.notifier_dead_event().unwrap().to_string() => "9";
+        service.notifier_created_event() => Some(EventId::new(8));
+        service.notifier_dropped_event() => None;
+        (service.max_listeners(), service.max_notifiers()) => (15, 16);
+        (service.max_nodes(), service.event_id_max_value()) => (36, 255);
+    }
 
     let service = request_response.request_response();
     assert!(!service.does_support_fire_and_forget_requests());
     assert!(service.has_safe_overflow_for_requests());
     assert!(!service.has_safe_overflow_for_responses());
-    assert_eq!((service.max_servers(), service.max_clients()), (2, 8));
-    assert_eq!(
-        (service.max_nodes(), service.max_loaned_requests()),
-        (20, 9)
-    );
-    assert_eq!(service.max_active_requests_per_client(), 4);
-    assert_eq!(service.max_response_buffer_size(), 10);
-    assert_eq!(service.max_borrowed_responses_per_pending_response(), 11);
+    equal! {
+        (service.max_servers(), service.max_clients()) => (2, 8);
+        (service.max_nodes(), service.max_loaned_requests()) => (20, 9);
+        service.max_active_requests_per_client() => 4;
+        service.max_response_buffer_size() => 10;
+        service.max_borrowed_responses_per_pending_response() => 11;
+    }
 
     let service = blackboard.blackboard();
     assert_eq!((service.max_readers(), service.max_writers), (3, 1));
@@ -273,7 +213,7 @@ fn what_is_fixed_comes_from_the_defaults() {
 
 #[test]
 fn a_description_is_changed_in_place() {
-    let [mut one, mut two, mut three, mut four] = descriptions(&Config::default());
+    let [mut one, mut two, mut three, mut four] = descriptions(&Config::default(), id());
     one.publish_subscribe_mut().max_nodes = 1;
     two.event_mut().max_nodes = 2;
     three.request_response_mut().max_nodes = 3;
@@ -285,10 +225,9 @@ fn a_description_is_changed_in_place() {
     assert_eq!(three.messaging_pattern().request_response().max_nodes(), 3);
     assert_eq!(four.blackboard().max_nodes(), 4);
 
+    let (key, value) = ("k".parse().unwrap(), "v".parse().unwrap());
     let mut attributes = one.attributes().clone();
-    attributes
-        .add(&"k".try_into().unwrap(), &"v".try_into().unwrap())
-        .unwrap();
+    attributes.add(&key, &value).unwrap();
     let described = one.clone().with_attributes(&attributes);
     assert_eq!(described.attributes(), &attributes);
     assert_eq!(described.messaging_pattern(), one.messaging_pattern());
@@ -298,14 +237,14 @@ fn a_description_is_changed_in_place() {
 #[test]
 #[should_panic(expected = "the pattern is Event, not PublishSubscribe")]
 fn a_getter_for_another_pattern_panics() {
-    let [_, event, ..] = descriptions(&Config::default());
+    let [_, event, ..] = descriptions(&Config::default(), id());
     let _ = event.publish_subscribe();
 }
 
 #[test]
 #[should_panic(expected = "the pattern is Blackboard, not RequestResponse")]
 fn a_getter_of_a_pattern_for_another_one_panics() {
-    let [.., blackboard] = descriptions(&Config::default());
+    let [.., blackboard] = descriptions(&Config::default(), id());
     let _ = blackboard.messaging_pattern().request_response();
 }
 
@@ -319,18 +258,10 @@ fn hash_texts_are_names_of_files() {
     let hash = ServiceHash::new(&name, Kind::Blackboard).unwrap();
     assert_eq!(hash.as_str(), "8ZRQL1Kpi704mo5NDmLcXtD9lzI");
     let internal = ServiceName::internal_new_prefixed("x").unwrap();
-    assert_eq!(
-        ServiceHash::new(&internal, Kind::Event)
-            .unwrap()
-            .as_str()
-            .len(),
-        27
-    );
-    assert_eq!(ServiceHash::max_number_of_characters(), 64);
-    assert_eq!(
-        ServiceHashError::IllegalText.to_string(),
-        "ServiceHashError::IllegalText"
-    );
+    equal! {
+        ServiceHash::new(&internal, Kind::Event).unwrap().as_str().len() => 27;
+        ServiceHash::max_number_of_characters() => 64;
+    }
 }
 
 #[test]
@@ -341,15 +272,10 @@ fn chunks_are_counted() {
     service.subscriber_max_borrowed_samples = 7;
     service.history_size = 11;
     // 3 * (5 + 7) + 11 + 13
-    assert_eq!(
-        service.required_amount_of_samples_per_data_segment(13),
-        Some(60)
-    );
+    let samples = service.required_amount_of_samples_per_data_segment(13);
     service.subscriber_max_buffer_size = usize::MAX;
-    assert_eq!(
-        service.required_amount_of_samples_per_data_segment(13),
-        None
-    );
+    let too_many = service.required_amount_of_samples_per_data_segment(13);
+    assert_eq!((samples, too_many), (Some(60), None));
 
     let mut service = request_response::StaticConfig::new(&Config::default());
     service.max_servers = 3;
@@ -358,52 +284,23 @@ fn chunks_are_counted() {
     service.max_response_buffer_size = 11;
     service.max_borrowed_responses_per_pending_response = 13;
     // 3 * (7 + 7) + 17, and 5 * (7 + 7) * (11 + 13 + 17)
-    assert_eq!(
-        service.required_amount_of_chunks_per_client_data_segment(17),
-        Some(59)
-    );
-    assert_eq!(
-        service.required_amount_of_chunks_per_server_data_segment(17),
-        Some(2870)
-    );
-    assert_eq!(
-        service.required_amount_of_chunks_per_client_data_segment(usize::MAX),
-        None
-    );
-    assert_eq!(
-        service.required_amount_of_chunks_per_server_data_segment(usize::MAX),
-        None
-    );
-}
-
-#[test]
-fn choices_show_their_names() {
-    for (text, name) in [
-        (BackpressureStrategy::DiscardData.to_string(), "DiscardData"),
-        (AllocationStrategy::PowerOfTwo.to_string(), "PowerOfTwo"),
-        (DataSegmentType::Dynamic.to_string(), "Dynamic"),
-        (TypeVariant::FixedSize.to_string(), "FixedSize"),
-        (DeregisterNodeState::HasOwners.to_string(), "HasOwners"),
-        (PortCleanupAction::SkipPort.to_string(), "SkipPort"),
-        (CallbackProgression::Stop.to_string(), "Stop"),
-    ] {
-        assert_eq!(text, name);
+    equal! {
+        service.required_amount_of_chunks_per_client_data_segment(17) => Some(59);
+        service.required_amount_of_chunks_per_server_data_segment(17) => Some(2870);
+        service.required_amount_of_chunks_per_client_data_segment(usize::MAX) => None;
+        service.required_amount_of_chunks_per_server_data_segment(usize::MAX) => None;
     }
 }
 
 #[test]
-fn configurations_of_patterns_are_values() {
-    let config = Config::default();
-    let patterns = [
-        MessagingPattern::PublishSubscribe(publish_subscribe::StaticConfig::new(&config)),
-        MessagingPattern::Event(event::StaticConfig::new(&config)),
-        MessagingPattern::RequestResponse(request_response::StaticConfig::new(&config)),
-        MessagingPattern::Blackboard(blackboard::StaticConfig::new(&config)),
-    ];
-    for (i, one) in patterns.iter().enumerate() {
-        for (j, other) in patterns.iter().enumerate() {
-            assert_eq!(one.is_same_pattern(other), i == j);
-            assert_eq!(one == other, i == j);
-        }
+fn choices_show_their_names() {
+    equal! {
+        BackpressureStrategy::DiscardData.to_string() => "DiscardData";
+        AllocationStrategy::PowerOfTwo.to_string() => "PowerOfTwo";
+        DataSegmentType::Dynamic.to_string() => "Dynamic";
+        TypeVariant::FixedSize.to_string() => "FixedSize";
+        DeregisterNodeState::HasOwners.to_string() => "HasOwners";
+        PortCleanupAction::SkipPort.to_string() => "SkipPort";
+        CallbackProgression::Stop.to_string() => "Stop";
     }
 }

@@ -5,47 +5,31 @@
 #[macro_use]
 mod common;
 
-use common::{node, ports_of_kind, service, KINDS};
-use iox2sd::attribute::{
-    AttributeDefinitionError, AttributeKey, AttributeSet, AttributeSpecifier, AttributeValue,
-    AttributeVerificationError, AttributeVerifier, IntoIter, KeyValues,
-};
-use iox2sd::config::{
-    AllocationStrategy, BackpressureStrategy, Config, ConfigCreationError, ConfigError,
-    ConfigFileError, ConfigWriteError, DataSegmentType, EventId, SettingKind, TomlType,
-};
+use common::{descriptions, node, ports_of_kind, service, KINDS};
+use iox2sd::attribute::*;
+use iox2sd::config::*;
 use iox2sd::conform::{check_log, Expected, Verdict};
 use iox2sd::container::{ContainerRemoveError, Entries, Role};
-use iox2sd::dynamic_config::{
-    event as ports_of_events, AllocError, AttachError, Capacities, ClientDetails, DeregisterError,
-    DeregisterNodeState, DynamicConfig, ListenerDetails, NotifierDetails, OtherRole,
-    PortCleanupAction, PortDetails, PublisherDetails, ReaderDetails, RegisterNodeResult,
-    ServerDetails, SubscriberDetails, WriterDetails,
-};
-use iox2sd::identifiers::{
-    IdError, ProcessId, Time, UniqueClientId, UniqueListenerId, UniqueNodeId, UniqueNotifierId,
-    UniquePortId, UniquePublisherId, UniqueReaderId, UniqueServerId, UniqueServiceId,
-    UniqueSubscriberId, UniqueWriterId,
-};
+use iox2sd::dynamic_config::*;
+use iox2sd::identifiers::*;
 use iox2sd::messaging_pattern::MessagingPattern;
 use iox2sd::paths::{FileName, FilePath, Path, RestrictedFileName};
 use iox2sd::script::ScriptError;
 use iox2sd::semantic_string::{SemanticStringError, StringModificationError, TextCause, TextFault};
 use iox2sd::service_hash::{ServiceHash, ServiceHashError};
 use iox2sd::service_name::{ServiceName, ServiceNameError};
-use iox2sd::static_config::message_type_details::{
-    IncompatibilityCause, LayoutError, MessagePart, MessageTypeDetails, TypeDetailError, TypeName,
-    TypeVariant,
-};
+use iox2sd::static_config::message_type_details::*;
 use iox2sd::static_config::messaging_pattern::MessagingPattern as Pattern;
 use iox2sd::static_config::setting::Setting;
-use iox2sd::static_config::{event, publish_subscribe, request_response, StaticConfig, Unmet};
+use iox2sd::static_config::{self as fixed, StaticConfig, Unmet};
 use iox2sd::{CallbackProgression, UnknownName};
 use std::collections::{BTreeMap, HashMap};
 use std::error::Error;
-use std::fmt::Display;
+use std::fmt::{Debug, Display};
 use std::path::PathBuf;
 use std::{env, fs, process};
+
+type Tested = Result<(), Box<dyn Error>>;
 
 /// A value is shown with a width, an alignment, a fill and a precision as its text is.
 fn is_padded(shown: &dyn Display) {
@@ -95,7 +79,7 @@ fn choices_are_listed_parsed_and_padded() {
 }
 
 #[test]
-fn each_text_is_padded() -> Result<(), Box<dyn Error>> {
+fn each_text_is_padded() -> Tested {
     let text: Path = "a/b".parse()?;
     let fault = AttributeKey::check(b"").unwrap_err();
     let place = AttributeKey::check(b"a\0").unwrap_err();
@@ -118,15 +102,13 @@ fn each_text_is_padded() -> Result<(), Box<dyn Error>> {
     let unwritten = large.to_toml().unwrap_err();
     let script = iox2sd::script::run("no\n").unwrap_err();
     let hash = ServiceHash::new(&"a".parse()?, MessagingPattern::Event)?;
-    let pattern = Pattern::Event(event::StaticConfig::new(&Config::default()));
+    let pattern = Pattern::Event(fixed::event::StaticConfig::new(&Config::default()));
     let one = MessageTypeDetails::from::<u64, (), u8>(TypeVariant::FixedSize)?;
     let other = MessageTypeDetails::from::<u64, (), i8>(TypeVariant::FixedSize)?;
     let incompatible = other.check_compatible_to(&one).unwrap_err();
+    let (service, required) = (MessagingPattern::Event, MessagingPattern::Blackboard);
     let unmet: [Unmet; 7] = [
-        Unmet::Pattern {
-            service: MessagingPattern::Event,
-            required: MessagingPattern::Blackboard,
-        },
+        Unmet::Pattern { service, required },
         Unmet::Attributes(Box::new(AttributeVerificationError::NonExistingKey(key))),
         Unmet::Types(incompatible),
         Unmet::RequestTypes(incompatible),
@@ -134,33 +116,56 @@ fn each_text_is_padded() -> Result<(), Box<dyn Error>> {
         Unmet::KeyType(IncompatibilityCause::OtherSize),
         Unmet::Setting(Setting::MaxNodes),
     ];
-    let other_role = OtherRole {
-        found: Role::Reader,
-        wanted: Role::Writer,
-    };
+    let (found, wanted) = (Role::Reader, Role::Writer);
     let id = UniqueNodeId::new(1, 2, 3, 4).ok_or("no node")?;
     let port = UniquePortId::Reader(UniqueReaderId::new(1, 2, 3, 4));
     padded! {
         text, fault, place, key, value, conforms, bad, no_run, none, too_many, unknown[0],
         unknown[1], faults, each[0], each[1], not_toml, unread, content, unwritten, script, hash,
         pattern, incompatible, unmet[0], unmet[1], unmet[2], unmet[3], unmet[4], unmet[5],
-        unmet[6], other_role, id, port, UnknownName, AllocError, ConfigError::NoMemory,
+        unmet[6], OtherRole { found, wanted }, id, port, UnknownName, AllocError, ConfigError::NoMemory,
         ConfigWriteError::NoMemory, ScriptError::NoMemory,
-        RegisterNodeResult::MarkedForDestruction, DeregisterNodeState::HasOwners,
-        DeregisterError::PortsStillAttached, AttachError::OutOfSpace, PortCleanupAction::SkipPort,
-        CallbackProgression::Stop, ContainerRemoveError::ContainerHandleNotOwnedByContainer,
-        AttributeDefinitionError::ExceedsMaxSupportedAttributes,
         AttributeVerificationError::NonExistingKey(key),
-        AttributeVerificationError::IncompatibleAttribute((key, value)),
-        SemanticStringError::InvalidContent, ServiceNameError::ExceedsMaximumLength,
-        StringModificationError::InvalidCharacter, ServiceHashError::IllegalText,
-        TypeDetailError::AlignmentNotPowerOfTwo, LayoutError::TooLarge, IdError::NoText,
-        IdError::NoNode, ConfigCreationError::ConfigFileDoesNotExist, TypeName::try_from("u8")?,
-        ServiceName::new("a")?, Role::Node, Setting::MaxNodes, TomlType::Float,
+        AttributeVerificationError::IncompatibleAttribute((key, value)), IdError::NoText,
+        IdError::NoNode, TypeName::try_from("u8")?, ServiceName::new("a")?, Role::Node,
+        Setting::MaxNodes, TomlType::Float, DeregisterNodeState::HasOwners,
+        PortCleanupAction::SkipPort, CallbackProgression::Stop,
     }
     let numbers = format!("[{:4}|{:<4}]", ProcessId::new(12), EventId::new(12));
     assert_eq!(numbers, "[  12|12  ]");
     Ok(())
+}
+
+/// Errors print as the paths of their variants.
+#[test]
+fn errors_are_told_by_their_paths() {
+    fn by_path<E: Error + Debug>(path: &str, error: E) {
+        assert_eq!(error.to_string(), path);
+        is_padded(&error);
+    }
+    macro_rules! by_path {
+        ($($name:ident: $($variant:ident)+;)+) => {
+            $($(by_path(concat!(stringify!($name), "::", stringify!($variant)), $name::$variant);)+)+
+        };
+    }
+    by_path! {
+        RegisterNodeResult: MarkedForDestruction ExceedsMaxNumberOfNodes;
+        DeregisterError: ContainerHandleNotOwnedByContainer PortsStillAttached;
+        AttachError: RoleNotInPattern ServiceIsLocked NodeNotRegistered OutOfSpace;
+        ContainerRemoveError: ContainerHandleNotOwnedByContainer;
+        AttributeDefinitionError: ExceedsMaxSupportedAttributes;
+        SemanticStringError: InvalidContent ExceedsMaximumLength;
+        StringModificationError: InsertWouldExceedCapacity InvalidCharacter;
+        ServiceNameError: InvalidContent ExceedsMaximumLength;
+        ServiceHashError: IllegalText;
+        LayoutError: DetailsNotGiven TooLarge;
+        TypeDetailError: AlignmentNotPowerOfTwo;
+        ConfigCreationError: FailedToReadConfigFileContents UnableToDeserializeContents
+            InsufficientPermissions ConfigFileDoesNotExist UnableToOpenConfigFile;
+    }
+    let name = TypeDetailError::Name(StringModificationError::InvalidCharacter);
+    by_path("TypeDetailError::Name(InvalidCharacter)", name);
+    assert_eq!(AllocError.to_string(), "memory allocation failed");
 }
 
 #[test]
@@ -179,7 +184,7 @@ fn values_are_ordered() {
 }
 
 #[test]
-fn maps_are_asked_by_texts() -> Result<(), Box<dyn Error>> {
+fn maps_are_asked_by_texts() -> Tested {
     let names: HashMap<ServiceName, u8> = [("a".parse()?, 1), ("b".parse()?, 2)].into();
     assert_eq!((names.get("b"), names.get("c")), (Some(&2), None));
     let keys: BTreeMap<AttributeKey, u8> = [("a".parse()?, 1), ("aa".parse()?, 2)].into();
@@ -201,10 +206,7 @@ fn ids_are_shown_as_numbers() {
     assert_eq!(format!("{id:#x}"), format!("0x{id}"));
     assert_eq!(format!("{id:032x}"), "000000010000000200000003000000ab");
     let port = UniquePortId::Writer(UniqueWriterId::new(0, 0, 0, 0xab));
-    assert_eq!(
-        (format!("{port:x}"), format!("{port:#06x}")),
-        ("ab".into(), "0x00ab".into())
-    );
+    assert_eq!(format!("{port:x} {port:#06x}"), "ab 0x00ab");
     let service = UniqueServiceId::new(0, 0, 0, 10);
     assert_eq!(format!("{service:x}"), "a");
 }
@@ -233,17 +235,15 @@ fn a_text_is_refused_with_cause_and_place() {
     assert_eq!(ServiceName::check("a"), Ok(()));
     assert_eq!(Path::check(b""), Ok(()));
     let fault = FileName::check(b"..").unwrap_err();
-    assert_eq!(fault.to_string(), "not the name of a file");
-    assert_eq!(
-        SemanticStringError::from(fault),
-        SemanticStringError::InvalidContent
-    );
+    equal! {
+        fault.to_string() => "not the name of a file";
+        SemanticStringError::from(fault) => SemanticStringError::InvalidContent;
+    }
     let fault = ServiceName::check(&"a".repeat(256)).unwrap_err();
-    assert_eq!(fault.to_string(), "the text is too long, at byte 255");
-    assert_eq!(
-        ServiceNameError::from(fault),
-        ServiceNameError::ExceedsMaximumLength
-    );
+    equal! {
+        fault.to_string() => "the text is too long, at byte 255";
+        ServiceNameError::from(fault) => ServiceNameError::ExceedsMaximumLength;
+    }
 }
 
 /// The details and the id of a port are those of one kind alone.
@@ -284,7 +284,7 @@ fn details_and_ids_are_those_of_their_kinds() {
 }
 
 #[test]
-fn listings_and_values_have_iterators_of_their_own() -> Result<(), Box<dyn Error>> {
+fn listings_and_values_have_iterators_of_their_own() -> Tested {
     let mut service = service(MessagingPattern::Event, 2, [2, 2]);
     let nodes = [node(1), node(2)];
     for node in nodes {
@@ -295,23 +295,19 @@ fn listings_and_values_have_iterators_of_their_own() -> Result<(), Box<dyn Error
     }
     let mut listed: Entries<UniqueNodeId> = service.nodes();
     assert_eq!((listed.len(), listed.size_hint()), (2, (2, Some(2))));
-    assert_eq!(listed.clone().collect::<Vec<_>>(), nodes);
-    assert_eq!(
-        (listed.next_back(), listed.as_slice()),
-        (Some(node(2)), &[node(1)][..])
-    );
-    assert_eq!(
-        (listed.next(), listed.next(), listed.next()),
-        (Some(node(1)), None, None)
-    );
+    assert!(listed.clone().eq(nodes));
+    equal! {
+        listed.next_back() => Some(node(2));
+        listed.as_slice() => [node(1)];
+        [listed.next(), listed.next(), listed.next()] => [Some(node(1)), None, None];
+    }
     let listeners: Entries<ListenerDetails> = service.event().listeners();
     let ports: Entries<PortDetails> = service.ports(Role::Listener).ok_or("no listeners")?;
     assert!(listeners.map(PortDetails::from).eq(ports));
     let of_node: Entries<PortDetails> = service.ports_of(&node(1));
-    assert_eq!(
-        of_node.rev().map(|port| port.role()).next(),
-        Some(Role::Notifier)
-    );
+    equal! {
+        of_node.rev().map(|port| port.role()).next() => Some(Role::Notifier);
+    }
 
     let (site, robot) = ("site".parse()?, "robot".parse()?);
     let mut set = AttributeSet::new();
@@ -319,13 +315,12 @@ fn listings_and_values_have_iterators_of_their_own() -> Result<(), Box<dyn Error
     set.add(&robot, &"r2".parse()?)?;
     set.add(&site, &"east".parse()?)?;
     let mut values: KeyValues<'_> = set.key_values(&site);
-    assert_eq!((values.len(), values.clone().count()), (2, 2));
-    assert_eq!(values.next(), Some(&"east".parse()?));
-    assert_eq!(values.size_hint(), (1, Some(1)));
-    assert_eq!(
-        (values.next(), values.next()),
-        (Some(&"north".parse()?), None)
-    );
+    equal! {
+        (values.len(), values.clone().count()) => (2, 2);
+        values.next() => Some(&"east".parse()?);
+        values.size_hint() => (1, Some(1));
+        [values.next(), values.next()] => [Some(&"north".parse()?), None];
+    }
     let taken: IntoIter = set.clone().into_iter();
     assert_eq!(taken.len(), 3);
     assert!(taken.eq(set.iter().copied()));
@@ -333,203 +328,155 @@ fn listings_and_values_have_iterators_of_their_own() -> Result<(), Box<dyn Error
 }
 
 #[test]
-fn what_is_of_one_pattern_is_lent_or_not() -> Result<(), Box<dyn Error>> {
-    let (name, id, config) = (
-        "a".parse()?,
-        UniqueServiceId::new(1, 0, 0, 1),
-        Config::default(),
-    );
-    let defaults = &config.defaults;
-    let descriptions = [
-        StaticConfig::new(&name, &defaults.publish_subscribe, id)?,
-        StaticConfig::new(&name, &defaults.event, id)?,
-        StaticConfig::new(&name, &defaults.request_response, id)?,
-        StaticConfig::new(&name, &defaults.blackboard, id)?,
-    ];
-    let by_config = [
-        StaticConfig::new_publish_subscribe(&name, &config, id)?,
-        StaticConfig::new_event(&name, &config, id)?,
-        StaticConfig::new_request_response(&name, &config, id)?,
-        StaticConfig::new_blackboard(&name, &config, id)?,
-    ];
-    assert_eq!(descriptions, by_config);
-    for (at, mut description) in descriptions.into_iter().enumerate() {
-        let service = DynamicConfig::with_capacities(&description, 7)?;
-        assert_eq!(service.kind(), description.messaging_pattern().kind());
-        let lent = [
-            description.as_publish_subscribe().is_some(),
-            description.as_event().is_some(),
-            description.as_request_response().is_some(),
-            description.as_blackboard().is_some(),
-        ];
-        let lent_to_be_changed = [
-            description.as_publish_subscribe_mut().is_some(),
-            description.as_event_mut().is_some(),
-            description.as_request_response_mut().is_some(),
-            description.as_blackboard_mut().is_some(),
-        ];
-        let lent_of_service = [
-            service.as_publish_subscribe().is_some(),
-            service.as_event().is_some(),
-            service.as_request_response().is_some(),
-            service.as_blackboard().is_some(),
-        ];
-        let only = [0, 1, 2, 3].map(|other| other == at);
-        assert_eq!(
-            (lent, lent_to_be_changed, lent_of_service),
-            (only, only, only)
-        );
+fn what_is_of_one_pattern_is_lent_or_not() -> Tested {
+    let (name, id) = ("a".parse()?, UniqueServiceId::new(1, 0, 0, 1));
+    let (config, mut at) = (Config::default(), 0);
+    /// What is of one pattern is of the description and the service at this index alone.
+    macro_rules! lent {
+        ($($module:ident $as:ident $as_mut:ident;)+) => {
+            $(
+                let made = StaticConfig::new(&name, &config.defaults.$module, id)?;
+                assert_eq!(made, descriptions(&config, id)[at]);
+                for (other, mut description) in descriptions(&config, id).into_iter().enumerate() {
+                    let service = DynamicConfig::with_capacities(&description, 7)?;
+                    assert_eq!(service.kind(), description.messaging_pattern().kind());
+                    let lent = [description.$as().is_some(), service.$as().is_some()];
+                    assert_eq!((lent, description.$as_mut().is_some()), ([at == other; 2], at == other));
+                }
+                at += 1;
+            )+
+        };
     }
+    lent! {
+        publish_subscribe as_publish_subscribe as_publish_subscribe_mut;
+        event as_event as_event_mut;
+        request_response as_request_response as_request_response_mut;
+        blackboard as_blackboard as_blackboard_mut;
+    }
+    assert_eq!(at, KINDS.len());
     Ok(())
 }
 
 #[test]
-fn capacities_come_from_settings_and_descriptions() -> Result<(), Box<dyn Error>> {
+fn capacities_come_from_settings_and_descriptions() -> Tested {
     let settings = with!(Config::default().defaults.event;
         max_listeners: 3, max_notifiers: 4, max_nodes: 5);
+    let ports = common::settings(MessagingPattern::Event, [3, 4]);
     let expected = Capacities {
         max_nodes: 5,
-        ports: common::settings(MessagingPattern::Event, [3, 4]),
+        ports,
     };
-    let fixed = event::StaticConfig::from(&settings);
-    let description =
-        StaticConfig::new(&"a".parse()?, &settings, UniqueServiceId::new(1, 0, 0, 1))?;
-    assert_eq!(Capacities::from(&settings), expected);
-    assert_eq!(Capacities::from(&fixed), expected);
-    assert_eq!(Capacities::from(&description), expected);
-    assert_eq!(Capacities::from(description.messaging_pattern()), expected);
-    assert_eq!(
-        ports_of_events::DynamicConfigSettings::from(&settings).number_of_notifiers,
-        4
-    );
+    let made = fixed::event::StaticConfig::from(&settings);
+    let id = UniqueServiceId::new(1, 0, 0, 1);
+    let description = StaticConfig::new(&"a".parse()?, &settings, id)?;
+    let all: [Capacities; 4] = [
+        (&settings).into(),
+        (&made).into(),
+        (&description).into(),
+        description.messaging_pattern().into(),
+    ];
+    equal! {
+        all => [expected; 4];
+        event::DynamicConfigSettings::from(&settings).number_of_notifiers => 4;
+    }
     let service = DynamicConfig::with_capacities(expected, 7)?;
-    assert_eq!(
-        (service.max_nodes(), service.max_ports(Role::Notifier)),
-        (5, Some(4))
-    );
-    assert_eq!(
-        DynamicConfig::new(expected.ports, 5, 7)?.max_ports(Role::Listener),
-        Some(3)
-    );
+    equal! {
+        (service.max_nodes(), service.max_ports(Role::Notifier)) => (5, Some(4));
+    }
+    let ports = &expected.ports;
+    assert!(DynamicConfig::new(ports, 5, 7)?.is_event());
+    let service = DynamicConfig::new(expected.ports, 5, 7)?;
+    assert_eq!(service.max_ports(Role::Listener), Some(3));
     let recorder = iox2sd::conform::Recorder::with_capacities(&description, 7)?;
     assert_eq!(recorder.log(), "service event 7 5 3 4\n");
-    let ports = &expected.ports;
-    assert_eq!(
-        DynamicConfig::new(ports, 1, 7)?.kind(),
-        MessagingPattern::Event
-    );
-    let refused = DynamicConfig::with_capacities(
-        Capacities {
-            max_nodes: usize::MAX,
-            ..expected
-        },
-        7,
-    );
+    let refused = DynamicConfig::with_capacities(with!(expected; max_nodes: usize::MAX), 7);
     assert_eq!(refused.unwrap_err(), AllocError);
     Ok(())
 }
 
 /// The first that is not met is reported: of pattern, attributes, types and settings.
 #[test]
-fn an_opener_is_refused_with_the_first_reason() -> Result<(), Box<dyn Error>> {
+fn an_opener_is_refused_with_the_first_reason() -> Tested {
     let config = Config::default();
-    let id = UniqueServiceId::new(1, 0, 0, 1);
+    let [mut samples, mut events, mut requests, mut board] =
+        descriptions(&config, UniqueServiceId::new(1, 0, 0, 1));
+    let none = AttributeVerifier::new();
     let (site, north) = ("site".parse()?, "north".parse()?);
-    let attributes = AttributeSpecifier::new().define(&site, &north)?;
     let types = MessageTypeDetails::from::<u64, (), u8>(TypeVariant::FixedSize)?;
     let other_types = MessageTypeDetails::from::<u64, (), i8>(TypeVariant::FixedSize)?;
-    let mut service = StaticConfig::new_publish_subscribe(&"a".parse()?, &config, id)?
-        .with_attributes(attributes.attributes());
-    service.publish_subscribe_mut().message_type_details = types;
+    let told = |answer: Result<(), Unmet>| answer.unwrap_err().to_string();
 
-    let mut required = *service.publish_subscribe();
+    let attributes = AttributeSpecifier::new().define(&site, &north)?;
+    samples = samples.with_attributes(attributes.attributes());
+    samples.publish_subscribe_mut().message_type_details = types;
+    let mut required = *samples.publish_subscribe();
     let mut verifier = AttributeVerifier::new().require(&site, &north)?;
-    let ask = |required: publish_subscribe::StaticConfig, verifier: &AttributeVerifier| {
-        service.verify_opener(&Pattern::PublishSubscribe(required), verifier)
+    let ask = |required, verifier: &AttributeVerifier| {
+        samples.verify_opener(&Pattern::PublishSubscribe(required), verifier)
     };
     assert_eq!(ask(required, &verifier), Ok(()));
     required.max_nodes += 1;
-    assert_eq!(
-        ask(required, &verifier),
-        Err(Unmet::Setting(Setting::MaxNodes))
-    );
-    assert!(!service.satisfies(&Pattern::PublishSubscribe(required)));
+    equal! {
+        ask(required, &verifier) => Err(Unmet::Setting(Setting::MaxNodes));
+    }
+    assert!(!samples.satisfies(&Pattern::PublishSubscribe(required)));
     required.message_type_details = other_types;
-    let refused = ask(required, &verifier).unwrap_err();
-    assert!(matches!(refused, Unmet::Types(_)));
-    assert_eq!(refused.to_string(), "the payload has another type name");
+    assert!(matches!(ask(required, &verifier), Err(Unmet::Types(_))));
+    equal! {
+        told(ask(required, &verifier)) => "the payload has another type name";
+    }
     verifier = verifier.require_key(&"robot".parse()?)?;
-    let refused = ask(required, &verifier).unwrap_err();
     let lacked = AttributeVerificationError::NonExistingKey("robot".parse()?);
-    assert_eq!(refused.to_string(), lacked.to_string());
-    assert_eq!(refused, Unmet::Attributes(Box::new(lacked)));
-    let other = Pattern::Event(event::StaticConfig::new(&config));
-    let refused = service.verify_opener(&other, &verifier).unwrap_err();
-    let (required, found) = (MessagingPattern::Event, MessagingPattern::PublishSubscribe);
-    assert_eq!(
-        refused.to_string(),
-        "the service has the pattern PublishSubscribe, not Event"
-    );
-    assert_eq!(
-        refused,
-        Unmet::Pattern {
-            service: found,
-            required
-        }
-    );
-    assert!(!service.satisfies(&other) && service.satisfies(service.messaging_pattern()));
+    equal! {
+        told(ask(required, &verifier)) => lacked.to_string();
+        ask(required, &verifier) => Err(Unmet::Attributes(Box::new(lacked)));
+    }
+    let other = *events.messaging_pattern();
+    let refused = samples.verify_opener(&other, &verifier);
+    let (required, service) = (MessagingPattern::Event, MessagingPattern::PublishSubscribe);
+    equal! {
+        refused => Err(Unmet::Pattern { service, required });
+        told(refused) => "the service has the pattern PublishSubscribe, not Event";
+    }
+    assert!(!samples.satisfies(&other) && samples.satisfies(samples.messaging_pattern()));
 
-    let mut service = StaticConfig::new_request_response(&"a".parse()?, &config, id)?;
-    let fixed: &mut request_response::StaticConfig = service.request_response_mut();
+    let fixed = requests.request_response_mut();
     fixed.request_message_type_details = types;
     fixed.response_message_type_details = types;
     let mut required = *fixed;
-    let none = AttributeVerifier::new();
-    let ask = |required| service.verify_opener(&Pattern::RequestResponse(required), &none);
+    let ask = |required| requests.verify_opener(&Pattern::RequestResponse(required), &none);
     assert_eq!(ask(required), Ok(()));
     required.response_message_type_details = other_types;
-    let refused = ask(required).unwrap_err();
-    assert!(matches!(refused, Unmet::ResponseTypes(_)));
-    assert_eq!(
-        refused.to_string(),
-        "of responses, the payload has another type name"
-    );
+    assert!(matches!(ask(required), Err(Unmet::ResponseTypes(_))));
+    equal! {
+        told(ask(required)) => "of responses, the payload has another type name";
+    }
     required.request_message_type_details = other_types;
-    let refused = ask(required).unwrap_err();
-    assert_eq!(
-        refused.to_string(),
-        "of requests, the payload has another type name"
-    );
+    equal! {
+        told(ask(required)) => "of requests, the payload has another type name";
+    }
 
-    let mut service = StaticConfig::new_blackboard(&"a".parse()?, &config, id)?;
-    let mut required = *service.blackboard();
-    let ask = |service: &StaticConfig, required| {
-        service.verify_opener(&Pattern::Blackboard(required), &none)
-    };
+    let mut required = *board.blackboard();
+    let ask =
+        |board: &StaticConfig, required| board.verify_opener(&Pattern::Blackboard(required), &none);
     let not_given = Err(Unmet::KeyType(IncompatibilityCause::DetailsNotGiven));
-    assert_eq!(ask(&service, required), not_given);
-    service.blackboard_mut().type_details = types.header;
+    assert_eq!(ask(&board, required), not_given);
+    board.blackboard_mut().type_details = types.header;
     required.type_details = types.header;
-    assert_eq!(ask(&service, required), Ok(()));
+    assert_eq!(ask(&board, required), Ok(()));
     required.type_details = types.payload;
-    let refused = ask(&service, required).unwrap_err();
-    assert_eq!(refused.to_string(), "the key has another type name");
+    assert_eq!(told(ask(&board, required)), "the key has another type name");
 
-    let mut service = StaticConfig::new_event(&"a".parse()?, &config, id)?;
-    let mut required = *service.event();
-    required.notifier_dead_event = Some(3);
-    let refused = service.verify_opener(&Pattern::Event(required), &none);
+    let required = Pattern::Event(with!(*events.event(); notifier_dead_event: Some(3)));
+    let refused = events.verify_opener(&required, &none);
     assert_eq!(refused, Err(Unmet::Setting(Setting::NotifierDeadEvent)));
-    service.event_mut().notifier_dead_event = Some(3);
-    assert_eq!(
-        service.verify_opener(&Pattern::Event(required), &none),
-        Ok(())
-    );
+    events.event_mut().notifier_dead_event = Some(3);
+    assert_eq!(events.verify_opener(&required, &none), Ok(()));
     Ok(())
 }
 
 #[test]
-fn a_verdict_is_told_in_words() -> Result<(), Box<dyn Error>> {
+fn a_verdict_is_told_in_words() -> Tested {
     let judged = |rest: &str| check_log(&format!("service event 7 1 0 0\n{rest}"));
     let conforms = judged("nodes\n= list\n")?;
     assert!(conforms.conforms());
@@ -545,19 +492,15 @@ fn a_verdict_is_told_in_words() -> Result<(), Box<dyn Error>> {
     assert_eq!(refusal.to_string(), error.to_string());
 
     let group = judged("overlap\nA: register 1.0.0.1\n= full\nend\n")?;
-    let text = "line 5: no order of the group gives the replies";
-    assert_eq!(
-        (group.to_string(), group.conforms()),
-        (text.to_string(), false)
-    );
-    assert!(group.source().is_some());
+    equal! {
+        group.to_string() => "line 5: no order of the group gives the replies";
+    }
+    assert!(group.source().is_some() && !group.conforms());
     let bad = judged("leave\n")?;
     assert_eq!(bad.to_string(), "line 2: the line of a command is expected");
     assert!(bad.source().is_none() && !bad.conforms());
-    let states = Verdict::TooManyStates { line: 4 };
-    assert!(states
-        .to_string()
-        .starts_with("line 4: orders of the group lead to more than"));
+    let states = Verdict::TooManyStates { line: 4 }.to_string();
+    assert!(states.starts_with("line 4: orders of the group lead to more than"));
     Ok(())
 }
 
@@ -584,30 +527,22 @@ impl Drop for Temporary {
 
 #[test]
 fn files_are_read_as_iceoryx2_reads_them() {
+    use ConfigCreationError::*;
     let good = Temporary::new("good", b"[global]\nprefix = 'own_'\nother = 1\n");
-    assert_eq!(
-        Config::from_file(&good.path()).unwrap().global.prefix,
-        "own_"
-    );
+    equal! {
+        Config::from_file(&good.path()).unwrap().global.prefix => "own_";
+    }
     let bad = Temporary::new("bad", b"[global]\nprefix = 1\n");
-    assert_eq!(
-        Config::from_file(&bad.path()),
-        Err(ConfigCreationError::UnableToDeserializeContents)
-    );
     let no_text = Temporary::new("no_text", b"\xff");
-    assert_eq!(
-        Config::from_file(&no_text.path()),
-        Err(ConfigCreationError::FailedToReadConfigFileContents)
-    );
-    assert_eq!(
-        Config::from_file(&"no/such/file".parse().unwrap()),
-        Err(ConfigCreationError::ConfigFileDoesNotExist)
-    );
-    let below_file: FilePath = format!("{}/a", good.path()).parse().unwrap();
-    assert_eq!(
-        Config::from_file(&below_file),
-        Err(ConfigCreationError::UnableToOpenConfigFile)
-    );
+    let below_file = format!("{}/a", good.path()).parse().unwrap();
+    for (file, error) in [
+        (bad.path(), UnableToDeserializeContents),
+        (no_text.path(), FailedToReadConfigFileContents),
+        ("no/such/file".parse().unwrap(), ConfigFileDoesNotExist),
+        (below_file, UnableToOpenConfigFile),
+    ] {
+        assert_eq!(Config::from_file(&file), Err(error));
+    }
 }
 
 #[test]
@@ -641,18 +576,14 @@ fn the_prelude_is_used_beside_the_paths_of_the_standard_library() {
 fn settings_count_their_messages() {
     let defaults = Config::default().defaults;
     let samples = with!(defaults.publish_subscribe; publisher_max_loaned_samples: 12);
-    let fixed = publish_subscribe::StaticConfig::from(&samples);
+    let fixed = fixed::publish_subscribe::StaticConfig::from(&samples);
     let count = samples.required_amount_of_samples_per_data_segment();
     assert_eq!(count, fixed.required_amount_of_samples_per_data_segment(12));
     assert_eq!(count, Some(44));
     let requests = with!(defaults.request_response;
         max_loaned_requests: 5, server_max_loaned_responses_per_request: usize::MAX);
-    assert_eq!(
-        requests.required_amount_of_chunks_per_client_data_segment(),
-        Some(21)
-    );
-    assert_eq!(
-        requests.required_amount_of_chunks_per_server_data_segment(),
-        None
-    );
+    equal! {
+        requests.required_amount_of_chunks_per_client_data_segment() => Some(21);
+        requests.required_amount_of_chunks_per_server_data_segment() => None;
+    }
 }

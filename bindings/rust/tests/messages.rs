@@ -1,11 +1,11 @@
 //! The types of messages: worked sizes and places, and who is compatible with whom.
 #![forbid(unsafe_code)]
 
+#[macro_use]
+mod common;
+
 use iox2sd::semantic_string::StringModificationError;
-use iox2sd::static_config::message_type_details::{
-    IncompatibilityCause, LayoutError, MessagePart, MessageTypeDetails, TypeDetail,
-    TypeDetailError, TypeName, TypeVariant,
-};
+use iox2sd::static_config::message_type_details::*;
 use std::alloc::Layout;
 use std::mem::{align_of, offset_of, size_of};
 
@@ -41,32 +41,21 @@ fn a_type_is_described_by_what_the_compiler_says() {
 fn names_of_types_have_up_to_256_bytes() {
     use StringModificationError::{InsertWouldExceedCapacity, InvalidCharacter};
     let (greatest, long) = ("a".repeat(256), "a".repeat(257));
-    assert_eq!(
-        TypeName::try_from(greatest.as_str()).unwrap(),
-        greatest.as_str()
-    );
-    assert_eq!(TypeName::try_from("").unwrap(), TypeName::default());
-    assert_eq!(
-        TypeName::try_from(long.as_str()),
-        Err(InsertWouldExceedCapacity)
-    );
-    assert_eq!(TypeName::try_from("a\0"), Err(InvalidCharacter));
-    assert_eq!(TypeName::try_from("Größe"), Err(InvalidCharacter));
-    assert_eq!(
-        InvalidCharacter.to_string(),
-        "StringModificationError::InvalidCharacter"
-    );
-    assert_eq!(
-        InsertWouldExceedCapacity.to_string(),
-        "StringModificationError::InsertWouldExceedCapacity"
-    );
+    equal! {
+        TypeName::try_from(greatest.as_str()).unwrap() => greatest.as_str();
+        TypeName::try_from("").unwrap() => TypeName::default();
+        TypeName::try_from(long.as_str()) => Err(InsertWouldExceedCapacity);
+        TypeName::try_from("a\0") => Err(InvalidCharacter);
+        TypeName::try_from("Größe") => Err(InvalidCharacter);
+    }
 }
 
 #[test]
 fn parts_of_a_type_are_refused_by_their_cause() {
     for alignment in [0, 3, 6, usize::MAX] {
+        let refused = TypeDetail::from_parts(TypeVariant::FixedSize, "T", 8, alignment);
         assert_eq!(
-            TypeDetail::from_parts(TypeVariant::FixedSize, "T", 8, alignment),
+            refused,
             Err(TypeDetailError::AlignmentNotPowerOfTwo),
             "{alignment}"
         );
@@ -75,16 +64,8 @@ fn parts_of_a_type_are_refused_by_their_cause() {
         assert_eq!(detail("T", 8, alignment).alignment(), alignment);
     }
     let error = TypeDetail::from_parts(TypeVariant::FixedSize, "\0", 8, 3).unwrap_err();
-    assert_eq!(
-        error,
-        TypeDetailError::Name(StringModificationError::InvalidCharacter)
-    );
-    assert_eq!(error.to_string(), "TypeDetailError::Name(InvalidCharacter)");
-    assert_eq!(
-        TypeDetailError::AlignmentNotPowerOfTwo.to_string(),
-        "TypeDetailError::AlignmentNotPowerOfTwo"
-    );
-
+    let cause = StringModificationError::InvalidCharacter;
+    assert_eq!(error, TypeDetailError::Name(cause));
     struct Größe;
     assert_eq!(TypeDetail::new::<Größe>(TypeVariant::FixedSize), Err(error));
 }
@@ -104,18 +85,14 @@ fn a_message_has_room_for_its_parts() {
         details.sample_layout(elements).unwrap()
     }
 
-    assert_eq!(
-        size::<i64, i64, i64>(0),
-        Layout::from_size_align(32, 8).unwrap()
-    );
-    assert_eq!(size::<i64, i64, i64>(2).size(), 48);
-    assert_eq!(size::<i64, i64, bool>(3).size(), 32);
-    assert_eq!(size::<i64, i32, bool>(11).size(), 32);
-    assert_eq!(size::<i64, i64, Demo>(2).size(), 64);
-    assert_eq!(
-        size::<u8, (), u8>(5),
-        Layout::from_size_align(6, 1).unwrap()
-    );
+    equal! {
+        Ok(size::<i64, i64, i64>(0)) => Layout::from_size_align(32, 8);
+        size::<i64, i64, i64>(2).size() => 48;
+        size::<i64, i64, bool>(3).size() => 32;
+        size::<i64, i32, bool>(11).size() => 32;
+        size::<i64, i64, Demo>(2).size() => 64;
+        Ok(size::<u8, (), u8>(5)) => Layout::from_size_align(6, 1);
+    }
 }
 
 #[test]
@@ -136,22 +113,18 @@ fn places_are_those_of_a_struct() {
     let start = &message.header as *const i32 as usize;
     let user_header = &message.user_header as *const bool as usize;
     let payload = &message.payload as *const i64 as usize;
-    assert_eq!(details.user_header_ptr_from_header(start), Ok(user_header));
-    assert_eq!(details.payload_ptr_from_header(start), Ok(payload));
-    assert_eq!(
-        details.payload_ptr_from_header(0),
-        Ok(offset_of!(Message, payload))
-    );
+    equal! {
+        details.user_header_ptr_from_header(start) => Ok(user_header);
+        details.payload_ptr_from_header(start) => Ok(payload);
+        details.payload_ptr_from_header(0) => Ok(offset_of!(Message, payload));
+    }
     assert!(details.has_places(start));
 }
 
 #[test]
 fn layouts_and_places_are_refused_by_their_cause() {
     let none = MessageTypeDetails::default();
-    let part = MessageTypeDetails {
-        header: detail("H", 8, 8),
-        ..none
-    };
+    let part = with!(none; header: detail("H", 8, 8));
     for details in [none, part] {
         assert!(!details.has_alignments());
         assert!(!details.has_places(0));
@@ -162,22 +135,13 @@ fn layouts_and_places_are_refused_by_their_cause() {
     let bytes = MessageTypeDetails::from::<u8, (), u8>(TypeVariant::Dynamic).unwrap();
     assert!(bytes.has_alignments());
     let greatest = isize::MAX as usize;
-    assert_eq!(bytes.sample_layout(greatest - 1).unwrap().size(), greatest);
-    assert_eq!(bytes.sample_layout(greatest), Err(LayoutError::TooLarge));
-    assert_eq!(
-        bytes.payload_ptr_from_header(usize::MAX - 1),
-        Ok(usize::MAX)
-    );
-    assert_eq!(
-        bytes.payload_ptr_from_header(usize::MAX),
-        Err(LayoutError::TooLarge)
-    );
+    equal! {
+        bytes.sample_layout(greatest - 1).unwrap().size() => greatest;
+        bytes.sample_layout(greatest) => Err(LayoutError::TooLarge);
+        bytes.payload_ptr_from_header(usize::MAX - 1) => Ok(usize::MAX);
+        bytes.payload_ptr_from_header(usize::MAX) => Err(LayoutError::TooLarge);
+    }
     assert!(!bytes.has_places(usize::MAX));
-    assert_eq!(LayoutError::TooLarge.to_string(), "LayoutError::TooLarge");
-    assert_eq!(
-        LayoutError::DetailsNotGiven.to_string(),
-        "LayoutError::DetailsNotGiven"
-    );
 }
 
 #[test]
@@ -189,52 +153,21 @@ fn an_opener_is_kept_out_by_the_first_part_that_does_not_suit() {
         payload: detail("P", 8, 8),
     };
     let many = TypeDetail::from_parts(TypeVariant::Dynamic, "U", 8, 8).unwrap();
-    let (header, user_header, payload) = (
-        |header| MessageTypeDetails { header, ..service },
-        |user_header| MessageTypeDetails {
-            user_header,
-            ..service
-        },
-        |payload| MessageTypeDetails { payload, ..service },
-    );
-    for (opener, part, cause, text) in [
-        (
-            header(detail("h", 8, 8)),
-            MessagePart::Header,
-            OtherName,
-            "the header has another type name",
-        ),
-        (
-            header(detail("H", 8, 4)),
-            MessagePart::Header,
-            OtherAlignment,
-            "the header has another alignment",
-        ),
-        (
-            user_header(many),
-            MessagePart::UserHeader,
-            OtherVariant,
-            "the user header has another variant",
-        ),
-        (
-            payload(detail("P", 16, 8)),
-            MessagePart::Payload,
-            OtherSize,
-            "the payload has another size",
-        ),
-        (
-            payload(detail("P", 8, 16)),
-            MessagePart::Payload,
-            GreaterAlignment,
-            "the payload has a greater alignment than the service's",
-        ),
-        (
-            user_header(TypeDetail::default()),
-            MessagePart::UserHeader,
-            DetailsNotGiven,
-            "the user header has no details",
-        ),
-    ] {
+    macro_rules! refused {
+        ($($part:ident: $detail:expr => $in:ident $cause:ident $text:literal;)+) => {
+            [$((with!(service; $part: $detail), MessagePart::$in, $cause, $text)),+]
+        };
+    }
+    for (opener, part, cause, text) in refused! {
+        header: detail("h", 8, 8) => Header OtherName "the header has another type name";
+        header: detail("H", 8, 4) => Header OtherAlignment "the header has another alignment";
+        user_header: many => UserHeader OtherVariant "the user header has another variant";
+        payload: detail("P", 16, 8) => Payload OtherSize "the payload has another size";
+        payload: detail("P", 8, 16) => Payload GreaterAlignment
+            "the payload has a greater alignment than the service's";
+        user_header: TypeDetail::default() => UserHeader DetailsNotGiven
+            "the user header has no details";
+    } {
         let refused = opener.check_compatible_to(&service).unwrap_err();
         assert_eq!((refused.part, refused.cause), (part, cause));
         assert_eq!(refused.to_string(), text);
@@ -245,11 +178,7 @@ fn an_opener_is_kept_out_by_the_first_part_that_does_not_suit() {
 #[test]
 fn an_opener_may_be_aligned_less_than_the_service() {
     let opener = MessageTypeDetails::from::<i64, i64, i64>(TypeVariant::FixedSize).unwrap();
-    let service = MessageTypeDetails {
-        user_header: detail("i64", 8, 16),
-        payload: detail("i64", 8, 16),
-        ..opener
-    };
+    let service = with!(opener; user_header: detail("i64", 8, 16), payload: detail("i64", 8, 16));
     assert!(opener.is_compatible_to(&opener));
     assert!(opener.is_compatible_to(&service));
     assert!(!service.is_compatible_to(&opener));

@@ -22,14 +22,14 @@ fn sources(folder: &Path) -> Vec<PathBuf> {
 /// The one file of limits, which is compared with the library.
 const LIMITS: &str = "limits.rs";
 
-/// The lines of code of all sources but the declarations and the limits, without comments and pages,
-/// each with its file.
+/// The lines of code of all sources but the declarations, the limits and the examples, without
+/// comments and pages, each with its file.
 fn code() -> Vec<(String, String)> {
     let folder = Path::new(env!("CARGO_MANIFEST_DIR")).join("src");
     let mut lines = Vec::new();
     for file in sources(&folder) {
         let name = file.strip_prefix(&folder).unwrap().display().to_string();
-        if name == "sys.rs" || name == LIMITS {
+        if ["sys.rs", "examples.rs", LIMITS].contains(&name.as_str()) {
             continue;
         }
         for line in fs::read_to_string(&file).unwrap().lines() {

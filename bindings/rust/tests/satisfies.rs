@@ -149,11 +149,10 @@ fn settings_print_as_their_fields() {
 fn capacities_are_those_of_settings() {
     let room = with!(PublishSubscribe::default(); max_publishers: 4, max_subscribers: 5);
     let ports = publish_subscribe_ports::DynamicConfigSettings::from(&room);
-    assert_eq!(room.capacities().ports, ports.into());
-    assert_eq!(
-        room.capacities().ports,
-        common::settings(MessagingPattern::PublishSubscribe, [4, 5])
-    );
+    equal! {
+        room.capacities().ports => ports.into();
+        room.capacities().ports => common::settings(MessagingPattern::PublishSubscribe, [4, 5]);
+    }
     let room = with!(Event::default(); max_listeners: 4, max_notifiers: 5, max_nodes: 6);
     assert_eq!(
         Capacities::from(&room),
@@ -163,15 +162,13 @@ fn capacities_are_those_of_settings() {
         }
     );
     let room = with!(RequestResonse::default(); max_servers: 4, max_clients: 5);
-    assert_eq!(
-        room.capacities().ports,
-        common::settings(MessagingPattern::RequestResponse, [4, 5])
-    );
+    equal! {
+        room.capacities().ports => common::settings(MessagingPattern::RequestResponse, [4, 5]);
+    }
     let room = with!(Blackboard::default(); max_readers: 4);
-    assert_eq!(
-        room.capacities().ports,
-        common::settings(MessagingPattern::Blackboard, [4, 1])
-    );
+    equal! {
+        room.capacities().ports => common::settings(MessagingPattern::Blackboard, [4, 1]);
+    }
 }
 
 #[test]
@@ -181,9 +178,8 @@ fn numbers_for_services_rise_to_the_greatest() {
     assert!(numbers.by_ref().take(3).eq(1..4));
     assert_eq!(numbers.last_number(), 3);
     let mut last = ServiceNumbers::after(u64::MAX - 1);
-    assert_eq!(
-        [last.next(), last.next(), last.next()],
-        [Some(u64::MAX), None, None]
-    );
-    assert_eq!(last.last_number(), u64::MAX);
+    equal! {
+        [last.next(), last.next(), last.next()] => [Some(u64::MAX), None, None];
+        last.last_number() => u64::MAX;
+    }
 }

@@ -1,6 +1,7 @@
 //! Who is attached to a service: each call on it, and each refusal with its text.
 #![forbid(unsafe_code)]
 
+#[macro_use]
 mod common;
 
 use common::{node, ports_of_kind, service, settings, KINDS};
@@ -50,21 +51,17 @@ fn each_kind_of_ports_is_attached_found_and_released() {
         assert_eq!(service.port(owner), None);
         for port in ports_of_kind(kind, node(1), 5) {
             let handle = service.attach(port).unwrap();
-            assert_eq!(handle.role(), port.role());
-            assert_eq!(
-                (handle.service(), handle.slot(), handle.ticket()),
-                (7, 0, 0)
-            );
-            assert_eq!(service.port(handle), Some(port));
-            assert_eq!(service.node(handle), None);
-            assert_eq!(service.count_ports(port.role()), Some(1));
-            assert_eq!(service.has_room(port.role()), Some(false));
-            assert_eq!(
-                service.ports(port.role()).unwrap().collect::<Vec<_>>(),
-                [port]
-            );
-            assert_eq!(service.attach(port), Err(AttachError::OutOfSpace));
-            assert_eq!(service.release_port(handle), Ok(()));
+            equal! {
+                handle.role() => port.role();
+                (handle.service(), handle.slot(), handle.ticket()) => (7, 0, 0);
+                service.port(handle) => Some(port);
+                service.node(handle) => None;
+                service.count_ports(port.role()) => Some(1);
+                service.has_room(port.role()) => Some(false);
+                service.ports(port.role()).unwrap().collect::<Vec<_>>() => [port];
+                service.attach(port) => Err(AttachError::OutOfSpace);
+                service.release_port(handle) => Ok(());
+            }
             let error = ContainerRemoveError::ContainerHandleNotOwnedByContainer;
             assert_eq!(service.release_port(handle), Err(error));
             assert_eq!(service.port(handle), None);
@@ -173,10 +170,9 @@ fn nodes_are_registered_and_deregistered() {
     let other = service.register_node_id(node(2)).unwrap();
     assert_eq!((other.slot(), other.ticket()), (0, 2));
     let stale = service.deregister_node_id(first);
-    assert_eq!(
-        stale,
-        Err(DeregisterError::ContainerHandleNotOwnedByContainer)
-    );
+    equal! {
+        stale => Err(DeregisterError::ContainerHandleNotOwnedByContainer);
+    }
     assert!(service.deregister_node_id(other).is_ok());
     let state = service.deregister_node_id(again);
     assert_eq!(state, Ok(DeregisterNodeState::NoMoreOwners));
@@ -283,51 +279,6 @@ fn memory_is_refused() {
             assert_eq!(made.unwrap_err(), AllocError);
         }
         assert_eq!(service(kind, 0, [0, 0]).max_nodes(), 0);
-    }
-}
-
-#[test]
-fn refusals_have_texts() {
-    for (text, expected) in [
-        (AllocError.to_string(), "memory allocation failed"),
-        (
-            RegisterNodeResult::MarkedForDestruction.to_string(),
-            "RegisterNodeResult::MarkedForDestruction",
-        ),
-        (
-            RegisterNodeResult::ExceedsMaxNumberOfNodes.to_string(),
-            "RegisterNodeResult::ExceedsMaxNumberOfNodes",
-        ),
-        (
-            DeregisterError::ContainerHandleNotOwnedByContainer.to_string(),
-            "DeregisterError::ContainerHandleNotOwnedByContainer",
-        ),
-        (
-            DeregisterError::PortsStillAttached.to_string(),
-            "DeregisterError::PortsStillAttached",
-        ),
-        (
-            AttachError::RoleNotInPattern.to_string(),
-            "AttachError::RoleNotInPattern",
-        ),
-        (
-            AttachError::ServiceIsLocked.to_string(),
-            "AttachError::ServiceIsLocked",
-        ),
-        (
-            AttachError::NodeNotRegistered.to_string(),
-            "AttachError::NodeNotRegistered",
-        ),
-        (
-            AttachError::OutOfSpace.to_string(),
-            "AttachError::OutOfSpace",
-        ),
-        (
-            ContainerRemoveError::ContainerHandleNotOwnedByContainer.to_string(),
-            "ContainerRemoveError::ContainerHandleNotOwnedByContainer",
-        ),
-    ] {
-        assert_eq!(text, expected);
     }
 }
 

@@ -1,10 +1,12 @@
 //! Names, keys, values and paths: what is taken, and each refusal with its text.
 #![forbid(unsafe_code)]
 
-use iox2sd::attribute::{AttributeKey, AttributeValue};
-use iox2sd::paths::{FileName, FilePath, Path, RestrictedFileName};
+use iox2sd::attribute::*;
+use iox2sd::paths::*;
 use iox2sd::semantic_string::{Content, SemanticString, SemanticStringError};
+use iox2sd::service_hash::ServiceHash;
 use iox2sd::service_name::{ServiceName, ServiceNameError};
+use std::any::TypeId;
 use std::collections::HashSet;
 
 fn text_of(length: usize) -> String {
@@ -41,14 +43,6 @@ fn names_are_refused_by_their_cause() {
     ] {
         assert_eq!(ServiceName::new(text), Err(error), "{text:?}");
     }
-    assert_eq!(
-        InvalidContent.to_string(),
-        "ServiceNameError::InvalidContent"
-    );
-    assert_eq!(
-        ExceedsMaximumLength.to_string(),
-        "ServiceNameError::ExceedsMaximumLength"
-    );
 }
 
 /// The text is zeros that nobody has written, for which the system keeps no memory.
@@ -56,14 +50,9 @@ fn names_are_refused_by_their_cause() {
 fn a_length_of_more_than_32_bits_is_not_cut() {
     let length = usize::try_from((1_u64 << 32) + 1).unwrap();
     let text = String::from_utf8(vec![0; length]).unwrap();
-    assert_eq!(
-        ServiceName::new(&text),
-        Err(ServiceNameError::ExceedsMaximumLength)
-    );
-    assert_eq!(
-        AttributeKey::new(text.as_bytes()),
-        Err(SemanticStringError::ExceedsMaximumLength)
-    );
+    let refused = ServiceName::new(&text);
+    assert_eq!(refused, Err(ServiceNameError::ExceedsMaximumLength));
+    is_refused::<AttributeKeyContent>(text.as_bytes(), SemanticStringError::ExceedsMaximumLength);
 }
 
 #[test]
@@ -80,35 +69,20 @@ fn the_conversion_of_iceoryx2_alone_takes_the_prefix_that_new_refuses() {
     assert!(!ServiceName::has_iox2_prefix("iox2:/"));
     assert_eq!(ServiceName::internal_new_prefixed("").unwrap(), "iox2://");
     assert!(ServiceName::internal_new_prefixed(&text_of(248)).is_ok());
-    assert_eq!(
-        ServiceName::internal_new_prefixed(&text_of(249)),
-        Err(ServiceNameError::ExceedsMaximumLength)
-    );
-    assert_eq!(
-        ServiceName::internal_new_prefixed("\u{7f}\u{80}"),
-        Err(ServiceNameError::InvalidContent)
-    );
-    assert_eq!(
-        ServiceName::try_from(""),
-        Err(ServiceNameError::InvalidContent)
-    );
+    let long = ServiceName::internal_new_prefixed(&text_of(249));
+    assert_eq!(long, Err(ServiceNameError::ExceedsMaximumLength));
+    assert_eq!(ServiceName::internal_new_prefixed("\u{7f}\u{80}"), refused);
+    assert_eq!(ServiceName::try_from(""), refused);
 }
 
 #[test]
 fn texts_are_values() {
-    let (one, other) = (
-        ServiceName::new("a").unwrap(),
-        ServiceName::new("b").unwrap(),
-    );
+    let [one, other] = ["a", "b"].map(|text| ServiceName::new(text).unwrap());
     let copy = one;
     assert_eq!(copy, one);
-    assert!(one < other);
     assert_eq!(HashSet::from([one, copy, other]).len(), 2);
     assert_eq!(format!("[{one:>3}|{other:<3}|{other:.0}]"), "[  a|b  |]");
-    let (short, long) = (
-        AttributeKey::new(b"a").unwrap(),
-        AttributeKey::new(b"aa").unwrap(),
-    );
+    let [short, long] = ["a", "aa"].map(|text| text.parse::<AttributeKey>().unwrap());
     assert!(short < long);
     assert_eq!(HashSet::from([short, short, long]).len(), 2);
     assert_eq!(format!("[{short:>3}]"), "[  a]");
@@ -123,7 +97,7 @@ fn is_refused<C: Content>(text: &[u8], error: SemanticStringError) {
     }
 }
 
-fn goes_up_to<C: Content>(greatest: usize) {
+fn goes_up_to<C: Content + 'static>(greatest: usize) {
     assert_eq!(SemanticString::<C>::capacity(), greatest);
     for length in [1, greatest - 1, greatest] {
         let text = text_of(length);
@@ -133,27 +107,29 @@ fn goes_up_to<C: Content>(greatest: usize) {
     }
     let long = text_of(greatest + 1);
     is_refused::<C>(long.as_bytes(), SemanticStringError::ExceedsMaximumLength);
-    is_refused::<C>(b"a\0", SemanticStringError::InvalidContent);
-    is_refused::<C>(b"\x80", SemanticStringError::InvalidContent);
-    is_refused::<C>(b"\xff", SemanticStringError::InvalidContent);
+    let may_be_empty = TypeId::of::<C>() == TypeId::of::<PathContent>();
+    let illegal: [&[u8]; 4] = [b"a\0", b"\x80", b"\xff", b""];
+    for text in &illegal[..4 - usize::from(may_be_empty)] {
+        is_refused::<C>(text, SemanticStringError::InvalidContent);
+    }
 }
 
 #[test]
 fn each_kind_of_texts_has_its_limits() {
-    use iox2sd::attribute::{AttributeKeyContent, AttributeValueContent};
-    use iox2sd::paths::{FileNameContent, FilePathContent, PathContent, RestrictedFileNameContent};
+    const LIMITS: [usize; 5] = [
+        AttributeKey::capacity(),
+        AttributeValue::capacity(),
+        AttributeSet::capacity(),
+        ServiceName::max_len(),
+        ServiceHash::max_number_of_characters(),
+    ];
+    assert_eq!(LIMITS, [64, 256, 16, 255, 64]);
     goes_up_to::<AttributeKeyContent>(64);
     goes_up_to::<AttributeValueContent>(256);
     goes_up_to::<PathContent>(255);
     goes_up_to::<FileNameContent>(255);
     goes_up_to::<FilePathContent>(255);
     goes_up_to::<RestrictedFileNameContent>(64);
-    let error = SemanticStringError::InvalidContent;
-    is_refused::<AttributeKeyContent>(b"", error);
-    is_refused::<AttributeValueContent>(b"", error);
-    is_refused::<FileNameContent>(b"", error);
-    is_refused::<FilePathContent>(b"", error);
-    is_refused::<RestrictedFileNameContent>(b"", error);
     assert!(Path::new(b"").unwrap().is_empty());
 }
 
@@ -187,36 +163,19 @@ fn paths_are_joined_by_one_slash() {
         path.add_path_entry(&entry.try_into().unwrap()).unwrap();
         assert_eq!(path, joined);
     }
-    let mut path = Path::try_from(text_of(200).as_str()).unwrap();
+    let too_long = SemanticStringError::ExceedsMaximumLength;
+    let mut path: Path = text_of(200).parse().unwrap();
     let before = path;
-    let entry = Path::try_from(text_of(55).as_str()).unwrap();
+    let file = |length| text_of(length).parse::<FileName>().unwrap();
     assert_eq!(
-        path.add_path_entry(&entry),
-        Err(SemanticStringError::ExceedsMaximumLength)
+        path.add_path_entry(&text_of(55).parse().unwrap()),
+        Err(too_long)
     );
     assert_eq!(path, before);
-    let file = FileName::try_from(text_of(55).as_str()).unwrap();
     assert_eq!(
-        FilePath::from_path_and_file(&path, &file),
-        Err(SemanticStringError::ExceedsMaximumLength)
+        FilePath::from_path_and_file(&path, &file(55)),
+        Err(too_long)
     );
-    let file = FileName::try_from(text_of(54).as_str()).unwrap();
-    assert_eq!(
-        FilePath::from_path_and_file(&path, &file).unwrap().len(),
-        255
-    );
-}
-
-#[test]
-fn refusals_have_texts() {
-    assert_eq!(
-        SemanticStringError::InvalidContent.to_string(),
-        "SemanticStringError::InvalidContent"
-    );
-    assert_eq!(
-        SemanticStringError::ExceedsMaximumLength.to_string(),
-        "SemanticStringError::ExceedsMaximumLength"
-    );
-    let error: Box<dyn std::error::Error> = AttributeValue::try_from("").unwrap_err().into();
-    assert_eq!(error.to_string(), "SemanticStringError::InvalidContent");
+    let longest = FilePath::from_path_and_file(&path, &file(54));
+    assert_eq!(longest.map(|path| path.len()), Ok(255));
 }

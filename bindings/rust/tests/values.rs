@@ -4,26 +4,17 @@
 
 mod common;
 
-use common::{ports_of_kind, KINDS};
-use iox2sd::attribute::{Attribute, AttributeSet, AttributeSpecifier, AttributeVerificationError};
-use iox2sd::config::{AllocationStrategy, BackpressureStrategy, Config, DataSegmentType, EventId};
+use common::{descriptions, ports_of_kind, KINDS};
+use iox2sd::attribute::*;
+use iox2sd::config::*;
 use iox2sd::container::{ContainerHandle, Role};
-use iox2sd::dynamic_config::{
-    event, ClientDetails, ListenerDetails, MessagingPatternSettings, NotifierDetails,
-    PublisherDetails, ReaderDetails, ServerDetails, SubscriberDetails, WriterDetails,
-};
-use iox2sd::identifiers::{
-    IdError, ProcessId, Time, UniqueClientId, UniqueListenerId, UniqueNodeId, UniqueNotifierId,
-    UniquePortId, UniquePublisherId, UniqueReaderId, UniqueServerId, UniqueServiceId,
-    UniqueSubscriberId, UniqueWriterId,
-};
+use iox2sd::dynamic_config::*;
+use iox2sd::identifiers::*;
 use iox2sd::messaging_pattern::MessagingPattern;
 use iox2sd::paths::{FileName, Path};
 use iox2sd::service_name::ServiceName;
 use iox2sd::static_config::event::Deadline;
-use iox2sd::static_config::message_type_details::{
-    Incompatibility, IncompatibilityCause, MessagePart, MessageTypeDetails, TypeDetail, TypeVariant,
-};
+use iox2sd::static_config::message_type_details::*;
 use iox2sd::static_config::StaticConfig;
 use std::collections::hash_map::DefaultHasher;
 use std::fmt::Debug;
@@ -175,6 +166,13 @@ fn ids_of_ports_differ_by_their_kinds() {
         ids[3],
         UniquePortId::Listener(UniqueListenerId::new(1, 1, 1, 1))
     );
+    let value = UniqueServiceId::new(1, 1, 1, 1);
+    for id in ids {
+        assert_eq!(
+            (id.value(), id.to_string()),
+            (value.value(), value.to_string())
+        );
+    }
 }
 
 #[test]
@@ -226,23 +224,24 @@ fn texts_and_attributes_differ() -> Result<(), Box<dyn std::error::Error>> {
     ]);
     let set = |pairs: &[(&str, &str)]| {
         let mut set = AttributeSet::new();
-        for (key, value) in pairs {
-            set.add(&key.parse().unwrap(), &value.parse().unwrap())
-                .unwrap();
+        for pair in pairs.iter().map(|(key, value)| attribute(key, value)) {
+            set.add(pair.key(), pair.value()).unwrap();
         }
         set
     };
     let (av, bv) = (("a", "v"), ("b", "v"));
-    differ_hashed(&[
-        set(&[]),
-        set(&[av]),
-        set(&[bv]),
-        set(&[("a", "w")]),
-        set(&[av, av]),
-        set(&[av, bv]),
-        set(&[av, av, bv]),
-        set(&[av, bv, bv]),
-    ]);
+    let aw = ("a", "w");
+    let rising: [&[_]; 8] = [
+        &[],
+        &[av],
+        &[av, av],
+        &[av, av, bv],
+        &[av, bv],
+        &[av, bv, bv],
+        &[aw],
+        &[bv],
+    ];
+    differ_ordered(&rising.map(set));
     assert_eq!(set(&[av, bv, av]), set(&[bv, av, av]));
     let (key, value) = ("a".parse()?, "v".parse()?);
     differ(&[
@@ -289,12 +288,8 @@ fn details_of_ports_differ() {
         number_of_notifiers: 2,
     };
     let rooms = changed!(room; number_of_listeners = 9, number_of_notifiers = 9);
-    differ_hashed(
-        &rooms
-            .into_iter()
-            .map(MessagingPatternSettings::from)
-            .collect::<Vec<_>>(),
-    );
+    let rooms = rooms.into_iter().map(MessagingPatternSettings::from);
+    differ_hashed(&rooms.collect::<Vec<_>>());
 }
 
 #[test]
@@ -376,40 +371,28 @@ fn settings_differ() {
 
 #[test]
 fn descriptions_differ() {
-    let made = |name: &str, counter, attributes: &AttributeSet| {
-        let (name, id) = (
-            name.parse().unwrap(),
-            UniqueServiceId::new(1, 2, 3, counter),
-        );
-        let service = StaticConfig::new_event(&name, &Config::default(), id).unwrap();
-        service.with_attributes(attributes)
-    };
-    let specifier = AttributeSpecifier::new();
-    let specifier = specifier
-        .define(&"a".parse().unwrap(), &"v".parse().unwrap())
-        .unwrap();
-    let none = AttributeSet::new();
-    let mut fewer = made("a", 4, &none);
-    fewer.event_mut().max_nodes = 1;
-    let name = "a".parse().unwrap();
-    let id = UniqueServiceId::new(1, 2, 3, 4);
     let config = Config::default();
-    differ(&[
-        made("a", 4, &none),
-        made("b", 4, &none),
-        made("a", 5, &none),
-        made("a", 4, specifier.attributes()),
+    let id = |counter| UniqueServiceId::new(1, 2, 3, counter);
+    let made = |name: &str, counter| {
+        StaticConfig::new_event(&name.parse().unwrap(), &config, id(counter)).unwrap()
+    };
+    let (key, value) = ("a".parse().unwrap(), "v".parse().unwrap());
+    let specifier = AttributeSpecifier::new().define(&key, &value).unwrap();
+    let mut fewer = made("a", 4);
+    fewer.event_mut().max_nodes = 1;
+    let mut all = descriptions(&config, id(4)).to_vec();
+    all.extend([
+        made("b", 4),
+        made("a", 5),
+        made("a", 4).with_attributes(specifier.attributes()),
         fewer,
-        StaticConfig::new_publish_subscribe(&name, &config, id).unwrap(),
-        StaticConfig::new_request_response(&name, &config, id).unwrap(),
-        StaticConfig::new_blackboard(&name, &config, id).unwrap(),
     ]);
-    let mut samples = StaticConfig::new_publish_subscribe(&name, &config, id).unwrap();
-    let samples = *samples.publish_subscribe_mut();
+    differ(&all);
+    let samples = *all[0].publish_subscribe();
     differ(
         &changed!(samples; max_subscribers = 99, max_publishers = 99, max_nodes = 99,
         history_size = 99, subscriber_max_buffer_size = 99, subscriber_max_borrowed_samples = 99,
         enable_safe_overflow = false, message_type_details = message("p")),
     );
-    assert_ne!(MessagingPattern::Event, MessagingPattern::Blackboard);
+    differ_ordered(&MessagingPattern::ALL);
 }

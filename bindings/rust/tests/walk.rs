@@ -3,19 +3,11 @@
 
 mod common;
 
-use common::{settings, KINDS};
-use iox2sd::config::DataSegmentType;
+use common::{port, settings, KINDS};
 use iox2sd::conform::{check_log, Recorder, Verdict};
 use iox2sd::container::{ContainerHandle, Role};
-use iox2sd::dynamic_config::{
-    AttachError, ClientDetails, DeregisterError, DeregisterNodeState, ListenerDetails,
-    NotifierDetails, PortCleanupAction, PortDetails, PublisherDetails, ReaderDetails,
-    RegisterNodeResult, ServerDetails, SubscriberDetails, WriterDetails,
-};
-use iox2sd::identifiers::{
-    UniqueClientId, UniqueListenerId, UniqueNodeId, UniqueNotifierId, UniquePublisherId,
-    UniqueReaderId, UniqueServerId, UniqueSubscriberId, UniqueWriterId,
-};
+use iox2sd::dynamic_config::*;
+use iox2sd::identifiers::UniqueNodeId;
 use iox2sd::messaging_pattern::MessagingPattern;
 use iox2sd::script::{self, ScriptError};
 use std::fmt::Display;
@@ -37,61 +29,6 @@ impl Random {
     }
 }
 
-/// A port without samples and buffers, as a script has them.
-fn port(role: Role, id: [u32; 4], node_id: UniqueNodeId) -> PortDetails {
-    let [process, seconds, nanoseconds, counter] = id;
-    /// The details of one kind of ports, with what the kind has besides the ids.
-    macro_rules! details {
-        ($details:ident, $id:ident: $id_type:ident $(, $field:ident: $value:expr)*) => {
-            $details {
-                $id: $id_type::new(process, seconds, nanoseconds, counter),
-                node_id,
-                $($field: $value,)*
-            }
-            .into()
-        };
-    }
-    let data_segment_type = DataSegmentType::Static;
-    match role {
-        Role::Publisher => details!(
-            PublisherDetails,
-            publisher_id: UniquePublisherId,
-            number_of_samples: 0,
-            max_slice_len: 0,
-            data_segment_type: data_segment_type,
-            max_number_of_segments: 1
-        ),
-        Role::Subscriber => details!(
-            SubscriberDetails,
-            subscriber_id: UniqueSubscriberId,
-            buffer_size: 0
-        ),
-        Role::Listener => details!(ListenerDetails, listener_id: UniqueListenerId),
-        Role::Notifier => details!(NotifierDetails, notifier_id: UniqueNotifierId),
-        Role::Server => details!(
-            ServerDetails,
-            server_id: UniqueServerId,
-            request_buffer_size: 0,
-            number_of_responses: 0,
-            max_slice_len: 0,
-            data_segment_type: data_segment_type,
-            max_number_of_segments: 1
-        ),
-        Role::Client => details!(
-            ClientDetails,
-            client_id: UniqueClientId,
-            number_of_requests: 0,
-            response_buffer_size: 0,
-            max_slice_len: 0,
-            data_segment_type: data_segment_type,
-            max_number_of_segments: 1
-        ),
-        Role::Reader => details!(ReaderDetails, reader_id: UniqueReaderId),
-        Role::Writer => details!(WriterDetails, writer_id: UniqueWriterId),
-        Role::Node => unreachable!("a port is no node"),
-    }
-}
-
 fn node([process, seconds, nanoseconds, counter]: [u32; 4]) -> UniqueNodeId {
     UniqueNodeId::new(process, seconds, nanoseconds, counter).unwrap()
 }
@@ -104,10 +41,10 @@ fn listed(ids: impl Iterator<Item = impl Display>) -> String {
     ids.fold("list".to_string(), |line, id| format!("{line} {id}"))
 }
 
-fn state(state: DeregisterNodeState) -> String {
+fn state(state: DeregisterNodeState) -> &'static str {
     match state {
-        DeregisterNodeState::HasOwners => "has-owners".to_string(),
-        DeregisterNodeState::NoMoreOwners => "no-owners".to_string(),
+        DeregisterNodeState::HasOwners => "has-owners",
+        DeregisterNodeState::NoMoreOwners => "no-owners",
     }
 }
 
@@ -133,13 +70,13 @@ impl Walk {
 
     fn register(&mut self, random: &mut Random) {
         let id = random.id();
-        let reply = self.service.register_node_id(node(id)).map_err(|error| {
-            let text = match error {
-                RegisterNodeResult::MarkedForDestruction => "locked",
-                RegisterNodeResult::ExceedsMaxNumberOfNodes => "full",
-            };
-            text.to_string()
-        });
+        let reply = self
+            .service
+            .register_node_id(node(id))
+            .map_err(|error| match error {
+                RegisterNodeResult::MarkedForDestruction => "locked".into(),
+                RegisterNodeResult::ExceedsMaxNumberOfNodes => "full".into(),
+            });
         self.note(&format!("register {}", dotted(id)), reply);
     }
 
@@ -160,16 +97,15 @@ impl Walk {
 
     fn deregister(&mut self, random: &mut Random) {
         let (number, handle) = self.earlier(true, random);
+        use DeregisterError::{ContainerHandleNotOwnedByContainer, PortsStillAttached};
         let text = match handle.map(|handle| self.service.deregister_node_id(handle)) {
-            None => "no-handle".to_string(),
+            None => "no-handle",
             Some(Ok(left)) => state(left),
-            Some(Err(DeregisterError::PortsStillAttached)) => "ports-attached".to_string(),
-            Some(Err(DeregisterError::ContainerHandleNotOwnedByContainer)) => {
-                "not-owned".to_string()
-            }
+            Some(Err(PortsStillAttached)) => "ports-attached",
+            Some(Err(ContainerHandleNotOwnedByContainer)) => "not-owned",
             Some(Err(other)) => panic!("{other}"),
         };
-        self.note(&format!("deregister {number}"), Err(text));
+        self.note(&format!("deregister {number}"), Err(text.into()));
     }
 
     fn release(&mut self, random: &mut Random) {
@@ -191,24 +127,17 @@ impl Walk {
     fn add(&mut self, random: &mut Random) {
         let (role, owner) = (self.role(random), random.id());
         let id = [7, 0, 0, random.below(5) as u32];
-        let reply = self
-            .service
-            .attach(port(role, id, node(owner)))
-            .map_err(|error| {
-                let text = match error {
-                    AttachError::RoleNotInPattern => "wrong-pattern",
-                    AttachError::ServiceIsLocked => "locked",
-                    AttachError::NodeNotRegistered => "not-registered",
-                    AttachError::OutOfSpace => "full",
-                    other => panic!("{other}"),
-                };
-                text.to_string()
-            });
+        let reply = self.service.attach(port(role, id, node(owner)));
+        let reply = reply.map_err(|error| match error {
+            AttachError::RoleNotInPattern => "wrong-pattern".into(),
+            AttachError::ServiceIsLocked => "locked".into(),
+            AttachError::NodeNotRegistered => "not-registered".into(),
+            AttachError::OutOfSpace => "full".into(),
+            other => panic!("{other}"),
+        });
         let name = role.to_string().to_lowercase();
-        self.note(
-            &format!("add {name} {} {}", dotted(id), dotted(owner)),
-            reply,
-        );
+        let line = format!("add {name} {} {}", dotted(id), dotted(owner));
+        self.note(&line, reply);
     }
 
     fn ask(&mut self, random: &mut Random) {
@@ -223,10 +152,8 @@ impl Walk {
             }
             _ => {
                 let count = self.service.count_ports(role);
-                (
-                    format!("count {name}"),
-                    count.map(|count| format!("count {count}")),
-                )
+                let reply = count.map(|count| format!("count {count}"));
+                (format!("count {name}"), reply)
             }
         };
         self.note(&line, Err(reply.unwrap_or("wrong-pattern".to_string())));
@@ -234,30 +161,19 @@ impl Walk {
 
     fn dead(&mut self, random: &mut Random) {
         let id = random.id();
-        let kept: Vec<_> = (0..random.below(4))
-            .map(|_| [7, 0, 0, random.below(5) as u32])
-            .collect();
-        let numbers: Vec<_> = kept
-            .iter()
-            .map(|id| (7 << 96) + u128::from(id[3]))
-            .collect();
+        let kept = (0..random.below(4)).map(|_| [7, 0, 0, random.below(5) as u32]);
+        let kept: Vec<_> = kept.collect();
         let left = self.service.remove_dead_node_id(&node(id), |port| {
-            if numbers.contains(&port.value()) {
-                PortCleanupAction::SkipPort
-            } else {
-                PortCleanupAction::RemovePort
+            let is_kept = |id: &[u32; 4]| port.value() == (7 << 96) + u128::from(id[3]);
+            match kept.iter().any(is_kept) {
+                true => PortCleanupAction::SkipPort,
+                false => PortCleanupAction::RemovePort,
             }
         });
-        let skip = kept
-            .iter()
-            .map(|id| format!(" {}", dotted(*id)))
-            .collect::<String>();
-        let skip = if kept.is_empty() {
-            skip
-        } else {
-            format!(" skip{skip}")
-        };
-        self.note(&format!("dead {}{skip}", dotted(id)), Err(state(left)));
+        let skipped: String = kept.iter().map(|id| format!(" {}", dotted(*id))).collect();
+        let skip = if kept.is_empty() { "" } else { " skip" };
+        let line = format!("dead {}{skip}{skipped}", dotted(id));
+        self.note(&line, Err(state(left).into()));
     }
 }
 
@@ -296,12 +212,8 @@ fn random_calls_are_those_of_a_script() {
         for _ in 0..100 {
             let steps = 1 + random.below(60);
             let walk = walk(kind, &mut random, steps);
-            assert_eq!(
-                script::run(&walk.script),
-                Ok(walk.replies.clone()),
-                "{}",
-                walk.script
-            );
+            let replies = script::run(&walk.script);
+            assert_eq!(replies.as_ref(), Ok(&walk.replies), "{}", walk.script);
             let calls = walk.replies.lines().filter(|reply| *reply != "no-handle");
             let conforms = Verdict::Conforms {
                 calls: calls.count(),
@@ -310,25 +222,11 @@ fn random_calls_are_those_of_a_script() {
             seen += &walk.replies;
         }
     }
-    for reply in [
-        "handle ",
-        "locked",
-        "full",
-        "not-registered",
-        "wrong-pattern",
-        "has-owners",
-        "no-owners",
-        "ports-attached",
-        "released",
-        "not-owned",
-        "no-handle",
-        "count ",
-        "list ",
-    ] {
-        assert!(
-            seen.lines().filter(|line| line.starts_with(reply)).count() > 20,
-            "{reply}"
-        );
+    let words = "handle locked full not-registered wrong-pattern has-owners no-owners \
+                 ports-attached released not-owned no-handle count list";
+    for word in words.split_whitespace() {
+        let is_it = |line: &&str| line.split(' ').next() == Some(word);
+        assert!(seen.lines().filter(is_it).count() > 20, "{word}");
     }
 }
 

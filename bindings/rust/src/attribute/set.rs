@@ -1,5 +1,6 @@
 use super::{Attribute, AttributeKey, AttributeValue};
 use crate::callback_progression::visit;
+use crate::container::Entries;
 use crate::display::errors;
 use crate::library;
 use crate::limits;
@@ -8,24 +9,17 @@ use crate::CallbackProgression;
 use std::iter::FusedIterator;
 use std::ops::{Deref, Range};
 use std::slice;
-use std::vec;
 
 errors! {
     /// Why an attribute or a key was not added.
     ///
-    /// ```
-    /// use iox2sd::attribute::{AttributeDefinitionError, AttributeSet};
-    ///
-    /// let (site, north) = ("site".try_into()?, "north".try_into()?);
-    /// let mut set = AttributeSet::new();
-    /// for _ in 0..AttributeSet::capacity() {
+    #[doc = example!(attributes)]
+    /// while set.len() < AttributeSet::capacity() {
     ///     set.add(&site, &north)?;
     /// }
     /// let refused = set.add(&site, &north).unwrap_err();
-    /// assert_eq!(refused, AttributeDefinitionError::ExceedsMaxSupportedAttributes);
     /// assert_eq!(refused.to_string(), "AttributeDefinitionError::ExceedsMaxSupportedAttributes");
-    /// # Ok::<(), Box<dyn std::error::Error>>(())
-    /// ```
+    #[doc = example!(end)]
     AttributeDefinitionError {
         /// There are as many already as there may be.
         ExceedsMaxSupportedAttributes = IOX2SD_STATUS_TOO_MANY | IOX2SD_STATUS_TOO_MANY_REQUIRED,
@@ -35,24 +29,14 @@ errors! {
 /// The attributes of a service, at most [`AttributeSet::capacity`] of them, in the order of their
 /// keys and then of their values. A key may have several values, and a pair may stand there twice.
 ///
-/// ```
-/// use iox2sd::attribute::{AttributeDefinitionError, AttributeSet};
-///
-/// let mut set = AttributeSet::new();
-/// set.add(&"site".try_into()?, &"north".try_into()?)?;
-/// set.add(&"site".try_into()?, &"east".try_into()?)?;
-/// let values: Vec<_> = set.key_values(&"site".try_into()?).collect();
-/// assert_eq!(values, ["east", "north"]);
-///
+#[doc = example!(attributes)]
+/// assert!(set.key_values(&site).eq(["east", "north"]));
 /// while set.len() < AttributeSet::capacity() {
-///     set.add(&"robot".try_into()?, &"r2".try_into()?)?;
+///     set.add(&robot, &"r2".parse()?)?;
 /// }
-/// assert_eq!(
-///     set.add(&"robot".try_into()?, &"r3".try_into()?),
-///     Err(AttributeDefinitionError::ExceedsMaxSupportedAttributes)
-/// );
-/// # Ok::<(), Box<dyn std::error::Error>>(())
-/// ```
+/// let refused = set.add(&robot, &"r3".parse()?);
+/// assert_eq!(refused, Err(AttributeDefinitionError::ExceedsMaxSupportedAttributes));
+#[doc = example!(end)]
 #[derive(Clone, Debug, Default, PartialEq, Eq, PartialOrd, Ord, Hash)]
 pub struct AttributeSet {
     attributes: Vec<Attribute>,
@@ -79,14 +63,9 @@ impl AttributeSet {
     ///
     /// # Examples
     ///
-    /// ```
-    /// use iox2sd::attribute::AttributeSet;
-    ///
-    /// let mut set = AttributeSet::new();
-    /// set.add(&"site".try_into()?, &"north".try_into()?)?;
-    /// assert_eq!(set[0].value(), "north");
-    /// # Ok::<(), Box<dyn std::error::Error>>(())
-    /// ```
+    #[doc = example!(attributes)]
+    /// assert_eq!((set[0].value(), set[1].value()), (&east, &north));
+    #[doc = example!(end)]
     pub fn add(
         &mut self,
         key: &AttributeKey,
@@ -100,15 +79,9 @@ impl AttributeSet {
 
     /// How many attributes there are.
     ///
-    /// ```
-    /// use iox2sd::attribute::AttributeSet;
-    ///
-    /// let mut set = AttributeSet::new();
-    /// set.add(&"site".try_into()?, &"north".try_into()?)?;
-    /// set.add(&"site".try_into()?, &"north".try_into()?)?;
-    /// assert_eq!(set.number_of_attributes(), 2);
-    /// # Ok::<(), Box<dyn std::error::Error>>(())
-    /// ```
+    #[doc = example!(attributes)]
+    /// assert_eq!((set.number_of_attributes(), set.len()), (2, 2));
+    #[doc = example!(end)]
     #[must_use]
     pub fn number_of_attributes(&self) -> usize {
         self.attributes.len()
@@ -127,16 +100,9 @@ impl AttributeSet {
 
     /// How many values a key has.
     ///
-    /// ```
-    /// use iox2sd::attribute::AttributeSet;
-    ///
-    /// let mut set = AttributeSet::new();
-    /// set.add(&"site".try_into()?, &"north".try_into()?)?;
-    /// set.add(&"site".try_into()?, &"east".try_into()?)?;
-    /// assert_eq!(set.number_of_key_values(&"site".try_into()?), 2);
-    /// assert_eq!(set.number_of_key_values(&"robot".try_into()?), 0);
-    /// # Ok::<(), Box<dyn std::error::Error>>(())
-    /// ```
+    #[doc = example!(attributes)]
+    /// assert_eq!((set.number_of_key_values(&site), set.number_of_key_values(&robot)), (2, 0));
+    #[doc = example!(end)]
     #[must_use]
     pub fn number_of_key_values(&self, key: &AttributeKey) -> usize {
         library::attribute_values(self, key).unwrap_or_else(|status| library::unexpected(status))
@@ -144,18 +110,9 @@ impl AttributeSet {
 
     /// The value with this index among the values that a key has, or `None` where it has no more.
     ///
-    /// ```
-    /// use iox2sd::attribute::AttributeSet;
-    ///
-    /// let site = "site".try_into()?;
-    /// let mut set = AttributeSet::new();
-    /// set.add(&site, &"north".try_into()?)?;
-    /// set.add(&site, &"east".try_into()?)?;
-    /// assert_eq!(set.number_of_key_values(&site), 2);
-    /// assert_eq!(set.key_value(&site, 0), Some(&"east".try_into()?));
-    /// assert_eq!(set.key_value(&site, 2), None);
-    /// # Ok::<(), Box<dyn std::error::Error>>(())
-    /// ```
+    #[doc = example!(attributes)]
+    /// assert_eq!((set.key_value(&site, 0), set.key_value(&site, 2)), (Some(&east), None));
+    #[doc = example!(end)]
     pub fn key_value(&self, key: &AttributeKey, index: usize) -> Option<&AttributeValue> {
         match library::attribute_value(self, key, index) {
             Ok(text) => {
@@ -170,22 +127,14 @@ impl AttributeSet {
     /// Calls the callback on the values that a key has, up to and with the first answer
     /// [`Stop`](CallbackProgression::Stop).
     ///
-    /// ```
-    /// use iox2sd::attribute::AttributeSet;
-    /// use iox2sd::CallbackProgression;
-    ///
-    /// let site = "site".try_into()?;
-    /// let mut set = AttributeSet::new();
-    /// set.add(&site, &"north".try_into()?)?;
-    /// set.add(&site, &"east".try_into()?)?;
+    #[doc = example!(attributes)]
     /// let mut seen = Vec::new();
     /// set.iter_key_values(&site, |value| {
     ///     seen.push(*value);
-    ///     CallbackProgression::Stop
+    ///     iox2sd::CallbackProgression::Stop
     /// });
     /// assert_eq!(seen, ["east"]);
-    /// # Ok::<(), Box<dyn std::error::Error>>(())
-    /// ```
+    #[doc = example!(end)]
     pub fn iter_key_values<F: FnMut(&AttributeValue) -> CallbackProgression>(
         &self,
         key: &AttributeKey,
@@ -196,17 +145,10 @@ impl AttributeSet {
 
     /// The values that a key has, in their order.
     ///
-    /// ```
-    /// use iox2sd::attribute::AttributeSet;
-    ///
-    /// let site = "site".try_into()?;
-    /// let mut set = AttributeSet::new();
-    /// set.add(&site, &"north".try_into()?)?;
-    /// set.add(&"robot".try_into()?, &"r2".try_into()?)?;
-    /// set.add(&site, &"east".try_into()?)?;
+    #[doc = example!(attributes)]
+    /// set.add(&robot, &"r2".parse()?)?;
     /// assert!(set.key_values(&site).eq(["east", "north"]));
-    /// # Ok::<(), Box<dyn std::error::Error>>(())
-    /// ```
+    #[doc = example!(end)]
     #[must_use]
     pub fn key_values(&self, key: &AttributeKey) -> KeyValues<'_> {
         KeyValues {
@@ -219,17 +161,10 @@ impl AttributeSet {
 
 /// The values that a key has, in their order.
 ///
-/// ```
-/// use iox2sd::attribute::AttributeSet;
-///
-/// let site = "site".try_into()?;
-/// let mut set = AttributeSet::new();
-/// set.add(&site, &"north".try_into()?)?;
+#[doc = example!(attributes)]
 /// let mut values = set.key_values(&site);
-/// assert_eq!(values.len(), 1);
-/// assert_eq!((values.next(), values.next()), (Some(&"north".try_into()?), None));
-/// # Ok::<(), Box<dyn std::error::Error>>(())
-/// ```
+/// assert_eq!((values.len(), values.next()), (2, Some(&east)));
+#[doc = example!(end)]
 #[derive(Clone, Debug)]
 pub struct KeyValues<'a> {
     set: &'a AttributeSet,
@@ -265,44 +200,18 @@ impl Deref for AttributeSet {
 
 /// The attributes of a set that was taken apart, in their order.
 ///
-/// ```
-/// use iox2sd::attribute::{Attribute, AttributeSet};
-///
-/// let (site, north) = ("site".try_into()?, "north".try_into()?);
-/// let mut set = AttributeSet::new();
-/// set.add(&site, &north)?;
-/// assert!(set.into_iter().eq([Attribute::new(&site, &north)]));
-/// # Ok::<(), Box<dyn std::error::Error>>(())
-/// ```
-#[derive(Clone, Debug)]
-pub struct IntoIter {
-    attributes: vec::IntoIter<Attribute>,
-}
-
-impl Iterator for IntoIter {
-    type Item = Attribute;
-
-    fn next(&mut self) -> Option<Attribute> {
-        self.attributes.next()
-    }
-
-    fn size_hint(&self) -> (usize, Option<usize>) {
-        self.attributes.size_hint()
-    }
-}
-
-impl ExactSizeIterator for IntoIter {}
-
-impl FusedIterator for IntoIter {}
+#[doc = example!(attributes)]
+/// let pairs: IntoIter = set.into_iter();
+/// assert!(pairs.eq([Attribute::new(&site, &east), Attribute::new(&site, &north)]));
+#[doc = example!(end)]
+pub type IntoIter = Entries<Attribute>;
 
 impl IntoIterator for AttributeSet {
     type Item = Attribute;
     type IntoIter = IntoIter;
 
     fn into_iter(self) -> IntoIter {
-        IntoIter {
-            attributes: self.attributes.into_iter(),
-        }
+        self.attributes.into_iter().collect()
     }
 }
 

@@ -36,14 +36,10 @@ impl AttributeSpecifier {
     ///
     /// # Examples
     ///
-    /// ```
-    /// use iox2sd::attribute::AttributeSpecifier;
-    ///
-    /// let specifier =
-    ///     AttributeSpecifier::new().define(&"site".try_into()?, &"north".try_into()?)?;
+    #[doc = example!(attributes)]
+    /// let specifier = AttributeSpecifier::new().define(&site, &north)?;
     /// assert_eq!(specifier.attributes().number_of_attributes(), 1);
-    /// # Ok::<(), Box<dyn std::error::Error>>(())
-    /// ```
+    #[doc = example!(end)]
     pub fn define(
         mut self,
         key: &AttributeKey,
@@ -55,15 +51,10 @@ impl AttributeSpecifier {
 
     /// The attributes.
     ///
-    /// ```
-    /// use iox2sd::attribute::{AttributeSet, AttributeSpecifier};
-    ///
-    /// let (site, north) = ("site".try_into()?, "north".try_into()?);
-    /// let mut set = AttributeSet::new();
-    /// set.add(&site, &north)?;
-    /// assert_eq!(AttributeSpecifier::new().define(&site, &north)?.attributes(), &set);
-    /// # Ok::<(), Box<dyn std::error::Error>>(())
-    /// ```
+    #[doc = example!(attributes)]
+    /// let specifier = AttributeSpecifier::new().define(&site, &north)?.define(&site, &east)?;
+    /// assert_eq!(specifier.attributes(), &set);
+    #[doc = example!(end)]
     #[must_use]
     pub fn attributes(&self) -> &AttributeSet {
         &self.attributes

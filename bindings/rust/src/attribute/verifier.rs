@@ -6,15 +6,12 @@ use std::fmt;
 
 /// What a set of attributes lacks.
 ///
-/// ```
-/// use iox2sd::attribute::{AttributeSet, AttributeVerifier};
-///
-/// let verifier = AttributeVerifier::new().require(&"site".try_into()?, &"north".try_into()?)?;
-/// let refused = verifier.verify_requirements(&AttributeSet::new()).unwrap_err();
-/// let text = r#"AttributeVerificationError::IncompatibleAttribute(("site", "north"))"#;
+#[doc = example!(attributes)]
+/// let verifier = AttributeVerifier::new().require(&robot, &north)?;
+/// let refused = verifier.verify_requirements(&set).unwrap_err();
+/// let text = r#"AttributeVerificationError::IncompatibleAttribute(("robot", "north"))"#;
 /// assert_eq!(refused.to_string(), text);
-/// # Ok::<(), Box<dyn std::error::Error>>(())
-/// ```
+#[doc = example!(end)]
 #[derive(Clone, Debug, PartialEq, Eq, Hash)]
 #[allow(clippy::large_enum_variant)] // Texts are copied by value, and none is boxed.
 pub enum AttributeVerificationError {
@@ -84,20 +81,14 @@ impl AttributeVerifier {
     ///
     /// # Examples
     ///
-    /// ```
-    /// use iox2sd::attribute::{AttributeDefinitionError, AttributeSet, AttributeVerifier};
-    ///
-    /// let (site, north) = ("site".try_into()?, "north".try_into()?);
+    #[doc = example!(attributes)]
     /// let mut verifier = AttributeVerifier::new();
     /// for _ in 0..AttributeSet::capacity() {
     ///     verifier = verifier.require(&site, &north)?;
     /// }
-    /// assert_eq!(
-    ///     verifier.require(&site, &north).unwrap_err(),
-    ///     AttributeDefinitionError::ExceedsMaxSupportedAttributes
-    /// );
-    /// # Ok::<(), Box<dyn std::error::Error>>(())
-    /// ```
+    /// let refused = verifier.require(&site, &north).unwrap_err();
+    /// assert_eq!(refused, AttributeDefinitionError::ExceedsMaxSupportedAttributes);
+    #[doc = example!(end)]
     pub fn require(
         mut self,
         key: &AttributeKey,
@@ -116,13 +107,10 @@ impl AttributeVerifier {
     ///
     /// # Examples
     ///
-    /// ```
-    /// use iox2sd::attribute::AttributeVerifier;
-    ///
-    /// let verifier = AttributeVerifier::new().require_key(&"site".try_into()?)?;
-    /// assert_eq!(verifier.required_keys(), ["site"]);
-    /// # Ok::<(), Box<dyn std::error::Error>>(())
-    /// ```
+    #[doc = example!(attributes)]
+    /// let verifier = AttributeVerifier::new().require_key(&site)?;
+    /// assert_eq!(verifier.verify_requirements(&set), Ok(()));
+    #[doc = example!(end)]
     pub fn require_key(mut self, key: &AttributeKey) -> Result<Self, AttributeDefinitionError> {
         self.keys.push(*key);
         self.within_limits()
@@ -138,13 +126,10 @@ impl AttributeVerifier {
 
     /// The pairs that are required.
     ///
-    /// ```
-    /// use iox2sd::attribute::AttributeVerifier;
-    ///
-    /// let verifier = AttributeVerifier::new().require(&"site".try_into()?, &"north".try_into()?)?;
-    /// assert_eq!(verifier.required_attributes()[0].value(), "north");
-    /// # Ok::<(), Box<dyn std::error::Error>>(())
-    /// ```
+    #[doc = example!(attributes)]
+    /// let verifier = AttributeVerifier::new().require(&site, &north)?;
+    /// assert_eq!(verifier.required_attributes()[0].value(), &north);
+    #[doc = example!(end)]
     #[must_use]
     pub fn required_attributes(&self) -> &AttributeSet {
         &self.attributes
@@ -152,15 +137,10 @@ impl AttributeVerifier {
 
     /// The keys that are required, in the order in which they were.
     ///
-    /// ```
-    /// use iox2sd::attribute::AttributeVerifier;
-    ///
-    /// let verifier = AttributeVerifier::new()
-    ///     .require_key(&"site".try_into()?)?
-    ///     .require_key(&"robot".try_into()?)?;
+    #[doc = example!(attributes)]
+    /// let verifier = AttributeVerifier::new().require_key(&site)?.require_key(&robot)?;
     /// assert_eq!(verifier.required_keys(), ["site", "robot"]);
-    /// # Ok::<(), Box<dyn std::error::Error>>(())
-    /// ```
+    #[doc = example!(end)]
     #[must_use]
     pub fn required_keys(&self) -> &[AttributeKey] {
         &self.keys
@@ -176,18 +156,11 @@ impl AttributeVerifier {
     ///
     /// # Examples
     ///
-    /// ```
-    /// use iox2sd::attribute::{AttributeSpecifier, AttributeVerificationError, AttributeVerifier};
-    ///
-    /// let (site, north) = ("site".try_into()?, "north".try_into()?);
-    /// let service = AttributeSpecifier::new().define(&site, &north)?;
-    /// let verifier = AttributeVerifier::new().require_key(&"robot".try_into()?)?;
-    /// assert_eq!(
-    ///     verifier.verify_requirements(service.attributes()),
-    ///     Err(AttributeVerificationError::NonExistingKey("robot".try_into()?))
-    /// );
-    /// # Ok::<(), Box<dyn std::error::Error>>(())
-    /// ```
+    #[doc = example!(attributes)]
+    /// let verifier = AttributeVerifier::new().require_key(&robot)?;
+    /// let refused = verifier.verify_requirements(&set).unwrap_err();
+    /// assert_eq!(refused, AttributeVerificationError::NonExistingKey(robot));
+    #[doc = example!(end)]
     #[allow(clippy::result_large_err)] // Texts are copied by value, and none is boxed.
     pub fn verify_requirements(
         &self,

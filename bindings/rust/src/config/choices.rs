@@ -1,5 +1,4 @@
-use crate::display::choices;
-use std::fmt;
+use crate::display::{choices, number};
 
 choices! {
     /// What a sender does where a receiver's buffer is full and may not overflow.
@@ -56,44 +55,12 @@ choices! {
     }
 }
 
-/// The number by which listeners distinguish the events of one service.
-///
-/// ```
-/// use iox2sd::config::EventId;
-/// assert_eq!(EventId::new(9).as_value(), 9);
-/// ```
-#[derive(Clone, Copy, Debug, PartialEq, Eq, PartialOrd, Ord, Hash)]
-pub struct EventId {
-    value: usize,
-}
-
-impl EventId {
-    /// The event of this number.
+number! {
+    /// The number by which listeners distinguish the events of one service.
     ///
     /// ```
     /// use iox2sd::config::EventId;
-    /// assert_eq!(EventId::new(9).to_string(), "9");
+    /// assert_eq!(EventId::new(9).as_value(), 9);
     /// ```
-    #[must_use]
-    pub fn new(value: usize) -> Self {
-        EventId { value }
-    }
-
-    /// Its number.
-    ///
-    /// ```
-    /// use iox2sd::config::EventId;
-    /// assert_eq!(EventId::new(usize::MAX).as_value(), usize::MAX);
-    /// ```
-    #[must_use]
-    pub fn as_value(&self) -> usize {
-        self.value
-    }
-}
-
-/// The number of the event.
-impl fmt::Display for EventId {
-    fn fmt(&self, f: &mut fmt::Formatter<'_>) -> fmt::Result {
-        fmt::Display::fmt(&self.value, f)
-    }
+    EventId of usize in "config", as_value
 }

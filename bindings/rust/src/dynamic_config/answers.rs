@@ -26,21 +26,11 @@ impl Error for AllocError {}
 errors! {
     /// Why a node was not registered.
     ///
-    /// ```
-    /// # use iox2sd::prelude::*;
-    /// use iox2sd::dynamic_config::RegisterNodeResult;
-    ///
-    /// # let settings = iox2sd::dynamic_config::event::DynamicConfigSettings::default();
-    /// let mut service = DynamicConfig::new(settings, 1, 7)?;
-    /// let node = UniqueNodeId::new(1, 0, 0, 1).expect("the id of a node");
-    /// let handle = service.register_node_id(node)?;
-    /// let full = service.register_node_id(node).unwrap_err();
-    /// assert_eq!(full, RegisterNodeResult::ExceedsMaxNumberOfNodes);
-    /// service.deregister_node_id(handle)?;
-    /// let locked = service.register_node_id(node).unwrap_err();
+    #[doc = example!(node)]
+    /// service.deregister_node_id(node)?;
+    /// let locked = service.register_node_id(node_id).unwrap_err();
     /// assert_eq!(locked.to_string(), "RegisterNodeResult::MarkedForDestruction");
-    /// # Ok::<(), Box<dyn std::error::Error>>(())
-    /// ```
+    #[doc = example!(end)]
     RegisterNodeResult {
         /// The service is locked for good, since its last node left. This is reported first.
         MarkedForDestruction = IOX2SD_STATUS_IS_LOCKED,
@@ -51,15 +41,11 @@ errors! {
 
 /// Whether a service has nodes, or may have some again.
 ///
-/// ```
-/// # use iox2sd::prelude::*;
-/// let mut service = DynamicConfig::with_capacities(&Config::default().defaults.event, 7)?;
-/// let node = UniqueNodeId::new(1, 0, 0, 1).expect("the id of a node");
-/// let (first, second) = (service.register_node_id(node)?, service.register_node_id(node)?);
-/// assert_eq!(service.deregister_node_id(first)?, DeregisterNodeState::HasOwners);
-/// assert_eq!(service.deregister_node_id(second)?, DeregisterNodeState::NoMoreOwners);
-/// # Ok::<(), Box<dyn std::error::Error>>(())
-/// ```
+#[doc = example!(node)]
+/// let again = service.register_node_id(node_id)?;
+/// assert_eq!(service.deregister_node_id(node)?, DeregisterNodeState::HasOwners);
+/// assert_eq!(service.deregister_node_id(again)?, DeregisterNodeState::NoMoreOwners);
+#[doc = example!(end)]
 #[derive(Clone, Copy, Debug, PartialEq, Eq, PartialOrd, Ord, Hash)]
 pub enum DeregisterNodeState {
     /// The service is not locked.
@@ -83,21 +69,14 @@ impl DeregisterNodeState {
 errors! {
     /// Why a node was not deregistered.
     ///
-    /// ```
-    /// # use iox2sd::prelude::*;
+    #[doc = example!(port)]
     /// use iox2sd::dynamic_config::DeregisterError;
     ///
-    /// let mut service = DynamicConfig::with_capacities(&Config::default().defaults.event, 7)?;
-    /// let node_id = UniqueNodeId::new(1, 0, 0, 1).expect("the id of a node");
-    /// let node = service.register_node_id(node_id)?;
-    /// let listener_id = UniqueListenerId::new(1, 0, 0, 2);
-    /// let port = service.attach(ListenerDetails { listener_id, node_id })?;
     /// let refused = service.deregister_node_id(node).unwrap_err();
     /// assert_eq!(refused, DeregisterError::PortsStillAttached);
     /// let refused = service.deregister_node_id(port).unwrap_err();
     /// assert_eq!(refused, DeregisterError::ContainerHandleNotOwnedByContainer);
-    /// # Ok::<(), Box<dyn std::error::Error>>(())
-    /// ```
+    #[doc = example!(end)]
     #[non_exhaustive]
     DeregisterError {
         /// No node of the service has this handle. This is reported first.
@@ -110,21 +89,14 @@ errors! {
 errors! {
     /// Why a port was not attached. The first cause is reported.
     ///
-    /// ```
-    /// # use iox2sd::prelude::*;
+    #[doc = example!(listener)]
     /// use iox2sd::dynamic_config::AttachError;
     ///
-    /// let mut service = DynamicConfig::with_capacities(&Config::default().defaults.event, 7)?;
-    /// let node_id = UniqueNodeId::new(1, 0, 0, 1).expect("the id of a node");
     /// let reader = ReaderDetails { reader_id: UniqueReaderId::new(1, 0, 0, 2), node_id };
     /// assert_eq!(service.attach(reader), Err(AttachError::RoleNotInPattern));
-    /// let listener = ListenerDetails { listener_id: UniqueListenerId::new(1, 0, 0, 2), node_id };
-    /// assert_eq!(service.attach(listener), Err(AttachError::NodeNotRegistered));
-    /// let node = service.register_node_id(node_id)?;
     /// service.deregister_node_id(node)?;
     /// assert_eq!(service.attach(listener), Err(AttachError::ServiceIsLocked));
-    /// # Ok::<(), Box<dyn std::error::Error>>(())
-    /// ```
+    #[doc = example!(end)]
     #[non_exhaustive]
     AttachError {
         /// The pattern of the service has no such ports.
@@ -140,18 +112,11 @@ errors! {
 
 /// What becomes of a port whose node is dead.
 ///
-/// ```
-/// # use iox2sd::prelude::*;
-/// let mut service = DynamicConfig::with_capacities(&Config::default().defaults.event, 7)?;
-/// let node_id = UniqueNodeId::new(1, 0, 0, 1).expect("the id of a node");
-/// service.register_node_id(node_id)?;
-/// let listener_id = UniqueListenerId::new(1, 0, 0, 2);
-/// service.attach(ListenerDetails { listener_id, node_id })?;
+#[doc = example!(port)]
 /// let state = service.remove_dead_node_id(&node_id, |_| PortCleanupAction::SkipPort);
 /// assert_eq!(state, DeregisterNodeState::HasOwners);
 /// assert_eq!((service.number_of_nodes(), service.event().number_of_listeners()), (1, 1));
-/// # Ok::<(), Box<dyn std::error::Error>>(())
-/// ```
+#[doc = example!(end)]
 #[derive(Clone, Copy, Debug, PartialEq, Eq, PartialOrd, Ord, Hash)]
 pub enum PortCleanupAction {
     /// It is removed.

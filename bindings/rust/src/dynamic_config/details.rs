@@ -113,19 +113,13 @@ macro_rules! details {
         impl $module::DynamicConfig {
             #[doc = concat!("How many ", stringify!($all), " are attached.")]
             ///
-            /// ```
-            /// # use iox2sd::prelude::*;
-            #[doc = concat!("# let settings = Config::default().defaults.", stringify!($module), ";")]
-            /// # let mut service = DynamicConfig::with_capacities(&settings, 7)?;
-            /// # let node_id = UniqueNodeId::new(1, 0, 0, 1).expect("the id of a node");
-            /// service.register_node_id(node_id)?;
+            #[doc = example!(node of $module)]
             $(#[$made])*
             /// service.attach(details)?;
             #[doc = concat!(
                 "assert_eq!(service.", stringify!($module), "().", stringify!($number), "(), 1);"
             )]
-            /// # Ok::<(), Box<dyn std::error::Error>>(())
-            /// ```
+            #[doc = example!(end)]
             #[must_use]
             #[inline]
             pub fn $number(&self) -> usize {
@@ -137,12 +131,7 @@ macro_rules! details {
                 "up to and with the first answer [`Stop`](CallbackProgression::Stop)."
             )]
             ///
-            /// ```
-            /// # use iox2sd::prelude::*;
-            #[doc = concat!("# let settings = Config::default().defaults.", stringify!($module), ";")]
-            /// # let mut service = DynamicConfig::with_capacities(&settings, 7)?;
-            /// # let node_id = UniqueNodeId::new(1, 0, 0, 1).expect("the id of a node");
-            /// service.register_node_id(node_id)?;
+            #[doc = example!(node of $module)]
             $(#[$made])*
             /// service.attach(details)?;
             /// let mut seen = Vec::new();
@@ -153,8 +142,7 @@ macro_rules! details {
             ///     CallbackProgression::Stop
             /// });
             /// assert_eq!(seen, [details]);
-            /// # Ok::<(), Box<dyn std::error::Error>>(())
-            /// ```
+            #[doc = example!(end)]
             pub fn $list<F: FnMut(&$name) -> CallbackProgression>(&self, callback: F) {
                 listing::visit_ports(&self.service, callback);
             }
@@ -163,20 +151,14 @@ macro_rules! details {
                 "The details of the ", stringify!($all), " that are attached now, by rising slot."
             )]
             ///
-            /// ```
-            /// # use iox2sd::prelude::*;
-            #[doc = concat!("# let settings = Config::default().defaults.", stringify!($module), ";")]
-            /// # let mut service = DynamicConfig::with_capacities(&settings, 7)?;
-            /// # let node_id = UniqueNodeId::new(1, 0, 0, 1).expect("the id of a node");
-            /// service.register_node_id(node_id)?;
+            #[doc = example!(node of $module)]
             $(#[$made])*
             /// service.attach(details)?;
             #[doc = concat!(
                 "assert!(service.", stringify!($module), "().", stringify!($all),
                 "().eq([details]));"
             )]
-            /// # Ok::<(), Box<dyn std::error::Error>>(())
-            /// ```
+            #[doc = example!(end)]
             #[must_use]
             #[inline]
             pub fn $all(&self) -> Entries<$name> {
@@ -312,16 +294,11 @@ macro_rules! any_port {
     ($($(#[$documentation:meta])* $role:ident: $details:ident $id:ident,)*) => {
         /// The details of a port of any kind.
         ///
-        /// ```
-        /// use iox2sd::prelude::*;
-        ///
-        /// let node_id = UniqueNodeId::new(1, 0, 0, 1).expect("the id of a node");
-        /// let writer_id = UniqueWriterId::new(1, 0, 0, 2);
-        /// let port = PortDetails::from(WriterDetails { writer_id, node_id });
-        /// assert_eq!(port.role(), Role::Writer);
-        /// assert_eq!(port.node_id(), node_id);
-        /// assert_eq!(port.port_id(), UniquePortId::Writer(writer_id));
-        /// ```
+        #[doc = example!(listener)]
+        /// let port = PortDetails::from(listener);
+        /// assert_eq!((port.role(), port.node_id()), (Role::Listener, node_id));
+        /// assert_eq!(port.port_id(), UniquePortId::Listener(listener_id));
+        #[doc = example!(end)]
         #[derive(Clone, Copy, Debug, PartialEq, Eq, Hash)]
         pub enum PortDetails {
             $(
@@ -347,14 +324,9 @@ macro_rules! any_port {
 
             /// What the port is.
             ///
-            /// ```
-            /// use iox2sd::prelude::*;
-            ///
-            /// let node_id = UniqueNodeId::new(1, 0, 0, 1).expect("the id of a node");
-            /// let reader_id = UniqueReaderId::new(1, 0, 0, 2);
-            /// let port = PortDetails::Reader(ReaderDetails { reader_id, node_id });
-            /// assert_eq!(port.role(), Role::Reader);
-            /// ```
+            #[doc = example!(listener)]
+            /// assert_eq!(PortDetails::from(listener).role(), Role::Listener);
+            #[doc = example!(end)]
             #[must_use]
             pub fn role(&self) -> Role {
                 match self {
@@ -364,14 +336,9 @@ macro_rules! any_port {
 
             /// The id of the node that the port belongs to.
             ///
-            /// ```
-            /// use iox2sd::prelude::*;
-            ///
-            /// let node_id = UniqueNodeId::new(1, 0, 0, 1).expect("the id of a node");
-            /// let reader_id = UniqueReaderId::new(1, 0, 0, 2);
-            /// let port = PortDetails::Reader(ReaderDetails { reader_id, node_id });
-            /// assert_eq!(port.node_id(), node_id);
-            /// ```
+            #[doc = example!(listener)]
+            /// assert_eq!(PortDetails::from(listener).node_id(), node_id);
+            #[doc = example!(end)]
             #[must_use]
             pub fn node_id(&self) -> UniqueNodeId {
                 match self {
@@ -381,14 +348,9 @@ macro_rules! any_port {
 
             /// The id of the port.
             ///
-            /// ```
-            /// use iox2sd::prelude::*;
-            ///
-            /// let node_id = UniqueNodeId::new(1, 0, 0, 1).expect("the id of a node");
-            /// let reader_id = UniqueReaderId::new(1, 0, 0, 2);
-            /// let port = PortDetails::Reader(ReaderDetails { reader_id, node_id });
-            /// assert_eq!(port.port_id(), UniquePortId::Reader(reader_id));
-            /// ```
+            #[doc = example!(listener)]
+            /// assert_eq!(PortDetails::from(listener).port_id(), UniquePortId::Listener(listener_id));
+            #[doc = example!(end)]
             #[must_use]
             #[inline]
             pub fn port_id(&self) -> UniquePortId {
@@ -421,17 +383,11 @@ any_port! {
 
 /// The details or the id of a port are those of a port of another kind.
 ///
-/// ```
-/// use iox2sd::dynamic_config::OtherRole;
-/// use iox2sd::prelude::*;
-///
-/// let node_id = UniqueNodeId::new(1, 0, 0, 1).expect("the id of a node");
-/// let reader_id = UniqueReaderId::new(1, 0, 0, 2);
-/// let port = PortDetails::Reader(ReaderDetails { reader_id, node_id });
-/// let refused = WriterDetails::try_from(port).unwrap_err();
-/// assert_eq!(refused, OtherRole { found: Role::Reader, wanted: Role::Writer });
-/// assert_eq!(refused.to_string(), "the port is a Reader, not a Writer");
-/// ```
+#[doc = example!(listener)]
+/// let refused = WriterDetails::try_from(PortDetails::from(listener)).unwrap_err();
+/// assert_eq!((refused.found, refused.wanted), (Role::Listener, Role::Writer));
+/// assert_eq!(refused.to_string(), "the port is a Listener, not a Writer");
+#[doc = example!(end)]
 #[derive(Clone, Copy, Debug, PartialEq, Eq, Hash)]
 pub struct OtherRole {
     /// The kind that it has.

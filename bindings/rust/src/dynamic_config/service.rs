@@ -110,12 +110,9 @@ macro_rules! patterns {
 
             /// The pattern of the service.
             ///
-            /// ```
-            /// # use iox2sd::prelude::*;
-            /// let service = DynamicConfig::with_capacities(&Config::default().defaults.event, 7)?;
+            #[doc = example!(service)]
             /// assert_eq!(service.kind(), MessagingPattern::Event);
-            /// # Ok::<(), Box<dyn std::error::Error>>(())
-            /// ```
+            #[doc = example!(end)]
             #[must_use]
             #[inline]
             pub fn kind(&self) -> Kind {
@@ -309,20 +306,15 @@ impl DynamicConfig {
     ///
     /// # Examples
     ///
-    /// ```
-    /// # use iox2sd::prelude::*;
-    /// use iox2sd::dynamic_config::{event, RegisterNodeResult};
+    #[doc = example!(node)]
+    /// use iox2sd::dynamic_config::RegisterNodeResult::ExceedsMaxNumberOfNodes;
     ///
-    /// let mut service = DynamicConfig::new(event::DynamicConfigSettings::default(), 1, 7)?;
-    /// let node = UniqueNodeId::new(1, 0, 0, 1).expect("the id of a node");
-    /// let handle = service.register_node_id(node)?;
-    /// assert_eq!(service.node(handle), Some(node));
-    /// assert_eq!(
-    ///     service.register_node_id(node),
-    ///     Err(RegisterNodeResult::ExceedsMaxNumberOfNodes)
-    /// );
-    /// # Ok::<(), Box<dyn std::error::Error>>(())
-    /// ```
+    /// assert_eq!(service.node(node), Some(node_id));
+    /// while service.has_room_for_node() {
+    ///     service.register_node_id(node_id)?;
+    /// }
+    /// assert_eq!(service.register_node_id(node_id), Err(ExceedsMaxNumberOfNodes));
+    #[doc = example!(end)]
     #[inline]
     pub fn register_node_id(
         &mut self,
@@ -344,20 +336,12 @@ impl DynamicConfig {
     ///
     /// # Examples
     ///
-    /// ```
-    /// # use iox2sd::prelude::*;
-    /// use iox2sd::dynamic_config::DeregisterError;
+    #[doc = example!(node)]
+    /// use iox2sd::dynamic_config::DeregisterError::ContainerHandleNotOwnedByContainer;
     ///
-    /// let mut service = DynamicConfig::with_capacities(&Config::default().defaults.event, 7)?;
-    /// let node = UniqueNodeId::new(1, 0, 0, 1).expect("the id of a node");
-    /// let handle = service.register_node_id(node)?;
-    /// assert_eq!(service.deregister_node_id(handle)?, DeregisterNodeState::NoMoreOwners);
-    /// assert_eq!(
-    ///     service.deregister_node_id(handle),
-    ///     Err(DeregisterError::ContainerHandleNotOwnedByContainer)
-    /// );
-    /// # Ok::<(), Box<dyn std::error::Error>>(())
-    /// ```
+    /// assert_eq!(service.deregister_node_id(node)?, DeregisterNodeState::NoMoreOwners);
+    /// assert_eq!(service.deregister_node_id(node), Err(ContainerHandleNotOwnedByContainer));
+    #[doc = example!(end)]
     #[inline]
     pub fn deregister_node_id(
         &mut self,
@@ -379,28 +363,16 @@ impl DynamicConfig {
     ///
     /// # Examples
     ///
-    /// ```
-    /// # use iox2sd::prelude::*;
-    /// use iox2sd::dynamic_config::{publish_subscribe, AttachError};
+    #[doc = example!(listener)]
+    /// use iox2sd::dynamic_config::AttachError;
     ///
-    /// let ports = publish_subscribe::DynamicConfigSettings {
-    ///     number_of_publishers: 1,
-    ///     number_of_subscribers: 1,
-    /// };
-    /// let settings = MessagingPatternSettings::PublishSubscribe(ports);
-    /// let mut service = DynamicConfig::new(&settings, 1, 7)?;
-    /// let subscriber = SubscriberDetails {
-    ///     subscriber_id: UniqueSubscriberId::new(1, 0, 0, 2),
-    ///     node_id: UniqueNodeId::new(1, 0, 0, 1).expect("the id of a node"),
-    ///     buffer_size: 2,
-    /// };
-    /// assert_eq!(service.attach(subscriber), Err(AttachError::NodeNotRegistered));
-    /// service.register_node_id(subscriber.node_id)?;
-    /// let handle = service.attach(subscriber)?;
-    /// assert_eq!(service.port(handle), Some(subscriber.into()));
-    /// assert_eq!(service.attach(subscriber), Err(AttachError::OutOfSpace));
-    /// # Ok::<(), Box<dyn std::error::Error>>(())
-    /// ```
+    /// let port = service.attach(listener)?;
+    /// assert_eq!(service.port(port), Some(listener.into()));
+    /// while service.has_room(Role::Listener) == Some(true) {
+    ///     service.attach(listener)?;
+    /// }
+    /// assert_eq!(service.attach(listener), Err(AttachError::OutOfSpace));
+    #[doc = example!(end)]
     #[inline]
     pub fn attach(
         &mut self,
@@ -420,18 +392,12 @@ impl DynamicConfig {
     ///
     /// # Examples
     ///
-    /// ```
-    /// # use iox2sd::prelude::*;
-    /// use iox2sd::container::ContainerRemoveError;
-    /// let mut service = DynamicConfig::with_capacities(&Config::default().defaults.event, 7)?;
-    /// let node = UniqueNodeId::new(1, 0, 0, 1).expect("the id of a node");
-    /// let handle = service.register_node_id(node)?;
-    /// assert_eq!(
-    ///     service.release_port(handle),
-    ///     Err(ContainerRemoveError::ContainerHandleNotOwnedByContainer)
-    /// );
-    /// # Ok::<(), Box<dyn std::error::Error>>(())
-    /// ```
+    #[doc = example!(port)]
+    /// use iox2sd::container::ContainerRemoveError::ContainerHandleNotOwnedByContainer;
+    ///
+    /// assert_eq!(service.release_port(node), Err(ContainerHandleNotOwnedByContainer));
+    /// assert_eq!(service.release_port(port), Ok(()));
+    #[doc = example!(end)]
     #[inline]
     pub fn release_port(&mut self, handle: ContainerHandle) -> Result<(), ContainerRemoveError> {
         let released = self.service_mut().release(handle.as_c());
@@ -450,22 +416,15 @@ impl DynamicConfig {
     /// [`SkipPort`](PortCleanupAction::SkipPort) for one port, all ports of the node with its id
     /// stay. Where ids are unique, each answer is for one port.
     ///
-    /// ```
-    /// # use iox2sd::prelude::*;
-    /// let mut service = DynamicConfig::with_capacities(&Config::default().defaults.event, 7)?;
-    /// let node_id = UniqueNodeId::new(1, 0, 0, 1).expect("the id of a node");
-    /// service.register_node_id(node_id)?;
-    /// let notifier_id = UniqueNotifierId::new(1, 0, 0, 2);
-    /// service.attach(NotifierDetails { notifier_id, node_id })?;
+    #[doc = example!(port)]
     ///
     /// let state = service.remove_dead_node_id(&node_id, |port| {
     ///     println!("{port} is removed");
     ///     PortCleanupAction::RemovePort
     /// });
     /// assert_eq!(state, DeregisterNodeState::NoMoreOwners);
-    /// assert_eq!(service.event().number_of_notifiers(), 0);
-    /// # Ok::<(), Box<dyn std::error::Error>>(())
-    /// ```
+    /// assert_eq!(service.event().number_of_listeners(), 0);
+    #[doc = example!(end)]
     #[inline]
     pub fn remove_dead_node_id<F: FnMut(UniquePortId) -> PortCleanupAction>(
         &mut self,
@@ -550,12 +509,9 @@ impl DynamicConfig {
 
     /// The roles of the pattern's two kinds of ports, in the order of [`ports_of`](Self::ports_of).
     ///
-    /// ```
-    /// # use iox2sd::prelude::*;
-    /// let service = DynamicConfig::with_capacities(&Config::default().defaults.event, 7)?;
+    #[doc = example!(service)]
     /// assert_eq!(service.port_roles(), (Role::Listener, Role::Notifier));
-    /// # Ok::<(), Box<dyn std::error::Error>>(())
-    /// ```
+    #[doc = example!(end)]
     #[must_use]
     pub fn port_roles(&self) -> (Role, Role) {
         let (first, second) = self.service().roles();
@@ -565,16 +521,11 @@ impl DynamicConfig {
     /// The node that was registered with this handle and is still there, or `None` for each other
     /// handle.
     ///
-    /// ```
-    /// # use iox2sd::prelude::*;
-    /// let mut service = DynamicConfig::with_capacities(&Config::default().defaults.event, 7)?;
-    /// let node = UniqueNodeId::new(1, 0, 0, 1).expect("the id of a node");
-    /// let handle = service.register_node_id(node)?;
-    /// assert_eq!(service.node(handle), Some(node));
-    /// service.deregister_node_id(handle)?;
-    /// assert_eq!(service.node(handle), None);
-    /// # Ok::<(), Box<dyn std::error::Error>>(())
-    /// ```
+    #[doc = example!(node)]
+    /// assert_eq!(service.node(node), Some(node_id));
+    /// service.deregister_node_id(node)?;
+    /// assert_eq!(service.node(node), None);
+    #[doc = example!(end)]
     #[must_use]
     #[inline]
     pub fn node(&self, handle: ContainerHandle) -> Option<UniqueNodeId> {
@@ -586,17 +537,10 @@ impl DynamicConfig {
     /// The port that was attached with this handle and is still there, or `None` for each other
     /// handle, a node's too.
     ///
-    /// ```
-    /// # use iox2sd::prelude::*;
-    /// let mut service = DynamicConfig::with_capacities(&Config::default().defaults.event, 7)?;
-    /// let node_id = UniqueNodeId::new(1, 0, 0, 1).expect("the id of a node");
-    /// let node = service.register_node_id(node_id)?;
-    /// let listener = ListenerDetails { listener_id: UniqueListenerId::new(1, 0, 0, 2), node_id };
-    /// let port = service.attach(listener)?;
+    #[doc = example!(port)]
     /// assert_eq!(service.port(port), Some(listener.into()));
     /// assert_eq!(service.port(node), None);
-    /// # Ok::<(), Box<dyn std::error::Error>>(())
-    /// ```
+    #[doc = example!(end)]
     #[must_use]
     #[inline]
     pub fn port(&self, handle: ContainerHandle) -> Option<PortDetails> {
@@ -605,15 +549,10 @@ impl DynamicConfig {
 
     /// The ids of the nodes that are registered now, by rising slot, one for each handle.
     ///
-    /// ```
-    /// # use iox2sd::prelude::*;
-    /// let mut service = DynamicConfig::with_capacities(&Config::default().defaults.event, 7)?;
-    /// let node = UniqueNodeId::new(1, 0, 0, 1).expect("the id of a node");
-    /// service.register_node_id(node)?;
-    /// service.register_node_id(node)?;
-    /// assert!(service.nodes().eq([node, node]));
-    /// # Ok::<(), Box<dyn std::error::Error>>(())
-    /// ```
+    #[doc = example!(node)]
+    /// service.register_node_id(node_id)?;
+    /// assert!(service.nodes().eq([node_id, node_id]));
+    #[doc = example!(end)]
     #[must_use]
     #[inline]
     pub fn nodes(&self) -> Entries<UniqueNodeId> {
@@ -624,18 +563,11 @@ impl DynamicConfig {
     /// The ports of the role that are attached now, by rising slot, or `None` where the pattern has
     /// no such ports.
     ///
-    /// ```
-    /// # use iox2sd::prelude::*;
-    /// let mut service = DynamicConfig::with_capacities(&Config::default().defaults.event, 7)?;
-    /// let node_id = UniqueNodeId::new(1, 0, 0, 1).expect("the id of a node");
-    /// service.register_node_id(node_id)?;
-    /// let listener = ListenerDetails { listener_id: UniqueListenerId::new(1, 0, 0, 2), node_id };
-    /// service.attach(listener)?;
+    #[doc = example!(port)]
     /// let listeners = service.ports(Role::Listener).expect("an event service has listeners");
     /// assert!(listeners.eq([listener.into()]));
     /// assert!(service.ports(Role::Reader).is_none());
-    /// # Ok::<(), Box<dyn std::error::Error>>(())
-    /// ```
+    #[doc = example!(end)]
     #[must_use]
     #[inline]
     pub fn ports(&self, role: Role) -> Option<Entries<PortDetails>> {
@@ -646,18 +578,11 @@ impl DynamicConfig {
     /// The ports of the node, by its whole id: those of the pattern's first kind before those of
     /// its second, each kind by rising slot.
     ///
-    /// ```
-    /// # use iox2sd::prelude::*;
-    /// let mut service = DynamicConfig::with_capacities(&Config::default().defaults.event, 7)?;
-    /// let node_id = UniqueNodeId::new(1, 0, 0, 1).expect("the id of a node");
-    /// service.register_node_id(node_id)?;
-    /// let listener = ListenerDetails { listener_id: UniqueListenerId::new(1, 0, 0, 2), node_id };
-    /// service.attach(listener)?;
+    #[doc = example!(port)]
     /// assert!(service.ports_of(&node_id).eq([listener.into()]));
     /// let other = UniqueNodeId::new(2, 0, 0, 1).expect("the id of a node");
     /// assert_eq!(service.ports_of(&other).count(), 0);
-    /// # Ok::<(), Box<dyn std::error::Error>>(())
-    /// ```
+    #[doc = example!(end)]
     #[must_use]
     #[inline]
     pub fn ports_of(&self, node: &UniqueNodeId) -> Entries<PortDetails> {
@@ -668,20 +593,15 @@ impl DynamicConfig {
     /// Calls the callback on the nodes by rising slot, once for each handle, up to and with the
     /// first answer [`Stop`](CallbackProgression::Stop).
     ///
-    /// ```
-    /// # use iox2sd::prelude::*;
-    /// let mut service = DynamicConfig::with_capacities(&Config::default().defaults.event, 7)?;
-    /// let node = UniqueNodeId::new(1, 0, 0, 1).expect("the id of a node");
-    /// service.register_node_id(node)?;
-    /// service.register_node_id(node)?;
+    #[doc = example!(node)]
+    /// service.register_node_id(node_id)?;
     /// let mut seen = Vec::new();
     /// service.list_node_ids(|id| {
     ///     seen.push(*id);
     ///     CallbackProgression::Stop
     /// });
-    /// assert_eq!(seen, [node]);
-    /// # Ok::<(), Box<dyn std::error::Error>>(())
-    /// ```
+    /// assert_eq!(seen, [node_id]);
+    #[doc = example!(end)]
     #[inline]
     pub fn list_node_ids<F: FnMut(&UniqueNodeId) -> CallbackProgression>(&self, mut callback: F) {
         let show = |nodes: &[_]| visit(nodes, |node| callback(&UniqueNodeId::of_c(node)));
@@ -692,13 +612,7 @@ impl DynamicConfig {
     /// [`Stop`](CallbackProgression::Stop); `false`, and no call, where the pattern has no such
     /// ports.
     ///
-    /// ```
-    /// # use iox2sd::prelude::*;
-    /// let mut service = DynamicConfig::with_capacities(&Config::default().defaults.event, 7)?;
-    /// let node_id = UniqueNodeId::new(1, 0, 0, 1).expect("the id of a node");
-    /// service.register_node_id(node_id)?;
-    /// let listener = ListenerDetails { listener_id: UniqueListenerId::new(1, 0, 0, 2), node_id };
-    /// service.attach(listener)?;
+    #[doc = example!(port)]
     /// let mut seen = Vec::new();
     /// let listed = service.list_ports(Role::Listener, |port| {
     ///     seen.push(*port);
@@ -707,8 +621,7 @@ impl DynamicConfig {
     /// assert!(listed);
     /// assert_eq!(seen, [listener.into()]);
     /// assert!(!service.list_ports(Role::Reader, |_| CallbackProgression::Stop));
-    /// # Ok::<(), Box<dyn std::error::Error>>(())
-    /// ```
+    #[doc = example!(end)]
     #[inline]
     pub fn list_ports<F: FnMut(&PortDetails) -> CallbackProgression>(
         &self,
@@ -725,13 +638,9 @@ macro_rules! of_pattern {
     ($kind:literal $variant:ident $module:ident $is:ident $as:ident $all:ident) => {
         #[doc = concat!("Whether it is ", $kind, " service.")]
         ///
-        /// ```
-        /// # use iox2sd::prelude::*;
-        #[doc = concat!("let settings = Config::default().defaults.", stringify!($module), ";")]
-        /// let service = DynamicConfig::with_capacities(&settings, 7)?;
+        #[doc = example!(service of $module)]
         #[doc = concat!("assert!(service.", stringify!($is), "());")]
-        /// # Ok::<(), iox2sd::dynamic_config::AllocError>(())
-        /// ```
+        #[doc = example!(end)]
         #[must_use]
         pub fn $is(&self) -> bool {
             self.$as().is_some()
@@ -739,14 +648,10 @@ macro_rules! of_pattern {
 
         #[doc = concat!("The ports of ", $kind, " service; `None` for each other pattern.")]
         ///
-        /// ```
-        /// # use iox2sd::prelude::*;
-        #[doc = concat!("let settings = Config::default().defaults.", stringify!($module), ";")]
-        /// let service = DynamicConfig::with_capacities(&settings, 7)?;
+        #[doc = example!(service of $module)]
         #[doc = concat!("let ports = service.", stringify!($as), "().ok_or(\"another pattern\")?;")]
         #[doc = concat!("assert_eq!(ports.", stringify!($all), "().len(), 0);")]
-        /// # Ok::<(), Box<dyn std::error::Error>>(())
-        /// ```
+        #[doc = example!(end)]
         #[must_use]
         pub fn $as(&self) -> Option<&$module::DynamicConfig> {
             match &self.messaging_pattern {
@@ -761,15 +666,11 @@ macro_rules! of_pattern {
         ///
         #[doc = concat!("Where [`Self::", stringify!($as), "`] is `None`.")]
         ///
-        /// ```
-        /// # use iox2sd::prelude::*;
-        #[doc = concat!("let settings = Config::default().defaults.", stringify!($module), ";")]
-        /// let service = DynamicConfig::with_capacities(&settings, 7)?;
+        #[doc = example!(service of $module)]
         #[doc = concat!(
             "assert_eq!(service.", stringify!($module), "().", stringify!($all), "().len(), 0);"
         )]
-        /// # Ok::<(), iox2sd::dynamic_config::AllocError>(())
-        /// ```
+        #[doc = example!(end)]
         #[must_use]
         pub fn $module(&self) -> &$module::DynamicConfig {
             match &self.messaging_pattern {

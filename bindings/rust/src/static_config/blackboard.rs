@@ -1,12 +1,8 @@
 //! What is fixed of a blackboard service.
 //!
-//! ```
-//! use iox2sd::config::Config;
-//! use iox2sd::static_config::blackboard::StaticConfig;
-//!
-//! let fixed = StaticConfig::new(&Config::default());
+#![doc = example!(fixed blackboard)]
 //! assert_eq!(fixed.max_readers(), 8);
-//! ```
+#![doc = example!(end)]
 
 use super::fixed::fixed;
 use super::message_type_details::TypeDetail;

@@ -1,12 +1,8 @@
 //! What is fixed of an event service.
 //!
-//! ```
-//! use iox2sd::config::Config;
-//! use iox2sd::static_config::event::StaticConfig;
-//!
-//! let fixed = StaticConfig::new(&Config::default());
+#![doc = example!(fixed event)]
 //! assert_eq!(fixed.event_id_max_value(), 255);
-//! ```
+#![doc = example!(end)]
 
 use super::fixed::fixed;
 use crate::config::EventId;

@@ -11,15 +11,11 @@ macro_rules! getter {
     ($module:ident $field:ident: $type:ty, $getter:ident $(#[$documentation:meta])*) => {
         $(#[$documentation])*
         ///
-        /// ```
-        /// use iox2sd::config::Config;
-        #[doc = concat!("use iox2sd::static_config::", stringify!($module), "::StaticConfig;")]
-        ///
-        /// let fixed = StaticConfig::new(&Config::default());
+        #[doc = example!(fixed $module)]
         #[doc = concat!(
             "assert_eq!(fixed.", stringify!($getter), "(), fixed.", stringify!($field), ");"
         )]
-        /// ```
+        #[doc = example!(end)]
         #[must_use]
         pub fn $getter(&self) -> $type {
             self.$field
@@ -43,14 +39,10 @@ macro_rules! fixed {
         $crate::plain::plain_struct! {
             #[doc = concat!("What is fixed of ", $kind, " service.")]
             ///
-            /// ```
-            /// use iox2sd::config::Config;
-            #[doc = concat!("use iox2sd::static_config::", stringify!($module), "::StaticConfig;")]
-            ///
-            /// let mut fixed = StaticConfig::new(&Config::default());
+            #[doc = example!(fixed $module)]
             /// fixed.max_nodes = 1;
             /// assert_ne!(fixed, StaticConfig::new(&Config::default()));
-            /// ```
+            #[doc = example!(end)]
             #[derive(Clone, Copy, Debug, PartialEq, Eq, Hash)]
             #[non_exhaustive]
             StaticConfig of $c {
@@ -64,14 +56,10 @@ macro_rules! fixed {
             #[doc = concat!("What the defaults of a configuration fix of ", $kind, " service.")]
             /// Details of types are the default ones.
             ///
-            /// ```
-            /// use iox2sd::config::Config;
-            #[doc = concat!("use iox2sd::static_config::", stringify!($module), "::StaticConfig;")]
-            ///
-            /// let config = Config::default();
-            #[doc = concat!("let settings = &config.defaults.", stringify!($module), ";")]
-            /// assert_eq!(StaticConfig::new(&config), StaticConfig::from(settings));
-            /// ```
+            #[doc = example!(fixed $module)]
+            #[doc = concat!("let settings = Config::default().defaults.", stringify!($module), ";")]
+            /// assert_eq!(fixed, StaticConfig::from(&settings));
+            #[doc = example!(end)]
             #[must_use]
             pub fn new(config: &$crate::config::Config) -> Self {
                 Self::from(&config.defaults.$module)
@@ -84,17 +72,11 @@ macro_rules! fixed {
             $(
                 $(#[$types_documentation])*
                 ///
-                /// ```
-                /// use iox2sd::config::Config;
-                #[doc = concat!(
-                    "use iox2sd::static_config::", stringify!($module), "::StaticConfig;"
-                )]
-                ///
-                /// let fixed = StaticConfig::new(&Config::default());
+                #[doc = example!(fixed $module)]
                 #[doc = concat!(
                     "assert_eq!(fixed.", stringify!($types), "(), &Default::default());"
                 )]
-                /// ```
+                #[doc = example!(end)]
                 #[must_use]
                 pub fn $types(&self) -> &$details {
                     &self.$types
@@ -106,17 +88,14 @@ macro_rules! fixed {
             ///
             $(#[$rule])*
             ///
-            /// ```
-            /// use iox2sd::config::Config;
-            #[doc = concat!("use iox2sd::static_config::", stringify!($module), "::StaticConfig;")]
+            #[doc = example!(fixed $module)]
             /// use iox2sd::static_config::setting::Setting;
             ///
-            /// let service = StaticConfig::new(&Config::default());
-            /// let mut required = service;
+            /// let mut required = fixed;
             /// required.max_nodes += 1;
-            /// assert_eq!(service.first_unmet(&required), Some(Setting::MaxNodes));
-            /// assert_eq!(required.first_unmet(&service), None);
-            /// ```
+            /// assert_eq!(fixed.first_unmet(&required), Some(Setting::MaxNodes));
+            /// assert_eq!(required.first_unmet(&fixed), None);
+            #[doc = example!(end)]
             #[must_use]
             pub fn first_unmet(&self, required: &Self) -> Option<$crate::static_config::setting::Setting> {
                 $crate::library::Fixed::unmet(self, required)
@@ -124,15 +103,11 @@ macro_rules! fixed {
 
             /// Whether the service meets all that an opener requires.
             ///
-            /// ```
-            /// use iox2sd::config::Config;
-            #[doc = concat!("use iox2sd::static_config::", stringify!($module), "::StaticConfig;")]
-            ///
-            /// let service = StaticConfig::new(&Config::default());
-            /// let mut required = service;
+            #[doc = example!(fixed $module)]
+            /// let mut required = fixed;
             /// required.max_nodes = 1;
-            /// assert!(service.satisfies(&required) && !required.satisfies(&service));
-            /// ```
+            /// assert!(fixed.satisfies(&required) && !required.satisfies(&fixed));
+            #[doc = example!(end)]
             #[must_use]
             pub fn satisfies(&self, required: &Self) -> bool {
                 self.first_unmet(required).is_none()

@@ -1,35 +1,23 @@
 //! The types of the parts of messages, where these lie, and the layout of a message.
 //!
-//! ```
-//! use iox2sd::static_config::message_type_details::{MessageTypeDetails, TypeVariant};
-//!
-//! #[repr(C)]
-//! struct Point {
-//!     x: f64,
-//!     y: f64,
-//! }
-//!
-//! let details = MessageTypeDetails::from::<u64, u32, Point>(TypeVariant::Dynamic)?;
+#![doc = example!(types)]
 //! let layout = details.sample_layout(100)?;
-//! assert!(layout.size() >= 8 + 4 + 100 * std::mem::size_of::<Point>());
-//! assert_eq!(layout.align(), 8);
+//! assert!(layout.size() >= 8 + 4 + 100 && layout.align() == 8);
 //! assert_eq!(details.user_header_ptr_from_header(4096)?, 4104);
-//! assert_eq!(details.payload_ptr_from_header(4096)?, 4112);
-//! # Ok::<(), Box<dyn std::error::Error>>(())
-//! ```
+//! assert_eq!(details.payload_ptr_from_header(4096)?, 4108);
+#![doc = example!(end)]
 
 use crate::display::{choices, error_by_path, errors, getters, padded};
 use crate::library;
 use crate::plain::Plain;
 use crate::semantic_string::StringModificationError;
 use crate::sys;
-use crate::text::{shown_as_text, Text};
+use crate::text::{made_of_texts, shown_as_text, Text};
 use std::alloc::Layout;
 use std::any::type_name;
 use std::error::Error;
 use std::fmt;
 use std::mem::{align_of, size_of};
-use std::str::FromStr;
 
 choices! {
     /// How many values of a type a message has.
@@ -87,24 +75,6 @@ impl Default for TypeName {
     }
 }
 
-impl TryFrom<String> for TypeName {
-    type Error = StringModificationError;
-
-    /// As of a `&str`.
-    fn try_from(name: String) -> Result<Self, StringModificationError> {
-        Self::try_from(name.as_str())
-    }
-}
-
-impl FromStr for TypeName {
-    type Err = StringModificationError;
-
-    /// As of a `&str`.
-    fn from_str(name: &str) -> Result<Self, StringModificationError> {
-        Self::try_from(name)
-    }
-}
-
 impl TryFrom<&str> for TypeName {
     type Error = StringModificationError;
 
@@ -126,18 +96,15 @@ impl TryFrom<&str> for TypeName {
     }
 }
 
+made_of_texts!(TypeName: StringModificationError, |name| Self::try_from(name));
 shown_as_text!(TypeName);
 
 /// Why there are no details of a type.
 ///
-/// ```
-/// use iox2sd::static_config::message_type_details::{TypeDetail, TypeDetailError, TypeVariant};
-/// use iox2sd::semantic_string::StringModificationError;
-///
-/// let refused = TypeDetail::from_parts(TypeVariant::FixedSize, "Größe", 8, 3);
-/// let cause = StringModificationError::InvalidCharacter;
-/// assert_eq!(refused, Err(TypeDetailError::Name(cause)));
-/// ```
+#[doc = example!(types)]
+/// let refused = TypeDetail::from_parts(TypeVariant::FixedSize, "Größe", 8, 3).unwrap_err();
+/// assert_eq!(refused.to_string(), "TypeDetailError::Name(InvalidCharacter)");
+#[doc = example!(end)]
 #[derive(Clone, Copy, Debug, PartialEq, Eq, Hash)]
 #[non_exhaustive]
 pub enum TypeDetailError {
@@ -155,14 +122,10 @@ error_by_path!(TypeDetailError);
 /// The alignment is a power of two, but for the default details, which stand where none were given:
 /// their alignment and size are 0, and their name is empty.
 ///
-/// ```
-/// use iox2sd::static_config::message_type_details::{TypeDetail, TypeVariant};
-///
-/// let detail = TypeDetail::from_parts(TypeVariant::FixedSize, "u64", 8, 8)?;
-/// assert_eq!(detail, TypeDetail::new::<u64>(TypeVariant::FixedSize)?);
+#[doc = example!(types)]
+/// assert_eq!(details.header, TypeDetail::from_parts(TypeVariant::FixedSize, "u64", 8, 8)?);
 /// assert_eq!(TypeDetail::default().alignment(), 0);
-/// # Ok::<(), iox2sd::static_config::message_type_details::TypeDetailError>(())
-/// ```
+#[doc = example!(end)]
 #[derive(Clone, Copy, Debug, Default, PartialEq, Eq, Hash)]
 pub struct TypeDetail {
     variant: TypeVariant,
@@ -181,13 +144,11 @@ impl TypeDetail {
     ///
     /// # Examples
     ///
-    /// ```
-    /// use iox2sd::static_config::message_type_details::{TypeDetail, TypeVariant};
-    ///
+    #[doc = example!(types)]
     /// let detail = TypeDetail::new::<u32>(TypeVariant::FixedSize)?;
+    /// assert_eq!(detail, details.user_header);
     /// assert_eq!((detail.type_name().as_str(), detail.size()), ("u32", 4));
-    /// # Ok::<(), iox2sd::static_config::message_type_details::TypeDetailError>(())
-    /// ```
+    #[doc = example!(end)]
     pub fn new<T>(variant: TypeVariant) -> Result<Self, TypeDetailError> {
         Self::from_parts(variant, type_name::<T>(), size_of::<T>(), align_of::<T>())
     }
@@ -200,19 +161,11 @@ impl TypeDetail {
     ///
     /// # Examples
     ///
-    /// ```
-    /// use iox2sd::static_config::message_type_details::{
-    ///     TypeDetail, TypeDetailError, TypeVariant,
-    /// };
-    ///
-    /// let point = TypeDetail::from_parts(TypeVariant::Dynamic, "Point3", 12, 4)?;
-    /// assert_eq!(point.alignment(), 4);
-    /// assert_eq!(
-    ///     TypeDetail::from_parts(TypeVariant::Dynamic, "Point3", 12, 3),
-    ///     Err(TypeDetailError::AlignmentNotPowerOfTwo)
-    /// );
-    /// # Ok::<(), TypeDetailError>(())
-    /// ```
+    #[doc = example!(types)]
+    /// details.payload = TypeDetail::from_parts(TypeVariant::Dynamic, "Point3", 12, 4)?;
+    /// let refused = TypeDetail::from_parts(TypeVariant::Dynamic, "Point3", 12, 3);
+    /// assert_eq!(refused, Err(TypeDetailError::AlignmentNotPowerOfTwo));
+    #[doc = example!(end)]
     pub fn from_parts(
         variant: TypeVariant,
         type_name: &str,
@@ -253,14 +206,10 @@ impl TypeDetail {
 
 /// The types of the parts of a message, which lie one after another.
 ///
-/// ```
-/// use iox2sd::static_config::message_type_details::{MessageTypeDetails, TypeVariant};
-///
-/// let mut details = MessageTypeDetails::from::<u64, (), u8>(TypeVariant::FixedSize)?;
+#[doc = example!(types)]
 /// details.user_header = details.header;
-/// assert_eq!(details, MessageTypeDetails::from::<u64, u64, u8>(TypeVariant::FixedSize)?);
-/// # Ok::<(), iox2sd::static_config::message_type_details::TypeDetailError>(())
-/// ```
+/// assert_eq!(details, MessageTypeDetails::from::<u64, u64, u8>(TypeVariant::Dynamic)?);
+#[doc = example!(end)]
 #[derive(Clone, Copy, Debug, Default, PartialEq, Eq, Hash)]
 pub struct MessageTypeDetails {
     /// The type of the header, which belongs to the system.
@@ -274,13 +223,10 @@ pub struct MessageTypeDetails {
 errors! {
     /// Why a message has no layout or no offsets.
     ///
-    /// ```
-    /// use iox2sd::static_config::message_type_details::{LayoutError, MessageTypeDetails};
-    ///
+    #[doc = example!(types)]
     /// let refused = MessageTypeDetails::default().sample_layout(1).unwrap_err();
-    /// assert_eq!(refused, LayoutError::DetailsNotGiven);
     /// assert_eq!(refused.to_string(), "LayoutError::DetailsNotGiven");
-    /// ```
+    #[doc = example!(end)]
     #[non_exhaustive]
     LayoutError {
         /// The details of a part were not given: they are the default ones.
@@ -301,15 +247,10 @@ impl MessageTypeDetails {
     ///
     /// # Examples
     ///
-    /// ```
-    /// use iox2sd::static_config::message_type_details::{MessageTypeDetails, TypeVariant};
-    ///
-    /// let details = MessageTypeDetails::from::<u64, (), [u8; 4]>(TypeVariant::FixedSize)?;
-    /// assert_eq!(details.header.alignment(), 8);
-    /// assert_eq!(details.user_header.size(), 0);
-    /// assert_eq!(details.payload.type_name(), &"[u8; 4]");
-    /// # Ok::<(), iox2sd::static_config::message_type_details::TypeDetailError>(())
-    /// ```
+    #[doc = example!(types)]
+    /// assert_eq!((details.header.alignment(), details.user_header.size()), (8, 4));
+    /// assert_eq!(details.payload.type_name(), &"u8");
+    #[doc = example!(end)]
     pub fn from<Header, UserHeader, Payload>(
         payload_variant: TypeVariant,
     ) -> Result<Self, TypeDetailError> {
@@ -331,13 +272,9 @@ impl MessageTypeDetails {
 
     /// Whether the details of all parts were given.
     ///
-    /// ```
-    /// use iox2sd::static_config::message_type_details::{MessageTypeDetails, TypeVariant};
-    ///
-    /// assert!(!MessageTypeDetails::default().has_alignments());
-    /// assert!(MessageTypeDetails::from::<u64, (), u8>(TypeVariant::FixedSize)?.has_alignments());
-    /// # Ok::<(), iox2sd::static_config::message_type_details::TypeDetailError>(())
-    /// ```
+    #[doc = example!(types)]
+    /// assert!(details.has_alignments() && !MessageTypeDetails::default().has_alignments());
+    #[doc = example!(end)]
     #[must_use]
     pub fn has_alignments(&self) -> bool {
         library::layout(self, 0) != Err(sys::IOX2SD_STATUS_BAD_ALIGNMENT)
@@ -345,14 +282,9 @@ impl MessageTypeDetails {
 
     /// Whether a message with its header at the offset `header` has an offset for its payload.
     ///
-    /// ```
-    /// use iox2sd::static_config::message_type_details::{MessageTypeDetails, TypeVariant};
-    ///
-    /// let details = MessageTypeDetails::from::<u64, (), u8>(TypeVariant::FixedSize)?;
-    /// assert!(details.has_places(4096));
-    /// assert!(!details.has_places(usize::MAX));
-    /// # Ok::<(), iox2sd::static_config::message_type_details::TypeDetailError>(())
-    /// ```
+    #[doc = example!(types)]
+    /// assert!(details.has_places(4096) && !details.has_places(usize::MAX));
+    #[doc = example!(end)]
     #[must_use]
     pub fn has_places(&self, header: usize) -> bool {
         library::places(self, header).is_ok()
@@ -368,17 +300,11 @@ impl MessageTypeDetails {
     ///
     /// # Examples
     ///
-    /// ```
-    /// use iox2sd::static_config::message_type_details::{
-    ///     LayoutError, MessageTypeDetails, TypeVariant,
-    /// };
-    ///
-    /// let details = MessageTypeDetails::from::<u8, u32, u64>(TypeVariant::FixedSize)?;
-    /// assert_eq!(details.user_header_ptr_from_header(8), Ok(12));
-    /// assert_eq!(details.payload_ptr_from_header(8), Ok(16));
-    /// assert_eq!(details.payload_ptr_from_header(usize::MAX), Err(LayoutError::TooLarge));
-    /// # Ok::<(), iox2sd::static_config::message_type_details::TypeDetailError>(())
-    /// ```
+    #[doc = example!(types)]
+    /// assert_eq!(details.user_header_ptr_from_header(8), Ok(16));
+    /// let refused = details.user_header_ptr_from_header(usize::MAX);
+    /// assert_eq!(refused, Err(LayoutError::TooLarge));
+    #[doc = example!(end)]
     pub fn user_header_ptr_from_header(&self, header: usize) -> Result<usize, LayoutError> {
         let (user_header, _) = library::places(self, header).map_err(LayoutError::of)?;
         Ok(user_header)
@@ -392,13 +318,9 @@ impl MessageTypeDetails {
     ///
     /// # Examples
     ///
-    /// ```
-    /// use iox2sd::static_config::message_type_details::{MessageTypeDetails, TypeVariant};
-    ///
-    /// let details = MessageTypeDetails::from::<u64, u32, u64>(TypeVariant::FixedSize)?;
-    /// assert_eq!(details.payload_ptr_from_header(4096)?, 4112);
-    /// # Ok::<(), Box<dyn std::error::Error>>(())
-    /// ```
+    #[doc = example!(types)]
+    /// assert_eq!(details.payload_ptr_from_header(4096)?, 4108);
+    #[doc = example!(end)]
     pub fn payload_ptr_from_header(&self, header: usize) -> Result<usize, LayoutError> {
         let (_, payload) = library::places(self, header).map_err(LayoutError::of)?;
         Ok(payload)
@@ -416,18 +338,12 @@ impl MessageTypeDetails {
     ///
     /// # Examples
     ///
-    /// ```
-    /// use iox2sd::static_config::message_type_details::{
-    ///     LayoutError, MessageTypeDetails, TypeVariant,
-    /// };
-    ///
-    /// let details = MessageTypeDetails::from::<i64, i64, i64>(TypeVariant::Dynamic)?;
-    /// assert_eq!(details.sample_layout(2)?.size(), 48);
+    #[doc = example!(types)]
+    /// assert!(details.sample_layout(2)?.size() >= 14);
     /// assert_eq!(details.sample_layout(usize::MAX), Err(LayoutError::TooLarge));
     /// let none = MessageTypeDetails::default();
     /// assert_eq!(none.sample_layout(2), Err(LayoutError::DetailsNotGiven));
-    /// # Ok::<(), Box<dyn std::error::Error>>(())
-    /// ```
+    #[doc = example!(end)]
     pub fn sample_layout(&self, number_of_elements: usize) -> Result<Layout, LayoutError> {
         let (size, alignment) =
             library::layout(self, number_of_elements).map_err(LayoutError::of)?;
@@ -437,15 +353,10 @@ impl MessageTypeDetails {
     /// Whether an opener with these details may use the messages of a service with the details
     /// `rhs`: [`check_compatible_to`](Self::check_compatible_to) refuses nothing.
     ///
-    /// ```
-    /// use iox2sd::static_config::message_type_details::{MessageTypeDetails, TypeVariant};
-    ///
-    /// let opener = MessageTypeDetails::from::<u64, (), i8>(TypeVariant::FixedSize)?;
-    /// let service = MessageTypeDetails::from::<u64, (), u8>(TypeVariant::FixedSize)?;
-    /// assert!(opener.is_compatible_to(&opener));
-    /// assert!(!opener.is_compatible_to(&service));
-    /// # Ok::<(), iox2sd::static_config::message_type_details::TypeDetailError>(())
-    /// ```
+    #[doc = example!(types)]
+    /// let opener = MessageTypeDetails::from::<u64, u32, i8>(TypeVariant::Dynamic)?;
+    /// assert!(opener.is_compatible_to(&opener) && !opener.is_compatible_to(&details));
+    #[doc = example!(end)]
     #[must_use]
     pub fn is_compatible_to(&self, rhs: &Self) -> bool {
         self.check_compatible_to(rhs).is_ok()
@@ -462,19 +373,12 @@ impl MessageTypeDetails {
     ///
     /// # Examples
     ///
-    /// ```
-    /// use iox2sd::static_config::message_type_details::{
-    ///     IncompatibilityCause, MessagePart, MessageTypeDetails, TypeVariant,
-    /// };
-    ///
-    /// let opener = MessageTypeDetails::from::<u64, (), i8>(TypeVariant::FixedSize)?;
-    /// let service = MessageTypeDetails::from::<u64, (), u8>(TypeVariant::FixedSize)?;
-    /// let refused = opener.check_compatible_to(&service).unwrap_err();
+    #[doc = example!(types)]
+    /// let opener = MessageTypeDetails::from::<u64, u32, i8>(TypeVariant::Dynamic)?;
+    /// let refused = opener.check_compatible_to(&details).unwrap_err();
     /// assert_eq!(refused.part, MessagePart::Payload);
     /// assert_eq!(refused.cause, IncompatibilityCause::OtherName);
-    /// assert_eq!(refused.to_string(), "the payload has another type name");
-    /// # Ok::<(), iox2sd::static_config::message_type_details::TypeDetailError>(())
-    /// ```
+    #[doc = example!(end)]
     pub fn check_compatible_to(&self, rhs: &Self) -> Result<(), Incompatibility> {
         let answer = library::compatible(self, rhs);
         if answer.status == sys::IOX2SD_STATUS_DONE {
@@ -530,15 +434,11 @@ choices! {
 
 /// Why an opener may not use the messages of a service.
 ///
-/// ```
-/// use iox2sd::static_config::message_type_details::{MessageTypeDetails, TypeVariant};
-///
-/// let opener = MessageTypeDetails::from::<u64, u8, u8>(TypeVariant::FixedSize)?;
-/// let service = MessageTypeDetails::from::<u64, i8, u8>(TypeVariant::FixedSize)?;
-/// let refused = opener.check_compatible_to(&service).unwrap_err();
+#[doc = example!(types)]
+/// let opener = MessageTypeDetails::from::<u64, i32, u8>(TypeVariant::Dynamic)?;
+/// let refused = opener.check_compatible_to(&details).unwrap_err();
 /// assert_eq!(refused.to_string(), "the user header has another type name");
-/// # Ok::<(), iox2sd::static_config::message_type_details::TypeDetailError>(())
-/// ```
+#[doc = example!(end)]
 #[derive(Clone, Copy, Debug, PartialEq, Eq, Hash)]
 pub struct Incompatibility {
     /// The first part that keeps it out.

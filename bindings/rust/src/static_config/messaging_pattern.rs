@@ -16,20 +16,12 @@ use std::fmt;
 
 /// The pattern of a service, with what is fixed by it.
 ///
-/// ```
-/// use iox2sd::config::Config;
+#[doc = example!(description of event)]
 /// use iox2sd::static_config::messaging_pattern::MessagingPattern;
-/// use iox2sd::static_config::{blackboard, event};
 ///
-/// let mut config = Config::default();
-/// let one = MessagingPattern::Event(event::StaticConfig::new(&config));
-/// config.defaults.event.max_nodes -= 1;
-/// let other = MessagingPattern::Event(event::StaticConfig::new(&config));
-/// assert_ne!(one, other);
-/// assert!(one.is_same_pattern(&other));
-/// let board = MessagingPattern::Blackboard(blackboard::StaticConfig::new(&config));
-/// assert!(!one.is_same_pattern(&board));
-/// ```
+/// let pattern = MessagingPattern::Event(*service.event());
+/// assert_eq!(service.messaging_pattern(), &pattern);
+#[doc = example!(end)]
 #[derive(Clone, Copy, Debug, PartialEq, Eq, Hash)]
 #[allow(clippy::large_enum_variant)] // Texts are copied by value, and none is boxed.
 #[non_exhaustive]
@@ -60,15 +52,12 @@ macro_rules! getter {
         ///
         /// Where the pattern is another, as [`kind`](Self::kind) says.
         ///
-        /// ```
-        /// use iox2sd::config::Config;
-        /// use iox2sd::static_config::messaging_pattern::MessagingPattern;
-        #[doc = concat!("use iox2sd::static_config::", stringify!($module), "::StaticConfig;")]
-        ///
-        /// let fixed = StaticConfig::new(&Config::default());
-        #[doc = concat!("let pattern = MessagingPattern::", stringify!($variant), "(fixed);")]
-        #[doc = concat!("assert_eq!(pattern.", stringify!($module), "(), &fixed);")]
-        /// ```
+        #[doc = example!(description of $module)]
+        #[doc = concat!(
+                    "assert_eq!(service.messaging_pattern().", stringify!($module), "(), service.",
+                    stringify!($module), "());"
+                )]
+        #[doc = example!(end)]
         #[must_use]
         pub fn $module(&self) -> &$module::StaticConfig {
             match self {
@@ -85,15 +74,9 @@ macro_rules! getter {
 impl MessagingPattern {
     /// The pattern alone.
     ///
-    /// ```
-    /// use iox2sd::config::Config;
-    /// use iox2sd::messaging_pattern::MessagingPattern as Kind;
-    /// use iox2sd::static_config::event::StaticConfig;
-    /// use iox2sd::static_config::messaging_pattern::MessagingPattern;
-    ///
-    /// let pattern = MessagingPattern::Event(StaticConfig::new(&Config::default()));
-    /// assert_eq!(pattern.kind(), Kind::Event);
-    /// ```
+    #[doc = example!(description of event)]
+    /// assert_eq!(service.messaging_pattern().kind(), MessagingPattern::Event);
+    #[doc = example!(end)]
     #[must_use]
     pub fn kind(&self) -> Kind {
         match self {
@@ -106,17 +89,12 @@ impl MessagingPattern {
 
     /// Whether both are one pattern, whatever is fixed by it.
     ///
-    /// ```
-    /// use iox2sd::config::Config;
-    /// use iox2sd::static_config::event::StaticConfig;
-    /// use iox2sd::static_config::messaging_pattern::MessagingPattern;
-    ///
-    /// let mut config = Config::default();
-    /// let one = MessagingPattern::Event(StaticConfig::new(&config));
-    /// config.defaults.event.max_listeners = 1;
-    /// let other = MessagingPattern::Event(StaticConfig::new(&config));
-    /// assert!(one.is_same_pattern(&other) && one != other);
-    /// ```
+    #[doc = example!(description of event)]
+    /// let one = *service.messaging_pattern();
+    /// service.event_mut().max_listeners = 1;
+    /// let other = service.messaging_pattern();
+    /// assert!(one.is_same_pattern(other) && one != *other);
+    #[doc = example!(end)]
     #[must_use]
     pub fn is_same_pattern(&self, rhs: &MessagingPattern) -> bool {
         self.kind() == rhs.kind()
@@ -125,16 +103,11 @@ impl MessagingPattern {
     /// Whether a service with this pattern meets what an opener requires: the pattern is the same,
     /// and its settings satisfy those of the opener. Types are no part of it.
     ///
-    /// ```
-    /// use iox2sd::config::Config;
-    /// use iox2sd::static_config::messaging_pattern::MessagingPattern;
-    /// use iox2sd::static_config::{blackboard, event};
-    ///
-    /// let config = Config::default();
-    /// let events = MessagingPattern::Event(event::StaticConfig::new(&config));
-    /// let board = MessagingPattern::Blackboard(blackboard::StaticConfig::new(&config));
-    /// assert!(events.satisfies(&events) && !events.satisfies(&board));
-    /// ```
+    #[doc = example!(description of event)]
+    /// let board = StaticConfig::new_blackboard(&name, &Config::default(), id)?;
+    /// let (events, board) = (service.messaging_pattern(), board.messaging_pattern());
+    /// assert!(events.satisfies(events) && !events.satisfies(board));
+    #[doc = example!(end)]
     #[must_use]
     pub fn satisfies(&self, required: &Self) -> bool {
         Both::of(self, required).is_some_and(|both| both.first_unmet().is_none())

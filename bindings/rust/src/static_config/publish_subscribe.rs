@@ -1,12 +1,8 @@
 //! What is fixed of a publish-subscribe service.
 //!
-//! ```
-//! use iox2sd::config::Config;
-//! use iox2sd::static_config::publish_subscribe::StaticConfig;
-//!
-//! let fixed = StaticConfig::new(&Config::default());
+#![doc = example!(fixed publish_subscribe)]
 //! assert_eq!(fixed.max_subscribers(), 8);
-//! ```
+#![doc = example!(end)]
 
 use super::fixed::fixed;
 use super::message_type_details::MessageTypeDetails;
@@ -41,14 +37,10 @@ impl StaticConfig {
     /// The greatest number of one publisher's samples that can be in use at once, where it may
     /// have taken so many and not yet sent; `None` exactly where that passes 2^64 - 1.
     ///
-    /// ```
-    /// use iox2sd::config::Config;
-    /// use iox2sd::static_config::publish_subscribe::StaticConfig;
-    ///
-    /// let service = StaticConfig::new(&Config::default());
-    /// assert_eq!(service.required_amount_of_samples_per_data_segment(2), Some(34));
-    /// assert_eq!(service.required_amount_of_samples_per_data_segment(usize::MAX), None);
-    /// ```
+    #[doc = example!(fixed publish_subscribe)]
+    /// assert_eq!(fixed.required_amount_of_samples_per_data_segment(2), Some(34));
+    /// assert_eq!(fixed.required_amount_of_samples_per_data_segment(usize::MAX), None);
+    #[doc = example!(end)]
     #[must_use]
     pub fn required_amount_of_samples_per_data_segment(
         &self,

@@ -1,12 +1,8 @@
 //! What is fixed of a request-response service.
 //!
-//! ```
-//! use iox2sd::config::Config;
-//! use iox2sd::static_config::request_response::StaticConfig;
-//!
-//! let fixed = StaticConfig::new(&Config::default());
+#![doc = example!(fixed request_response)]
 //! assert_eq!(fixed.max_active_requests_per_client(), 4);
-//! ```
+#![doc = example!(end)]
 
 use super::fixed::fixed;
 use super::message_type_details::MessageTypeDetails;
@@ -49,13 +45,9 @@ impl StaticConfig {
     /// The greatest number of one client's requests that can be in use at once, where it may have
     /// taken so many and not yet sent; `None` exactly where that passes 2^64 - 1.
     ///
-    /// ```
-    /// use iox2sd::config::Config;
-    /// use iox2sd::static_config::request_response::StaticConfig;
-    ///
-    /// let service = StaticConfig::new(&Config::default());
-    /// assert_eq!(service.required_amount_of_chunks_per_client_data_segment(2), Some(18));
-    /// ```
+    #[doc = example!(fixed request_response)]
+    /// assert_eq!(fixed.required_amount_of_chunks_per_client_data_segment(2), Some(18));
+    #[doc = example!(end)]
     #[must_use]
     pub fn required_amount_of_chunks_per_client_data_segment(
         &self,
@@ -71,13 +63,9 @@ impl StaticConfig {
     /// The greatest number of one server's responses that can be in use at once, where it may have
     /// taken so many to one request and not yet sent; `None` exactly where that passes 2^64 - 1.
     ///
-    /// ```
-    /// use iox2sd::config::Config;
-    /// use iox2sd::static_config::request_response::StaticConfig;
-    ///
-    /// let service = StaticConfig::new(&Config::default());
-    /// assert_eq!(service.required_amount_of_chunks_per_server_data_segment(2), Some(384));
-    /// ```
+    #[doc = example!(fixed request_response)]
+    /// assert_eq!(fixed.required_amount_of_chunks_per_server_data_segment(2), Some(384));
+    #[doc = example!(end)]
     #[must_use]
     pub fn required_amount_of_chunks_per_server_data_segment(
         &self,
