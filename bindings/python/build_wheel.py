@@ -84,12 +84,13 @@ def project_table() -> "dict[str, Any]":
 
 
 def package() -> Files:
-    """The files of the package, without the library."""
-    return {
-        f"iox2sd/{path.name}": path.read_bytes()
-        for path in sorted((HERE / "iox2sd").iterdir())
-        if path.suffix == ".py" or path.name == "py.typed"
-    }
+    """The files of the package, without the library: its sources, and the table of structs, which
+    lies beside this folder, and in an archive of sources among them.
+    """
+    table = HERE / "iox2sd" / "fields.txt"
+    paths = [*(HERE / "iox2sd").glob("*.py"), HERE / "iox2sd" / "py.typed"]
+    paths.append(table if table.is_file() else HERE.parent / table.name)
+    return {f"iox2sd/{path.name}": path.read_bytes() for path in sorted(paths, key=lambda p: p.name)}
 
 
 def licences(project: "dict[str, Any]") -> Files:

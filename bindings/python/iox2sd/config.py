@@ -17,9 +17,8 @@ from .errors import (
     BadConfigError, ConfigFault, IllegalByteError, NotUtf8Error, RefusedError, Status, check,
 )
 from .settings import (
-    AllocationStrategy, BackpressureStrategy, BlackboardSettings, DefaultText, Duration,
-    EventSettings, PublishSubscribeSettings, RequestResponseSettings, default_text, put_settings,
-    read,
+    BlackboardSettings, DefaultText, Duration, EventSettings, PublishSubscribeSettings,
+    RequestResponseSettings, default_text, put_settings, read,
 )
 from .texts import FileName, Path, lent
 
@@ -91,9 +90,7 @@ class GlobalConfig(Checked):
     """What the name of each file begins with."""
     service: ServiceConfig = ServiceConfig()
     node: NodeConfig = NodeConfig()
-    creation_timeout: Duration = Duration(
-        _global.creation_timeout.seconds, _global.creation_timeout.nanoseconds
-    )
+    creation_timeout: Duration = read(_global, "creation_timeout")
     """How long an opener waits until the creator is ready."""
 
     def service_dir(self) -> Path:
@@ -208,14 +205,6 @@ _FLAGS = [(part, own.name) for part, kind in _PARTS for own in fields(kind) if o
 """The part and the name of each flag of a `GlobalConfig`."""
 
 
-def _settings(kind: Any, c: Any) -> Any:
-    """The settings of services of a pattern that the library answered."""
-    makers: "dict[Any, Any]" = {one: one for one in (BackpressureStrategy, AllocationStrategy)}
-    return kind(**{
-        one.name: makers.get(one.type, read)(getattr(c, one.name)) for one in fields(kind)
-    })
-
-
 def _config(c: Any) -> Config:
     """All settings that the library answered."""
     parts: "dict[str, dict[str, Any]]" = {part: {} for part, _ in _PARTS}
@@ -225,17 +214,15 @@ def _config(c: Any) -> Config:
     shared = getattr(c, "global")
     for part, own in _FLAGS:
         parts[part][own] = getattr(shared, own)
-    timeout = shared.creation_timeout
+    made = {part: kind(**parts[part]) for part, kind in _PARTS if part}
+    timeout = read(shared, "creation_timeout")
+    defaults: "dict[str, Any]" = {
+        of.name: of.type(**{one.name: read(getattr(c, of.name), one.name) for one in fields(of.type)})
+        for of in fields(Defaults)
+    }
     return Config(
-        global_cfg=GlobalConfig(
-            **parts[""],
-            service=ServiceConfig(**parts["service"]),
-            node=NodeConfig(**parts["node"]),
-            creation_timeout=Duration(timeout.seconds, timeout.nanoseconds),
-        ),
-        defaults=Defaults(
-            **{one.name: _settings(one.type, getattr(c, one.name)) for one in fields(Defaults)}
-        ),
+        global_cfg=GlobalConfig(**parts[""], **made, creation_timeout=timeout),
+        defaults=Defaults(**defaults),
     )
 
 
@@ -280,9 +267,7 @@ def _unknown(text: bytes) -> "tuple[UnknownKey, ...]":
     needed = _native.config_unknown_at(text, len(text), None, 0, None, 0)
     keys = (_native.UnknownKey * needed.count)()
     paths = (ctypes.c_uint8 * needed.length)()
-    answer = _native.config_unknown_at(
-        text, len(text), keys, needed.count, paths, needed.length
-    )
+    answer = _native.config_unknown_at(text, len(text), keys, needed.count, paths, needed.length)
     check(answer.status, "Config.from_toml")
     found, place, whole = [], 0, bytes(paths)
     for key in keys:

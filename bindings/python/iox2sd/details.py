@@ -145,14 +145,8 @@ class WriterDetails(Details):
 
 
 PortDetails = Union[
-    PublisherDetails,
-    SubscriberDetails,
-    NotifierDetails,
-    ListenerDetails,
-    ClientDetails,
-    ServerDetails,
-    ReaderDetails,
-    WriterDetails,
+    PublisherDetails, SubscriberDetails, NotifierDetails, ListenerDetails, ClientDetails,
+    ServerDetails, ReaderDetails, WriterDetails,
 ]
 """What a port of any role reports."""
 
@@ -192,7 +186,7 @@ _node_id = maker(UniqueNodeId)
 
 
 def details_of_rows(rows: "Iterable[tuple[int, ...]]") -> "tuple[PortDetails, ...]":
-    """The details of ports of the library, each as `_native.PORT` reads it. They are not checked
+    """The details of ports of the library, each as `_native.row` reads it. They are not checked
     again, and those of one node share its id.
     """
     new = object.__new__
@@ -217,5 +211,5 @@ def details_of_rows(rows: "Iterable[tuple[int, ...]]") -> "tuple[PortDetails, ..
 
 def details_of(port: _native.PortDetails) -> PortDetails:
     """The details of a port of the library."""
-    (details,) = details_of_rows([_native.PORT.unpack_from(port)])
+    (details,) = details_of_rows([_native.row(_native.PortDetails).unpack_from(port)])
     return details

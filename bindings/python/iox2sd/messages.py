@@ -124,9 +124,3 @@ def check_same(opener: TypeDetail, service: TypeDetail, what: str) -> None:
     """Raises where two types differ: they are compared as those of headers."""
     of_opener, of_service = (MessageTypeDetails(one, one, one)._lent() for one in (opener, service))
     check(_native.message_is_compatible_to_at(of_service, 1, of_opener, 1).status, what)
-
-
-def counted(what: str, answer: Any) -> int:
-    """The number of an answer."""
-    check(answer.status, what)
-    return int(answer.count)

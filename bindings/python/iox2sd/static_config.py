@@ -1,7 +1,7 @@
 """What a service is: its name, id, attributes, limits and message types."""
 
 from dataclasses import dataclass, field, fields, replace
-from typing import Any, NamedTuple, Optional, TypeVar, Union, cast
+from typing import Any, NamedTuple, Optional, TypeVar, Union, cast, get_args
 
 from . import _native
 from ._arguments import Checked, Size, instance, number, shown
@@ -86,17 +86,14 @@ class PublishSubscribeStaticConfig(FixedSettings):
 
     @classmethod
     def new(
-        cls,
-        message_type_details: MessageTypeDetails,
+        cls, message_type_details: MessageTypeDetails,
         settings: PublishSubscribeSettings = PublishSubscribeSettings(),
     ) -> "PublishSubscribeStaticConfig":
         """The description of a service with these settings."""
         taken = _taken(cls, PublishSubscribeSettings, settings)
         return cls(**taken, message_type_details=message_type_details)
 
-    def required_amount_of_samples_per_data_segment(
-        self, publisher_max_loaned_samples: int
-    ) -> int:
+    def required_amount_of_samples_per_data_segment(self, publisher_max_loaned_samples: int) -> int:
         """The greatest number of samples in use at once of a publisher that may have so many taken
         and not yet sent. Raises `TooLargeError` past 2^64 - 1.
         """
@@ -143,8 +140,7 @@ class RequestResponseStaticConfig(FixedSettings):
 
     @classmethod
     def new(
-        cls,
-        request_message_type_details: MessageTypeDetails,
+        cls, request_message_type_details: MessageTypeDetails,
         response_message_type_details: MessageTypeDetails,
         settings: RequestResponseSettings = RequestResponseSettings(),
     ) -> "RequestResponseStaticConfig":
@@ -193,9 +189,7 @@ class BlackboardStaticConfig(FixedSettings):
 
 
 PatternStaticConfig = Union[
-    PublishSubscribeStaticConfig,
-    EventStaticConfig,
-    RequestResponseStaticConfig,
+    PublishSubscribeStaticConfig, EventStaticConfig, RequestResponseStaticConfig,
     BlackboardStaticConfig,
 ]
 """What a service of any pattern is."""
@@ -223,16 +217,9 @@ def _pattern(pattern: MessagingPattern, settings: Any, config: Any) -> _Pattern:
     return _Pattern(pattern, settings, config, *(getattr(_native, call) for call in calls))
 
 
-_PATTERNS = (
-    _pattern(
-        MessagingPattern.PUBLISH_SUBSCRIBE, PublishSubscribeSettings, PublishSubscribeStaticConfig
-    ),
-    _pattern(MessagingPattern.EVENT, EventSettings, EventStaticConfig),
-    _pattern(
-        MessagingPattern.REQUEST_RESPONSE, RequestResponseSettings, RequestResponseStaticConfig
-    ),
-    _pattern(MessagingPattern.BLACKBOARD, BlackboardSettings, BlackboardStaticConfig),
-)
+_PATTERNS = tuple(map(
+    _pattern, MessagingPattern, get_args(PatternSettings), get_args(PatternStaticConfig)
+))
 
 
 def _of(value: object) -> _Pattern:
@@ -308,7 +295,7 @@ class StaticConfig(Checked):
         part = getattr(made, self.messaging_pattern.name.lower())
         config = self.pattern_config
         fixed = {one.name for one in fields(config) if hasattr(part, one.name)}
-        values = {name: read(getattr(part, name)) for name in fixed}
+        values = {name: read(part, name) for name in fixed}
         if any(getattr(config, name) != value for name, value in values.items()):
             object.__setattr__(self, "pattern_config", replace(config, **values))
         Checked.__post_init__(self)
@@ -317,13 +304,8 @@ class StaticConfig(Checked):
         """What the library makes of the name, the id and the settings."""
         of, made = _of(self.pattern_config), _native.Description()
         answer = of.describe(
-            _plain(self.pattern_config, of.plain_settings),
-            1,
-            *lent(self.name),
-            isinstance(self.name, InternalServiceName),
-            self.unique_service_id._lent(),
-            made,
-            1,
+            _plain(self.pattern_config, of.plain_settings), 1, *lent(self.name),
+            isinstance(self.name, InternalServiceName), self.unique_service_id._lent(), made, 1,
         )
         check(answer.status, f"description of {shown(self.name)}")
         return made
