@@ -1,8 +1,8 @@
 """What ports report of themselves."""
 
-from collections.abc import Callable, Iterable
+from collections.abc import Iterable
 from dataclasses import dataclass, fields
-from typing import Any, ClassVar, NamedTuple, Union
+from typing import Any, ClassVar, Union
 
 from . import _native
 from ._arguments import U8, Checked, Size
@@ -158,27 +158,17 @@ _COLUMNS = {name: at for at, (name, *_) in enumerate(_native.PortDetails._fields
 _SEGMENT = _COLUMNS["data_segment"]
 
 
-class _Plan(NamedTuple):
-    """How the details of one kind of ports are made of a row."""
-
-    kind: Any
-    port_id: Callable[[int, int, int, int], Any]
-    set_port_id: Any
-    set_node_id: Any
-    numbers: "tuple[tuple[Any, int], ...]"
-    """What sets each number after the ids, and where it stands in a row."""
-    set_segment: Any
-    """What sets the type of the data segment, where there is one."""
-
-
-def _plan(kind: Any) -> _Plan:
+def _plan(kind: Any) -> "tuple[Any, ...]":
+    """How the details of one kind of ports are made of a row: the class, what makes the port's id,
+    what sets it and the node's, what sets each number and where it stands, and what sets the type
+    of the data segment, if there is one.
+    """
     port_id, _, *others = fields(kind)
     set_port_id, set_node_id, *set_others = setters(kind)
-    names = [field.name.removesuffix("_type") for field in others]
-    sets = dict(zip(names, set_others))
+    sets = dict(zip((field.name.removesuffix("_type") for field in others), set_others))
     set_segment = sets.pop("data_segment", None)
     numbers = tuple((set_field, _COLUMNS[name]) for name, set_field in sets.items())
-    return _Plan(kind, maker(port_id.type), set_port_id, set_node_id, numbers, set_segment)
+    return kind, maker(port_id.type), set_port_id, set_node_id, numbers, set_segment
 
 
 _PLANS = {kind.role.value: _plan(kind) for kind in PortDetails.__args__}  # type: ignore[attr-defined]

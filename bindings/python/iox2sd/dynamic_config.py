@@ -4,7 +4,6 @@ import ctypes
 from collections.abc import Callable, Iterable, Iterator
 from contextlib import contextmanager, suppress
 from dataclasses import dataclass
-from types import TracebackType
 from typing import Any, NoReturn, TypeVar, Union, cast
 
 from . import _native
@@ -119,7 +118,7 @@ class DeadNodeRemoval(Checked):
 def _lister(kind: "type[_Details]") -> "Callable[[DynamicConfig], tuple[_Details, ...]]":
     """What lists the ports whose details are of one class."""
 
-    def listed(self: DynamicConfig) -> "tuple[_Details, ...]":
+    def listed(self: "DynamicConfig") -> "tuple[_Details, ...]":
         return cast("tuple[_Details, ...]", self.list_ports(kind.role))
 
     name = f"{kind.role.name.lower()}s"
@@ -150,9 +149,8 @@ class DynamicConfig:
     ) -> None:
         """A service with nothing attached. `service_number` is in each of its handles. It has
         `tickets` tickets for nodes, and as many for each kind of ports: each registering and each
-        attaching uses one, and tickets are never reused.
-
-        Raises `HasServiceError` where the object has one already, and `NoMemoryError`.
+        attaching uses one, and tickets are never reused. Raises `HasServiceError` where the object
+        has one already, and `NoMemoryError`.
         """
         if not hasattr(self, "_place"):
             self._place = _native.Service()
@@ -217,9 +215,8 @@ class DynamicConfig:
     # ---- Changes ----
 
     def register_node_id(self, node_id: UniqueNodeId) -> ContainerHandle:
-        """Registers a node, which may have several handles.
-
-        Raises `NoServiceError`, `IsLockedError`, `OutOfSpaceError`.
+        """Registers a node, which may have several handles. Raises `NoServiceError`,
+        `IsLockedError`, `OutOfSpaceError`.
         """
         instance(node_id, UniqueNodeId, "register_node_id")
         what = f"register node {node_id}"
@@ -227,11 +224,9 @@ class DynamicConfig:
         return ContainerHandle._of(answer.handle)
 
     def deregister_node_id(self, handle: ContainerHandle) -> DeregisterNodeState:
-        """Deregisters the node with a handle.
-
-        Raises `NoServiceError`, `ForeignHandleError`, also for a port's handle, and
-        `PortsStillAttachedError` where it is the only handle of its node and some port has that
-        node.
+        """Deregisters the node with a handle. Raises `NoServiceError`, `ForeignHandleError`, also
+        for a port's handle, and `PortsStillAttachedError` where it is the only handle of its node
+        and some port has that node.
         """
         instance(handle, ContainerHandle, "deregister_node_id")
         status = self._call(_native.deregister_node_id_at, handle._lent())
@@ -239,19 +234,16 @@ class DynamicConfig:
         return DeregisterNodeState(status)
 
     def attach(self, details: PortDetails) -> ContainerHandle:
-        """Attaches a port.
-
-        Raises `NoServiceError`, `RoleNotInPatternError`, `IsLockedError`, `NodeNotRegisteredError`,
-        `OutOfSpaceError`.
+        """Attaches a port. Raises `NoServiceError`, `RoleNotInPatternError`, `IsLockedError`,
+        `NodeNotRegisteredError`, `OutOfSpaceError`.
         """
         instance(details, PortDetails, "attach")
         what = f"attach {details.role.name.lower()} {details.port_id}"
         return ContainerHandle._of(self._answer(what, _native.attach_at, details._lent(), 1).handle)
 
     def release_port(self, handle: ContainerHandle) -> None:
-        """Releases the port with a handle.
-
-        Raises `NoServiceError` and `ForeignHandleError`, also for a node's handle.
+        """Releases the port with a handle. Raises `NoServiceError` and `ForeignHandleError`, also
+        for a node's handle.
         """
         instance(handle, ContainerHandle, "release_port")
         check(self._call(_native.release_port_at, handle._lent()), f"release {handle}")
@@ -259,9 +251,8 @@ class DynamicConfig:
     def remove_dead_node_id(
         self, node_id: UniqueNodeId, keep: Iterable[UniquePortId] = ()
     ) -> DeadNodeRemoval:
-        """Removes the ports of a dead node, but for those whose id is in `keep`, and returns how many
-        it removed. Where no port is left, the node is removed too, with all its handles.
-
+        """Removes the ports of a dead node, but for those whose id is in `keep`, and returns how
+        many it removed. Where no port is left, the node is removed too, with all its handles.
         Raises `NoServiceError`.
         """
         instance(node_id, UniqueNodeId, "remove_dead_node_id")
@@ -410,10 +401,7 @@ class DynamicConfig:
     def __enter__(self: _Service) -> _Service:
         return self
 
-    def __exit__(
-        self, _kind: "type[BaseException] | None", _error: "BaseException | None",
-        _where: "TracebackType | None",
-    ) -> None:
+    def __exit__(self, *_: object) -> None:
         self.close()
 
     def __del__(self) -> None:

@@ -273,16 +273,11 @@ class BadConfigError(RefusedError, ValueError):
         return self.what
 
 
-def _with_status(base: "type[RefusedError]") -> "dict[Status, type[RefusedError]]":
-    found: "dict[Status, type[RefusedError]]" = {}
-    for kind in base.__subclasses__():
-        if kind.status is not base.status:
-            found[kind.status] = kind
-        found.update(_with_status(kind))
-    return found
-
-
-_KINDS = _with_status(RefusedError)
+_KINDS: "dict[Status, type[RefusedError]]" = {
+    kind.status: kind
+    for kind in list(globals().values())
+    if isinstance(kind, type) and issubclass(kind, RefusedError) and kind.status is not Error.status
+}
 _STATUSES = {status.value: status for status in Status}
 
 

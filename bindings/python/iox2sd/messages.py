@@ -21,10 +21,9 @@ class TypeVariant(Choice):
 
 @dataclass(frozen=True, slots=True)
 class TypeDetail(Checked):
-    """The type of one part of a message.
-
-    Raises `NotUtf8Error`, `TooLongError` and `IllegalByteError` of the name, which has at most 256
-    bytes, each from 1 to 127; `BadAlignmentError`.
+    """The type of one part of a message. Raises `NotUtf8Error`, `TooLongError` and
+    `IllegalByteError` of the name, which has at most 256 bytes, each from 1 to 127;
+    `BadAlignmentError`.
     """
 
     type_name: str

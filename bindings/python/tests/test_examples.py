@@ -71,12 +71,12 @@ EXPECTED = {
 
 OF_FILES = {
     "[global]\nroot-path = '/run/robot'\n"
-    "[defaults.publish-subscribe]\nmax-subscribers = 10\nmax-publisher = 3\n": SETTINGS,
+    "[defaults.publish-subscribe]\nmax-subscribers = 10\nmax-publisher = 3\n": (0, SETTINGS, ""),
     "[defaults.event]\nmax-nodes = -1\nmax-listeners = 1.5\n":
-    "defaults.event.max-listeners: is a float, and an integer is wanted\n"
-    "defaults.event.max-nodes: is below 0\n",
+    (1, "", "defaults.event.max-listeners: is a float, and an integer is wanted\n"
+     "defaults.event.max-nodes: is below 0\n"),
 }
-"""What the program settings.py prints of files, the second to standard error."""
+"""The status of the program settings.py of files, and what it prints of them."""
 
 FIRST = """\
 (UniqueNodeId(process=1, seconds=0, nanoseconds=0, counter=1),)
@@ -114,16 +114,12 @@ class Examples(unittest.TestCase):
 
     def test_the_program_that_reads_settings(self):
         program = PROJECT / "examples" / "settings.py"
-        good, bad = OF_FILES
-        with tempfile.NamedTemporaryFile("w+") as file:
-            file.write(good)
-            file.flush()
-            self.assertEqual(self.printed(program, file.name), OF_FILES[good])
-        with tempfile.NamedTemporaryFile("w+") as file:
-            file.write(bad)
-            file.flush()
-            ended = self.run_program(program, file.name)
-            self.assertEqual((ended.returncode, ended.stdout, ended.stderr), (1, "", OF_FILES[bad]))
+        for text, expected in OF_FILES.items():
+            with tempfile.NamedTemporaryFile("w+") as file:
+                file.write(text)
+                file.flush()
+                ended = self.run_program(program, file.name)
+                self.assertEqual((ended.returncode, ended.stdout, ended.stderr), expected)
         ended = self.run_program(program, "/nowhere")
         self.assertEqual((ended.returncode, ended.stdout), (1, ""))
         self.assertIn("No such file", ended.stderr)

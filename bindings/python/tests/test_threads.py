@@ -1,14 +1,15 @@
 import sys
 import threading
 import time
-import unittest
 from typing import Callable
 from unittest import mock
 
 import iox2sd
 from iox2sd import DynamicConfig, ServiceNumbers, UniqueNodeId, _native
 
-from .test_dynamic_config import publisher
+from . import TestCase
+from .test_dynamic_config import publisher, service
+from .test_traps import before
 
 THREADS = 16
 
@@ -42,12 +43,10 @@ def run(work: "list[Callable[[], None]]") -> "list[BaseException]":
     return raised
 
 
-class Threads(unittest.TestCase):
+class Threads(TestCase):
     def test_sixteen_threads_share_a_service(self):
         rounds = 100
-        made = DynamicConfig.publish_subscribe(
-            7, max_nodes=THREADS + 1, max_publishers=THREADS, max_subscribers=0
-        )
+        made = service(THREADS + 1, THREADS, 0)
         stays = made.register_node_id(node(THREADS))
         tickets: "list[int]" = []
 
@@ -69,9 +68,7 @@ class Threads(unittest.TestCase):
 
     def test_closing_among_sixteen_threads(self):
         for _ in range(20):
-            made = DynamicConfig.publish_subscribe(
-                7, max_nodes=THREADS, max_publishers=THREADS, max_subscribers=0
-            )
+            made = service(THREADS, THREADS, 0)
             made.register_node_id(node(THREADS))
 
             def join(number: int):
@@ -154,14 +151,8 @@ class Threads(unittest.TestCase):
         self.assertEqual(sorted(taken), list(range(1, THREADS * rounds + 1)))
 
     def test_a_service_that_is_closed_while_it_is_printed(self):
-        made = DynamicConfig.event(7, max_nodes=1, max_listeners=1, max_notifiers=1)
-        asked = _native.max_nodes_at
-
-        def closes(*arguments):
-            made.close()
-            return asked(*arguments)
-
-        with mock.patch.object(_native, "max_nodes_at", closes):
+        made = service()
+        with before("max_nodes_at", lambda *_: made.close()):
             self.assertEqual(repr(made), "<a closed DynamicConfig>")
 
     def test_sixteen_threads_have_a_service_each(self):
