@@ -7,9 +7,9 @@ configuration of its own.
 
 import ctypes
 import os
-from collections.abc import Callable
 from dataclasses import dataclass, fields
-from typing import Any, Optional, TypeVar, Union, cast
+from functools import partial
+from typing import Any, Optional, Union, cast
 
 from . import _native
 from ._arguments import Checked, shown, utf8, wrong_type
@@ -19,12 +19,9 @@ from .errors import (
 )
 from .settings import (
     LIBRARY, BlackboardSettings, Duration, EventSettings, PublishSubscribeSettings,
-    RequestResponseSettings, put_settings, read,
+    RequestResponseSettings, defaults, put_settings, read, read_all,
 )
 from .texts import FileName, Path, Text, lent
-
-
-_Part = TypeVar("_Part")
 
 
 def _name(c: Any, part: str, own: str) -> str:
@@ -48,19 +45,8 @@ _defaults = _native.Config()
 check(_native.config_read_at(b"", 0, _defaults, 1).status, "defaults of Config")
 
 
-def _part(part: str) -> "Callable[[type[_Part]], type[_Part]]":
-    """Gives each field of a part of a `GlobalConfig` the default that the library has."""
-
-    def decorate(kind: "type[_Part]") -> "type[_Part]":
-        for own, value in _values(_defaults, part, kind).items():
-            setattr(kind, own, value)
-        return kind
-
-    return decorate
-
-
 @dataclass(frozen=True, slots=True, kw_only=True)
-@_part("service")
+@defaults(partial(_values, _defaults, "service"))
 class ServiceConfig(Checked):
     """Where the files of services lie, and how their names end."""
 
@@ -85,7 +71,7 @@ class ServiceConfig(Checked):
 
 
 @dataclass(frozen=True, slots=True, kw_only=True)
-@_part("node")
+@defaults(partial(_values, _defaults, "node"))
 class NodeConfig(Checked):
     """Where the files of nodes lie, and how their names end."""
 
@@ -108,7 +94,7 @@ class NodeConfig(Checked):
 
 
 @dataclass(frozen=True, slots=True, kw_only=True)
-@_part("")
+@defaults(partial(_values, _defaults, ""))
 class GlobalConfig(Checked):
     """What all services and nodes of one system share."""
 
@@ -221,13 +207,11 @@ def _config(c: Any) -> Config:
     service = ServiceConfig(**_values(c, "service", ServiceConfig))
     node = NodeConfig(**_values(c, "node", NodeConfig))
     shared = _values(c, "", GlobalConfig)
-    defaults: "dict[str, Any]" = {}
-    for one in fields(Defaults):
-        plain = getattr(c, one.name)
-        values = {own.name: read(plain, own.name) for own in fields(one.type)}
-        defaults[one.name] = one.type(**values)
+    of_patterns: "dict[str, Any]" = {
+        one.name: one.type(**read_all(getattr(c, one.name), one.type)) for one in fields(Defaults)
+    }
     global_cfg = GlobalConfig(**shared, service=service, node=node)
-    return Config(global_cfg=global_cfg, defaults=Defaults(**defaults))
+    return Config(global_cfg=global_cfg, defaults=Defaults(**of_patterns))
 
 
 def _plain_config(config: Config) -> Any:

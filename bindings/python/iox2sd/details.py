@@ -51,7 +51,6 @@ class Details(Checked):
 @dataclass(frozen=True, slots=True, kw_only=True)
 class PublisherDetails(Details):
     """What a publisher reports."""
-
     role = Role.PUBLISHER
     publisher_id: UniquePublisherId
     node_id: UniqueNodeId
@@ -66,7 +65,6 @@ class PublisherDetails(Details):
 @dataclass(frozen=True, slots=True, kw_only=True)
 class SubscriberDetails(Details):
     """What a subscriber reports."""
-
     role = Role.SUBSCRIBER
     subscriber_id: UniqueSubscriberId
     node_id: UniqueNodeId
@@ -77,7 +75,6 @@ class SubscriberDetails(Details):
 @dataclass(frozen=True, slots=True, kw_only=True)
 class NotifierDetails(Details):
     """What a notifier reports."""
-
     role = Role.NOTIFIER
     notifier_id: UniqueNotifierId
     node_id: UniqueNodeId
@@ -86,7 +83,6 @@ class NotifierDetails(Details):
 @dataclass(frozen=True, slots=True, kw_only=True)
 class ListenerDetails(Details):
     """What a listener reports."""
-
     role = Role.LISTENER
     listener_id: UniqueListenerId
     node_id: UniqueNodeId
@@ -95,7 +91,6 @@ class ListenerDetails(Details):
 @dataclass(frozen=True, slots=True, kw_only=True)
 class ClientDetails(Details):
     """What a client reports."""
-
     role = Role.CLIENT
     client_id: UniqueClientId
     node_id: UniqueNodeId
@@ -112,7 +107,6 @@ class ClientDetails(Details):
 @dataclass(frozen=True, slots=True, kw_only=True)
 class ServerDetails(Details):
     """What a server reports."""
-
     role = Role.SERVER
     server_id: UniqueServerId
     node_id: UniqueNodeId
@@ -129,7 +123,6 @@ class ServerDetails(Details):
 @dataclass(frozen=True, slots=True, kw_only=True)
 class ReaderDetails(Details):
     """What a reader reports."""
-
     role = Role.READER
     reader_id: UniqueReaderId
     node_id: UniqueNodeId
@@ -138,7 +131,6 @@ class ReaderDetails(Details):
 @dataclass(frozen=True, slots=True, kw_only=True)
 class WriterDetails(Details):
     """What a writer reports."""
-
     role = Role.WRITER
     writer_id: UniqueWriterId
     node_id: UniqueNodeId

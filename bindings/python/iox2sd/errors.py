@@ -155,7 +155,6 @@ class RoleNotInPatternError(RefusedError, ValueError, status=Status.ROLE_NOT_IN_
 
 class TooManyError(RefusedError, ValueError, status=Status.TOO_MANY):
     """There are more pairs than a set can have; `at` is the first one too many."""
-
     at: int
 
 class EmptyError(RefusedError, ValueError, status=Status.EMPTY):
@@ -181,17 +180,14 @@ class IllegalHashError(RefusedError, status=Status.ILLEGAL_HASH):
 
 class TooManyRequiredError(RefusedError, ValueError, status=Status.TOO_MANY_REQUIRED):
     """More pairs and keys are required than a set can have; `at` is the first one too many."""
-
     at: int
 
 class MissingPairError(RefusedError, LookupError, status=Status.MISSING_PAIR):
     """The set lacks a required pair, the one at `at`."""
-
     at: int
 
 class MissingKeyError(RefusedError, LookupError, status=Status.MISSING_KEY):
     """The set has no pair with a required key, the one at `at`."""
-
     at: int
 
 class BadAlignmentError(RefusedError, ValueError, status=Status.BAD_ALIGNMENT):

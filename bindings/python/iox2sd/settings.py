@@ -7,6 +7,7 @@ event service gets where nothing but that number is said.
 from collections.abc import Callable
 from dataclasses import dataclass
 from datetime import timedelta
+from functools import partial
 from typing import Any, Optional, TypeVar, Union
 
 from . import _native
@@ -14,7 +15,7 @@ from ._arguments import U32, U64, Checked, Size, instance, shown
 from ._values import Choice
 from .errors import OutOfRangeError, Status, TooLargeError, check
 
-_Settings = TypeVar("_Settings")
+_Kind = TypeVar("_Kind")
 
 
 class BackpressureStrategy(Choice):
@@ -113,51 +114,45 @@ def read(answer: Any, name: str) -> Any:
 
 
 LIBRARY: Any = None
-"""In the place of a default that is the library's."""
+"""Stands for a default that is the library's."""
 
 
-def _defaults(answer: Any) -> "Callable[[type[_Settings]], type[_Settings]]":
-    """Gives each field of a class the default that the library answered."""
+def defaults(values: "Callable[[Any], dict[str, Any]]") -> "Callable[[type[_Kind]], type[_Kind]]":
+    """Gives the fields of a class the defaults that the library has of it."""
 
-    def decorate(kind: "type[_Settings]") -> "type[_Settings]":
-        for name in kind.__annotations__:
-            setattr(kind, name, read(answer, name))
+    def decorate(kind: "type[_Kind]") -> "type[_Kind]":
+        for name, value in values(kind).items():
+            setattr(kind, name, value)
         return kind
 
     return decorate
 
 
-def _counted(what: str, call: Any, of: Any, names: str, *numbers: int) -> int:
-    """The number that the library answers to these numbers of settings, or of what is fixed, and
-    to further ones.
-    """
-    answer = call(*(getattr(of, name) for name in names.split()), *numbers)
+def read_all(answer: Any, kind: Any) -> "dict[str, Any]":
+    """The settings of a class that the library answered."""
+    return {name: read(answer, name) for name in kind.__annotations__}
+
+
+_COUNTED = {
+    "samples_per_data_segment":
+    "max_subscribers subscriber_max_buffer_size subscriber_max_borrowed_samples",
+    "chunks_per_client_data_segment": "max_servers max_active_requests_per_client",
+    "chunks_per_server_data_segment": "max_clients max_active_requests_per_client"
+    " max_response_buffer_size max_borrowed_responses_per_pending_response",
+}
+"""Of which settings the library counts chunks, beside the numbers of loaned ones."""
+
+
+def required_amount(of: Any, name: str, what: str, *numbers: int) -> int:
+    """How many chunks of settings, or of what is fixed, can be in use at once."""
+    settings = (getattr(of, own) for own in _COUNTED[name].split())
+    answer = getattr(_native, f"required_amount_of_{name}")(*settings, *numbers)
     check(answer.status, what)
     return int(answer.count)
 
 
-def samples(of: Any, history: int, loaned: int, what: str) -> int:
-    """The samples of one publisher of a service with these settings."""
-    call = _native.required_amount_of_samples_per_data_segment
-    names = "max_subscribers subscriber_max_buffer_size subscriber_max_borrowed_samples"
-    return _counted(what, call, of, names, history, loaned)
-
-
-def requests(of: Any, loaned: int, what: str) -> int:
-    """The requests of one client of a service with these settings."""
-    call = _native.required_amount_of_chunks_per_client_data_segment
-    return _counted(what, call, of, "max_servers max_active_requests_per_client", loaned)
-
-
-def responses(of: Any, loaned: int, what: str) -> int:
-    """The responses of one server of a service with these settings."""
-    call = _native.required_amount_of_chunks_per_server_data_segment
-    names = "max_clients max_active_requests_per_client max_response_buffer_size"
-    return _counted(what, call, of, f"{names} max_borrowed_responses_per_pending_response", loaned)
-
-
 @dataclass(frozen=True, slots=True, kw_only=True)
-@_defaults(_native.publish_subscribe_defaults())
+@defaults(partial(read_all, _native.publish_subscribe_defaults()))
 class PublishSubscribeSettings(Checked):
     """The settings of a publish-subscribe service."""
 
@@ -184,12 +179,13 @@ class PublishSubscribeSettings(Checked):
         """The greatest number of one publisher's samples that can be in use at once. Raises
         `TooLargeError` past 2^64 - 1.
         """
-        history, loaned = self.publisher_history_size, self.publisher_max_loaned_samples
-        return samples(self, history, loaned, "samples of PublishSubscribeSettings")
+        numbers = self.publisher_history_size, self.publisher_max_loaned_samples
+        what = "samples of PublishSubscribeSettings"
+        return required_amount(self, "samples_per_data_segment", what, *numbers)
 
 
 @dataclass(frozen=True, slots=True, kw_only=True)
-@_defaults(_native.event_defaults())
+@defaults(partial(read_all, _native.event_defaults()))
 class EventSettings(Checked):
     """The settings of an event service."""
 
@@ -210,7 +206,7 @@ class EventSettings(Checked):
 
 
 @dataclass(frozen=True, slots=True, kw_only=True)
-@_defaults(_native.request_response_defaults())
+@defaults(partial(read_all, _native.request_response_defaults()))
 class RequestResponseSettings(Checked):
     """The settings of a request-response service."""
 
@@ -245,18 +241,20 @@ class RequestResponseSettings(Checked):
         """The greatest number of one client's requests that can be in use at once. Raises
         `TooLargeError` past 2^64 - 1.
         """
-        return requests(self, self.max_loaned_requests, "requests of RequestResponseSettings")
+        what, loaned = "requests of RequestResponseSettings", self.max_loaned_requests
+        return required_amount(self, "chunks_per_client_data_segment", what, loaned)
 
     def required_amount_of_chunks_per_server_data_segment(self) -> int:
         """The greatest number of one server's responses that can be in use at once. Raises
         `TooLargeError` past 2^64 - 1.
         """
         loaned = self.server_max_loaned_responses_per_request
-        return responses(self, loaned, "responses of RequestResponseSettings")
+        what = "responses of RequestResponseSettings"
+        return required_amount(self, "chunks_per_server_data_segment", what, loaned)
 
 
 @dataclass(frozen=True, slots=True, kw_only=True)
-@_defaults(_native.blackboard_defaults())
+@defaults(partial(read_all, _native.blackboard_defaults()))
 class BlackboardSettings(Checked):
     """The settings of a blackboard service."""
 

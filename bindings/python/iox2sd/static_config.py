@@ -14,7 +14,7 @@ from .ids import UniqueServiceId
 from .messages import MessageTypeDetails, TypeDetail, check_same
 from .settings import (
     BlackboardSettings, Duration, EventId, EventSettings, PatternSettings, PublishSubscribeSettings,
-    RequestResponseSettings, put_settings, read, requests, responses, samples,
+    RequestResponseSettings, put_settings, read, required_amount,
 )
 from .texts import InternalServiceName, MessagingPattern, ServiceHash, ServiceName, lent
 
@@ -60,6 +60,10 @@ class FixedSettings(Checked):
         """Whether the service meets all that an opener requires."""
         return self.first_unmet(required) is None
 
+    def _required(self, name: str, loaned: int, *others: int) -> int:
+        what = f"required_amount_of_{name}"
+        return required_amount(self, name, what, *others, number(loaned, Size, what))
+
 
 def _taken(cls: Any, kind: Any, settings: Any) -> "dict[str, Any]":
     """What is fixed of a service with these settings."""
@@ -97,9 +101,8 @@ class PublishSubscribeStaticConfig(FixedSettings):
         """The greatest number of samples in use at once of a publisher that may have so many taken
         and not yet sent. Raises `TooLargeError` past 2^64 - 1.
         """
-        what = "required_amount_of_samples_per_data_segment"
-        loaned = number(publisher_max_loaned_samples, Size, what)
-        return samples(self, self.history_size, loaned, what)
+        loaned = publisher_max_loaned_samples
+        return self._required("samples_per_data_segment", loaned, self.history_size)
 
 
 @dataclass(frozen=True, slots=True, kw_only=True)
@@ -157,8 +160,7 @@ class RequestResponseStaticConfig(FixedSettings):
         """The greatest number of requests in use at once of a client that may have so many taken
         and not yet sent. Raises `TooLargeError` past 2^64 - 1.
         """
-        what = "required_amount_of_chunks_per_client_data_segment"
-        return requests(self, number(client_max_loaned_requests, Size, what), what)
+        return self._required("chunks_per_client_data_segment", client_max_loaned_requests)
 
     def required_amount_of_chunks_per_server_data_segment(
         self, max_loaned_responses_per_request: int
@@ -166,8 +168,7 @@ class RequestResponseStaticConfig(FixedSettings):
         """The greatest number of responses in use at once of a server that may have so many taken
         and not yet sent for each request. Raises `TooLargeError` past 2^64 - 1.
         """
-        what = "required_amount_of_chunks_per_server_data_segment"
-        return responses(self, number(max_loaned_responses_per_request, Size, what), what)
+        return self._required("chunks_per_server_data_segment", max_loaned_responses_per_request)
 
 
 @dataclass(frozen=True, slots=True, kw_only=True)

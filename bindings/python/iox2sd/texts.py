@@ -78,7 +78,6 @@ class ServiceName(Text):
     """The name that a user gives to a service: 1 to 255 bytes, each from 1 to 127, not beginning
     with `iox2://`. Raises `ReservedPrefixError`, `EmptyError`, `TooLongError`, `IllegalByteError`.
     """
-
     __slots__ = ()
     _check = _native.service_name_check_at
 
@@ -93,7 +92,6 @@ class InternalServiceName(ServiceName):
     """The name of a service, which may be one of the system's own. Raises `EmptyError`,
     `TooLongError`, `IllegalByteError`.
     """
-
     __slots__ = ()
     _check = _native.internal_service_name_check_at
 
@@ -111,7 +109,6 @@ class AttributeKey(Text):
     """The key of an attribute: 1 to 64 bytes, each from 1 to 127. Raises `EmptyError`,
     `TooLongError`, `IllegalByteError`.
     """
-
     __slots__ = ()
     _check = _native.attribute_key_check_at
 
@@ -120,7 +117,6 @@ class AttributeValue(Text):
     """The value of an attribute: 1 to 256 bytes, each from 1 to 127. Raises `EmptyError`,
     `TooLongError`, `IllegalByteError`.
     """
-
     __slots__ = ()
     _check = _native.attribute_value_check_at
 
@@ -129,7 +125,6 @@ class Path(Text):
     """A path: at most 255 bytes, each from 1 to 127. It may be empty. Raises `TooLongError`,
     `IllegalByteError`.
     """
-
     __slots__ = ()
     _check = _native.path_check_at
 
@@ -146,7 +141,6 @@ class FileName(Text):
     """The name of a file: 1 to 255 bytes, each from 1 to 127 and none a `/`, neither `.` nor `..`.
     Raises `EmptyError`, `TooLongError`, `IllegalByteError`, `NoFileNameError`.
     """
-
     __slots__ = ()
     _check = _native.file_name_check_at
 
@@ -155,7 +149,6 @@ class FilePath(Text):
     """The path of a file: 1 to 255 bytes, each from 1 to 127, of which those after the last `/` are
     the name of a file. Raises `EmptyError`, `TooLongError`, `IllegalByteError`, `NoFileNameError`.
     """
-
     __slots__ = ()
     _check = _native.file_path_check_at
 
@@ -175,7 +168,6 @@ class RestrictedFileName(Text):
     `_`, and neither `.` nor `..`. Raises `EmptyError`, `TooLongError`, `IllegalByteError`,
     `NoFileNameError`.
     """
-
     __slots__ = ()
     _check = _native.restricted_file_name_check_at
 

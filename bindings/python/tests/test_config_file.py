@@ -8,7 +8,7 @@ from pathlib import Path as SystemPath
 
 import iox2sd
 from iox2sd import (
-    BadConfigError, Config, ConfigFault, ConfigFile, FileName, Path, Status, UnknownKey, _native,
+    BadConfigError, Config, ConfigFault, ConfigFile, FileName, Status, UnknownKey, _native,
 )
 
 from . import TestCase
@@ -83,13 +83,10 @@ class ConfigFiles(TestCase):
             for text in (f"{key} = 1\n", f"{arrays}\n", f"{table}b.{key} = 1\n"):
                 causes.append(self.refused(text).status)
 
-        before = threading.stack_size(256 * 1024)
-        try:
-            thread = threading.Thread(target=read)
-            thread.start()
-            thread.join()
-        finally:
-            threading.stack_size(before)
+        thread, before = threading.Thread(target=read), threading.stack_size(256 * 1024)
+        thread.start()
+        threading.stack_size(before)
+        thread.join()
         self.assertEqual(causes, [Status.TOO_DEEP] * 3)
 
     def test_unknown_keys(self):

@@ -97,9 +97,7 @@ class Patterns(TestCase):
     def test_a_listing_has_the_node_of_each_port(self):
         nodes = [UniqueNodeId(process, 1, 2, 3) for process in (1, 2, 1, 3, 2, 1)]
         wanted = tuple(publisher(place, node) for place, node in enumerate(nodes, 1))
-        with DynamicConfig.publish_subscribe(
-            7, max_nodes=3, max_publishers=6, max_subscribers=0
-        ) as made:
+        with service(3, 6, 0) as made:
             for node in set(nodes):
                 made.register_node_id(node)
             for details in wanted:
@@ -363,15 +361,13 @@ class Ends(TestCase):
             self.assertRaises(iox2sd.HasServiceError, made.__init__, *again)
             self.assertEqual(made.node(handle), NODE)
 
-    def test_a_service_is_not_copied(self):
+    def test_services_and_their_numbers_are_not_copied(self):
         with service() as made:
             for call in (copy.copy, copy.deepcopy, pickle.dumps):
-                self.assertRaises(TypeError, call, made)
+                self.refuses(TypeError, call, made, iox2sd.ServiceNumbers(5))
 
     def test_a_service_goes_with_its_object(self):
-        made = service()
-        gone = weakref.ref(made)
-        del made
+        gone = weakref.ref(service())
         gc.collect()
         self.assertIsNone(gone())
 

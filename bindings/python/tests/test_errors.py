@@ -38,16 +38,16 @@ class Errors(TestCase):
             " PortsStillAttached",
         }
         expected: "dict[str, tuple[type, ...]]" = {
-            f"{name}Error": (iox2sd.RefusedError,) + (base,) * (base is not object)
-            for base, names in refused.items()
-            for name in names.split()
+            "Error": (Exception,), "RefusedError": (iox2sd.Error,),
+            "WrongTypeError": (iox2sd.Error, TypeError),
+            "OutOfRangeError": (iox2sd.Error, OverflowError),
         }
-        for name in refused[iox2sd.IncompatibleError].split():
-            expected[f"{name}Error"] = (iox2sd.IncompatibleError,)
-        expected["Error"] = (Exception,)
-        expected["RefusedError"] = (iox2sd.Error,)
-        expected["WrongTypeError"] = (iox2sd.Error, TypeError)
-        expected["OutOfRangeError"] = (iox2sd.Error, OverflowError)
+        for base, names in refused.items():
+            of_python = (base,) * (base is not object)
+            bases = of_python if base is iox2sd.IncompatibleError else (
+                iox2sd.RefusedError, *of_python
+            )
+            expected |= {f"{name}Error": bases for name in names.split()}
         found = {name: kind for name, kind in vars(iox2sd).items() if is_error(kind)}
         self.assertEqual({name: kind.__bases__ for name, kind in found.items()}, expected)
         for name, kind in found.items():

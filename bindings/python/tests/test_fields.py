@@ -24,13 +24,13 @@ MESSAGE = iox2sd.MessageTypeDetails(TYPE, TYPE, TYPE)
 
 PORTS = (publisher(1), subscriber(1), LISTENER, NOTIFIER, SERVER, CLIENT, READER, WRITER)
 
+EVENT = iox2sd.EventStaticConfig.new()
+
 ATTACHED = iox2sd.Attached((NODE,), (1,))
 
 VALUES: "list[Any]" = [
     *(kind(1, 2, 3, 4) for kind in details.UniquePortId.__args__),  # type: ignore[attr-defined]
-    NODE,
-    iox2sd.UniqueServiceId(1, 2, 3, 4),
-    iox2sd.ContainerHandle(7, iox2sd.Role.NODE, 1, 2),
+    NODE, iox2sd.UniqueServiceId(1, 2, 3, 4), iox2sd.ContainerHandle(7, iox2sd.Role.NODE, 1, 2),
     iox2sd.Capacities(1, 2, 3),
     iox2sd.DeadNodeRemoval(iox2sd.DeregisterNodeState.HAS_OWNERS, 1, 2),
     ATTACHED,
@@ -43,35 +43,16 @@ VALUES: "list[Any]" = [
     iox2sd.ConfigFault("key", "reason", iox2sd.Status.BELOW_ZERO),
     iox2sd.UnknownKey("key", "meant"),
     iox2sd.ConfigFile(iox2sd.Config(), (iox2sd.UnknownKey("key", None),)),
-    *PORTS,
-    iox2sd.Layout(8, 4),
-    iox2sd.Places(8, 16),
-    TYPE,
-    MESSAGE,
-    iox2sd.Duration(1, 2),
-    iox2sd.EventId(1),
-    iox2sd.PublishSubscribeSettings(),
-    iox2sd.EventSettings(),
+    *PORTS, TYPE, MESSAGE, pair("key", "value"), iox2sd.Layout(8, 4), iox2sd.Places(8, 16),
+    iox2sd.Duration(1, 2), iox2sd.EventId(1),
     iox2sd.EventSettings(deadline=iox2sd.Duration(1, 2), notifier_dead_event=iox2sd.EventId(3)),
-    iox2sd.RequestResponseSettings(),
-    iox2sd.BlackboardSettings(),
-    iox2sd.ServiceConfig(),
-    iox2sd.NodeConfig(),
-    iox2sd.GlobalConfig(),
-    iox2sd.Defaults(),
-    iox2sd.Config(),
-    iox2sd.PublishSubscribeStaticConfig.new(MESSAGE),
-    iox2sd.EventStaticConfig.new(),
+    *(kind() for kind in settings.PatternSettings.__args__),  # type: ignore[attr-defined]
+    iox2sd.ServiceConfig(), iox2sd.NodeConfig(), iox2sd.GlobalConfig(), iox2sd.Defaults(),
+    iox2sd.Config(), iox2sd.AttributeSpecifier(), iox2sd.AttributeVerifier(), EVENT,
+    iox2sd.PublishSubscribeStaticConfig.new(MESSAGE), iox2sd.BlackboardStaticConfig.new(TYPE),
     iox2sd.RequestResponseStaticConfig.new(MESSAGE, MESSAGE),
-    iox2sd.BlackboardStaticConfig.new(TYPE),
-    pair("key", "value"),
-    iox2sd.AttributeSpecifier(),
-    iox2sd.AttributeVerifier(),
-    iox2sd.Requirements(pattern_config=iox2sd.EventStaticConfig.new()),
-    iox2sd.StaticConfig(
-        iox2sd.ServiceName("name"), iox2sd.UniqueServiceId(1, 2, 3, 4),
-        iox2sd.EventStaticConfig.new(),
-    ),
+    iox2sd.Requirements(pattern_config=EVENT),
+    iox2sd.StaticConfig(iox2sd.ServiceName("name"), iox2sd.UniqueServiceId(1, 2, 3, 4), EVENT),
 ]
 """A value of each class."""
 
@@ -106,10 +87,8 @@ def changed(value: Any) -> "list[Any]":
 
 
 OF_NONE = {
-    "deadline": iox2sd.Duration(1, 2),
-    "notifier_created_event": iox2sd.EventId(1),
-    "notifier_dropped_event": iox2sd.EventId(1),
-    "notifier_dead_event": iox2sd.EventId(1),
+    "deadline": iox2sd.Duration(1, 2), "notifier_created_event": iox2sd.EventId(1),
+    "notifier_dropped_event": iox2sd.EventId(1), "notifier_dead_event": iox2sd.EventId(1),
 }
 """What may stand where None does."""
 

@@ -1,3 +1,5 @@
+from dataclasses import replace
+
 import iox2sd
 from iox2sd import Layout, MessageTypeDetails, Places, TypeDetail, TypeVariant
 
@@ -67,8 +69,10 @@ class Messages(TestCase):
             (details(variant=TypeVariant.DYNAMIC), details(), iox2sd.OtherVariantError, "payload"),
             (details(size=16), details(), iox2sd.OtherSizeError, "payload"),
             (details(alignment=16), details(), iox2sd.GreaterAlignmentError, "payload"),
-            (self.header(16, 4), details(), iox2sd.OtherAlignmentError, "header"),
-            (self.header(8, 8), details(), iox2sd.GreaterAlignmentError, "user header"),
+            (replace(details(), header=TypeDetail("Header", 8, 16)), details(),
+             iox2sd.OtherAlignmentError, "header"),
+            (replace(details(), user_header=TypeDetail("UserHeader", 4, 8)), details(),
+             iox2sd.GreaterAlignmentError, "user header"),
         ]
         for opener, service, error, part in cases:
             with self.subTest(error=error):
@@ -77,9 +81,3 @@ class Messages(TestCase):
                 found = self.raised(error, opener.check_compatible_to, service, text=text)
                 self.assertIsInstance(found, iox2sd.IncompatibleError)
         self.assertRaises(iox2sd.WrongTypeError, details().is_compatible_to, None)
-
-    def header(self, alignment: int, user_alignment: int) -> MessageTypeDetails:
-        return MessageTypeDetails(
-            TypeDetail("Header", 8, alignment), TypeDetail("UserHeader", 4, user_alignment),
-            details().payload,
-        )

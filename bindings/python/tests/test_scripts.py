@@ -23,10 +23,8 @@ class Scripts(TestCase):
 
     def test_bad_lines(self):
         cases = [
-            ("service event 7 1 2 2\nregister 1.0.0.1\nnonsense\n", 3, "handle 0 0\n"),
-            ("", 1, ""),
-            (b"\xff\xfe\n", 1, ""),
-            ("service event 7 1 2 2\nregister 1.0.0.1", 2, ""),
+            ("service event 7 1 2 2\nregister 1.0.0.1\nnonsense\n", 3, "handle 0 0\n"), ("", 1, ""),
+            (b"\xff\xfe\n", 1, ""), ("service event 7 1 2 2\nregister 1.0.0.1", 2, ""),
             ("service event 7 1 2 2\nnodes\0\n", 2, ""),
             (b"service event 7 1 2 2\nnodes\n\0", 3, "list\n"),
             ("service event 7 1 2 2\nnodes\n\0", 3, "list\n"),

@@ -127,25 +127,21 @@ class Settings(TestCase):
             self.assertRaises(iox2sd.OutOfRangeError, Duration, 0, nanoseconds)
 
     def test_wrong_arguments(self):
-        wrong: "list[tuple[Any, dict[str, Any]]]" = [
-            (PublishSubscribeSettings, {"max_nodes": True}),
-            (PublishSubscribeSettings, {"enable_safe_overflow": 1}),
-            (PublishSubscribeSettings, {"backpressure_strategy": 0}),
-            (PublishSubscribeSettings, {"backpressure_strategy": AllocationStrategy.STATIC}),
-            (EventSettings, {"deadline": 5}),
-            (EventSettings, {"notifier_created_event": 5}),
-            (EventSettings, {"notifier_created_event": True}),
-            (RequestResponseSettings, {"client_allocation_strategy": None}),
-            (RequestResponseSettings, {"max_clients": "8"}),
-            (BlackboardSettings, {"max_readers": 8.0}),
-            (EventId, {"value": False}),
-            (Duration, {"seconds": 0.5}),
-            (iox2sd.GlobalConfig, {"creation_timeout": 5}),
-            (iox2sd.ServiceConfig, {"cleanup_dead_nodes_on_open": 1}),
+        wrong: "list[tuple[Any, str, tuple[Any, ...]]]" = [
+            (PublishSubscribeSettings, "max_nodes", (True,)),
+            (PublishSubscribeSettings, "enable_safe_overflow", (1,)),
+            (PublishSubscribeSettings, "backpressure_strategy", (0, AllocationStrategy.STATIC)),
+            (EventSettings, "deadline", (5,)), (EventSettings, "notifier_created_event", (5, True)),
+            (RequestResponseSettings, "client_allocation_strategy", (None,)),
+            (RequestResponseSettings, "max_clients", ("8",)),
+            (BlackboardSettings, "max_readers", (8.0,)), (EventId, "value", (False,)),
+            (Duration, "seconds", (0.5,)), (iox2sd.GlobalConfig, "creation_timeout", (5,)),
+            (iox2sd.ServiceConfig, "cleanup_dead_nodes_on_open", (1,)),
         ]
-        for kind, given in wrong:
-            with self.subTest(kind=kind, given=given), self.assertRaises(iox2sd.WrongTypeError):
-                kind(**given)
+        for kind, name, values in wrong:
+            for value in values:
+                with self.subTest(kind=kind, name=name), self.assertRaises(iox2sd.WrongTypeError):
+                    kind(**{name: value})
         for kind in (BlackboardSettings, EventSettings):
             for number in (-1, 2**64):
                 text = f"{kind.__name__}.max_nodes: expected 0 to 2^64 - 1, got {number}"

@@ -1,5 +1,5 @@
 import pickle
-from dataclasses import replace
+from dataclasses import fields, replace
 from typing import Any
 
 import iox2sd
@@ -11,7 +11,7 @@ from iox2sd import (
 )
 
 from . import TestCase
-from .test_fields import variants
+from .test_fields import all_changed, variants
 from .test_messages import details
 
 NAME = ServiceName("My/Service")
@@ -24,6 +24,10 @@ PATTERNS: "list[tuple[Any, MessagingPattern]]" = [
     (RequestResponseStaticConfig.new(details(), details()), MessagingPattern.REQUEST_RESPONSE),
     (BlackboardStaticConfig.new(TypeDetail("Key", 8, 8)), MessagingPattern.BLACKBOARD),
 ]
+
+
+def vars_of(value: Any) -> "dict[str, Any]":
+    return {field.name: getattr(value, field.name) for field in fields(value)}
 
 
 class StaticConfigs(TestCase):
@@ -40,25 +44,21 @@ class StaticConfigs(TestCase):
                 self.assertEqual(same, pattern is other_pattern)
 
     def test_settings_are_taken_over(self):
-        settings = PublishSubscribeSettings(
-            max_subscribers=3, max_publishers=5, max_nodes=7, publisher_history_size=11
-        )
-        config = PublishSubscribeStaticConfig.new(details(), settings)
-        numbers = (config.max_subscribers, config.max_publishers, config.max_nodes)
-        self.assertEqual((*numbers, config.history_size), (3, 5, 7, 11))
-        self.assertEqual(config.message_type_details, details())
-        event = EventStaticConfig.new(EventSettings(max_notifiers=3, deadline=Duration(5)))
-        self.assertEqual((event.max_notifiers, event.deadline), (3, Duration(5)))
-        calls = RequestResponseStaticConfig.new(
-            details(), details(size=16), RequestResponseSettings(max_clients=3)
-        )
-        self.assertEqual(calls.max_clients, 3)
-        self.assertEqual(calls.request_message_type_details, details())
-        self.assertEqual(calls.response_message_type_details, details(size=16))
-        keys = TypeDetail("Key", 8, 8)
-        board = BlackboardStaticConfig.new(keys, BlackboardSettings(max_readers=3, max_nodes=5))
-        self.assertEqual((board.max_readers, board.max_nodes, board.type_details), (3, 5, keys))
-        self.assertEqual(board.max_writers, 1)
+        types = (details(), details(size=16), TypeDetail("Key", 8, 8))
+        for kind, settings, own in (
+            (PublishSubscribeStaticConfig, PublishSubscribeSettings(), types[:1]),
+            (EventStaticConfig, EventSettings(), ()),
+            (RequestResponseStaticConfig, RequestResponseSettings(), types[:2]),
+            (BlackboardStaticConfig, BlackboardSettings(), types[2:]),
+        ):
+            settings = all_changed(settings)
+            values = vars_of(kind.new(*own, settings))
+            given = vars_of(settings)
+            given["history_size"] = given.get("publisher_history_size")
+            given["max_writers"] = 1
+            for name in set(values) & set(given):
+                self.assertEqual(values.pop(name), given[name], name)
+            self.assertEqual(tuple(values.values()), own)
 
     def test_descriptions_show_what_they_are_made_of(self):
         configs = [config for config, _ in PATTERNS]

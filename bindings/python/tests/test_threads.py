@@ -1,4 +1,3 @@
-import sys
 import threading
 import time
 from typing import Callable
@@ -9,7 +8,7 @@ from iox2sd import DynamicConfig, ServiceNumbers, UniqueNodeId, _native
 
 from . import TestCase
 from .test_dynamic_config import publisher, service
-from .test_traps import before
+from .test_traps import before, switches
 
 THREADS = 16
 
@@ -31,15 +30,11 @@ def run(work: "list[Callable[[], None]]") -> "list[BaseException]":
             raised.append(error)
 
     threads = [threading.Thread(target=carried_out, args=(part,)) for part in work]
-    interval = sys.getswitchinterval()
-    sys.setswitchinterval(1e-6)
-    try:
+    with switches():
         for thread in threads:
             thread.start()
         for thread in threads:
             thread.join()
-    finally:
-        sys.setswitchinterval(interval)
     return raised
 
 
@@ -158,9 +153,8 @@ class Threads(TestCase):
     def test_sixteen_threads_have_a_service_each(self):
         def keep(number: int):
             for _ in range(100):
-                with DynamicConfig.publish_subscribe(
-                    number, max_nodes=1, max_publishers=1, max_subscribers=1
-                ) as made:
+                room = iox2sd.Capacities(1, 1, 1)
+                with DynamicConfig(iox2sd.MessagingPattern.EVENT, number, room) as made:
                     handle = made.register_node_id(node(number))
                     self.assertEqual((handle.service_number, handle.ticket), (number, 0))
                     self.assertEqual(made.list_node_ids(), (node(number),))

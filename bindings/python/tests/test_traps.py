@@ -4,11 +4,11 @@ import ctypes
 import enum
 import gc
 import os
+import signal
 import subprocess
 import sys
 import tempfile
 import threading
-import time
 import unittest
 from contextlib import contextmanager
 from functools import partial
@@ -76,6 +76,17 @@ def before(name: str, does: "Callable[..., object]") -> "Iterator[None]":
     both = mock.Mock(side_effect=lambda *given: (does(*given), call(*given))[1])
     with mock.patch.object(_native, name, both):
         yield
+
+
+@contextmanager
+def switches() -> "Iterator[None]":
+    """Threads are switched often."""
+    interval = sys.getswitchinterval()
+    sys.setswitchinterval(1e-6)
+    try:
+        yield
+    finally:
+        sys.setswitchinterval(interval)
 
 
 class Values(TestCase):
@@ -152,13 +163,9 @@ class Errors(TestCase):
 
     def test_annotations_that_are_texts(self):
         source = (
-            "from __future__ import annotations\n"
-            "from dataclasses import dataclass\n"
-            "import iox2sd\n"
-            "@dataclass(frozen=True, slots=True)\n"
-            "class Marked(iox2sd.Capacities):\n"
-            "    nodes: int\n"
-            "    mark: list[int] | None = None\n"
+            "from __future__ import annotations\nfrom dataclasses import dataclass\nimport iox2sd\n"
+            "@dataclass(frozen=True, slots=True)\nclass Marked(iox2sd.Capacities):\n"
+            "    nodes: int\n    mark: list[int] | None = None\n"
         )
         names: "dict[str, Any]" = {"__name__": "elsewhere"}
         with mock.patch.dict(sys.modules, {"elsewhere": mock.Mock()}):
@@ -311,43 +318,28 @@ class Calls(TestCase):
     @unittest.skipUnless(hasattr(os, "fork"), "there is no fork")
     def test_a_child_of_a_fork(self):
         """While other threads call, each child uses the service that it has a copy of."""
-        made = service()
-        done = threading.Event()
+        made, done = service(), threading.Event()
+        self.addCleanup(done.set)
 
         def calls():
             while not done.is_set():
                 made.list_node_ids()
 
         threads = [threading.Thread(target=calls, daemon=True) for _ in range(4)]
-        interval = sys.getswitchinterval()
-        sys.setswitchinterval(1e-6)
-        try:
+        with switches():
             for thread in threads:
                 thread.start()
             for _ in range(30):
                 child = os.fork()
                 if child == 0:
+                    signal.alarm(SECONDS)  # Ends a child that hangs.
                     made.register_node_id(NODE)
                     os._exit(len(made.list_node_ids()))
-                self.assertEqual(self.status_of(child), 1)
-        finally:
-            sys.setswitchinterval(interval)
+                self.assertEqual(os.waitstatus_to_exitcode(os.waitpid(child, 0)[1]), 1)
             done.set()
             for thread in threads:
                 thread.join()
         self.assertEqual(made.list_node_ids(), ())
-
-    def status_of(self, child: int) -> int:
-        """The status of a process that ends in time; one that hangs is ended."""
-        last = time.monotonic() + SECONDS
-        while time.monotonic() < last:
-            ended, status = os.waitpid(child, os.WNOHANG)
-            if ended:
-                return os.waitstatus_to_exitcode(status)
-            time.sleep(0.001)
-        os.kill(child, 9)
-        os.waitpid(child, 0)
-        return self.fail("a child of a fork hangs")
 
 
 class Kept(TestCase):
