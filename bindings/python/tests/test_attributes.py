@@ -24,8 +24,8 @@ SET = AttributeSet([pair("size", "9"), pair("colour", "red"), pair("colour", "bl
 class Sets(TestCase):
     def test_a_set_is_sorted(self):
         sorted_pairs = [pair("colour", "blue"), pair("colour", "red"), pair("size", "9")]
-        self.assertEqual(list(SET), sorted_pairs)
-        self.assertEqual((len(SET), SET[0], SET[-1]), (3, sorted_pairs[0], sorted_pairs[2]))
+        self.assertEqual((list(SET), len(SET)), (sorted_pairs, 3))
+        self.assertEqual((SET[0], SET[-1]), (sorted_pairs[0], sorted_pairs[2]))
         self.assertEqual(SET[1:], tuple(sorted_pairs[1:]))
         self.assertIn(pair("size", "9"), SET)
         self.assertEqual(SET, AttributeSet(reversed(sorted_pairs)))
@@ -129,8 +129,8 @@ class Verifiers(TestCase):
         self.assertEqual(called, {"attributes_sort_at": 32})
 
     def test_wrong_arguments(self):
-        self.assertRaises(iox2sd.WrongTypeError, AttributeVerifier().verify_requirements, [])
-        self.assertRaises(iox2sd.WrongTypeError, AttributeVerifier().require_key, "size")
-        self.assertRaises(iox2sd.WrongTypeError, AttributeVerifier().require, "size", "9")
-        self.assertRaises(iox2sd.WrongTypeError, AttributeVerifier, [])
+        verifier = AttributeVerifier()
+        self.assertRaises(iox2sd.WrongTypeError, verifier.require, "size", "9")
+        for call in (verifier.verify_requirements, verifier.require_key, AttributeVerifier):
+            self.refuses(iox2sd.WrongTypeError, call, [], "size")
         self.assertRaises(iox2sd.WrongTypeError, AttributeVerifier, AttributeSet(), [SIZE])

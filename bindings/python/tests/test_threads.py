@@ -1,5 +1,6 @@
 import threading
 import time
+from functools import partial
 from typing import Callable
 from unittest import mock
 
@@ -54,8 +55,7 @@ class Threads(TestCase):
                         found = made.ports_of(node(number))
                         self.assertEqual(found, (publisher(number, node(number)),))
 
-        raised = run([lambda number=number: join(number) for number in range(THREADS)])
-        self.assertEqual(raised, [])
+        self.assertEqual(run([partial(join, number) for number in range(THREADS)]), [])
         self.assertEqual(sorted(tickets), list(range(1, THREADS * rounds + 1)))
         self.assertEqual((made.list_node_ids(), made.list_publishers()), ((node(THREADS),), ()))
         self.assertEqual(made.node(stays), node(THREADS))
@@ -159,5 +159,5 @@ class Threads(TestCase):
                     self.assertEqual((handle.service_number, handle.ticket), (number, 0))
                     self.assertEqual(made.list_node_ids(), (node(number),))
 
-        work = [lambda number=number: keep(number) for number in range(THREADS)]
+        work = [partial(keep, number) for number in range(THREADS)]
         self.assertEqual(run(work), [])
