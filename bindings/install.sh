@@ -20,9 +20,7 @@ shared=$(basename out/libiox2sd.so.*)
 for library in out/libiox2sd.a "out/$shared"; do
     [ -f "$library" ] || { echo "$library is missing: bindings/build.sh builds it" >&2; exit 1; }
 done
-source=../crates/iox2sd_values/src/version.rt
-version=$(sed -n '/fn iox2sd_version_at(/,/^}/s/^ *write(b"\([0-9.]*\)", out)$/\1/p' "$source")
-[ -n "$version" ] || { echo "$source has no version" >&2; exit 1; }
+version=$(./version)
 
 # A file with the version, the directories, the shared library, and the way up from LIBDIR in place
 # of their names between two @.

@@ -22,20 +22,15 @@ def requires(side: str, size: int) -> Requirements:
     return Requirements(pattern_config=images(size, 16), attributes=verifier)
 
 
-def main() -> None:
-    sides = [Attribute(CAMERA, AttributeValue(side)) for side in ("left", "right")]
-    id, offered = UniqueServiceId(17, 1000, 0, 1), images(1 << 20, 64)
-    service = StaticConfig(ServiceName("Camera/Images"), id, offered, AttributeSet(sides))
-    print(service.name, service.service_hash, offered.message_type_details.sample_layout(1))
-    for required in (requires("left", 1 << 20), requires("rear", 1 << 20), requires("left", 64)):
-        try:
-            service.check_satisfies(required)
-            print("opened")
-        except Error as refusal:
-            print(f"refused: {refusal}")
-    with DynamicConfig.described(service, 7) as made:
-        print(made)
-
-
-if __name__ == "__main__":
-    main()
+sides = [Attribute(CAMERA, AttributeValue(side)) for side in ("left", "right")]
+id, offered = UniqueServiceId(17, 1000, 0, 1), images(1 << 20, 64)
+service = StaticConfig(ServiceName("Camera/Images"), id, offered, AttributeSet(sides))
+print(service.name, service.service_hash, offered.message_type_details.sample_layout(1))
+for required in (requires("left", 1 << 20), requires("rear", 1 << 20), requires("left", 64)):
+    try:
+        service.check_satisfies(required)
+        print("opened")
+    except Error as refusal:
+        print(f"refused: {refusal}")
+with DynamicConfig.described(service, 7) as made:
+    print(made)

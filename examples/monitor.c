@@ -10,7 +10,6 @@
 #include "iox2sd.h"
 
 #include <stdio.h>
-#include <stdlib.h>
 
 static void remove_dead(iox2sd_service *service, iox2sd_id dead, const iox2sd_port_id *kept,
                         size_t kept_count) {
@@ -21,9 +20,8 @@ static void remove_dead(iox2sd_service *service, iox2sd_id dead, const iox2sd_po
     printf("dead node %u: %zu publishers, %zu subscribers removed, %s\n", (unsigned)dead.counter,
            gone.first, gone.second,
            gone.status == IOX2SD_STATUS_DONE_LOCKED ? "the service is locked" : "nodes are left");
-    for (size_t i = 0; i < left.count; i++) {
+    for (size_t i = 0; i < left.count; i++)
         printf("  kept: %s %u\n", iox2sd_role_str(ports[i].role), (unsigned)ports[i].port.counter);
-    }
 }
 
 int main(void) {
@@ -35,18 +33,16 @@ int main(void) {
         {.role = read.role, .port = read.port, .node = camera, .buffer_size = 2},
         {.role = IOX2SD_ROLE_PUBLISHER, .port = {2, 0, 0, 22}, .node = lidar}};
     iox2sd_service service = IOX2SD_SERVICE_NONE;
-    if (iox2sd_service_create_publish_subscribe(&service, 7, four) != IOX2SD_STATUS_DONE) {
-        return EXIT_FAILURE;
-    }
-    if (iox2sd_register_node_id(&service, camera).status != IOX2SD_STATUS_DONE) return EXIT_FAILURE;
-    if (iox2sd_register_node_id(&service, lidar).status != IOX2SD_STATUS_DONE) return EXIT_FAILURE;
-    for (size_t i = 0; i < 3; i++) {
-        if (iox2sd_attach(&service, &ports[i]).status != IOX2SD_STATUS_DONE) return EXIT_FAILURE;
-    }
+    if (!IOX2SD_SUCCEEDED(iox2sd_service_create_publish_subscribe(&service, 7, four)) ||
+        !IOX2SD_SUCCEEDED(iox2sd_register_node_id(&service, camera).status) ||
+        !IOX2SD_SUCCEEDED(iox2sd_register_node_id(&service, lidar).status))
+        return 1;
+    for (size_t i = 0; i < 3; i++)
+        if (!IOX2SD_SUCCEEDED(iox2sd_attach(&service, &ports[i]).status)) return 1;
     remove_dead(&service, camera, &read, 1);
     remove_dead(&service, camera, NULL, 0);
     remove_dead(&service, lidar, NULL, 0);
     printf("a late node: %s\n",
            iox2sd_status_str(iox2sd_register_node_id(&service, camera).status));
-    return iox2sd_service_free(&service) == IOX2SD_STATUS_DONE ? EXIT_SUCCESS : EXIT_FAILURE;
+    return IOX2SD_SUCCEEDED(iox2sd_service_free(&service)) ? 0 : 1;
 }

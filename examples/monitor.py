@@ -6,16 +6,7 @@ from iox2sd import (
 )
 
 NODES = [UniqueNodeId(process, 1000, 0, 1) for process in (11, 12, 13)]
-
-
-def join(service: DynamicConfig, node: UniqueNodeId) -> UniqueListenerId:
-    """Lets a node join with a notifier and a listener, whose id is returned."""
-    service.register_node_id(node)
-    listener = UniqueListenerId(node.process, 1001, 0, 2)
-    service.attach(ListenerDetails(listener_id=listener, node_id=node))
-    notifier = UniqueNotifierId(node.process, 1001, 0, 3)
-    service.attach(NotifierDetails(notifier_id=notifier, node_id=node))
-    return listener
+LISTENERS = [UniqueListenerId(node.process, 1001, 0, 2) for node in NODES]
 
 
 def clean_up(service: DynamicConfig, dead: UniqueNodeId, *in_use: UniqueListenerId) -> None:
@@ -25,13 +16,13 @@ def clean_up(service: DynamicConfig, dead: UniqueNodeId, *in_use: UniqueListener
           f"{len(service.ports_of(dead))} stay, {service.number_of_nodes} nodes are left")
 
 
-def main() -> None:
-    with DynamicConfig.event(7, max_nodes=4, max_listeners=8, max_notifiers=8) as service:
-        clean_up(service, NODES[0], *[join(service, node) for node in NODES])
-        for node in NODES:
-            clean_up(service, node)
-        print("it is locked" if service.is_locked else "it goes on")
-
-
-if __name__ == "__main__":
-    main()
+with DynamicConfig.event(7, max_nodes=4, max_listeners=8, max_notifiers=8) as service:
+    for node, listener in zip(NODES, LISTENERS):
+        service.register_node_id(node)
+        service.attach(ListenerDetails(listener_id=listener, node_id=node))
+        notifier = UniqueNotifierId(node.process, 1001, 0, 3)
+        service.attach(NotifierDetails(notifier_id=notifier, node_id=node))
+    clean_up(service, NODES[0], *LISTENERS)
+    for node in NODES:
+        clean_up(service, node)
+    print("it is locked" if service.is_locked else "it goes on")

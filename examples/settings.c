@@ -6,12 +6,11 @@
 #include "iox2sd_config.h"
 
 #include <stdio.h>
-#include <stdlib.h>
 
 static bool report(const char *text) {
     iox2sd_config config;
     const iox2sd_config_answer read = iox2sd_config_read_str(text, &config);
-    if (read.status != IOX2SD_STATUS_DONE) {
+    if (!IOX2SD_SUCCEEDED(read.status)) {
         printf("refused: %.*s: %s\n", (int)read.fault.key_length, (const char *)read.fault.key,
                iox2sd_status_str(read.status));
         return false;
@@ -23,10 +22,8 @@ static bool report(const char *text) {
 }
 
 int main(void) {
-    const bool good = report("[global]\nroot-path = '/run/my'\n"
-                             "[defaults.publish-subscribe]\n"
+    const bool good = report("[global]\nroot-path = '/run/my'\n[defaults.publish-subscribe]\n"
                              "max-subscribers = 16\nmax-publisher = 3\n");
-    const bool bad = report("[global]\ncreation-timeout = 5\n"
-                            "[defaults.event]\nmax-nodes = -1\n");
-    return good && !bad ? EXIT_SUCCESS : EXIT_FAILURE;
+    const bool bad = report("[global]\ncreation-timeout = 5\n[defaults.event]\nmax-nodes = -1\n");
+    return good && !bad ? 0 : 1;
 }

@@ -7,19 +7,13 @@ import sys
 
 from iox2sd import BadConfigError, Capacities, Config
 
-
-def main(path: str) -> None:
-    try:
-        file = Config.from_toml_file(path)
-    except (BadConfigError, OSError) as refusal:
-        sys.exit(str(refusal))
-    for key in file.unknown:
-        print(f"unknown key {key}")
-    settings = file.config.defaults.publish_subscribe
-    print(Capacities.of(settings))
-    print(f"{settings.required_amount_of_samples_per_data_segment()} samples of each publisher")
-    print(f"services lie in {file.config.global_cfg.service_dir()}")
-
-
-if __name__ == "__main__":
-    main(sys.argv[1])
+try:
+    file = Config.from_toml_file(sys.argv[1])
+except (BadConfigError, OSError) as refusal:
+    sys.exit(str(refusal))
+for key in file.unknown:
+    print(f"unknown key {key}")
+settings = file.config.defaults.publish_subscribe
+print(Capacities.of(settings))
+print(f"{settings.required_amount_of_samples_per_data_segment()} samples of each publisher")
+print(f"services lie in {file.config.global_cfg.service_dir()}")

@@ -1,6 +1,7 @@
 #!/usr/bin/env python3
 """Builds the wheel of iox2sd, with the shared library in it, or the archive of its sources, by
-Python's standard library alone.
+Python's standard library alone: setuptools would have to be fetched for each build, and its wheels
+have the times of their files.
 
     bindings/python/build_wheel.py [--sdist] DIRECTORY
 
@@ -22,7 +23,7 @@ import tarfile
 import tomllib
 import zipfile
 from pathlib import Path
-from typing import Any
+from typing import Any, cast
 
 HERE = Path(__file__).resolve().parent
 PROJECT = HERE.parents[1]
@@ -33,18 +34,16 @@ Files = dict[str, bytes]
 
 
 def build_wheel(
-    wheel_directory: str,
-    config_settings: "dict[str, Any] | None" = None,
-    metadata_directory: "str | None" = None,
+    wheel_directory: str, config_settings: Any = None, metadata_directory: "str | None" = None
 ) -> str:
-    """Writes the wheel into a directory, and answers its name (PEP 517)."""
+    """Writes the wheel into a directory, and answers its name (PEP 517). It has a fixed time, so
+    that equal files make equal wheels.
+    """
     library = found_library()
-    project = project_table()
-    version = library_version(library)
+    project, version = project_table(), library_version(library)
     tag = f"py3-none-{platform_tag(library.read_bytes())}"
     name = f"{project['name']}-{version}"
-    files = package()
-    files[f"iox2sd/{SHARED}"] = library.read_bytes()
+    files = package() | {f"iox2sd/{SHARED}": library.read_bytes()}
     info = f"{name}.dist-info"
     for licence, content in licences(project).items():
         files[f"{info}/licenses/{licence}"] = content
@@ -54,19 +53,22 @@ def build_wheel(
     files[f"{info}/METADATA"] = metadata(project, version).encode()
     files[f"{info}/RECORD"] = record(files, f"{info}/RECORD")
     wheel = f"{name}-{tag}.whl"
-    write(Path(wheel_directory) / wheel, files)
+    with zipfile.ZipFile(Path(wheel_directory, wheel), "w", zipfile.ZIP_DEFLATED) as archive:
+        for path, content in files.items():
+            entry = zipfile.ZipInfo(path)
+            entry.compress_type = zipfile.ZIP_DEFLATED
+            entry.external_attr = 0o100644 << 16
+            archive.writestr(entry, content)
     return wheel
 
 
-def build_sdist(sdist_directory: str, config_settings: "dict[str, Any] | None" = None) -> str:
+def build_sdist(sdist_directory: str, config_settings: Any = None) -> str:
     """Writes the archive of the sources into a directory, and answers its name (PEP 517)."""
-    project = project_table()
-    version = library_version(found_library())
+    project, version = project_table(), library_version(found_library())
     own = ("README.md", "build_wheel.py", "pyproject.toml")
     files = package() | licences(project) | {name: (HERE / name).read_bytes() for name in own}
     files["PKG-INFO"] = metadata(project, version).encode()
-    name = f"{project['name']}-{version}"
-    packed = io.BytesIO()
+    name, packed = f"{project['name']}-{version}", io.BytesIO()
     with tarfile.open(fileobj=packed, mode="w", format=tarfile.PAX_FORMAT) as archive:
         for path, content in sorted(files.items()):
             entry = tarfile.TarInfo(f"{name}/{path}")
@@ -79,17 +81,17 @@ def build_sdist(sdist_directory: str, config_settings: "dict[str, Any] | None" =
 
 def project_table() -> "dict[str, Any]":
     """What pyproject.toml says of the project."""
-    table: "dict[str, Any]" = tomllib.loads((HERE / "pyproject.toml").read_text())["project"]
-    return table
+    return cast("dict[str, Any]", tomllib.loads((HERE / "pyproject.toml").read_text())["project"])
 
 
 def package() -> Files:
-    """The files of the package, without the library."""
-    return {
-        f"iox2sd/{path.name}": path.read_bytes()
-        for path in sorted((HERE / "iox2sd").iterdir())
-        if path.suffix == ".py" or path.name == "py.typed"
-    }
+    """The files of the package, without the library: its sources, and the table of structs, which
+    lies beside this folder, and in an archive of sources among them.
+    """
+    table = HERE / "iox2sd" / "fields.txt"
+    paths = [*(HERE / "iox2sd").glob("*.py"), HERE / "iox2sd" / "py.typed"]
+    paths.append(table if table.is_file() else HERE.parent / table.name)
+    return {f"iox2sd/{path.name}": path.read_bytes() for path in sorted(paths, key=lambda p: p.name)}
 
 
 def licences(project: "dict[str, Any]") -> Files:
@@ -132,14 +134,11 @@ def platform_tag(library: bytes) -> str:
 def metadata(project: dict[str, Any], version: str) -> str:
     """The file METADATA, as the core metadata specification 2.4 has it."""
     lines = [
-        "Metadata-Version: 2.4",
-        f"Name: {project['name']}",
-        f"Version: {version}",
-        f"Summary: {project['description']}",
+        "Metadata-Version: 2.4", f"Name: {project['name']}", f"Version: {version}",
+        f"Summary: {project['description']}", f"Keywords: {','.join(project['keywords'])}",
         *(f"Author: {author['name']}" for author in project["authors"]),
         f"License-Expression: {project['license']}",
         *(f"License-File: {licence}" for licence in project["license-files"]),
-        f"Keywords: {','.join(project['keywords'])}",
         *(f"Classifier: {classifier}" for classifier in project["classifiers"]),
         *(f"Project-URL: {label}, {url}" for label, url in project["urls"].items()),
         f"Requires-Python: {project['requires-python']}",
@@ -150,21 +149,10 @@ def metadata(project: dict[str, Any], version: str) -> str:
 
 def record(files: Files, own_name: str) -> bytes:
     """The file RECORD: each file with its digest and size, and itself without."""
-    lines = []
-    for name, content in files.items():
-        digest = base64.urlsafe_b64encode(hashlib.sha256(content).digest()).rstrip(b"=").decode()
-        lines.append(f"{name},sha256={digest},{len(content)}\n")
+    digests = {name: hashlib.sha256(content).digest() for name, content in files.items()}
+    texts = {n: base64.urlsafe_b64encode(d).rstrip(b"=").decode() for n, d in digests.items()}
+    lines = [f"{name},sha256={text},{len(files[name])}\n" for name, text in texts.items()]
     return ("".join(lines) + f"{own_name},,\n").encode()
-
-
-def write(wheel: Path, files: Files) -> None:
-    """Writes the files of a wheel, at a fixed time, so that equal files make equal wheels."""
-    with zipfile.ZipFile(wheel, "w", zipfile.ZIP_DEFLATED) as archive:
-        for name, content in files.items():
-            entry = zipfile.ZipInfo(name)
-            entry.compress_type = zipfile.ZIP_DEFLATED
-            entry.external_attr = 0o100644 << 16
-            archive.writestr(entry, content)
 
 
 if __name__ == "__main__":

@@ -19,10 +19,8 @@ class Attribute(Checked):
 
 
 def _pairs(attributes: "tuple[Attribute, ...]") -> "tuple[Any, int]":
-    pairs = (_native.Attribute * len(attributes))()
-    for index, attribute in enumerate(attributes):
-        pairs[index] = _native.Attribute(*lent(attribute.key), *lent(attribute.value))
-    return pairs, len(attributes)
+    pairs = ((*lent(attribute.key), *lent(attribute.value)) for attribute in attributes)
+    return (_native.Attribute * len(attributes))(*pairs), len(attributes)
 
 
 def _key(key: AttributeKey, what: str) -> "tuple[bytes, int]":
@@ -121,7 +119,7 @@ def _capacity() -> int:
     """
     length = 1
     while True:
-        keys = (_native.Key * length)(*[_native.Key(*lent("a"))] * length)
+        keys = (_native.Key * length)(*[lent("a")] * length)
         answer = _native.attributes_verify_at(*_pairs(()), *_pairs(()), keys, length)
         if answer.status == Status.TOO_MANY_REQUIRED.value:
             return int(answer.at)
@@ -163,9 +161,7 @@ class AttributeVerifier(Checked):
         has, with its index in `required_keys`.
         """
         instance(attributes, AttributeSet, "AttributeVerifier.verify_requirements")
-        keys = (_native.Key * len(self.required_keys))()
-        for index, key in enumerate(self.required_keys):
-            keys[index] = _native.Key(*lent(key))
+        keys = (_native.Key * len(self.required_keys))(*map(lent, self.required_keys))
         required = _pairs(self.required_attributes._attributes)
         answer = _native.attributes_verify_at(
             *_pairs(attributes._attributes), *required, keys, len(keys)

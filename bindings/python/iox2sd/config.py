@@ -8,7 +8,8 @@ configuration of its own.
 import ctypes
 import os
 from dataclasses import dataclass, fields
-from typing import Any, Optional, Union
+from functools import partial
+from typing import Any, Optional, Union, cast
 
 from . import _native
 from ._arguments import Checked, shown, utf8, wrong_type
@@ -17,83 +18,93 @@ from .errors import (
     BadConfigError, ConfigFault, IllegalByteError, NotUtf8Error, RefusedError, Status, check,
 )
 from .settings import (
-    AllocationStrategy, BackpressureStrategy, BlackboardSettings, DefaultText, Duration,
-    EventSettings, PublishSubscribeSettings, RequestResponseSettings, default_text, put_settings,
-    read,
+    LIBRARY, BlackboardSettings, Duration, EventSettings, PublishSubscribeSettings,
+    RequestResponseSettings, defaults, put_settings, read, read_all,
 )
-from .texts import FileName, Path, lent
+from .texts import FileName, Path, Text, lent
 
 
-_global = _native.global_defaults()
+def _name(c: Any, part: str, own: str) -> str:
+    """The name that the library has for a text of a part of a `GlobalConfig`."""
+    return own if hasattr(c.texts, own) else f"{part}_{own}"
 
 
-def _path(which: DefaultText) -> Path:
-    return Path(default_text(which))
+def _values(c: Any, part: str, kind: Any) -> "dict[str, Any]":
+    """What the library answered of a part of a `GlobalConfig`, but for the parts of that."""
+    shared, found = getattr(c, "global"), {}
+    for own, type_ in kind.__annotations__.items():
+        if type_ in (Path, FileName):
+            text = getattr(c.texts, _name(c, part, own))
+            found[own] = type_(_native.front(text.bytes, text.length))
+        elif hasattr(shared, own):
+            found[own] = read(shared, own)
+    return found
 
 
-def _name(which: DefaultText) -> FileName:
-    return FileName(default_text(which))
+_defaults = _native.Config()
+check(_native.config_read_at(b"", 0, _defaults, 1).status, "defaults of Config")
 
 
 @dataclass(frozen=True, slots=True, kw_only=True)
+@defaults(partial(_values, _defaults, "service"))
 class ServiceConfig(Checked):
     """Where the files of services lie, and how their names end."""
 
-    directory: Path = _path(DefaultText.SERVICE_DIRECTORY)
+    directory: Path = LIBRARY
     """The directory of services, below the root path."""
-    data_segment_suffix: FileName = _name(DefaultText.DATA_SEGMENT_SUFFIX)
+    data_segment_suffix: FileName = LIBRARY
     """The end of the name of a port's data segment."""
-    static_config_storage_suffix: FileName = _name(DefaultText.STATIC_CONFIG_STORAGE_SUFFIX)
+    static_config_storage_suffix: FileName = LIBRARY
     """The end of the name of a service's static configuration."""
-    dynamic_config_storage_suffix: FileName = _name(DefaultText.DYNAMIC_CONFIG_STORAGE_SUFFIX)
+    dynamic_config_storage_suffix: FileName = LIBRARY
     """The end of the name of a service's dynamic configuration."""
-    connection_suffix: FileName = _name(DefaultText.CONNECTION_SUFFIX)
+    connection_suffix: FileName = LIBRARY
     """The end of the name of a connection between two ports."""
-    event_connection_suffix: FileName = _name(DefaultText.EVENT_CONNECTION_SUFFIX)
+    event_connection_suffix: FileName = LIBRARY
     """The end of the name of a connection for events."""
-    blackboard_mgmt_suffix: FileName = _name(DefaultText.BLACKBOARD_MGMT_SUFFIX)
+    blackboard_mgmt_suffix: FileName = LIBRARY
     """The end of the name of the segment by which a blackboard is managed."""
-    blackboard_data_suffix: FileName = _name(DefaultText.BLACKBOARD_DATA_SUFFIX)
+    blackboard_data_suffix: FileName = LIBRARY
     """The end of the name of the segment with a blackboard's values."""
-    cleanup_dead_nodes_on_open: bool = _global.cleanup_dead_nodes_on_open
+    cleanup_dead_nodes_on_open: bool = LIBRARY
     """Whether what dead nodes left is removed first when a service is opened."""
 
 
 @dataclass(frozen=True, slots=True, kw_only=True)
+@defaults(partial(_values, _defaults, "node"))
 class NodeConfig(Checked):
     """Where the files of nodes lie, and how their names end."""
 
-    directory: Path = _path(DefaultText.NODE_DIRECTORY)
+    directory: Path = LIBRARY
     """The directory of nodes, below the root path."""
-    monitor_suffix: FileName = _name(DefaultText.MONITOR_SUFFIX)
+    monitor_suffix: FileName = LIBRARY
     """The end of the name of the token by which others see that a node lives."""
-    static_config_suffix: FileName = _name(DefaultText.NODE_STATIC_CONFIG_SUFFIX)
+    static_config_suffix: FileName = LIBRARY
     """The end of the name of a node's static configuration."""
-    service_tag_suffix: FileName = _name(DefaultText.SERVICE_TAG_SUFFIX)
+    service_tag_suffix: FileName = LIBRARY
     """The end of the name of the tag that a node leaves for each service that it uses."""
-    port_tag_suffix: FileName = _name(DefaultText.PORT_TAG_SUFFIX)
+    port_tag_suffix: FileName = LIBRARY
     """The end of the name of the tag that a node leaves for each of its ports."""
-    global_mgmt_suffix: FileName = _name(DefaultText.GLOBAL_MGMT_SUFFIX)
+    global_mgmt_suffix: FileName = LIBRARY
     """The end of the name of the segment with which nodes are managed."""
-    cleanup_dead_nodes_on_creation: bool = _global.cleanup_dead_nodes_on_creation
+    cleanup_dead_nodes_on_creation: bool = LIBRARY
     """Whether what dead nodes left is removed first when a node is created."""
-    cleanup_dead_nodes_on_destruction: bool = _global.cleanup_dead_nodes_on_destruction
+    cleanup_dead_nodes_on_destruction: bool = LIBRARY
     """The same when a node is dropped."""
 
 
 @dataclass(frozen=True, slots=True, kw_only=True)
+@defaults(partial(_values, _defaults, ""))
 class GlobalConfig(Checked):
     """What all services and nodes of one system share."""
 
-    root_path: Path = _path(DefaultText.ROOT_PATH)
+    root_path: Path = LIBRARY
     """The path below which everything else lies."""
-    prefix: FileName = _name(DefaultText.PREFIX)
+    prefix: FileName = LIBRARY
     """What the name of each file begins with."""
     service: ServiceConfig = ServiceConfig()
     node: NodeConfig = NodeConfig()
-    creation_timeout: Duration = Duration(
-        _global.creation_timeout.seconds, _global.creation_timeout.nanoseconds
-    )
+    creation_timeout: Duration = LIBRARY
     """How long an opener waits until the creator is ready."""
 
     def service_dir(self) -> Path:
@@ -129,9 +140,8 @@ class Config(Checked):
     @classmethod
     def from_toml(cls, text: str) -> "ConfigFile":
         """The settings of the text of a file, where each key that it does not have has its default,
-        and the keys that no setting has.
-
-        Raises `BadConfigError` with all that is wrong, and `NoMemoryError`.
+        and the keys that no setting has. Raises `BadConfigError` with all that is wrong, and
+        `NoMemoryError`.
         """
         return _read_file(utf8(text, "Config.from_toml"))
 
@@ -145,7 +155,6 @@ class Config(Checked):
 
     def to_toml(self) -> str:
         """The settings as the text of a file, each below a comment with what it is and its default.
-
         Raises `NoTomlIntegerError`, of a number or of the seconds of a duration above 2^63 - 1, and
         `NoMemoryError`.
         """
@@ -193,86 +202,50 @@ class ConfigFile(Value):
     """The keys that no setting has, in the order of the tables and of the keys in each."""
 
 
-_PARTS: "tuple[tuple[str, Any], ...]" = (
-    ("", GlobalConfig), ("service", ServiceConfig), ("node", NodeConfig)
-)
-
-_TEXTS = [
-    (part, own.name, own.type, own.name if own.name in vars(_native.ConfigTexts) else
-     f"{part}_{own.name}")
-    for part, kind in _PARTS for own in fields(kind) if own.type in (Path, FileName)
-]
-"""The part, the name and the type of each text of a `GlobalConfig`, and its name in the library."""
-
-_FLAGS = [(part, own.name) for part, kind in _PARTS for own in fields(kind) if own.type is bool]
-"""The part and the name of each flag of a `GlobalConfig`."""
-
-
-def _settings(kind: Any, c: Any) -> Any:
-    """The settings of services of a pattern that the library answered."""
-    makers: "dict[Any, Any]" = {one: one for one in (BackpressureStrategy, AllocationStrategy)}
-    return kind(**{
-        one.name: makers.get(one.type, read)(getattr(c, one.name)) for one in fields(kind)
-    })
-
-
 def _config(c: Any) -> Config:
     """All settings that the library answered."""
-    parts: "dict[str, dict[str, Any]]" = {part: {} for part, _ in _PARTS}
-    for part, own, kind, name in _TEXTS:
-        text = getattr(c.texts, name)
-        parts[part][own] = kind(_native.front(text.bytes, text.length))
-    shared = getattr(c, "global")
-    for part, own in _FLAGS:
-        parts[part][own] = getattr(shared, own)
-    timeout = shared.creation_timeout
-    return Config(
-        global_cfg=GlobalConfig(
-            **parts[""],
-            service=ServiceConfig(**parts["service"]),
-            node=NodeConfig(**parts["node"]),
-            creation_timeout=Duration(timeout.seconds, timeout.nanoseconds),
-        ),
-        defaults=Defaults(
-            **{one.name: _settings(one.type, getattr(c, one.name)) for one in fields(Defaults)}
-        ),
-    )
+    service = ServiceConfig(**_values(c, "service", ServiceConfig))
+    node = NodeConfig(**_values(c, "node", NodeConfig))
+    shared = _values(c, "", GlobalConfig)
+    of_patterns: "dict[str, Any]" = {
+        one.name: one.type(**read_all(getattr(c, one.name), one.type)) for one in fields(Defaults)
+    }
+    global_cfg = GlobalConfig(**shared, service=service, node=node)
+    return Config(global_cfg=global_cfg, defaults=Defaults(**of_patterns))
 
 
 def _plain_config(config: Config) -> Any:
     """All settings as the library takes them."""
     made, shared = _native.Config(), config.global_cfg
-    parts = {"": shared, "service": shared.service, "node": shared.node}
-    for part, own, _, name in _TEXTS:
-        encoded, length = lent(getattr(parts[part], own))
-        plain_text = getattr(made.texts, name)
-        ctypes.memmove(plain_text.bytes, encoded, length)
-        plain_text.length = length
     plain_shared = getattr(made, "global")
-    for part, own in _FLAGS:
-        setattr(plain_shared, own, getattr(parts[part], own))
-    timeout = shared.creation_timeout
-    plain_shared.creation_timeout = _native.Duration(timeout.seconds, timeout.nanoseconds)
+    for part, of in {"": shared, "service": shared.service, "node": shared.node}.items():
+        for own in fields(cast(Any, of)):
+            value = getattr(of, own.name)
+            if isinstance(value, Text):
+                plain_text = getattr(made.texts, _name(made, part, own.name))
+                encoded, plain_text.length = lent(value)
+                ctypes.memmove(plain_text.bytes, encoded, plain_text.length)
+            elif isinstance(value, Duration):
+                setattr(plain_shared, own.name, _native.Duration(value.seconds, value.nanoseconds))
+            elif isinstance(value, bool):
+                setattr(plain_shared, own.name, value)
     for one in fields(Defaults):
         put_settings(getattr(config.defaults, one.name), getattr(made, one.name))
     return made
 
 
-def _fault(c: Any) -> ConfigFault:
-    reason = _native.front(c.reason, c.reason_length)
-    return ConfigFault(_native.front(c.key, c.key_length), reason, Status(c.status))
-
-
 def _refused(text: bytes, first: Any) -> RefusedError:
     """Why a text with this first fault gives no settings."""
-    found = [first]
+    found, front = [first], _native.front
     if first.key_length != 0:
         count = _native.config_faults_at(text, len(text), None, 0).count
         faults = (_native.ConfigFault * count)()
-        answer = _native.config_faults_at(text, len(text), faults, count)
-        if answer.status == _native.DONE:
+        if _native.config_faults_at(text, len(text), faults, count).status == _native.DONE:
             found = list(faults)
-    return BadConfigError(tuple(map(_fault, found)))
+    return BadConfigError(tuple(
+        ConfigFault(front(c.key, c.key_length), front(c.reason, c.reason_length), Status(c.status))
+        for c in found
+    ))
 
 
 def _unknown(text: bytes) -> "tuple[UnknownKey, ...]":
@@ -280,9 +253,7 @@ def _unknown(text: bytes) -> "tuple[UnknownKey, ...]":
     needed = _native.config_unknown_at(text, len(text), None, 0, None, 0)
     keys = (_native.UnknownKey * needed.count)()
     paths = (ctypes.c_uint8 * needed.length)()
-    answer = _native.config_unknown_at(
-        text, len(text), keys, needed.count, paths, needed.length
-    )
+    answer = _native.config_unknown_at(text, len(text), keys, needed.count, paths, needed.length)
     check(answer.status, "Config.from_toml")
     found, place, whole = [], 0, bytes(paths)
     for key in keys:

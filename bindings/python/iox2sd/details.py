@@ -1,8 +1,8 @@
 """What ports report of themselves."""
 
-from collections.abc import Callable, Iterable
+from collections.abc import Iterable
 from dataclasses import dataclass, fields
-from typing import Any, ClassVar, NamedTuple, Union
+from typing import Any, ClassVar, Union
 
 from . import _native
 from ._arguments import U8, Checked, Size
@@ -51,7 +51,6 @@ class Details(Checked):
 @dataclass(frozen=True, slots=True, kw_only=True)
 class PublisherDetails(Details):
     """What a publisher reports."""
-
     role = Role.PUBLISHER
     publisher_id: UniquePublisherId
     node_id: UniqueNodeId
@@ -66,7 +65,6 @@ class PublisherDetails(Details):
 @dataclass(frozen=True, slots=True, kw_only=True)
 class SubscriberDetails(Details):
     """What a subscriber reports."""
-
     role = Role.SUBSCRIBER
     subscriber_id: UniqueSubscriberId
     node_id: UniqueNodeId
@@ -77,7 +75,6 @@ class SubscriberDetails(Details):
 @dataclass(frozen=True, slots=True, kw_only=True)
 class NotifierDetails(Details):
     """What a notifier reports."""
-
     role = Role.NOTIFIER
     notifier_id: UniqueNotifierId
     node_id: UniqueNodeId
@@ -86,7 +83,6 @@ class NotifierDetails(Details):
 @dataclass(frozen=True, slots=True, kw_only=True)
 class ListenerDetails(Details):
     """What a listener reports."""
-
     role = Role.LISTENER
     listener_id: UniqueListenerId
     node_id: UniqueNodeId
@@ -95,7 +91,6 @@ class ListenerDetails(Details):
 @dataclass(frozen=True, slots=True, kw_only=True)
 class ClientDetails(Details):
     """What a client reports."""
-
     role = Role.CLIENT
     client_id: UniqueClientId
     node_id: UniqueNodeId
@@ -112,7 +107,6 @@ class ClientDetails(Details):
 @dataclass(frozen=True, slots=True, kw_only=True)
 class ServerDetails(Details):
     """What a server reports."""
-
     role = Role.SERVER
     server_id: UniqueServerId
     node_id: UniqueNodeId
@@ -129,7 +123,6 @@ class ServerDetails(Details):
 @dataclass(frozen=True, slots=True, kw_only=True)
 class ReaderDetails(Details):
     """What a reader reports."""
-
     role = Role.READER
     reader_id: UniqueReaderId
     node_id: UniqueNodeId
@@ -138,21 +131,14 @@ class ReaderDetails(Details):
 @dataclass(frozen=True, slots=True, kw_only=True)
 class WriterDetails(Details):
     """What a writer reports."""
-
     role = Role.WRITER
     writer_id: UniqueWriterId
     node_id: UniqueNodeId
 
 
 PortDetails = Union[
-    PublisherDetails,
-    SubscriberDetails,
-    NotifierDetails,
-    ListenerDetails,
-    ClientDetails,
-    ServerDetails,
-    ReaderDetails,
-    WriterDetails,
+    PublisherDetails, SubscriberDetails, NotifierDetails, ListenerDetails, ClientDetails,
+    ServerDetails, ReaderDetails, WriterDetails,
 ]
 """What a port of any role reports."""
 
@@ -164,27 +150,17 @@ _COLUMNS = {name: at for at, (name, *_) in enumerate(_native.PortDetails._fields
 _SEGMENT = _COLUMNS["data_segment"]
 
 
-class _Plan(NamedTuple):
-    """How the details of one kind of ports are made of a row."""
-
-    kind: Any
-    port_id: Callable[[int, int, int, int], Any]
-    set_port_id: Any
-    set_node_id: Any
-    numbers: "tuple[tuple[Any, int], ...]"
-    """What sets each number after the ids, and where it stands in a row."""
-    set_segment: Any
-    """What sets the type of the data segment, where there is one."""
-
-
-def _plan(kind: Any) -> _Plan:
+def _plan(kind: Any) -> "tuple[Any, ...]":
+    """How the details of one kind of ports are made of a row: the class, what makes the port's id,
+    what sets it and the node's, what sets each number and where it stands, and what sets the type
+    of the data segment, if there is one.
+    """
     port_id, _, *others = fields(kind)
     set_port_id, set_node_id, *set_others = setters(kind)
-    names = [field.name.removesuffix("_type") for field in others]
-    sets = dict(zip(names, set_others))
+    sets = dict(zip((field.name.removesuffix("_type") for field in others), set_others))
     set_segment = sets.pop("data_segment", None)
     numbers = tuple((set_field, _COLUMNS[name]) for name, set_field in sets.items())
-    return _Plan(kind, maker(port_id.type), set_port_id, set_node_id, numbers, set_segment)
+    return kind, maker(port_id.type), set_port_id, set_node_id, numbers, set_segment
 
 
 _PLANS = {kind.role.value: _plan(kind) for kind in PortDetails.__args__}  # type: ignore[attr-defined]
@@ -192,7 +168,7 @@ _node_id = maker(UniqueNodeId)
 
 
 def details_of_rows(rows: "Iterable[tuple[int, ...]]") -> "tuple[PortDetails, ...]":
-    """The details of ports of the library, each as `_native.PORT` reads it. They are not checked
+    """The details of ports of the library, each as `_native.row` reads it. They are not checked
     again, and those of one node share its id.
     """
     new = object.__new__
@@ -217,5 +193,5 @@ def details_of_rows(rows: "Iterable[tuple[int, ...]]") -> "tuple[PortDetails, ..
 
 def details_of(port: _native.PortDetails) -> PortDetails:
     """The details of a port of the library."""
-    (details,) = details_of_rows([_native.PORT.unpack_from(port)])
+    (details,) = details_of_rows([_native.row(_native.PortDetails).unpack_from(port)])
     return details

@@ -1,19 +1,17 @@
 """Services, and who is attached to them."""
 
 import ctypes
-import struct
 from collections.abc import Callable, Iterable, Iterator
 from contextlib import contextmanager, suppress
 from dataclasses import dataclass
-from types import TracebackType
 from typing import Any, NoReturn, TypeVar, Union, cast
 
 from . import _native
 from ._arguments import U64, Checked, Size, instance, items, number
 from ._values import Choice, unchecked
 from .details import (
-    ClientDetails, ListenerDetails, NotifierDetails, PortDetails, PublisherDetails, ReaderDetails,
-    ServerDetails, SubscriberDetails, WriterDetails, details_of, details_of_rows,
+    ClientDetails, Details, ListenerDetails, NotifierDetails, PortDetails, PublisherDetails,
+    ReaderDetails, ServerDetails, SubscriberDetails, WriterDetails, details_of, details_of_rows,
 )
 from .errors import NoServiceError, RefusedError, Status, check
 from .ids import Role, UniqueNodeId, UniquePortId, maker
@@ -22,6 +20,7 @@ from .static_config import Capacities, PatternStaticConfig, StaticConfig
 from .texts import MessagingPattern
 
 
+_Details = TypeVar("_Details", bound=Details)
 _Service = TypeVar("_Service", bound="DynamicConfig")
 
 ALL_TICKETS = 2**64 - 1
@@ -116,6 +115,19 @@ class DeadNodeRemoval(Checked):
     """How many subscribers, notifiers, clients or writers were removed."""
 
 
+def _lister(kind: "type[_Details]") -> "Callable[[DynamicConfig], tuple[_Details, ...]]":
+    """What lists the ports whose details are of one class."""
+
+    def listed(self: "DynamicConfig") -> "tuple[_Details, ...]":
+        return cast("tuple[_Details, ...]", self.list_ports(kind.role))
+
+    name = f"{kind.role.name.lower()}s"
+    listed.__name__ = f"list_{name}"
+    listed.__qualname__ = f"DynamicConfig.list_{name}"
+    listed.__doc__ = f"The {name} by rising slot. Raises `RoleNotInPatternError`."
+    return listed
+
+
 class DynamicConfig:
     """A service, to which nodes register and ports are attached.
 
@@ -132,17 +144,13 @@ class DynamicConfig:
     _place: _native.Service
 
     def __init__(
-        self,
-        messaging_pattern: MessagingPattern,
-        service_number: int,
-        capacities: Capacities,
+        self, messaging_pattern: MessagingPattern, service_number: int, capacities: Capacities,
         tickets: int = ALL_TICKETS,
     ) -> None:
         """A service with nothing attached. `service_number` is in each of its handles. It has
         `tickets` tickets for nodes, and as many for each kind of ports: each registering and each
-        attaching uses one, and tickets are never reused.
-
-        Raises `HasServiceError` where the object has one already, and `NoMemoryError`.
+        attaching uses one, and tickets are never reused. Raises `HasServiceError` where the object
+        has one already, and `NoMemoryError`.
         """
         if not hasattr(self, "_place"):
             self._place = _native.Service()
@@ -150,8 +158,7 @@ class DynamicConfig:
         instance(messaging_pattern, MessagingPattern, f"{what}.messaging_pattern")
         instance(capacities, Capacities, f"{what}.capacities")
         status = self._call(
-            _native.service_create_at,
-            messaging_pattern.value,
+            _native.service_create_at, messaging_pattern.value,
             number(service_number, U64, f"{what}.service_number"),
             _native.Capacities(capacities.nodes, capacities.first, capacities.second),
             number(tickets, U64, f"{what}.tickets"),
@@ -160,11 +167,8 @@ class DynamicConfig:
 
     @classmethod
     def described(
-        cls: "type[_Service]",
-        service: Union[StaticConfig, PatternStaticConfig, PatternSettings],
-        service_number: int,
-        *,
-        tickets: int = ALL_TICKETS,
+        cls: "type[_Service]", service: Union[StaticConfig, PatternStaticConfig, PatternSettings],
+        service_number: int, *, tickets: int = ALL_TICKETS,
     ) -> _Service:
         """A service with the pattern and the capacities of a description, or of settings. Raises
         `NoMemoryError`.
@@ -174,13 +178,8 @@ class DynamicConfig:
 
     @classmethod
     def publish_subscribe(
-        cls: "type[_Service]",
-        service_number: int,
-        *,
-        max_nodes: int,
-        max_publishers: int,
-        max_subscribers: int,
-        tickets: int = ALL_TICKETS,
+        cls: "type[_Service]", service_number: int, *, max_nodes: int, max_publishers: int,
+        max_subscribers: int, tickets: int = ALL_TICKETS,
     ) -> _Service:
         """A publish-subscribe service. Raises `NoMemoryError`."""
         capacities = Capacities(max_nodes, max_publishers, max_subscribers)
@@ -188,13 +187,8 @@ class DynamicConfig:
 
     @classmethod
     def event(
-        cls: "type[_Service]",
-        service_number: int,
-        *,
-        max_nodes: int,
-        max_listeners: int,
-        max_notifiers: int,
-        tickets: int = ALL_TICKETS,
+        cls: "type[_Service]", service_number: int, *, max_nodes: int, max_listeners: int,
+        max_notifiers: int, tickets: int = ALL_TICKETS,
     ) -> _Service:
         """An event service. Raises `NoMemoryError`."""
         capacities = Capacities(max_nodes, max_listeners, max_notifiers)
@@ -202,13 +196,8 @@ class DynamicConfig:
 
     @classmethod
     def request_response(
-        cls: "type[_Service]",
-        service_number: int,
-        *,
-        max_nodes: int,
-        max_servers: int,
-        max_clients: int,
-        tickets: int = ALL_TICKETS,
+        cls: "type[_Service]", service_number: int, *, max_nodes: int, max_servers: int,
+        max_clients: int, tickets: int = ALL_TICKETS,
     ) -> _Service:
         """A request-response service. Raises `NoMemoryError`."""
         capacities = Capacities(max_nodes, max_servers, max_clients)
@@ -216,13 +205,8 @@ class DynamicConfig:
 
     @classmethod
     def blackboard(
-        cls: "type[_Service]",
-        service_number: int,
-        *,
-        max_nodes: int,
-        max_readers: int,
-        max_writers: int,
-        tickets: int = ALL_TICKETS,
+        cls: "type[_Service]", service_number: int, *, max_nodes: int, max_readers: int,
+        max_writers: int, tickets: int = ALL_TICKETS,
     ) -> _Service:
         """A blackboard service. Raises `NoMemoryError`."""
         capacities = Capacities(max_nodes, max_readers, max_writers)
@@ -231,9 +215,8 @@ class DynamicConfig:
     # ---- Changes ----
 
     def register_node_id(self, node_id: UniqueNodeId) -> ContainerHandle:
-        """Registers a node, which may have several handles.
-
-        Raises `NoServiceError`, `IsLockedError`, `OutOfSpaceError`.
+        """Registers a node, which may have several handles. Raises `NoServiceError`,
+        `IsLockedError`, `OutOfSpaceError`.
         """
         instance(node_id, UniqueNodeId, "register_node_id")
         what = f"register node {node_id}"
@@ -241,11 +224,9 @@ class DynamicConfig:
         return ContainerHandle._of(answer.handle)
 
     def deregister_node_id(self, handle: ContainerHandle) -> DeregisterNodeState:
-        """Deregisters the node with a handle.
-
-        Raises `NoServiceError`, `ForeignHandleError`, also for a port's handle, and
-        `PortsStillAttachedError` where it is the only handle of its node and some port has that
-        node.
+        """Deregisters the node with a handle. Raises `NoServiceError`, `ForeignHandleError`, also
+        for a port's handle, and `PortsStillAttachedError` where it is the only handle of its node
+        and some port has that node.
         """
         instance(handle, ContainerHandle, "deregister_node_id")
         status = self._call(_native.deregister_node_id_at, handle._lent())
@@ -253,19 +234,16 @@ class DynamicConfig:
         return DeregisterNodeState(status)
 
     def attach(self, details: PortDetails) -> ContainerHandle:
-        """Attaches a port.
-
-        Raises `NoServiceError`, `RoleNotInPatternError`, `IsLockedError`, `NodeNotRegisteredError`,
-        `OutOfSpaceError`.
+        """Attaches a port. Raises `NoServiceError`, `RoleNotInPatternError`, `IsLockedError`,
+        `NodeNotRegisteredError`, `OutOfSpaceError`.
         """
         instance(details, PortDetails, "attach")
         what = f"attach {details.role.name.lower()} {details.port_id}"
         return ContainerHandle._of(self._answer(what, _native.attach_at, details._lent(), 1).handle)
 
     def release_port(self, handle: ContainerHandle) -> None:
-        """Releases the port with a handle.
-
-        Raises `NoServiceError` and `ForeignHandleError`, also for a node's handle.
+        """Releases the port with a handle. Raises `NoServiceError` and `ForeignHandleError`, also
+        for a node's handle.
         """
         instance(handle, ContainerHandle, "release_port")
         check(self._call(_native.release_port_at, handle._lent()), f"release {handle}")
@@ -273,9 +251,8 @@ class DynamicConfig:
     def remove_dead_node_id(
         self, node_id: UniqueNodeId, keep: Iterable[UniquePortId] = ()
     ) -> DeadNodeRemoval:
-        """Removes the ports of a dead node, but for those whose id is in `keep`, and returns how many
-        it removed. Where no port is left, the node is removed too, with all its handles.
-
+        """Removes the ports of a dead node, but for those whose id is in `keep`, and returns how
+        many it removed. Where no port is left, the node is removed too, with all its handles.
         Raises `NoServiceError`.
         """
         instance(node_id, UniqueNodeId, "remove_dead_node_id")
@@ -383,14 +360,14 @@ class DynamicConfig:
 
     def list_node_ids(self) -> "tuple[UniqueNodeId, ...]":
         """The nodes by rising slot, one for each handle."""
-        rows = self._rows("list_node_ids", _native.Id, _native.ID, _native.nodes_at)
+        rows = self._rows("list_node_ids", _native.Id, _native.nodes_at)
         return tuple(_node_id(*row) for row in rows)
 
     def list_ports(self, role: Role) -> "tuple[PortDetails, ...]":
         """The ports of a role by rising slot. Raises `RoleNotInPatternError`."""
         instance(role, Role, "list_ports")
         what = f"list ports, {role}"
-        rows = self._rows(what, _native.PortDetails, _native.PORT, _native.ports_at, role.value)
+        rows = self._rows(what, _native.PortDetails, _native.ports_at, role.value)
         return details_of_rows(rows)
 
     def ports_of(self, node_id: UniqueNodeId) -> "tuple[PortDetails, ...]":
@@ -398,42 +375,17 @@ class DynamicConfig:
         Raises `TooLargeError` for more than 2^64 - 1.
         """
         instance(node_id, UniqueNodeId, "ports_of")
-        what = f"ports of {node_id}"
-        lent = node_id._lent()
-        rows = self._rows(what, _native.PortDetails, _native.PORT, _native.ports_of_at, lent)
-        return details_of_rows(rows)
+        what, lent = f"ports of {node_id}", node_id._lent()
+        return details_of_rows(self._rows(what, _native.PortDetails, _native.ports_of_at, lent))
 
-    def list_publishers(self) -> "tuple[PublisherDetails, ...]":
-        """The publishers by rising slot. Raises `RoleNotInPatternError`; so do the next seven."""
-        return cast("tuple[PublisherDetails, ...]", self.list_ports(Role.PUBLISHER))
-
-    def list_subscribers(self) -> "tuple[SubscriberDetails, ...]":
-        """The subscribers by rising slot."""
-        return cast("tuple[SubscriberDetails, ...]", self.list_ports(Role.SUBSCRIBER))
-
-    def list_notifiers(self) -> "tuple[NotifierDetails, ...]":
-        """The notifiers by rising slot."""
-        return cast("tuple[NotifierDetails, ...]", self.list_ports(Role.NOTIFIER))
-
-    def list_listeners(self) -> "tuple[ListenerDetails, ...]":
-        """The listeners by rising slot."""
-        return cast("tuple[ListenerDetails, ...]", self.list_ports(Role.LISTENER))
-
-    def list_clients(self) -> "tuple[ClientDetails, ...]":
-        """The clients by rising slot."""
-        return cast("tuple[ClientDetails, ...]", self.list_ports(Role.CLIENT))
-
-    def list_servers(self) -> "tuple[ServerDetails, ...]":
-        """The servers by rising slot."""
-        return cast("tuple[ServerDetails, ...]", self.list_ports(Role.SERVER))
-
-    def list_readers(self) -> "tuple[ReaderDetails, ...]":
-        """The readers by rising slot."""
-        return cast("tuple[ReaderDetails, ...]", self.list_ports(Role.READER))
-
-    def list_writers(self) -> "tuple[WriterDetails, ...]":
-        """The writers by rising slot."""
-        return cast("tuple[WriterDetails, ...]", self.list_ports(Role.WRITER))
+    list_publishers = _lister(PublisherDetails)
+    list_subscribers = _lister(SubscriberDetails)
+    list_notifiers = _lister(NotifierDetails)
+    list_listeners = _lister(ListenerDetails)
+    list_clients = _lister(ClientDetails)
+    list_servers = _lister(ServerDetails)
+    list_readers = _lister(ReaderDetails)
+    list_writers = _lister(WriterDetails)
 
     # ---- The end ----
 
@@ -449,12 +401,7 @@ class DynamicConfig:
     def __enter__(self: _Service) -> _Service:
         return self
 
-    def __exit__(
-        self,
-        _kind: "type[BaseException] | None",
-        _error: "BaseException | None",
-        _where: "TracebackType | None",
-    ) -> None:
+    def __exit__(self, *_: object) -> None:
         self.close()
 
     def __del__(self) -> None:
@@ -494,10 +441,10 @@ class DynamicConfig:
         return int(self._answer(what, function, *arguments).count)
 
     def _rows(
-        self, what: str, element: Any, row: struct.Struct, function: Any, *arguments: Any
+        self, what: str, element: Any, function: Any, *arguments: Any
     ) -> "Iterator[tuple[int, ...]]":
         """What a call lists, each element as a row of numbers."""
-        capacity = 16
+        row, capacity = _native.row(element), 16
         while True:
             out = (element * capacity)()
             answer = self._call(function, *arguments, out, capacity)

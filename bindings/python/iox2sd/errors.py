@@ -124,140 +124,104 @@ class RefusedError(Error):
 class NoMemoryError(RefusedError, MemoryError, status=Status.NO_MEMORY):
     """Memory was refused."""
 
-
 class NoServiceError(RefusedError, status=Status.NO_SERVICE):
     """The service was closed."""
-
 
 class HasServiceError(RefusedError, status=Status.HAS_SERVICE):
     """The object holds a service already."""
 
-
 class NoNodeError(RefusedError, ValueError, status=Status.NO_NODE):
     """The id is that of no node: its process and its counter are 0."""
-
 
 class IsLockedError(RefusedError, status=Status.IS_LOCKED):
     """The service is locked for good, since its last node left: nothing joins it any more."""
 
-
 class OutOfSpaceError(RefusedError, status=Status.OUT_OF_SPACE):
     """No slot or no ticket is left."""
-
 
 class ForeignHandleError(RefusedError, LookupError, status=Status.FOREIGN_HANDLE):
     """No entry of the service has the handle: it was removed, or is another service's, or a port's
     where a node's is meant, or the reverse.
     """
 
-
 class PortsStillAttachedError(RefusedError, status=Status.PORTS_STILL_ATTACHED):
     """Some port has the node, and the handle is the node's only one."""
-
 
 class NodeNotRegisteredError(RefusedError, LookupError, status=Status.NODE_NOT_REGISTERED):
     """The node of the port is not registered."""
 
-
 class RoleNotInPatternError(RefusedError, ValueError, status=Status.ROLE_NOT_IN_PATTERN):
     """The messaging pattern of the service has no ports of the role."""
 
-
 class TooManyError(RefusedError, ValueError, status=Status.TOO_MANY):
     """There are more pairs than a set can have; `at` is the first one too many."""
-
     at: int
-
 
 class EmptyError(RefusedError, ValueError, status=Status.EMPTY):
     """The text is empty."""
 
-
 class TooLongError(RefusedError, ValueError, status=Status.TOO_LONG):
     """The text is too long; `at` is the greatest length in bytes where a text was checked."""
-
 
 class IllegalByteError(RefusedError, ValueError, status=Status.ILLEGAL_BYTE):
     """A byte may not stand in the text; `at` is the index of the first one."""
 
-
 class NoFileNameError(RefusedError, ValueError, status=Status.NO_FILE_NAME):
     """The name, or what follows the last `/`, is `.`, `..` or empty."""
-
 
 class ReservedPrefixError(RefusedError, ValueError, status=Status.RESERVED_PREFIX):
     """The name begins as those of the system's own services do."""
 
-
 class NotUtf8Error(RefusedError, ValueError, status=Status.NOT_UTF8):
     """The text has no UTF-8: it holds half of a surrogate pair, at the character `at`."""
-
 
 class IllegalHashError(RefusedError, status=Status.ILLEGAL_HASH):
     """The hasher's text cannot be the name of a file. SHA-1 is proved to make none that is so."""
 
-
 class TooManyRequiredError(RefusedError, ValueError, status=Status.TOO_MANY_REQUIRED):
     """More pairs and keys are required than a set can have; `at` is the first one too many."""
-
     at: int
-
 
 class MissingPairError(RefusedError, LookupError, status=Status.MISSING_PAIR):
     """The set lacks a required pair, the one at `at`."""
-
     at: int
-
 
 class MissingKeyError(RefusedError, LookupError, status=Status.MISSING_KEY):
     """The set has no pair with a required key, the one at `at`."""
-
     at: int
-
 
 class BadAlignmentError(RefusedError, ValueError, status=Status.BAD_ALIGNMENT):
     """An alignment is no power of two."""
 
-
 class TooLargeError(RefusedError, OverflowError, status=Status.TOO_LARGE):
     """The result would pass its range."""
-
 
 class IncompatibleError(RefusedError):
     """A service is not what its opener requires."""
 
-
 class OtherPatternError(IncompatibleError, status=Status.OTHER_PATTERN):
     """The service has another messaging pattern."""
-
 
 class OtherNameError(IncompatibleError, status=Status.OTHER_NAME):
     """The types of a part have other names."""
 
-
 class OtherVariantError(IncompatibleError, status=Status.OTHER_VARIANT):
     """The types of a part are of other variants."""
-
 
 class OtherSizeError(IncompatibleError, status=Status.OTHER_SIZE):
     """The types of a part have other sizes."""
 
-
 class OtherAlignmentError(IncompatibleError, status=Status.OTHER_ALIGNMENT):
     """The types of the headers have other alignments."""
-
 
 class GreaterAlignmentError(IncompatibleError, status=Status.GREATER_ALIGNMENT):
     """The opener's type of a part has a greater alignment than the service's."""
 
-
 class UnmetError(IncompatibleError, status=Status.UNMET):
     """A setting of the service is not what its opener requires."""
 
-
 class BadDurationError(RefusedError, ValueError, status=Status.BAD_DURATION):
     """The nanoseconds beside the seconds are a billion or more."""
-
 
 class NoTomlIntegerError(RefusedError, OverflowError, status=Status.NO_TOML_INTEGER):
     """A number, or the seconds of a duration, are above 2^63 - 1, which TOML does not have."""
@@ -305,16 +269,11 @@ class BadConfigError(RefusedError, ValueError):
         return self.what
 
 
-def _with_status(base: "type[RefusedError]") -> "dict[Status, type[RefusedError]]":
-    found: "dict[Status, type[RefusedError]]" = {}
-    for kind in base.__subclasses__():
-        if kind.status is not base.status:
-            found[kind.status] = kind
-        found.update(_with_status(kind))
-    return found
-
-
-_KINDS = _with_status(RefusedError)
+_KINDS: "dict[Status, type[RefusedError]]" = {
+    kind.status: kind
+    for kind in list(globals().values())
+    if isinstance(kind, type) and issubclass(kind, RefusedError) and kind.status is not Error.status
+}
 _STATUSES = {status.value: status for status in Status}
 
 

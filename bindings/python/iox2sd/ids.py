@@ -135,62 +135,45 @@ class UniqueNodeId(UniqueId):
 
 class UniqueServiceId(UniqueId):
     """The id of a service."""
-
     __slots__ = ()
-
 
 class UniquePublisherId(UniqueId):
     """The id of a publisher."""
-
     __slots__ = ()
     role = Role.PUBLISHER
 
-
 class UniqueSubscriberId(UniqueId):
     """The id of a subscriber."""
-
     __slots__ = ()
     role = Role.SUBSCRIBER
 
-
 class UniqueNotifierId(UniqueId):
     """The id of a notifier."""
-
     __slots__ = ()
     role = Role.NOTIFIER
 
-
 class UniqueListenerId(UniqueId):
     """The id of a listener."""
-
     __slots__ = ()
     role = Role.LISTENER
 
-
 class UniqueClientId(UniqueId):
     """The id of a client."""
-
     __slots__ = ()
     role = Role.CLIENT
 
-
 class UniqueServerId(UniqueId):
     """The id of a server."""
-
     __slots__ = ()
     role = Role.SERVER
 
-
 class UniqueReaderId(UniqueId):
     """The id of a reader."""
-
     __slots__ = ()
     role = Role.READER
 
-
 class UniqueWriterId(UniqueId):
     """The id of a writer."""
-
     __slots__ = ()
     role = Role.WRITER
 
@@ -212,13 +195,7 @@ def maker(kind: "type[_Id]") -> "Callable[[int, int, int, int], _Id]":
 
 
 UniquePortId = Union[
-    UniquePublisherId,
-    UniqueSubscriberId,
-    UniqueNotifierId,
-    UniqueListenerId,
-    UniqueClientId,
-    UniqueServerId,
-    UniqueReaderId,
-    UniqueWriterId,
+    UniquePublisherId, UniqueSubscriberId, UniqueNotifierId, UniqueListenerId, UniqueClientId,
+    UniqueServerId, UniqueReaderId, UniqueWriterId,
 ]
 """The id of a port of any role; its class has the `role`."""

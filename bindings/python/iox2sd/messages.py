@@ -21,10 +21,9 @@ class TypeVariant(Choice):
 
 @dataclass(frozen=True, slots=True)
 class TypeDetail(Checked):
-    """The type of one part of a message.
-
-    Raises `NotUtf8Error`, `TooLongError` and `IllegalByteError` of the name, which has at most 256
-    bytes, each from 1 to 127; `BadAlignmentError`.
+    """The type of one part of a message. Raises `NotUtf8Error`, `TooLongError` and
+    `IllegalByteError` of the name, which has at most 256 bytes, each from 1 to 127;
+    `BadAlignmentError`.
     """
 
     type_name: str
@@ -124,9 +123,3 @@ def check_same(opener: TypeDetail, service: TypeDetail, what: str) -> None:
     """Raises where two types differ: they are compared as those of headers."""
     of_opener, of_service = (MessageTypeDetails(one, one, one)._lent() for one in (opener, service))
     check(_native.message_is_compatible_to_at(of_service, 1, of_opener, 1).status, what)
-
-
-def counted(what: str, answer: Any) -> int:
-    """The number of an answer."""
-    check(answer.status, what)
-    return int(answer.count)

@@ -8,9 +8,8 @@ from .errors import BadLineError, Status, check
 
 
 def run_script(script: Union[str, bytes]) -> str:
-    """The reply lines of a script, which is carried out on a service of its own.
-
-    Raises `BadLineError` with the number of a bad line and the reply lines to those before it, and
+    """The reply lines of a script, which is carried out on a service of its own. Raises
+    `BadLineError` with the number of a bad line and the reply lines to those before it, and
     `NoMemoryError`.
     """
     given = text_or_bytes(script, "run_script")

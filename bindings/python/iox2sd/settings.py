@@ -4,15 +4,18 @@ The defaults of all fields are those of the library: `EventSettings(max_notifier
 event service gets where nothing but that number is said.
 """
 
+from collections.abc import Callable
 from dataclasses import dataclass
 from datetime import timedelta
-from typing import Any, Optional, Union
+from functools import partial
+from typing import Any, Optional, TypeVar, Union
 
 from . import _native
 from ._arguments import U32, U64, Checked, Size, instance, shown
 from ._values import Choice
 from .errors import OutOfRangeError, Status, TooLargeError, check
-from .messages import counted
+
+_Kind = TypeVar("_Kind")
 
 
 class BackpressureStrategy(Choice):
@@ -33,12 +36,6 @@ class AllocationStrategy(Choice):
     """To the next power of two."""
     STATIC = 2
     """It does not grow."""
-
-
-_publish_subscribe = _native.publish_subscribe_defaults()
-_event = _native.event_defaults()
-_request_response = _native.request_response_defaults()
-_blackboard = _native.blackboard_defaults()
 
 
 @dataclass(frozen=True, slots=True, order=True)
@@ -84,14 +81,6 @@ class EventId(Checked):
     value: Size
 
 
-def event_id(given: _native.OptionalEventId) -> "EventId | None":
-    return EventId(given.number) if given.is_some else None
-
-
-def deadline(given: _native.OptionalDuration) -> "Duration | None":
-    return Duration(given.seconds, given.nanoseconds) if given.is_some else None
-
-
 def _plain(value: Any) -> Any:
     """A field as the library takes it."""
     if isinstance(value, Duration):
@@ -110,170 +99,168 @@ def put_settings(settings: Any, made: Any) -> None:
             setattr(made, name, _plain(value))
 
 
-def read(value: Any) -> Any:
-    """A field that the library answered."""
-    if isinstance(value, _native.OptionalDuration):
-        return deadline(value)
+def read(answer: Any, name: str) -> Any:
+    """A field of what the library answered."""
+    value = getattr(answer, name)
+    if isinstance(value, (_native.OptionalDuration, _native.OptionalEventId)) and not value.is_some:
+        return None
+    if isinstance(value, (_native.Duration, _native.OptionalDuration)):
+        return Duration(value.seconds, value.nanoseconds)
     if isinstance(value, _native.OptionalEventId):
-        return event_id(value)
-    return value
+        return EventId(value.number)
+    if name.endswith("backpressure_strategy"):
+        return BackpressureStrategy(value)
+    return AllocationStrategy(value) if name.endswith("allocation_strategy") else value
 
 
-def samples(of: Any, history: int, loaned: int, what: str) -> int:
-    """The samples of one publisher of a service with these settings."""
-    answer = _native.required_amount_of_samples_per_data_segment(
-        of.max_subscribers,
-        of.subscriber_max_buffer_size,
-        of.subscriber_max_borrowed_samples,
-        history,
-        loaned,
-    )
-    return counted(what, answer)
+LIBRARY: Any = None
+"""Stands for a default that is the library's."""
 
 
-def requests(of: Any, loaned: int, what: str) -> int:
-    """The requests of one client of a service with these settings."""
-    answer = _native.required_amount_of_chunks_per_client_data_segment(
-        of.max_servers, of.max_active_requests_per_client, loaned
-    )
-    return counted(what, answer)
+def defaults(values: "Callable[[Any], dict[str, Any]]") -> "Callable[[type[_Kind]], type[_Kind]]":
+    """Gives the fields of a class the defaults that the library has of it."""
+
+    def decorate(kind: "type[_Kind]") -> "type[_Kind]":
+        for name, value in values(kind).items():
+            setattr(kind, name, value)
+        return kind
+
+    return decorate
 
 
-def responses(of: Any, loaned: int, what: str) -> int:
-    """The responses of one server of a service with these settings."""
-    answer = _native.required_amount_of_chunks_per_server_data_segment(
-        of.max_clients,
-        of.max_active_requests_per_client,
-        of.max_response_buffer_size,
-        of.max_borrowed_responses_per_pending_response,
-        loaned,
-    )
-    return counted(what, answer)
+def read_all(answer: Any, kind: Any) -> "dict[str, Any]":
+    """The settings of a class that the library answered."""
+    return {name: read(answer, name) for name in kind.__annotations__}
+
+
+_COUNTED = {
+    "samples_per_data_segment":
+    "max_subscribers subscriber_max_buffer_size subscriber_max_borrowed_samples",
+    "chunks_per_client_data_segment": "max_servers max_active_requests_per_client",
+    "chunks_per_server_data_segment": "max_clients max_active_requests_per_client"
+    " max_response_buffer_size max_borrowed_responses_per_pending_response",
+}
+"""Of which settings the library counts chunks, beside the numbers of loaned ones."""
+
+
+def required_amount(of: Any, name: str, what: str, *numbers: int) -> int:
+    """How many chunks of settings, or of what is fixed, can be in use at once."""
+    settings = (getattr(of, own) for own in _COUNTED[name].split())
+    answer = getattr(_native, f"required_amount_of_{name}")(*settings, *numbers)
+    check(answer.status, what)
+    return int(answer.count)
 
 
 @dataclass(frozen=True, slots=True, kw_only=True)
+@defaults(partial(read_all, _native.publish_subscribe_defaults()))
 class PublishSubscribeSettings(Checked):
     """The settings of a publish-subscribe service."""
 
-    max_subscribers: Size = _publish_subscribe.max_subscribers
+    max_subscribers: Size = LIBRARY
     """How many may be attached at once; so are the next two."""
-    max_publishers: Size = _publish_subscribe.max_publishers
-    max_nodes: Size = _publish_subscribe.max_nodes
-    subscriber_max_buffer_size: Size = _publish_subscribe.subscriber_max_buffer_size
+    max_publishers: Size = LIBRARY
+    max_nodes: Size = LIBRARY
+    subscriber_max_buffer_size: Size = LIBRARY
     """The capacity of a subscriber's buffer, in samples."""
-    subscriber_max_borrowed_samples: Size = _publish_subscribe.subscriber_max_borrowed_samples
+    subscriber_max_borrowed_samples: Size = LIBRARY
     """How many samples a subscriber may hold at once."""
-    publisher_max_loaned_samples: Size = _publish_subscribe.publisher_max_loaned_samples
+    publisher_max_loaned_samples: Size = LIBRARY
     """How many samples a publisher may have loaned and not yet sent."""
-    publisher_history_size: Size = _publish_subscribe.publisher_history_size
+    publisher_history_size: Size = LIBRARY
     """How many a publisher keeps for subscribers that come later."""
-    subscriber_expired_connection_buffer: Size = (
-        _publish_subscribe.subscriber_expired_connection_buffer
-    )
+    subscriber_expired_connection_buffer: Size = LIBRARY
     """How many connections of publishers that are gone a subscriber keeps."""
-    backpressure_strategy: BackpressureStrategy = BackpressureStrategy(
-        _publish_subscribe.backpressure_strategy
-    )
-    publisher_allocation_strategy: AllocationStrategy = AllocationStrategy(
-        _publish_subscribe.publisher_allocation_strategy
-    )
-    enable_safe_overflow: bool = _publish_subscribe.enable_safe_overflow
+    backpressure_strategy: BackpressureStrategy = LIBRARY
+    publisher_allocation_strategy: AllocationStrategy = LIBRARY
+    enable_safe_overflow: bool = LIBRARY
     """Whether a new sample replaces the oldest one where a buffer is full."""
 
     def required_amount_of_samples_per_data_segment(self) -> int:
         """The greatest number of one publisher's samples that can be in use at once. Raises
         `TooLargeError` past 2^64 - 1.
         """
-        history, loaned = self.publisher_history_size, self.publisher_max_loaned_samples
-        return samples(self, history, loaned, "samples of PublishSubscribeSettings")
+        numbers = self.publisher_history_size, self.publisher_max_loaned_samples
+        what = "samples of PublishSubscribeSettings"
+        return required_amount(self, "samples_per_data_segment", what, *numbers)
 
 
 @dataclass(frozen=True, slots=True, kw_only=True)
+@defaults(partial(read_all, _native.event_defaults()))
 class EventSettings(Checked):
     """The settings of an event service."""
 
-    max_listeners: Size = _event.max_listeners
+    max_listeners: Size = LIBRARY
     """How many may be attached at once; so are the next two."""
-    max_notifiers: Size = _event.max_notifiers
-    max_nodes: Size = _event.max_nodes
-    event_id_max_value: Size = _event.event_id_max_value
+    max_notifiers: Size = LIBRARY
+    max_nodes: Size = LIBRARY
+    event_id_max_value: Size = LIBRARY
     """The greatest number of an event."""
-    deadline: Optional[Duration] = deadline(_event.deadline)
+    deadline: Optional[Duration] = LIBRARY
     """The longest time between two events, if there is one."""
-    notifier_created_event: Optional[EventId] = event_id(_event.notifier_created_event)
+    notifier_created_event: Optional[EventId] = LIBRARY
     """The event that a new notifier sends, if any."""
-    notifier_dropped_event: Optional[EventId] = event_id(_event.notifier_dropped_event)
+    notifier_dropped_event: Optional[EventId] = LIBRARY
     """The event that a notifier sends when it is dropped, if any."""
-    notifier_dead_event: Optional[EventId] = event_id(_event.notifier_dead_event)
+    notifier_dead_event: Optional[EventId] = LIBRARY
     """The event that is sent when a notifier's node has died, if any."""
 
 
 @dataclass(frozen=True, slots=True, kw_only=True)
+@defaults(partial(read_all, _native.request_response_defaults()))
 class RequestResponseSettings(Checked):
     """The settings of a request-response service."""
 
-    max_active_requests_per_client: Size = _request_response.max_active_requests_per_client
+    max_active_requests_per_client: Size = LIBRARY
     """How many may be open at each server at once."""
-    max_response_buffer_size: Size = _request_response.max_response_buffer_size
+    max_response_buffer_size: Size = LIBRARY
     """The capacity of a client's buffer for the responses to one request."""
-    max_servers: Size = _request_response.max_servers
+    max_servers: Size = LIBRARY
     """How many may be attached at once; so are the next two."""
-    max_clients: Size = _request_response.max_clients
-    max_nodes: Size = _request_response.max_nodes
-    max_borrowed_responses_per_pending_response: Size = (
-        _request_response.max_borrowed_responses_per_pending_response
-    )
+    max_clients: Size = LIBRARY
+    max_nodes: Size = LIBRARY
+    max_borrowed_responses_per_pending_response: Size = LIBRARY
     """How many responses to one request a client may hold at once."""
-    max_loaned_requests: Size = _request_response.max_loaned_requests
+    max_loaned_requests: Size = LIBRARY
     """How many requests a client may have taken and not yet sent."""
-    server_max_loaned_responses_per_request: Size = (
-        _request_response.server_max_loaned_responses_per_request
-    )
+    server_max_loaned_responses_per_request: Size = LIBRARY
     """How many responses to one request a server may have taken and not yet sent."""
-    client_expired_connection_buffer: Size = _request_response.client_expired_connection_buffer
+    client_expired_connection_buffer: Size = LIBRARY
     """How many connections of servers that are gone a client keeps."""
-    server_expired_connection_buffer: Size = _request_response.server_expired_connection_buffer
+    server_expired_connection_buffer: Size = LIBRARY
     """How many connections of clients that are gone a server keeps."""
-    client_backpressure_strategy: BackpressureStrategy = BackpressureStrategy(
-        _request_response.client_backpressure_strategy
-    )
-    server_backpressure_strategy: BackpressureStrategy = BackpressureStrategy(
-        _request_response.server_backpressure_strategy
-    )
-    client_allocation_strategy: AllocationStrategy = AllocationStrategy(
-        _request_response.client_allocation_strategy
-    )
-    server_allocation_strategy: AllocationStrategy = AllocationStrategy(
-        _request_response.server_allocation_strategy
-    )
-    enable_safe_overflow_for_requests: bool = _request_response.enable_safe_overflow_for_requests
-    enable_safe_overflow_for_responses: bool = _request_response.enable_safe_overflow_for_responses
-    enable_fire_and_forget_requests: bool = _request_response.enable_fire_and_forget_requests
+    client_backpressure_strategy: BackpressureStrategy = LIBRARY
+    server_backpressure_strategy: BackpressureStrategy = LIBRARY
+    client_allocation_strategy: AllocationStrategy = LIBRARY
+    server_allocation_strategy: AllocationStrategy = LIBRARY
+    enable_safe_overflow_for_requests: bool = LIBRARY
+    enable_safe_overflow_for_responses: bool = LIBRARY
+    enable_fire_and_forget_requests: bool = LIBRARY
     """Whether a client may send a request and take no response."""
 
     def required_amount_of_chunks_per_client_data_segment(self) -> int:
         """The greatest number of one client's requests that can be in use at once. Raises
         `TooLargeError` past 2^64 - 1.
         """
-        return requests(self, self.max_loaned_requests, "requests of RequestResponseSettings")
+        what, loaned = "requests of RequestResponseSettings", self.max_loaned_requests
+        return required_amount(self, "chunks_per_client_data_segment", what, loaned)
 
     def required_amount_of_chunks_per_server_data_segment(self) -> int:
         """The greatest number of one server's responses that can be in use at once. Raises
         `TooLargeError` past 2^64 - 1.
         """
         loaned = self.server_max_loaned_responses_per_request
-        return responses(self, loaned, "responses of RequestResponseSettings")
+        what = "responses of RequestResponseSettings"
+        return required_amount(self, "chunks_per_server_data_segment", what, loaned)
 
 
 @dataclass(frozen=True, slots=True, kw_only=True)
+@defaults(partial(read_all, _native.blackboard_defaults()))
 class BlackboardSettings(Checked):
     """The settings of a blackboard service."""
 
-    max_readers: Size = _blackboard.max_readers
+    max_readers: Size = LIBRARY
     """How many may be attached at once; so is the next."""
-    max_nodes: Size = _blackboard.max_nodes
-
-
+    max_nodes: Size = LIBRARY
 PatternSettings = Union[
     PublishSubscribeSettings, EventSettings, RequestResponseSettings, BlackboardSettings
 ]

@@ -1,7 +1,7 @@
 """What a service is: its name, id, attributes, limits and message types."""
 
 from dataclasses import dataclass, field, fields, replace
-from typing import Any, NamedTuple, Optional, TypeVar, Union, cast
+from typing import Any, Optional, TypeVar, Union, cast, get_args
 
 from . import _native
 from ._arguments import Checked, Size, instance, number, shown
@@ -14,7 +14,7 @@ from .ids import UniqueServiceId
 from .messages import MessageTypeDetails, TypeDetail, check_same
 from .settings import (
     BlackboardSettings, Duration, EventId, EventSettings, PatternSettings, PublishSubscribeSettings,
-    RequestResponseSettings, put_settings, read, requests, responses, samples,
+    RequestResponseSettings, put_settings, read, required_amount,
 )
 from .texts import InternalServiceName, MessagingPattern, ServiceHash, ServiceName, lent
 
@@ -43,11 +43,11 @@ class FixedSettings(Checked):
         each number is to be at least the required one, and each choice, each event and the deadline
         the same. Types are not compared.
         """
-        of = _of(self)
-        what = f"{of.config.__name__}.first_unmet"
-        instance(required, of.config, what)
-        service, opener = _plain(self, of.plain_config), _plain(required, of.plain_config)
-        answer = of.satisfies(service, 1, opener, 1)
+        kind = get_args(PatternStaticConfig)[_pattern(self).value]
+        what = f"{kind.__name__}.first_unmet"
+        instance(required, kind, what)
+        satisfies = _call(self, "PATTERN_satisfies_at")
+        answer = satisfies(_plain(self, "Config"), 1, _plain(required, "Config"), 1)
         if answer.status != Status.UNMET.value:
             check(answer.status, what)
             return None
@@ -59,6 +59,10 @@ class FixedSettings(Checked):
     def satisfies(self: _Fixed, required: _Fixed) -> bool:
         """Whether the service meets all that an opener requires."""
         return self.first_unmet(required) is None
+
+    def _required(self, name: str, loaned: int, *others: int) -> int:
+        what = f"required_amount_of_{name}"
+        return required_amount(self, name, what, *others, number(loaned, Size, what))
 
 
 def _taken(cls: Any, kind: Any, settings: Any) -> "dict[str, Any]":
@@ -86,23 +90,19 @@ class PublishSubscribeStaticConfig(FixedSettings):
 
     @classmethod
     def new(
-        cls,
-        message_type_details: MessageTypeDetails,
+        cls, message_type_details: MessageTypeDetails,
         settings: PublishSubscribeSettings = PublishSubscribeSettings(),
     ) -> "PublishSubscribeStaticConfig":
         """The description of a service with these settings."""
         taken = _taken(cls, PublishSubscribeSettings, settings)
         return cls(**taken, message_type_details=message_type_details)
 
-    def required_amount_of_samples_per_data_segment(
-        self, publisher_max_loaned_samples: int
-    ) -> int:
+    def required_amount_of_samples_per_data_segment(self, publisher_max_loaned_samples: int) -> int:
         """The greatest number of samples in use at once of a publisher that may have so many taken
         and not yet sent. Raises `TooLargeError` past 2^64 - 1.
         """
-        what = "required_amount_of_samples_per_data_segment"
-        loaned = number(publisher_max_loaned_samples, Size, what)
-        return samples(self, self.history_size, loaned, what)
+        loaned = publisher_max_loaned_samples
+        return self._required("samples_per_data_segment", loaned, self.history_size)
 
 
 @dataclass(frozen=True, slots=True, kw_only=True)
@@ -143,8 +143,7 @@ class RequestResponseStaticConfig(FixedSettings):
 
     @classmethod
     def new(
-        cls,
-        request_message_type_details: MessageTypeDetails,
+        cls, request_message_type_details: MessageTypeDetails,
         response_message_type_details: MessageTypeDetails,
         settings: RequestResponseSettings = RequestResponseSettings(),
     ) -> "RequestResponseStaticConfig":
@@ -161,8 +160,7 @@ class RequestResponseStaticConfig(FixedSettings):
         """The greatest number of requests in use at once of a client that may have so many taken
         and not yet sent. Raises `TooLargeError` past 2^64 - 1.
         """
-        what = "required_amount_of_chunks_per_client_data_segment"
-        return requests(self, number(client_max_loaned_requests, Size, what), what)
+        return self._required("chunks_per_client_data_segment", client_max_loaned_requests)
 
     def required_amount_of_chunks_per_server_data_segment(
         self, max_loaned_responses_per_request: int
@@ -170,8 +168,7 @@ class RequestResponseStaticConfig(FixedSettings):
         """The greatest number of responses in use at once of a server that may have so many taken
         and not yet sent for each request. Raises `TooLargeError` past 2^64 - 1.
         """
-        what = "required_amount_of_chunks_per_server_data_segment"
-        return responses(self, number(max_loaned_responses_per_request, Size, what), what)
+        return self._required("chunks_per_server_data_segment", max_loaned_responses_per_request)
 
 
 @dataclass(frozen=True, slots=True, kw_only=True)
@@ -193,56 +190,27 @@ class BlackboardStaticConfig(FixedSettings):
 
 
 PatternStaticConfig = Union[
-    PublishSubscribeStaticConfig,
-    EventStaticConfig,
-    RequestResponseStaticConfig,
+    PublishSubscribeStaticConfig, EventStaticConfig, RequestResponseStaticConfig,
     BlackboardStaticConfig,
 ]
 """What a service of any pattern is."""
 
 
-class _Pattern(NamedTuple):
-    """What is made, and called, for a pattern."""
-
-    pattern: MessagingPattern
-    settings: Any
-    config: Any
-    plain_settings: Any
-    plain_config: Any
-    describe: Any
-    satisfies: Any
-    capacities: Any
-
-
-def _pattern(pattern: MessagingPattern, settings: Any, config: Any) -> _Pattern:
-    name = pattern.name.lower()
-    calls = (
-        settings.__name__, config.__name__.replace("Static", ""), f"describe_{name}_at",
-        f"{name}_satisfies_at", f"{name}_capacities_of_settings_at",
-    )
-    return _Pattern(pattern, settings, config, *(getattr(_native, call) for call in calls))
-
-
-_PATTERNS = (
-    _pattern(
-        MessagingPattern.PUBLISH_SUBSCRIBE, PublishSubscribeSettings, PublishSubscribeStaticConfig
-    ),
-    _pattern(MessagingPattern.EVENT, EventSettings, EventStaticConfig),
-    _pattern(
-        MessagingPattern.REQUEST_RESPONSE, RequestResponseSettings, RequestResponseStaticConfig
-    ),
-    _pattern(MessagingPattern.BLACKBOARD, BlackboardSettings, BlackboardStaticConfig),
-)
-
-
-def _of(value: object) -> _Pattern:
+def _pattern(value: object) -> MessagingPattern:
     """The pattern of settings, or of what is fixed."""
-    return next(row for row in _PATTERNS if isinstance(value, (row.settings, row.config)))
+    kinds = zip(MessagingPattern, get_args(PatternSettings), get_args(PatternStaticConfig))
+    return next(pattern for pattern, *of in kinds if isinstance(value, tuple(of)))
 
 
-def _plain(value: Any, kind: Any) -> Any:
-    """What is fixed, or settings, as the library takes them; settings that are not fixed are 0."""
-    made = kind()
+def _call(value: object, name: str) -> Any:
+    """An export of the pattern of settings, or of what is fixed."""
+    return getattr(_native, name.replace("PATTERN", _pattern(value).name.lower()))
+
+
+def _plain(value: Any, kind: str) -> Any:
+    """What is fixed, or settings, as a struct of the library; settings that are not fixed are 0."""
+    pattern = "".join(word.capitalize() for word in _pattern(value).name.split("_"))
+    made = getattr(_native, f"{pattern}{kind}")()
     put_settings(value, made)
     return made
 
@@ -270,9 +238,9 @@ class Capacities(Checked):
         """The pattern of a service too."""
         instance(service, Union[PatternSettings, PatternStaticConfig, StaticConfig], what)
         settings = service.pattern_config if isinstance(service, StaticConfig) else service
-        of = _of(settings)
-        made = of.capacities(_plain(settings, of.plain_settings), 1)
-        return of.pattern, cls(*(getattr(made, name) for name, _ in made._fields_))
+        call = _call(settings, "PATTERN_capacities_of_settings_at")
+        made = call(_plain(settings, "Settings"), 1)
+        return _pattern(settings), cls(*(getattr(made, name) for name, _ in made._fields_))
 
 
 @dataclass(frozen=True, slots=True, kw_only=True)
@@ -308,22 +276,17 @@ class StaticConfig(Checked):
         part = getattr(made, self.messaging_pattern.name.lower())
         config = self.pattern_config
         fixed = {one.name for one in fields(config) if hasattr(part, one.name)}
-        values = {name: read(getattr(part, name)) for name in fixed}
+        values = {name: read(part, name) for name in fixed}
         if any(getattr(config, name) != value for name, value in values.items()):
             object.__setattr__(self, "pattern_config", replace(config, **values))
         Checked.__post_init__(self)
 
     def _described(self) -> _native.Description:
         """What the library makes of the name, the id and the settings."""
-        of, made = _of(self.pattern_config), _native.Description()
-        answer = of.describe(
-            _plain(self.pattern_config, of.plain_settings),
-            1,
-            *lent(self.name),
-            isinstance(self.name, InternalServiceName),
-            self.unique_service_id._lent(),
-            made,
-            1,
+        made = _native.Description()
+        answer = _call(self.pattern_config, "describe_PATTERN_at")(
+            _plain(self.pattern_config, "Settings"), 1, *lent(self.name),
+            isinstance(self.name, InternalServiceName), self.unique_service_id._lent(), made, 1,
         )
         check(answer.status, f"description of {shown(self.name)}")
         return made
@@ -331,7 +294,7 @@ class StaticConfig(Checked):
     @property
     def messaging_pattern(self) -> MessagingPattern:
         """The messaging pattern of the service."""
-        return _of(self.pattern_config).pattern
+        return _pattern(self.pattern_config)
 
     @property
     def capacities(self) -> Capacities:
@@ -351,7 +314,7 @@ class StaticConfig(Checked):
         """
         instance(required, Requirements, "StaticConfig.check_satisfies")
         service, opener = self.pattern_config, required.pattern_config
-        if _of(opener).pattern is not self.messaging_pattern:
+        if _pattern(opener) is not self.messaging_pattern:
             raise OtherPatternError(self.messaging_pattern.name)
         required.attributes.verify_requirements(self.attributes)
         for one in fields(service):

@@ -76,11 +76,8 @@ def lent(text: str) -> "tuple[bytes, int]":
 
 class ServiceName(Text):
     """The name that a user gives to a service: 1 to 255 bytes, each from 1 to 127, not beginning
-    with `iox2://`.
-
-    Raises `ReservedPrefixError`, `EmptyError`, `TooLongError`, `IllegalByteError`.
+    with `iox2://`. Raises `ReservedPrefixError`, `EmptyError`, `TooLongError`, `IllegalByteError`.
     """
-
     __slots__ = ()
     _check = _native.service_name_check_at
 
@@ -92,19 +89,16 @@ class ServiceName(Text):
 
 
 class InternalServiceName(ServiceName):
-    """The name of a service, which may be one of the system's own.
-
-    Raises `EmptyError`, `TooLongError`, `IllegalByteError`.
+    """The name of a service, which may be one of the system's own. Raises `EmptyError`,
+    `TooLongError`, `IllegalByteError`.
     """
-
     __slots__ = ()
     _check = _native.internal_service_name_check_at
 
     @classmethod
     def prefixed(cls, name: str) -> "InternalServiceName":
-        """The name of one of the system's own services: `iox2://` and the text.
-
-        Raises `TooLongError` for more than 248 bytes, `IllegalByteError`.
+        """The name of one of the system's own services: `iox2://` and the text. Raises
+        `TooLongError` for more than 248 bytes, `IllegalByteError`.
         """
         encoded = utf8(name, "InternalServiceName.prefixed")
         what = f"InternalServiceName.prefixed {shown(name)}"
@@ -112,31 +106,25 @@ class InternalServiceName(ServiceName):
 
 
 class AttributeKey(Text):
-    """The key of an attribute: 1 to 64 bytes, each from 1 to 127.
-
-    Raises `EmptyError`, `TooLongError`, `IllegalByteError`.
+    """The key of an attribute: 1 to 64 bytes, each from 1 to 127. Raises `EmptyError`,
+    `TooLongError`, `IllegalByteError`.
     """
-
     __slots__ = ()
     _check = _native.attribute_key_check_at
 
 
 class AttributeValue(Text):
-    """The value of an attribute: 1 to 256 bytes, each from 1 to 127.
-
-    Raises `EmptyError`, `TooLongError`, `IllegalByteError`.
+    """The value of an attribute: 1 to 256 bytes, each from 1 to 127. Raises `EmptyError`,
+    `TooLongError`, `IllegalByteError`.
     """
-
     __slots__ = ()
     _check = _native.attribute_value_check_at
 
 
 class Path(Text):
-    """A path: at most 255 bytes, each from 1 to 127. It may be empty.
-
-    Raises `TooLongError`, `IllegalByteError`.
+    """A path: at most 255 bytes, each from 1 to 127. It may be empty. Raises `TooLongError`,
+    `IllegalByteError`.
     """
-
     __slots__ = ()
     _check = _native.path_check_at
 
@@ -151,29 +139,23 @@ class Path(Text):
 
 class FileName(Text):
     """The name of a file: 1 to 255 bytes, each from 1 to 127 and none a `/`, neither `.` nor `..`.
-
     Raises `EmptyError`, `TooLongError`, `IllegalByteError`, `NoFileNameError`.
     """
-
     __slots__ = ()
     _check = _native.file_name_check_at
 
 
 class FilePath(Text):
     """The path of a file: 1 to 255 bytes, each from 1 to 127, of which those after the last `/` are
-    the name of a file.
-
-    Raises `EmptyError`, `TooLongError`, `IllegalByteError`, `NoFileNameError`.
+    the name of a file. Raises `EmptyError`, `TooLongError`, `IllegalByteError`, `NoFileNameError`.
     """
-
     __slots__ = ()
     _check = _native.file_path_check_at
 
     @classmethod
     def from_path_and_file(cls, path: Path, file: FileName) -> "FilePath":
-        """The path of a file in a directory, joined as by `Path.add_path_entry`.
-
-        Raises `TooLongError` past 255 bytes.
+        """The path of a file in a directory, joined as by `Path.add_path_entry`. Raises
+        `TooLongError` past 255 bytes.
         """
         instance(path, Path, "FilePath.from_path_and_file")
         instance(file, FileName, "FilePath.from_path_and_file")
@@ -183,11 +165,9 @@ class FilePath(Text):
 
 class RestrictedFileName(Text):
     """A restricted name of a file: 1 to 64 letters A to Z and a to z, digits, `-`, `.`, `:` and
-    `_`, and neither `.` nor `..`.
-
-    Raises `EmptyError`, `TooLongError`, `IllegalByteError`, `NoFileNameError`.
+    `_`, and neither `.` nor `..`. Raises `EmptyError`, `TooLongError`, `IllegalByteError`,
+    `NoFileNameError`.
     """
-
     __slots__ = ()
     _check = _native.restricted_file_name_check_at
 
@@ -199,9 +179,8 @@ class ServiceHash(RestrictedFileName):
 
     @classmethod
     def new(cls, service_name: ServiceName, messaging_pattern: MessagingPattern) -> "ServiceHash":
-        """The hash text by SHA-1, which has 27 bytes.
-
-        Raises `IllegalHashError`, which SHA-1 is proved never to make.
+        """The hash text by SHA-1, which has 27 bytes. Raises `IllegalHashError`, which SHA-1 is
+        proved never to make.
         """
         instance(service_name, ServiceName, "ServiceHash.new")
         instance(messaging_pattern, MessagingPattern, "ServiceHash.new")

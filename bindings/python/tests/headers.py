@@ -13,11 +13,10 @@ CONSTANTS = {
 }
 """The members of all enums."""
 
-_ENUM = re.search(r"enum iox2sd_status_number \{(.*?)\};", TEXT, re.DOTALL)
-assert _ENUM is not None
 STATUSES = {
-    name.removeprefix("STATUS_"): int(number)
-    for name, number in re.findall(r"IOX2SD_(\w+) = (\d+)", _ENUM.group(1))
+    name.removeprefix("STATUS_"): number
+    for name, number in CONSTANTS.items()
+    if name.startswith("STATUS_")
 }
 
 
@@ -27,7 +26,7 @@ def constant(kind: str, name: str) -> int:
     return next(CONSTANTS[one] for one in names if one in CONSTANTS)
 
 
-ABI = re.search(r"#define IOX2SD_ABI (\d+)", TEXT)
+ABI = int(TEXT.partition("#define IOX2SD_ABI ")[2].split()[0])
 
 FUNCTIONS = set(re.findall(r"\biox2sd_(\w+)\(", re.sub(r"/\*.*?\*/", "", TEXT, flags=re.DOTALL)))
 """All functions of the library."""

@@ -1,6 +1,6 @@
 import ctypes
 import pickle
-import unittest
+from functools import partial
 from unittest import mock
 
 import iox2sd
@@ -8,6 +8,8 @@ from iox2sd import (
     Attribute, AttributeKey, AttributeSet, AttributeSpecifier, AttributeValue, AttributeVerifier,
     _native,
 )
+
+from . import TestCase
 
 
 def pair(key: str, value: str) -> Attribute:
@@ -19,11 +21,11 @@ SIZE = AttributeKey("size")
 SET = AttributeSet([pair("size", "9"), pair("colour", "red"), pair("colour", "blue")])
 
 
-class Sets(unittest.TestCase):
+class Sets(TestCase):
     def test_a_set_is_sorted(self):
         sorted_pairs = [pair("colour", "blue"), pair("colour", "red"), pair("size", "9")]
-        self.assertEqual(list(SET), sorted_pairs)
-        self.assertEqual((len(SET), SET[0], SET[-1]), (3, sorted_pairs[0], sorted_pairs[2]))
+        self.assertEqual((list(SET), len(SET)), (sorted_pairs, 3))
+        self.assertEqual((SET[0], SET[-1]), (sorted_pairs[0], sorted_pairs[2]))
         self.assertEqual(SET[1:], tuple(sorted_pairs[1:]))
         self.assertIn(pair("size", "9"), SET)
         self.assertEqual(SET, AttributeSet(reversed(sorted_pairs)))
@@ -42,9 +44,8 @@ class Sets(unittest.TestCase):
         self.assertEqual((value, type(value)), ("v" * 256, AttributeValue))
 
     def test_seventeen_pairs(self):
-        with self.assertRaises(iox2sd.TooManyError) as caught:
-            AttributeSet([pair("a", "b")] * 17)
-        self.assertEqual((caught.exception.at, caught.exception.unit), (16, "pair"))
+        pairs = [pair("a", "b")] * 17
+        self.raised(iox2sd.TooManyError, AttributeSet, pairs, at=16, unit="pair")
 
     def test_values_of_keys(self):
         self.assertEqual(SET.number_of_key_values(COLOUR), 2)
@@ -57,20 +58,18 @@ class Sets(unittest.TestCase):
         self.assertIsNone(SET.key_value(COLOUR, 2**64 - 1))
 
     def test_wrong_arguments(self):
-        for wrong in ([("a", "b")], [None], ["ab"]):
-            self.assertRaises(iox2sd.WrongTypeError, AttributeSet, wrong)
+        self.refuses(iox2sd.WrongTypeError, AttributeSet, [("a", "b")], [None], ["ab"])
         self.assertRaises(iox2sd.WrongTypeError, Attribute, "a", AttributeValue("b"))
         self.assertRaises(iox2sd.WrongTypeError, Attribute, AttributeKey("a"), AttributeKey("b"))
         for call in (SET.number_of_key_values, lambda key: SET.key_value(key, 0)):
             self.assertRaises(iox2sd.WrongTypeError, call, "colour")
         self.assertRaises(iox2sd.WrongTypeError, list, SET.iter_key_values("colour"))
-        for index in (True, "0", 0.0):
-            self.assertRaises(iox2sd.WrongTypeError, SET.key_value, COLOUR, index)
-        for index in (-1, 2**64):
-            self.assertRaises(iox2sd.OutOfRangeError, SET.key_value, COLOUR, index)
+        of_colour = partial(SET.key_value, COLOUR)
+        self.refuses(iox2sd.WrongTypeError, of_colour, True, "0", 0.0)
+        self.refuses(iox2sd.OutOfRangeError, of_colour, -1, 2**64)
 
 
-class Specifiers(unittest.TestCase):
+class Specifiers(TestCase):
     def test_pairs_are_defined_one_after_another(self):
         specifier = AttributeSpecifier()
         for attribute in reversed(SET):
@@ -82,7 +81,7 @@ class Specifiers(unittest.TestCase):
         self.assertRaises(iox2sd.WrongTypeError, AttributeSpecifier, [])
 
 
-class Verifiers(unittest.TestCase):
+class Verifiers(TestCase):
     def test_what_a_set_has(self):
         verifier = AttributeVerifier().require(COLOUR, AttributeValue("red")).require_key(SIZE)
         verifier.verify_requirements(SET)
@@ -101,15 +100,11 @@ class Verifiers(unittest.TestCase):
     def test_what_a_set_lacks(self):
         verifier = AttributeVerifier().require(COLOUR, AttributeValue("red"))
         verifier = verifier.require(COLOUR, AttributeValue("green")).require_key(SIZE)
-        with self.assertRaises(iox2sd.MissingPairError) as pair_missing:
-            verifier.verify_requirements(SET)
-        self.assertEqual(pair_missing.exception.at, 0)
-        self.assertIn("green", str(pair_missing.exception))
+        verify = verifier.verify_requirements
+        self.raised(iox2sd.MissingPairError, verify, SET, text="green", at=0)
         verifier = AttributeVerifier().require_key(SIZE).require_key(AttributeKey("weight"))
-        with self.assertRaises(iox2sd.MissingKeyError) as key_missing:
-            verifier.verify_requirements(SET)
-        self.assertEqual(key_missing.exception.at, 1)
-        self.assertIn("weight", str(key_missing.exception))
+        verify = verifier.verify_requirements
+        self.raised(iox2sd.MissingKeyError, verify, SET, text="weight", at=1)
 
     def test_sixteen_requirements(self):
         verifier = AttributeVerifier()
@@ -134,8 +129,8 @@ class Verifiers(unittest.TestCase):
         self.assertEqual(called, {"attributes_sort_at": 32})
 
     def test_wrong_arguments(self):
-        self.assertRaises(iox2sd.WrongTypeError, AttributeVerifier().verify_requirements, [])
-        self.assertRaises(iox2sd.WrongTypeError, AttributeVerifier().require_key, "size")
-        self.assertRaises(iox2sd.WrongTypeError, AttributeVerifier().require, "size", "9")
-        self.assertRaises(iox2sd.WrongTypeError, AttributeVerifier, [])
+        verifier = AttributeVerifier()
+        self.assertRaises(iox2sd.WrongTypeError, verifier.require, "size", "9")
+        for call in (verifier.verify_requirements, verifier.require_key, AttributeVerifier):
+            self.refuses(iox2sd.WrongTypeError, call, [], "size")
         self.assertRaises(iox2sd.WrongTypeError, AttributeVerifier, AttributeSet(), [SIZE])

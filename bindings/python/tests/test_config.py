@@ -1,42 +1,27 @@
-import unittest
 from dataclasses import fields, replace
 
 import iox2sd
 from iox2sd import Config, DefaultText, Duration, FileName, Path, default_text
 
+from . import TestCase
 
-class Configs(unittest.TestCase):
+
+class Configs(TestCase):
     def test_defaults_are_those_of_the_library(self):
         config = Config()
         shared = config.global_cfg
-        expected = {
-            DefaultText.ROOT_PATH: shared.root_path,
-            DefaultText.PREFIX: shared.prefix,
-            DefaultText.SERVICE_DIRECTORY: shared.service.directory,
-            DefaultText.DATA_SEGMENT_SUFFIX: shared.service.data_segment_suffix,
-            DefaultText.STATIC_CONFIG_STORAGE_SUFFIX: shared.service.static_config_storage_suffix,
-            DefaultText.DYNAMIC_CONFIG_STORAGE_SUFFIX: shared.service.dynamic_config_storage_suffix,
-            DefaultText.CONNECTION_SUFFIX: shared.service.connection_suffix,
-            DefaultText.EVENT_CONNECTION_SUFFIX: shared.service.event_connection_suffix,
-            DefaultText.BLACKBOARD_MGMT_SUFFIX: shared.service.blackboard_mgmt_suffix,
-            DefaultText.BLACKBOARD_DATA_SUFFIX: shared.service.blackboard_data_suffix,
-            DefaultText.NODE_DIRECTORY: shared.node.directory,
-            DefaultText.MONITOR_SUFFIX: shared.node.monitor_suffix,
-            DefaultText.NODE_STATIC_CONFIG_SUFFIX: shared.node.static_config_suffix,
-            DefaultText.SERVICE_TAG_SUFFIX: shared.node.service_tag_suffix,
-            DefaultText.PORT_TAG_SUFFIX: shared.node.port_tag_suffix,
-            DefaultText.GLOBAL_MGMT_SUFFIX: shared.node.global_mgmt_suffix,
-        }
-        for which, found in expected.items():
-            self.assertEqual(found, default_text(which))
+        texts = [shared.root_path, shared.prefix]
+        for part in (shared.service, shared.node):
+            values = (getattr(part, field.name) for field in fields(part))
+            texts += [value for value in values if isinstance(value, str)]
+        self.assertEqual(len(texts), 16)
+        self.assertEqual(texts, [default_text(which) for which in DefaultText][:16])
         self.assertEqual(shared.creation_timeout, Duration(0, 500_000_000))
         self.assertIs(shared.service.cleanup_dead_nodes_on_open, True)
         self.assertIs(shared.node.cleanup_dead_nodes_on_creation, True)
         self.assertIs(shared.node.cleanup_dead_nodes_on_destruction, True)
-        self.assertEqual(config.defaults.event, iox2sd.EventSettings())
-        self.assertEqual(config.defaults.publish_subscribe, iox2sd.PublishSubscribeSettings())
-        self.assertEqual(config.defaults.request_response, iox2sd.RequestResponseSettings())
-        self.assertEqual(config.defaults.blackboard, iox2sd.BlackboardSettings())
+        for field in fields(config.defaults):
+            self.assertEqual(getattr(config.defaults, field.name), field.type())
 
     def test_directories(self):
         shared = Config().global_cfg
@@ -50,9 +35,9 @@ class Configs(unittest.TestCase):
         )
         self.assertEqual(others.service_dir(), "/run/robot/others")
         self.assertEqual(others.node_dir(), "/run/robot/heads")
-        with self.assertRaises(iox2sd.TooLongError):
-            replace(others, root_path=Path("x" * 250)).service_dir()
-        self.assertRaises(iox2sd.TooLongError, replace(others, root_path=Path("x" * 251)).node_dir)
+        long, longer = (replace(others, root_path=Path("x" * many)) for many in (250, 251))
+        for call in (long.service_dir, longer.node_dir):
+            self.assertRaises(iox2sd.TooLongError, call)
 
     def test_values(self):
         config = Config()
@@ -66,5 +51,5 @@ class Configs(unittest.TestCase):
                     changed = replace(part, **{field.name: type(value)("other")})
                     self.assertNotEqual(changed, part)
         for field in fields(config.defaults):
-            with self.assertRaises(iox2sd.WrongTypeError):
-                replace(config.defaults, **{field.name: config})
+            changes = {field.name: config}
+            self.assertRaises(iox2sd.WrongTypeError, replace, config.defaults, **changes)

@@ -3,57 +3,25 @@ import ctypes
 import pickle
 import tempfile
 import threading
-import unittest
 from dataclasses import replace
 from pathlib import Path as SystemPath
 
 import iox2sd
 from iox2sd import (
-    BadConfigError, Config, ConfigFault, ConfigFile, FileName, Path, Status, UnknownKey, _native,
+    BadConfigError, Config, ConfigFault, ConfigFile, FileName, Status, UnknownKey, _native,
 )
 
-ALL = Config(
-    global_cfg=iox2sd.GlobalConfig(
-        root_path=Path("/r"),
-        prefix=FileName("p_"),
-        service=iox2sd.ServiceConfig(
-            directory=Path("s"), data_segment_suffix=FileName(".a"),
-            static_config_storage_suffix=FileName(".b"),
-            dynamic_config_storage_suffix=FileName(".c"), connection_suffix=FileName(".d"),
-            event_connection_suffix=FileName(".e"), blackboard_mgmt_suffix=FileName(".f"),
-            blackboard_data_suffix=FileName(".g"), cleanup_dead_nodes_on_open=False,
-        ),
-        node=iox2sd.NodeConfig(
-            directory=Path("n"), monitor_suffix=FileName(".h"), static_config_suffix=FileName(".i"),
-            service_tag_suffix=FileName(".j"), port_tag_suffix=FileName(".k"),
-            global_mgmt_suffix=FileName(".l"), cleanup_dead_nodes_on_creation=False,
-        ),
-        creation_timeout=iox2sd.Duration(3, 4),
-    ),
-    defaults=iox2sd.Defaults(
-        publish_subscribe=iox2sd.PublishSubscribeSettings(
-            max_subscribers=101, backpressure_strategy=iox2sd.BackpressureStrategy.DISCARD_DATA,
-            publisher_allocation_strategy=iox2sd.AllocationStrategy.BEST_FIT,
-            enable_safe_overflow=False,
-        ),
-        event=iox2sd.EventSettings(
-            deadline=iox2sd.Duration(205, 206), notifier_created_event=iox2sd.EventId(207),
-            notifier_dropped_event=iox2sd.EventId(208), notifier_dead_event=iox2sd.EventId(209),
-        ),
-        request_response=iox2sd.RequestResponseSettings(
-            max_servers=303, server_allocation_strategy=iox2sd.AllocationStrategy.POWER_OF_TWO
-        ),
-        blackboard=iox2sd.BlackboardSettings(max_readers=401, max_nodes=402),
-    ),
-)
-"""Settings that differ from the defaults."""
+from . import TestCase
+from .test_fields import all_changed
+
+ALL = all_changed(Config())
+"""Settings that all differ from the defaults."""
 
 
-class ConfigFiles(unittest.TestCase):
+class ConfigFiles(TestCase):
     def refused(self, text: str) -> BadConfigError:
-        with self.assertRaises(BadConfigError) as caught:
-            Config.from_toml(text)
-        return caught.exception
+        error: BadConfigError = self.raised(BadConfigError, Config.from_toml, text)
+        return error
 
     def test_an_empty_text_has_the_defaults(self):
         self.assertEqual(Config.from_toml(""), ConfigFile(Config(), ()))
@@ -61,11 +29,11 @@ class ConfigFiles(unittest.TestCase):
     def test_each_setting_is_read_and_written(self):
         text = ALL.to_toml()
         for line in (
-            'root-path = "/r"', "creation-timeout = { nanos = 4, secs = 3 }",
-            'static-config-suffix = ".i"', "cleanup-dead-nodes-on-creation = false",
-            "cleanup-dead-nodes-on-destruction = true", 'backpressure-strategy = "DiscardData"',
-            "deadline = { nanos = 206, secs = 205 }", "notifier-dead-event = 209",
-            'server-allocation-strategy = "PowerOfTwo"', "max-readers = 401",
+            'root-path = "/tmp/iceoryx2/x"', "creation-timeout = { nanos = 499999999, secs = 1 }",
+            'static-config-suffix = ".detailsx"', "cleanup-dead-nodes-on-creation = false",
+            "cleanup-dead-nodes-on-destruction = false", 'backpressure-strategy = "DiscardData"',
+            "deadline = { nanos = 2, secs = 1 }", "notifier-dead-event = 1",
+            'server-allocation-strategy = "BestFit"', "max-readers = 7",
         ):
             self.assertIn(f"\n{line}\n", text)
         self.assertEqual(Config.from_toml(text), ConfigFile(ALL, ()))
@@ -115,13 +83,10 @@ class ConfigFiles(unittest.TestCase):
             for text in (f"{key} = 1\n", f"{arrays}\n", f"{table}b.{key} = 1\n"):
                 causes.append(self.refused(text).status)
 
-        before = threading.stack_size(256 * 1024)
-        try:
-            thread = threading.Thread(target=read)
-            thread.start()
-            thread.join()
-        finally:
-            threading.stack_size(before)
+        thread, before = threading.Thread(target=read), threading.stack_size(256 * 1024)
+        thread.start()
+        threading.stack_size(before)
+        thread.join()
         self.assertEqual(causes, [Status.TOO_DEEP] * 3)
 
     def test_unknown_keys(self):
@@ -129,13 +94,8 @@ class ConfigFiles(unittest.TestCase):
             "[defaults.publish-subscribe]\nmax-publisher = 3\n[global]\n'\u00e4' = 1\n"
         )
         meant = "defaults.publish-subscribe.max-publishers"
-        self.assertEqual(
-            file.unknown,
-            (
-                UnknownKey("global.\u00e4", None),
-                UnknownKey("defaults.publish-subscribe.max-publisher", meant),
-            ),
-        )
+        wanted = {"global.\u00e4": None, "defaults.publish-subscribe.max-publisher": meant}
+        self.assertEqual(file.unknown, tuple(UnknownKey(*one) for one in wanted.items()))
         self.assertEqual(str(file.unknown[0]), "global.\u00e4")
         self.assertEqual(str(file.unknown[1]), f"{file.unknown[1].key}: {meant} may be meant")
         self.assertEqual(file.config, Config())
@@ -143,9 +103,8 @@ class ConfigFiles(unittest.TestCase):
     def test_numbers_that_toml_lacks(self):
         board = iox2sd.BlackboardSettings(max_readers=2**63)
         large = Config(defaults=iox2sd.Defaults(blackboard=board))
-        with self.assertRaises(iox2sd.NoTomlIntegerError) as caught:
-            large.to_toml()
-        self.assertTrue(str(caught.exception).startswith("defaults.blackboard.max-readers: "))
+        text = "defaults.blackboard.max-readers: "
+        self.raised(iox2sd.NoTomlIntegerError, large.to_toml, text=text)
         board = iox2sd.BlackboardSettings(max_readers=2**63 - 1)
         large = Config(defaults=iox2sd.Defaults(blackboard=board))
         self.assertEqual(Config.from_toml(large.to_toml()).config, large)
@@ -157,9 +116,8 @@ class ConfigFiles(unittest.TestCase):
             for given in (path, str(path)):
                 self.assertEqual(Config.from_toml_file(given).config, ALL)
             path.write_bytes(b"\xff")
-            with self.assertRaises(BadConfigError) as caught:
-                Config.from_toml_file(path)
-            self.assertEqual(caught.exception.status, iox2sd.NotUtf8Error.status)
+            status = iox2sd.NotUtf8Error.status
+            self.raised(BadConfigError, Config.from_toml_file, path, status=status)
             self.assertRaises(FileNotFoundError, Config.from_toml_file, path.with_name("none"))
 
     def test_paths_that_no_file_has(self):
@@ -167,18 +125,12 @@ class ConfigFiles(unittest.TestCase):
             def __fspath__(self):
                 return b"/nowhere"
 
-        for given in (None, 5, b"/nowhere", ["a"], Bytes()):
-            self.assertRaises(iox2sd.WrongTypeError, Config.from_toml_file, given)
+        read = Config.from_toml_file
+        self.refuses(iox2sd.WrongTypeError, read, None, 5, b"/nowhere", ["a"], Bytes())
         for given in ("/no\0where", SystemPath("/no\0where")):
-            with self.assertRaises(iox2sd.IllegalByteError) as caught:
-                Config.from_toml_file(given)
-            self.assertEqual(caught.exception.at, 3)
-        with self.assertRaises(iox2sd.NotUtf8Error) as caught:
-            Config.from_toml_file("/n\ud800")
-        self.assertEqual(caught.exception.at, 2)
+            self.raised(iox2sd.IllegalByteError, read, given, at=3)
+        self.raised(iox2sd.NotUtf8Error, read, "/n\ud800", at=2)
 
     def test_arguments(self):
-        for given in (None, 5, b"", ["a"]):
-            with self.assertRaises(iox2sd.WrongTypeError):
-                Config.from_toml(given)  # type: ignore[arg-type]
+        self.refuses(iox2sd.WrongTypeError, Config.from_toml, None, 5, b"", ["a"])
         self.assertRaises(iox2sd.NotUtf8Error, Config.from_toml, "\ud800")

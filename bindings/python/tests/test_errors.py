@@ -1,19 +1,17 @@
 import copy
-import inspect
 import pickle
-import unittest
 
 import iox2sd
 from iox2sd import Status, errors
 
-from . import headers
+from . import TestCase, headers
 
 
 def is_error(kind):
     return isinstance(kind, type) and issubclass(kind, BaseException)
 
 
-class Errors(unittest.TestCase):
+class Errors(TestCase):
     def test_each_status_has_a_text(self):
         self.assertEqual({one.name: one.value for one in Status}, headers.STATUSES)
         self.assertEqual(len({str(status) for status in Status}), len(Status))
@@ -40,16 +38,16 @@ class Errors(unittest.TestCase):
             " PortsStillAttached",
         }
         expected: "dict[str, tuple[type, ...]]" = {
-            f"{name}Error": (iox2sd.RefusedError,) + (base,) * (base is not object)
-            for base, names in refused.items()
-            for name in names.split()
+            "Error": (Exception,), "RefusedError": (iox2sd.Error,),
+            "WrongTypeError": (iox2sd.Error, TypeError),
+            "OutOfRangeError": (iox2sd.Error, OverflowError),
         }
-        for name in refused[iox2sd.IncompatibleError].split():
-            expected[f"{name}Error"] = (iox2sd.IncompatibleError,)
-        expected["Error"] = (Exception,)
-        expected["RefusedError"] = (iox2sd.Error,)
-        expected["WrongTypeError"] = (iox2sd.Error, TypeError)
-        expected["OutOfRangeError"] = (iox2sd.Error, OverflowError)
+        for base, names in refused.items():
+            of_python = (base,) * (base is not object)
+            bases = of_python if base is iox2sd.IncompatibleError else (
+                iox2sd.RefusedError, *of_python
+            )
+            expected |= {f"{name}Error": bases for name in names.split()}
         found = {name: kind for name, kind in vars(iox2sd).items() if is_error(kind)}
         self.assertEqual({name: kind.__bases__ for name, kind in found.items()}, expected)
         for name, kind in found.items():
@@ -57,28 +55,22 @@ class Errors(unittest.TestCase):
             self.assertTrue(name.endswith("Error"))
 
     def test_the_status_of_an_argument_that_is_none(self):
-        cases = {
-            Status.WRONG_TYPE: "1", Status.BELOW_ZERO: -1, Status.TOO_LARGE: 2**64,
-        }
+        cases = {Status.WRONG_TYPE: "1", Status.BELOW_ZERO: -1, Status.TOO_LARGE: 2**64}
         for status, given in cases.items():
-            with self.assertRaises(iox2sd.Error) as caught:
-                iox2sd.EventId(given)
-            self.assertIs(caught.exception.status, status)
+            self.raised(iox2sd.Error, iox2sd.EventId, given, status=status)
 
     def test_an_error_says_what_and_where(self):
-        with self.assertRaises(iox2sd.IllegalByteError) as caught:
-            iox2sd.ServiceName("a\0")
+        error = self.raised(iox2sd.IllegalByteError, iox2sd.ServiceName, "a\0")
         text = iox2sd.IllegalByteError.status
-        self.assertEqual(str(caught.exception), f"ServiceName 'a\\x00': {text}, at byte 1")
-        for made in (copy.copy(caught.exception), pickle.loads(pickle.dumps(caught.exception))):
+        self.assertEqual(str(error), f"ServiceName 'a\\x00': {text}, at byte 1")
+        for made in (copy.copy(error), pickle.loads(pickle.dumps(error))):
             self.assertIs(type(made), iox2sd.IllegalByteError)
-            self.assertEqual(str(made), str(caught.exception))
+            self.assertEqual(str(made), str(error))
             self.assertEqual((made.at, made.what), (1, "ServiceName 'a\\x00'"))
 
     def test_long_texts_are_shown_in_part(self):
-        with self.assertRaises(iox2sd.TooLongError) as caught:
-            iox2sd.ServiceName("a" * 10**6)
-        self.assertLess(len(str(caught.exception)), 200)
+        error = self.raised(iox2sd.TooLongError, iox2sd.ServiceName, "a" * 10**6)
+        self.assertLess(len(str(error)), 200)
 
     def test_values_that_cannot_be_printed(self):
         class Unprintable:
@@ -90,22 +82,15 @@ class Errors(unittest.TestCase):
             iox2sd.WrongTypeError: (Unprintable(), "int, got a value of type Unprintable"),
         }
         for error, (value, text) in cases.items():
-            with self.assertRaises(error) as caught:
-                iox2sd.EventId(value)
-            self.assertEqual(str(caught.exception), f"EventId.value: expected {text}")
+            found = str(self.raised(error, iox2sd.EventId, value))
+            self.assertEqual(found, f"EventId.value: expected {text}")
 
     def test_a_status_without_a_class(self):
-        with self.assertRaises(iox2sd.RefusedError) as caught:
-            errors.check(2**32 - 1, "a call")
-        self.assertEqual(str(caught.exception), "a call: unknown status")
-        self.assertIs(caught.exception.status, Status.UNKNOWN_STATUS)
-        self.assertIs(type(caught.exception), iox2sd.RefusedError)
+        unknown = Status.UNKNOWN_STATUS
+        error = self.raised(iox2sd.RefusedError, errors.check, 2**32 - 1, "a call", status=unknown)
+        self.assertEqual((str(error), type(error)), ("a call: unknown status", iox2sd.RefusedError))
 
     def test_names_of_the_package(self):
         for name in iox2sd.__all__:
             self.assertTrue(hasattr(iox2sd, name), name)
         self.assertEqual((iox2sd.__version__, iox2sd.LAYER_VERSION), ("0.1.0", "0.9.3"))
-        for name in iox2sd.__all__:
-            named = getattr(iox2sd, name)
-            if isinstance(named, type) or inspect.isfunction(named):
-                self.assertTrue(inspect.getdoc(named), name)

@@ -62,33 +62,21 @@ attach publisher 1f000003e80000000000000004: no slot or no ticket is left
 0 ports are left
 """
 
-EXPECTED = {
-    PROJECT / "examples" / "builder.py": BUILDER,
-    PROJECT / "examples" / "monitor.py": MONITOR,
-    PACKAGE / "examples" / "discovery.py": DISCOVERY,
-    PACKAGE / "examples" / "factory.py": FACTORY,
-}
+EXPECTED = {"builder": BUILDER, "monitor": MONITOR, "discovery": DISCOVERY, "factory": FACTORY}
 
 OF_FILES = {
     "[global]\nroot-path = '/run/robot'\n"
-    "[defaults.publish-subscribe]\nmax-subscribers = 10\nmax-publisher = 3\n": SETTINGS,
+    "[defaults.publish-subscribe]\nmax-subscribers = 10\nmax-publisher = 3\n": (0, SETTINGS, ""),
     "[defaults.event]\nmax-nodes = -1\nmax-listeners = 1.5\n":
-    "defaults.event.max-listeners: is a float, and an integer is wanted\n"
-    "defaults.event.max-nodes: is below 0\n",
+    (1, "", "defaults.event.max-listeners: is a float, and an integer is wanted\n"
+     "defaults.event.max-nodes: is below 0\n"),
 }
-"""What the program settings.py prints of files, the second to standard error."""
-
-FIRST = """\
-(UniqueNodeId(process=1, seconds=0, nanoseconds=0, counter=1),)
-DeregisterNodeState.NO_MORE_OWNERS
-JtFig-6tUnCFgFtxiQEiaa2kw30
-"""
+"""The status of the program settings.py of files, and what it prints of them."""
 
 LAST = "DeregisterNodeState.NO_MORE_OWNERS\n"
-
-KEPT = """
-import iox2sd
-kept = iox2sd.DynamicConfig.event(7, max_nodes=1, max_listeners=1, max_notifiers=1)
+FIRST = f"""\
+(UniqueNodeId(process=1, seconds=0, nanoseconds=0, counter=1),)
+{LAST}JtFig-6tUnCFgFtxiQEiaa2kw30
 """
 
 
@@ -106,24 +94,20 @@ class Examples(unittest.TestCase):
     def test_examples(self):
         folders = (PROJECT / "examples", PACKAGE / "examples")
         found = {path for folder in folders for path in folder.glob("*.py")}
-        elsewhere = {PROJECT / "examples" / f"{name}.py" for name in ("short", "first", "settings")}
-        self.assertEqual(found - elsewhere, set(EXPECTED))
-        for path, expected in EXPECTED.items():
-            with self.subTest(path=path):
-                self.assertEqual(self.printed(path), expected)
+        elsewhere = {"short", "first", "settings"}
+        self.assertEqual({path.stem for path in found} - elsewhere, set(EXPECTED))
+        for path in found:
+            if path.stem in EXPECTED:
+                self.assertEqual(self.printed(path), EXPECTED[path.stem], path)
 
     def test_the_program_that_reads_settings(self):
         program = PROJECT / "examples" / "settings.py"
-        good, bad = OF_FILES
-        with tempfile.NamedTemporaryFile("w+") as file:
-            file.write(good)
-            file.flush()
-            self.assertEqual(self.printed(program, file.name), OF_FILES[good])
-        with tempfile.NamedTemporaryFile("w+") as file:
-            file.write(bad)
-            file.flush()
-            ended = self.run_program(program, file.name)
-            self.assertEqual((ended.returncode, ended.stdout, ended.stderr), (1, "", OF_FILES[bad]))
+        for text, expected in OF_FILES.items():
+            with tempfile.NamedTemporaryFile("w+") as file:
+                file.write(text)
+                file.flush()
+                ended = self.run_program(program, file.name)
+                self.assertEqual((ended.returncode, ended.stdout, ended.stderr), expected)
         ended = self.run_program(program, "/nowhere")
         self.assertEqual((ended.returncode, ended.stdout), (1, ""))
         self.assertIn("No such file", ended.stderr)
@@ -139,4 +123,5 @@ class Examples(unittest.TestCase):
         self.assertEqual(doctest.testmod(iox2sd), (0, 2))
 
     def test_a_service_that_is_never_closed(self):
-        self.assertEqual(self.printed("-c", KEPT), "")
+        made = "DynamicConfig.event(7, max_nodes=1, max_listeners=1, max_notifiers=1)"
+        self.assertEqual(self.printed("-c", f"import iox2sd\nkept = iox2sd.{made}"), "")

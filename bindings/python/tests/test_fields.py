@@ -5,17 +5,18 @@ import dataclasses
 import enum
 import importlib.util
 import pickle
-import unittest
 from typing import Any
 from unittest import mock
 
 import iox2sd
 from iox2sd import _native, details, settings
 
+from . import TestCase
 from .test_attributes import pair
 from .test_dynamic_config import (
     CLIENT, LISTENER, NODE, NOTIFIER, READER, SERVER, WRITER, publisher, subscriber,
 )
+from .test_texts import ALL
 
 TYPE = iox2sd.TypeDetail("type", 4, 2)
 OTHER_TYPE = iox2sd.TypeDetail("other", 4, 2)
@@ -23,13 +24,13 @@ MESSAGE = iox2sd.MessageTypeDetails(TYPE, TYPE, TYPE)
 
 PORTS = (publisher(1), subscriber(1), LISTENER, NOTIFIER, SERVER, CLIENT, READER, WRITER)
 
+EVENT = iox2sd.EventStaticConfig.new()
+
 ATTACHED = iox2sd.Attached((NODE,), (1,))
 
 VALUES: "list[Any]" = [
     *(kind(1, 2, 3, 4) for kind in details.UniquePortId.__args__),  # type: ignore[attr-defined]
-    NODE,
-    iox2sd.UniqueServiceId(1, 2, 3, 4),
-    iox2sd.ContainerHandle(7, iox2sd.Role.NODE, 1, 2),
+    NODE, iox2sd.UniqueServiceId(1, 2, 3, 4), iox2sd.ContainerHandle(7, iox2sd.Role.NODE, 1, 2),
     iox2sd.Capacities(1, 2, 3),
     iox2sd.DeadNodeRemoval(iox2sd.DeregisterNodeState.HAS_OWNERS, 1, 2),
     ATTACHED,
@@ -42,35 +43,16 @@ VALUES: "list[Any]" = [
     iox2sd.ConfigFault("key", "reason", iox2sd.Status.BELOW_ZERO),
     iox2sd.UnknownKey("key", "meant"),
     iox2sd.ConfigFile(iox2sd.Config(), (iox2sd.UnknownKey("key", None),)),
-    *PORTS,
-    iox2sd.Layout(8, 4),
-    iox2sd.Places(8, 16),
-    TYPE,
-    MESSAGE,
-    iox2sd.Duration(1, 2),
-    iox2sd.EventId(1),
-    iox2sd.PublishSubscribeSettings(),
-    iox2sd.EventSettings(),
+    *PORTS, TYPE, MESSAGE, pair("key", "value"), iox2sd.Layout(8, 4), iox2sd.Places(8, 16),
+    iox2sd.Duration(1, 2), iox2sd.EventId(1),
     iox2sd.EventSettings(deadline=iox2sd.Duration(1, 2), notifier_dead_event=iox2sd.EventId(3)),
-    iox2sd.RequestResponseSettings(),
-    iox2sd.BlackboardSettings(),
-    iox2sd.ServiceConfig(),
-    iox2sd.NodeConfig(),
-    iox2sd.GlobalConfig(),
-    iox2sd.Defaults(),
-    iox2sd.Config(),
-    iox2sd.PublishSubscribeStaticConfig.new(MESSAGE),
-    iox2sd.EventStaticConfig.new(),
+    *(kind() for kind in settings.PatternSettings.__args__),  # type: ignore[attr-defined]
+    iox2sd.ServiceConfig(), iox2sd.NodeConfig(), iox2sd.GlobalConfig(), iox2sd.Defaults(),
+    iox2sd.Config(), iox2sd.AttributeSpecifier(), iox2sd.AttributeVerifier(), EVENT,
+    iox2sd.PublishSubscribeStaticConfig.new(MESSAGE), iox2sd.BlackboardStaticConfig.new(TYPE),
     iox2sd.RequestResponseStaticConfig.new(MESSAGE, MESSAGE),
-    iox2sd.BlackboardStaticConfig.new(TYPE),
-    pair("key", "value"),
-    iox2sd.AttributeSpecifier(),
-    iox2sd.AttributeVerifier(),
-    iox2sd.Requirements(pattern_config=iox2sd.EventStaticConfig.new()),
-    iox2sd.StaticConfig(
-        iox2sd.ServiceName("name"), iox2sd.UniqueServiceId(1, 2, 3, 4),
-        iox2sd.EventStaticConfig.new(),
-    ),
+    iox2sd.Requirements(pattern_config=EVENT),
+    iox2sd.StaticConfig(iox2sd.ServiceName("name"), iox2sd.UniqueServiceId(1, 2, 3, 4), EVENT),
 ]
 """A value of each class."""
 
@@ -105,10 +87,8 @@ def changed(value: Any) -> "list[Any]":
 
 
 OF_NONE = {
-    "deadline": iox2sd.Duration(1, 2),
-    "notifier_created_event": iox2sd.EventId(1),
-    "notifier_dropped_event": iox2sd.EventId(1),
-    "notifier_dead_event": iox2sd.EventId(1),
+    "deadline": iox2sd.Duration(1, 2), "notifier_created_event": iox2sd.EventId(1),
+    "notifier_dropped_event": iox2sd.EventId(1), "notifier_dead_event": iox2sd.EventId(1),
 }
 """What may stand where None does."""
 
@@ -135,7 +115,17 @@ def variants(value: Any) -> "list[tuple[str, Any]]":
     return found
 
 
-class Fields(unittest.TestCase):
+def all_changed(value: Any) -> Any:
+    """The value with each field changed, those of its parts too."""
+    others: "dict[str, Any]" = {}
+    for name, other in variants(value):
+        now = getattr(value, name)
+        is_value = dataclasses.is_dataclass(now)
+        others.setdefault(name, all_changed(now) if is_value else getattr(other, name))
+    return dataclasses.replace(value, **others)
+
+
+class Fields(TestCase):
     def differ(self, one: Any, other: Any):
         self.assertTrue(one != other and not one == other)
         self.assertNotEqual(hash(one), hash(other))
@@ -193,13 +183,14 @@ class Fields(unittest.TestCase):
                 self.assertTrue(one != other and not one == other)
                 self.assertNotEqual(repr(one), repr(other))
 
-    def test_values_are_pickled_in_every_protocol(self):
-        texts = [iox2sd.ServiceName("a"), iox2sd.AttributeSet([pair("k", "v")] * 2)]
-        enums: "list[Any]" = [iox2sd.Role.NODE, iox2sd.TypeVariant.DYNAMIC]
-        for value in [*VALUES, *texts, *enums]:
+    def test_values_are_copied_and_pickled_in_every_protocol(self):
+        others = [iox2sd.AttributeSet([pair("k", "v")] * 2), iox2sd.Role.NODE]
+        for value in [*VALUES, *others, *(kind("abc") for kind in ALL)]:
+            copies = [copy.copy(value), copy.deepcopy(value)]
             for protocol in range(pickle.HIGHEST_PROTOCOL + 1):
-                with self.subTest(value=value, protocol=protocol):
-                    again = pickle.loads(pickle.dumps(value, protocol))
+                copies.append(pickle.loads(pickle.dumps(value, protocol)))
+            for again in copies:
+                with self.subTest(value=value):
                     self.assertEqual((again, type(again)), (value, type(value)))
 
     def test_sets_have_repeats(self):
@@ -213,97 +204,74 @@ class Fields(unittest.TestCase):
                 self.differ(one, other)
 
 
-class Structs(unittest.TestCase):
-    def numbered(self, kind: Any) -> "tuple[Any, dict[str, Any]]":
-        """A struct with a value of its own in each field, and these."""
-        made, values = kind(), {}
-        for number, (name, field, *_) in enumerate(kind._fields_, 10):
-            if issubclass(field, _native.ctypes.Structure):
-                value, _ = self.numbered(field)
-            else:
-                value = number if "strategy" not in name else None
-            if value is not None and field is not _native.c_bool:
-                setattr(made, name, value)
-            values[name] = value
-        return made, values
+class Structs(TestCase):
+    """Each field of a struct is read and written by its own name."""
 
     def test_ports(self):
+        names = [name for name, *_ in _native.PortDetails._fields_[3:]]
+        numbers = {name: number for number, name in enumerate(names, 10)} | {"data_segment": 1}
+        ids = {"port": _native.Id(1, 2, 3, 4), "node": _native.Id(5, 6, 7, 8)}
         for port in PORTS:
-            c, values = self.numbered(_native.PortDetails)
-            c.role, c.data_segment = port.role.value, 1
-            c.port, c.node = _native.Id(1, 2, 3, 4), _native.Id(5, 6, 7, 8)
+            c = _native.PortDetails(role=port.role.value, **ids, **numbers)
             read = details.details_of(c)
-            self.assertEqual((read.role, read.port_id.role), (port.role, port.role))
-            self.assertEqual(read.node_id, iox2sd.UniqueNodeId(5, 6, 7, 8))
+            self.assertEqual((type(read), read.role), (type(port), port.role))
             self.assertEqual(read.port_id, type(port.port_id)(1, 2, 3, 4))
-            lent = read._lent()
-            self.assertEqual((lent.role, lent.port.counter, lent.node.counter), (c.role, 4, 8))
+            self.assertEqual(read.node_id, iox2sd.UniqueNodeId(5, 6, 7, 8))
             own = {field.name for field in dataclasses.fields(read)[2:]}
             if "data_segment_type" in own:
                 self.assertIs(read.data_segment_type, iox2sd.DataSegmentType.STATIC)
-                self.assertEqual(lent.data_segment, 1)
-                own.remove("data_segment_type")
-            for name, *_ in _native.PortDetails._fields_[3:]:
-                if name in own:
-                    self.assertEqual(getattr(read, name), values[name])
-                    self.assertEqual(getattr(lent, name), values[name])
-                    own.remove(name)
-                elif name != "data_segment":
-                    self.assertEqual(getattr(lent, name), 0)
-            self.assertEqual(own, set())
+                own = own - {"data_segment_type"} | {"data_segment"}
+            for name in own - {"data_segment"}:
+                self.assertEqual(getattr(read, name), numbers[name])
+            others = dict.fromkeys(set(names) - own, 0)
+            wanted = _native.PortDetails(role=c.role, **ids, **(numbers | others))
+            self.assertEqual(bytes(read._lent()), bytes(wanted))
 
     def test_handles(self):
         handle = iox2sd.ContainerHandle._of(_native.Handle(1, 7, 3, 4))
         self.assertEqual(handle, iox2sd.ContainerHandle(1, iox2sd.Role.READER, 3, 4))
-        lent = handle._lent()
-        self.assertEqual((lent.service, lent.role, lent.slot, lent.ticket), (1, 7, 3, 4))
+        self.assertEqual(bytes(handle._lent()), bytes(_native.Handle(1, 7, 3, 4)))
+
+    def settings(self, kind: Any) -> Any:
+        """Settings with a value of its own in each field."""
+        c = kind()
+        for number, (name, field, *_) in enumerate(kind._fields_, 10):
+            if field is _native.c_bool:
+                number = name != "enable_safe_overflow_for_responses"
+            elif name.endswith("strategy"):
+                number = int(name.startswith(("client", "backpressure")))
+            of_struct = {
+                _native.OptionalEventId: (number, True),
+                _native.OptionalDuration: (number, number + 1, True),
+            }
+            setattr(c, name, field(*of_struct[field]) if field in of_struct else number)
+        return c
 
     def test_settings(self):
-        """Defaults are read by a second copy of the module, of structs with a number a field."""
-        flags = {"enable_safe_overflow_for_responses"}
-
-        def made(kind: Any) -> Any:
-            c = kind()
-            for number, (name, field, *_) in enumerate(kind._fields_, 10):
-                if field is _native.c_bool:
-                    setattr(c, name, name not in flags)
-                elif name.endswith("strategy"):
-                    setattr(c, name, int(name.startswith(("client", "backpressure"))))
-                elif field is _native.OptionalEventId:
-                    setattr(c, name, field(number, True))
-                elif field is _native.OptionalDuration:
-                    setattr(c, name, field(number, number + 1, True))
-                else:
-                    setattr(c, name, number)
-            return c
-
+        """Defaults are read by a second copy of the module."""
         kinds = {
-            "publish_subscribe": _native.PublishSubscribeSettings,
-            "event": _native.EventSettings,
-            "request_response": _native.RequestResponseSettings,
-            "blackboard": _native.BlackboardSettings,
+            name: getattr(_native, "".join(map(str.capitalize, name.split("_"))) + "Settings")
+            for name in ("publish_subscribe", "event", "request_response", "blackboard")
         }
         spec = importlib.util.spec_from_file_location("iox2sd.again", settings.__file__)
         assert spec is not None and spec.loader is not None
         again = importlib.util.module_from_spec(spec)
         with mock.patch.dict("sys.modules", {"iox2sd.again": again}):
-            answers = {f"{name}_defaults": lambda k=kind: made(k) for name, kind in kinds.items()}
+            answers = {f"{n}_defaults": lambda k=k: self.settings(k) for n, k in kinds.items()}
             with mock.patch.multiple(_native, **answers):
                 spec.loader.exec_module(again)
         for kind in kinds.values():
-            c, read = made(kind), getattr(again, kind.__name__)()
-            self.assertEqual(
-                [field.name for field in dataclasses.fields(read)], [n for n, *_ in kind._fields_]
-            )
-            for name, field, *_ in kind._fields_:
+            read, written, c = getattr(again, kind.__name__)(), kind(), self.settings(kind)
+            names = [name for name, *_ in kind._fields_]
+            self.assertEqual([field.name for field in dataclasses.fields(read)], names)
+            for name in names:
+                found, wanted = getattr(read, name), getattr(c, name)
                 with self.subTest(kind=kind.__name__, field=name):
-                    found, wanted = getattr(read, name), getattr(c, name)
-                    if isinstance(found, enum.Enum):
-                        self.assertEqual(found.value, wanted)
-                    elif hasattr(wanted, "seconds"):
-                        self.assertEqual(found.seconds, wanted.seconds)
-                        self.assertEqual(found.nanoseconds, wanted.nanoseconds)
-                    elif hasattr(wanted, "number"):
-                        self.assertEqual(found.value, wanted.number)
+                    if hasattr(wanted, "seconds"):
+                        parts = (wanted.seconds, wanted.nanoseconds)
+                        self.assertEqual((found.seconds, found.nanoseconds), parts)
                     else:
-                        self.assertEqual(found, wanted)
+                        number = getattr(wanted, "number", wanted)
+                        self.assertEqual(getattr(found, "value", found), number)
+            again.put_settings(read, written)
+            self.assertEqual(bytes(written), bytes(c))

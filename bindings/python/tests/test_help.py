@@ -35,6 +35,8 @@ class Help(unittest.TestCase):
     def test_every_public_name_has_a_text(self):
         for name in iox2sd.__all__:
             kind = getattr(iox2sd, name)
+            if inspect.isfunction(kind):
+                self.assertTrue(inspect.getdoc(kind), name)
             if isinstance(kind, type):
                 self.assertTrue((kind.__doc__ or "").strip().endswith("."), name)
                 for own, method in vars(kind).items():

@@ -1,9 +1,7 @@
-import copy
-import pickle
-import unittest
-
 import iox2sd
-from iox2sd import UniqueNodeId, UniquePublisherId, UniqueServiceId, UniqueSubscriberId
+from iox2sd import UniqueId, UniqueNodeId, UniquePublisherId, UniqueServiceId, UniqueSubscriberId
+
+from . import TestCase
 
 MOST = 2**32 - 1
 KINDS = [
@@ -13,7 +11,7 @@ KINDS = [
 ]
 
 
-class Ids(unittest.TestCase):
+class Ids(TestCase):
     def test_text_and_value(self):
         for kind in KINDS:
             id = kind(1, 2, 3, 0x1234ABCD)
@@ -35,12 +33,6 @@ class Ids(unittest.TestCase):
         with self.assertRaises(TypeError):
             UniquePublisherId(1, 2, 3, 4) < UniqueSubscriberId(1, 2, 3, 4)
 
-    def test_copies(self):
-        for kind in KINDS:
-            id = kind(1, 2, 3, 4)
-            copies = [copy.copy(id), copy.deepcopy(id), pickle.loads(pickle.dumps(id))]
-            self.assertEqual(copies, [id] * 3)
-
     def test_ids_are_read_back(self):
         for kind in KINDS:
             for parts in ((1, 2, 3, 4), (MOST, MOST, MOST, MOST), (0, 0, 0, 1), (1, 0, 0, 0)):
@@ -48,14 +40,11 @@ class Ids(unittest.TestCase):
                 for read in (kind.from_text(str(id)), kind.from_value(id.value)):
                     self.assertEqual((read, type(read)), (id, kind))
             wrong = ("", "0a", "A", "+a", "-1", " a", "a ", "0x1", "g", "1_0", "00", "\u0661")
-            for text in (*wrong, "1" + "0" * 32, "9" * 10**4):
-                self.assertRaises(iox2sd.RefusedError, kind.from_text, text)
-            for strange in (1, None, b"1"):
-                self.assertRaises(iox2sd.WrongTypeError, kind.from_text, strange)
-            for strange in ("1", None, True, 1.0):
-                self.assertRaises(iox2sd.WrongTypeError, kind.from_value, strange)
-            for far in (-1, 2**128):
-                self.assertRaises(iox2sd.OutOfRangeError, kind.from_value, far)
+            far = ("1" + "0" * 32, "9" * 10**4)
+            self.refuses(iox2sd.RefusedError, kind.from_text, *wrong, *far)
+            self.refuses(iox2sd.WrongTypeError, kind.from_text, 1, None, b"1")
+            self.refuses(iox2sd.WrongTypeError, kind.from_value, "1", None, True, 1.0)
+            self.refuses(iox2sd.OutOfRangeError, kind.from_value, -1, 2**128)
         self.assertEqual(UniqueServiceId.from_text("0"), UniqueServiceId(0, 0, 0, 0))
         self.assertRaises(iox2sd.NoNodeError, UniqueNodeId.from_text, "0")
         self.assertRaises(iox2sd.NoNodeError, UniqueNodeId.from_value, 1 << 64)
@@ -63,25 +52,18 @@ class Ids(unittest.TestCase):
     def test_ids_of_nodes(self):
         for id in (UniqueNodeId(1, 5, 6, 0), UniqueNodeId(0, 5, 6, 1), UniqueNodeId(3, 5, 6, 4)):
             self.assertEqual(id.owner_id, id.process * 2**32 + id.counter)
-        with self.assertRaises(iox2sd.NoNodeError) as caught:
-            UniqueNodeId(0, 5, 6, 0)
-        self.assertIn("seconds=5", str(caught.exception))
+        self.raised(iox2sd.NoNodeError, UniqueNodeId, 0, 5, 6, 0, text="seconds=5")
 
     def test_ids_do_not_change(self):
         id = UniqueServiceId(1, 2, 3, 4)
-        with self.assertRaises(AttributeError):
-            id.process = 5
-        with self.assertRaises((AttributeError, TypeError)):
-            id.other = 5
+        self.assertRaises(AttributeError, setattr, id, "process", 5)
+        self.assertRaises((AttributeError, TypeError), setattr, id, "other", 5)
 
     def test_parts_are_integers_of_32_bits(self):
         for kind in KINDS:
             for place in range(4):
-                for wrong in (-1, 2**32, 2**64, 10**5000):
-                    parts = [1, 2, 3, 4]
-                    parts[place] = wrong
-                    self.assertRaises(iox2sd.OutOfRangeError, kind, *parts)
-                for strange in (True, 1.0, "1", None, b"1"):
-                    given: "list[object]" = [1, 2, 3, 4]
-                    given[place] = strange
-                    self.assertRaises(iox2sd.WrongTypeError, kind, *given)
+                def made(part: object, place: int = place) -> UniqueId:
+                    return kind(*(part if at == place else at for at in range(4)))
+
+                self.refuses(iox2sd.OutOfRangeError, made, -1, 2**32, 2**64, 10**5000)
+                self.refuses(iox2sd.WrongTypeError, made, True, 1.0, "1", None, b"1")

@@ -1,13 +1,13 @@
-import unittest
+from dataclasses import replace
 
 import iox2sd
 from iox2sd import Layout, MessageTypeDetails, Places, TypeDetail, TypeVariant
 
+from . import TestCase
+
 
 def details(
-    size: int = 8,
-    alignment: int = 8,
-    variant: TypeVariant = TypeVariant.FIXED_SIZE,
+    size: int = 8, alignment: int = 8, variant: TypeVariant = TypeVariant.FIXED_SIZE,
     name: str = "Payload",
 ) -> MessageTypeDetails:
     return MessageTypeDetails(
@@ -16,7 +16,7 @@ def details(
     )
 
 
-class Types(unittest.TestCase):
+class Types(TestCase):
     def test_names(self):
         self.assertEqual(TypeDetail("", 0, 1).type_name, "")
         self.assertEqual(len(TypeDetail("n" * 256, 0, 1).type_name), 256)
@@ -32,28 +32,25 @@ class Types(unittest.TestCase):
         for alignment in (1, 2, 2**63):
             self.assertEqual(TypeDetail("T", 2**64 - 1, alignment).alignment, alignment)
         for alignment in (0, 3, 2**64 - 1):
-            with self.assertRaises(iox2sd.BadAlignmentError) as caught:
-                TypeDetail("T", 0, alignment)
-            self.assertIn(f"alignment={alignment}", str(caught.exception))
+            text = f"alignment={alignment}"
+            self.raised(iox2sd.BadAlignmentError, TypeDetail, "T", 0, alignment, text=text)
 
     def test_wrong_arguments(self):
         for given in ((b"T", 8, 8), ("T", True, 8), ("T", 8, 8.0), ("T", 8, 8, 0)):
             self.assertRaises(iox2sd.WrongTypeError, TypeDetail, *given)
         for size, alignment in ((-1, 8), (2**64, 8), (8, -8), (8, 2**64)):
             self.assertRaises(iox2sd.OutOfRangeError, TypeDetail, "T", size, alignment)
-        with self.assertRaises(iox2sd.WrongTypeError):
-            MessageTypeDetails(TypeDetail("T", 8, 8), TypeDetail("T", 8, 8), None)
+        parts = (*[TypeDetail("T", 8, 8)] * 2, None)
+        self.assertRaises(iox2sd.WrongTypeError, MessageTypeDetails, *parts)
 
 
-class Messages(unittest.TestCase):
+class Messages(TestCase):
     def test_layout(self):
         # 8 + 4 and at most 3 before it, 2 * 8 and at most 7 before it: 38, in eights
         self.assertEqual(details().sample_layout(2), Layout(40, 8))
         self.assertRaises(iox2sd.TooLargeError, details(size=2**64 - 1).sample_layout, 2**64 - 1)
-        for wrong in (True, 2.0, None):
-            self.assertRaises(iox2sd.WrongTypeError, details().sample_layout, wrong)
-        for elements in (-1, 2**64):
-            self.assertRaises(iox2sd.OutOfRangeError, details().sample_layout, elements)
+        self.refuses(iox2sd.WrongTypeError, details().sample_layout, True, 2.0, None)
+        self.refuses(iox2sd.OutOfRangeError, details().sample_layout, -1, 2**64)
 
     def test_places(self):
         self.assertEqual(details().places(64), Places(72, 80))
@@ -72,20 +69,15 @@ class Messages(unittest.TestCase):
             (details(variant=TypeVariant.DYNAMIC), details(), iox2sd.OtherVariantError, "payload"),
             (details(size=16), details(), iox2sd.OtherSizeError, "payload"),
             (details(alignment=16), details(), iox2sd.GreaterAlignmentError, "payload"),
-            (self.header(16, 4), details(), iox2sd.OtherAlignmentError, "header"),
-            (self.header(8, 8), details(), iox2sd.GreaterAlignmentError, "user header"),
+            (replace(details(), header=TypeDetail("Header", 8, 16)), details(),
+             iox2sd.OtherAlignmentError, "header"),
+            (replace(details(), user_header=TypeDetail("UserHeader", 4, 8)), details(),
+             iox2sd.GreaterAlignmentError, "user header"),
         ]
         for opener, service, error, part in cases:
             with self.subTest(error=error):
                 self.assertFalse(opener.is_compatible_to(service))
-                with self.assertRaises(error) as caught:
-                    opener.check_compatible_to(service)
-                self.assertTrue(str(caught.exception).startswith(f"the opener's {part}: "))
-                self.assertIsInstance(caught.exception, iox2sd.IncompatibleError)
+                text = f"the opener's {part}: "
+                found = self.raised(error, opener.check_compatible_to, service, text=text)
+                self.assertIsInstance(found, iox2sd.IncompatibleError)
         self.assertRaises(iox2sd.WrongTypeError, details().is_compatible_to, None)
-
-    def header(self, alignment: int, user_alignment: int) -> MessageTypeDetails:
-        return MessageTypeDetails(
-            TypeDetail("Header", 8, alignment), TypeDetail("UserHeader", 4, user_alignment),
-            details().payload,
-        )

@@ -1,7 +1,3 @@
-import copy
-import pickle
-import unittest
-from contextlib import suppress
 from dataclasses import replace
 from typing import Any
 
@@ -14,7 +10,7 @@ from iox2sd import (
     StaticConfig, TypeDetail, UniqueServiceId,
 )
 
-from . import headers
+from . import TestCase, headers
 from .test_messages import details
 
 SERVICES: "tuple[Any, ...]" = (
@@ -36,7 +32,7 @@ def others(value: object) -> object:
     return EventId(0)
 
 
-class Satisfying(unittest.TestCase):
+class Satisfying(TestCase):
     def test_each_setting(self):
         seen = set()
         for service in SERVICES:
@@ -56,13 +52,9 @@ class Satisfying(unittest.TestCase):
             self.assertTrue(service.satisfies(replace(service, max_nodes=1)))
 
     def test_the_first_of_two(self):
-        for service in SERVICES[:2]:
-            required = replace(service, max_nodes=99, **{self._first(service): 99})
-            self.assertEqual(service.first_unmet(required), self._first(service))
-
-    @staticmethod
-    def _first(service: object) -> str:
-        return "max_notifiers" if isinstance(service, EventStaticConfig) else "max_subscribers"
+        for service, first in zip(SERVICES, ("max_subscribers", "max_notifiers")):
+            required = replace(service, max_nodes=99, **{first: 99})
+            self.assertEqual(service.first_unmet(required), first)
 
     def test_another_pattern(self):
         for service in SERVICES:
@@ -88,7 +80,7 @@ RED = AttributeVerifier().require(AttributeKey("colour"), AttributeValue("red"))
 ID = UniqueServiceId(1, 2, 3, 4)
 
 
-class Opening(unittest.TestCase):
+class Opening(TestCase):
     """All that an opener requires, in one call."""
 
     def refused(self, service: Any, opener: Any, attributes: AttributeVerifier) -> "Error | None":
@@ -142,47 +134,48 @@ class Opening(unittest.TestCase):
 
     def test_wrong_arguments(self):
         described = StaticConfig(ServiceName("a"), ID, SERVICES[1])
-        for wrong in (None, described, SERVICES[1], AttributeVerifier()):
-            self.assertRaises(iox2sd.WrongTypeError, described.satisfies, wrong)
+        wrong = (None, described, SERVICES[1], AttributeVerifier())
+        self.refuses(iox2sd.WrongTypeError, described.satisfies, *wrong)
         self.assertRaises(iox2sd.WrongTypeError, Requirements, pattern_config=EventSettings())
 
 
-class CapacitiesOfSettings(unittest.TestCase):
-    def test_a_service_is_made_of_settings_and_descriptions(self):
-        for service in SERVICES:
-            described = StaticConfig(ServiceName("a"), ID, service)
-            for given in (service, described):
-                self.assertEqual(Capacities.of(given), described.capacities)
-                with DynamicConfig.described(given, 7) as made:
-                    self.assertIs(made.messaging_pattern, described.messaging_pattern)
-        for settings, pattern in zip(
-            (PublishSubscribeSettings, EventSettings, RequestResponseSettings, BlackboardSettings),
-            MessagingPattern,
-        ):
-            given = settings(max_nodes=3)
-            with DynamicConfig.described(given, 7, tickets=2) as made:
-                self.assertIs(made.messaging_pattern, pattern)
-                ports = (made.max_ports(role) for role in made.port_roles)
-                self.assertEqual(Capacities(made.max_nodes, *ports), Capacities.of(given))
-                for counter in range(3):
-                    with suppress(iox2sd.OutOfSpaceError):
-                        made.register_node_id(iox2sd.UniqueNodeId(1, 0, 0, counter))
-                self.assertEqual(made.number_of_nodes, 2)
-        for wrong in (None, Capacities(1, 2, 3), MessagingPattern.EVENT):
-            self.assertRaises(iox2sd.WrongTypeError, DynamicConfig.described, wrong, 7)
-
+class CapacitiesOfSettings(TestCase):
     def test_each_pattern(self):
-        samples = PublishSubscribeSettings(max_nodes=3, max_publishers=4, max_subscribers=5)
-        events = EventSettings(max_nodes=3, max_listeners=4, max_notifiers=5)
-        requests = RequestResponseSettings(max_nodes=3, max_servers=4, max_clients=5)
-        for settings in (samples, events, requests):
-            self.assertEqual(Capacities.of(settings), Capacities(3, 4, 5))
-        board = BlackboardSettings(max_nodes=3, max_readers=4)
-        self.assertEqual(Capacities.of(board), Capacities(3, 4, 1))
-        self.assertRaises(iox2sd.WrongTypeError, Capacities.of, board.max_nodes)
+        """A service is made of settings, of what is fixed, and of descriptions."""
+        room = {"max_nodes": 3}
+        samples = PublishSubscribeSettings(**room, max_publishers=4, max_subscribers=5)
+        events = EventSettings(**room, max_listeners=4, max_notifiers=5)
+        requests = RequestResponseSettings(**room, max_servers=4, max_clients=5)
+        board = BlackboardSettings(**room, max_readers=4)
+        for settings, fixed, pattern, second in (
+            (samples, PublishSubscribeStaticConfig.new(details(), samples), 0, 5),
+            (events, EventStaticConfig.new(events), 1, 5),
+            (requests, RequestResponseStaticConfig.new(details(), details(), requests), 2, 5),
+            (board, BlackboardStaticConfig.new(TypeDetail("Key", 8, 8), board), 3, 1),
+        ):
+            described = StaticConfig(ServiceName("a"), ID, fixed)
+            self.assertEqual(described.capacities, Capacities(3, 4, second))
+            for given in (settings, fixed, described):
+                self.assertEqual(Capacities.of(given), described.capacities)
+                with DynamicConfig.described(given, 7, tickets=2) as made:
+                    self.assertIs(made.messaging_pattern, MessagingPattern(pattern))
+                    again = DynamicConfig(made.messaging_pattern, 7, described.capacities)
+                    with again:
+                        self.assertEqual(repr(made), repr(again))
+                    for counter in range(2):
+                        made.register_node_id(iox2sd.UniqueNodeId(1, 0, 0, counter))
+                    self.assertFalse(made.has_room_for_node)
+                with DynamicConfig.described(given, 7) as made:
+                    for _ in range(3):
+                        made.register_node_id(iox2sd.UniqueNodeId(1, 0, 0, 0))
+
+    def test_wrong_arguments(self):
+        for wrong in (None, Capacities(1, 2, 3), MessagingPattern.EVENT, ServiceName("a")):
+            self.assertRaises(iox2sd.WrongTypeError, DynamicConfig.described, wrong, 7)
+        self.refuses(iox2sd.WrongTypeError, Capacities.of, 3, None)
 
 
-class Numbers(unittest.TestCase):
+class Numbers(TestCase):
     def test_numbers_rise(self):
         numbers = ServiceNumbers()
         self.assertEqual((numbers.last, next(numbers), next(numbers), numbers.last), (0, 1, 2, 2))
@@ -194,11 +187,6 @@ class Numbers(unittest.TestCase):
         self.assertEqual(list(numbers), [2**64 - 1])
         self.assertEqual(list(numbers), [])
 
-    def test_numbers_are_not_copied(self):
-        for call in (copy.copy, copy.deepcopy, pickle.dumps):
-            self.assertRaises(TypeError, call, ServiceNumbers(5))
-
     def test_numbers_are_checked(self):
-        self.assertRaises(iox2sd.OutOfRangeError, ServiceNumbers, 2**64)
-        with self.assertRaises(iox2sd.WrongTypeError):
-            ServiceNumbers("1")  # type: ignore[arg-type]
+        self.refuses(iox2sd.OutOfRangeError, ServiceNumbers, -1, 2**64)
+        self.refuses(iox2sd.WrongTypeError, ServiceNumbers, "1")

@@ -1,17 +1,21 @@
-import unittest
 from datetime import timedelta
+from functools import partial
 from typing import Any
 
 import iox2sd
 from iox2sd import (
     AllocationStrategy, BackpressureStrategy, BlackboardSettings, DefaultText, Duration, EventId,
-    EventSettings, PublishSubscribeSettings, RequestResponseSettings,
+    EventSettings, PublishSubscribeSettings, PublishSubscribeStaticConfig, RequestResponseSettings,
+    RequestResponseStaticConfig,
 )
+
+from . import TestCase
+from .test_messages import details
 
 MOST = 2**64 - 1
 
 
-class Spans(unittest.TestCase):
+class Spans(TestCase):
     def test_spans_of_the_standard_library(self):
         for span, seconds, nanoseconds in (
             (timedelta(), 0, 0), (timedelta(microseconds=1), 0, 1000),
@@ -25,18 +29,15 @@ class Spans(unittest.TestCase):
         self.assertEqual(Duration(0, 1999).to_timedelta(), timedelta(microseconds=1))
 
     def test_spans_that_are_none(self):
-        with self.assertRaises(iox2sd.OutOfRangeError):
-            Duration.from_timedelta(timedelta(microseconds=-1))
-        wrong: Any
+        read = Duration.from_timedelta
+        self.assertRaises(iox2sd.OutOfRangeError, read, timedelta(microseconds=-1))
         for wrong in (5, None, "1", Duration(1)):
-            with self.assertRaises(iox2sd.WrongTypeError) as caught:
-                Duration.from_timedelta(wrong)
-            self.assertIn("expected timedelta", str(caught.exception))
+            self.raised(iox2sd.WrongTypeError, read, wrong, text="expected timedelta")
         for seconds in (86400000000000, MOST):
             self.assertRaises(iox2sd.TooLargeError, Duration(seconds).to_timedelta)
 
 
-class Defaults(unittest.TestCase):
+class Defaults(TestCase):
     def test_publish_subscribe(self):
         expected = PublishSubscribeSettings(
             max_subscribers=8, max_publishers=2, max_nodes=20, subscriber_max_buffer_size=2,
@@ -70,19 +71,28 @@ class Defaults(unittest.TestCase):
         self.assertEqual(RequestResponseSettings(), expected)
 
 
-class Settings(unittest.TestCase):
+class Settings(TestCase):
     def test_chunks_of_publish_subscribe(self):
         given: "dict[str, Any]" = dict(
             subscriber_max_buffer_size=5, subscriber_max_borrowed_samples=7,
             publisher_history_size=11, publisher_max_loaned_samples=13,
         )
-        settings = PublishSubscribeSettings(max_subscribers=3, **given)
-        self.assertEqual(
-            settings.required_amount_of_samples_per_data_segment(), 3 * (5 + 7) + 11 + 13
+        settings, largest = (
+            PublishSubscribeSettings(max_subscribers=many, **given) for many in (3, MOST)
         )
-        with self.assertRaises(iox2sd.TooLargeError):
-            settings = PublishSubscribeSettings(max_subscribers=MOST, **given)
-            settings.required_amount_of_samples_per_data_segment()
+        count = settings.required_amount_of_samples_per_data_segment
+        self.assertEqual(count(), 3 * (5 + 7) + 11 + 13)
+        count = largest.required_amount_of_samples_per_data_segment
+        self.assertRaises(iox2sd.TooLargeError, count)
+        config = PublishSubscribeStaticConfig.new(details(), settings)
+        of_loaned = config.required_amount_of_samples_per_data_segment
+        self.assertEqual(of_loaned(17), 3 * (5 + 7) + 11 + 17)
+        self.wrong_numbers(of_loaned)
+
+    def wrong_numbers(self, count: Any):
+        self.refuses(iox2sd.TooLargeError, count, MOST)
+        self.refuses(iox2sd.OutOfRangeError, count, -1, 2**64)
+        self.refuses(iox2sd.WrongTypeError, count, True, None)
 
     def test_chunks_of_request_response(self):
         given: "dict[str, Any]" = dict(
@@ -90,15 +100,20 @@ class Settings(unittest.TestCase):
             max_borrowed_responses_per_pending_response=11, max_loaned_requests=13,
             server_max_loaned_responses_per_request=19,
         )
-        settings = RequestResponseSettings(max_active_requests_per_client=5, **given)
-        requests = settings.required_amount_of_chunks_per_client_data_segment()
-        responses = settings.required_amount_of_chunks_per_server_data_segment()
-        self.assertEqual((requests, responses), (3 * 2 * 5 + 13, 17 * 2 * 5 * (7 + 11 + 19)))
-        settings = RequestResponseSettings(max_active_requests_per_client=MOST, **given)
-        with self.assertRaises(iox2sd.TooLargeError):
-            settings.required_amount_of_chunks_per_client_data_segment()
-        with self.assertRaises(iox2sd.TooLargeError):
-            settings.required_amount_of_chunks_per_server_data_segment()
+        settings, largest = (
+            RequestResponseSettings(max_active_requests_per_client=many, **given)
+            for many in (5, MOST)
+        )
+        config = RequestResponseStaticConfig.new(details(), details(), settings)
+        for side, number, fixed in (
+            ("client", 3 * 2 * 5 + 13, 3 * 2 * 5 + 23),
+            ("server", 17 * 2 * 5 * (7 + 11 + 19), 17 * 2 * 5 * (7 + 11 + 23)),
+        ):
+            name = f"required_amount_of_chunks_per_{side}_data_segment"
+            self.assertEqual(getattr(settings, name)(), number)
+            self.assertRaises(iox2sd.TooLargeError, getattr(largest, name))
+            self.assertEqual(getattr(config, name)(23), fixed)
+            self.wrong_numbers(getattr(config, name))
 
     def test_optional_settings(self):
         longest = Duration(MOST, 999_999_999)
@@ -106,43 +121,35 @@ class Settings(unittest.TestCase):
         self.assertEqual(settings.deadline, longest)
         self.assertEqual(settings.notifier_dead_event, EventId(3))
         self.assertLess(Duration(1, 5), Duration(2))
-        with self.assertRaises(iox2sd.BadDurationError) as caught:
-            Duration(5, 1_000_000_000)
-        self.assertIn("Duration(seconds=5, nanoseconds=1000000000): ", str(caught.exception))
+        text = "Duration(seconds=5, nanoseconds=1000000000): "
+        self.raised(iox2sd.BadDurationError, Duration, 5, 1_000_000_000, text=text)
         for nanoseconds in (-1, 2**32):
             self.assertRaises(iox2sd.OutOfRangeError, Duration, 0, nanoseconds)
 
     def test_wrong_arguments(self):
-        wrong: "list[tuple[Any, dict[str, Any]]]" = [
-            (PublishSubscribeSettings, {"max_nodes": True}),
-            (PublishSubscribeSettings, {"enable_safe_overflow": 1}),
-            (PublishSubscribeSettings, {"backpressure_strategy": 0}),
-            (PublishSubscribeSettings, {"backpressure_strategy": AllocationStrategy.STATIC}),
-            (EventSettings, {"deadline": 5}),
-            (EventSettings, {"notifier_created_event": 5}),
-            (EventSettings, {"notifier_created_event": True}),
-            (RequestResponseSettings, {"client_allocation_strategy": None}),
-            (RequestResponseSettings, {"max_clients": "8"}),
-            (BlackboardSettings, {"max_readers": 8.0}),
-            (EventId, {"value": False}),
-            (Duration, {"seconds": 0.5}),
-            (iox2sd.GlobalConfig, {"creation_timeout": 5}),
-            (iox2sd.ServiceConfig, {"cleanup_dead_nodes_on_open": 1}),
+        wrong: "list[tuple[Any, str, tuple[Any, ...]]]" = [
+            (PublishSubscribeSettings, "max_nodes", (True,)),
+            (PublishSubscribeSettings, "enable_safe_overflow", (1,)),
+            (PublishSubscribeSettings, "backpressure_strategy", (0, AllocationStrategy.STATIC)),
+            (EventSettings, "deadline", (5,)), (EventSettings, "notifier_created_event", (5, True)),
+            (RequestResponseSettings, "client_allocation_strategy", (None,)),
+            (RequestResponseSettings, "max_clients", ("8",)),
+            (BlackboardSettings, "max_readers", (8.0,)), (EventId, "value", (False,)),
+            (Duration, "seconds", (0.5,)), (iox2sd.GlobalConfig, "creation_timeout", (5,)),
+            (iox2sd.ServiceConfig, "cleanup_dead_nodes_on_open", (1,)),
         ]
-        for kind, given in wrong:
-            with self.subTest(kind=kind, given=given), self.assertRaises(iox2sd.WrongTypeError):
-                kind(**given)
-        for kind, name in ((BlackboardSettings, "max_nodes"), (EventSettings, "max_nodes")):
+        for kind, name, values in wrong:
+            for value in values:
+                with self.subTest(kind=kind, name=name), self.assertRaises(iox2sd.WrongTypeError):
+                    kind(**{name: value})
+        for kind in (BlackboardSettings, EventSettings):
             for number in (-1, 2**64):
-                with self.assertRaises(iox2sd.OutOfRangeError) as caught:
-                    kind(**{name: number})
-                self.assertEqual(
-                    str(caught.exception),
-                    f"{kind.__name__}.{name}: expected 0 to 2^64 - 1, got {number}",
-                )
+                text = f"{kind.__name__}.max_nodes: expected 0 to 2^64 - 1, got {number}"
+                made = partial(kind, max_nodes=number)
+                self.assertEqual(str(self.raised(iox2sd.OutOfRangeError, made)), text)
 
 
-class Texts(unittest.TestCase):
+class Texts(TestCase):
     def test_texts_of_the_configuration(self):
         expected = [
             "/tmp/iceoryx2/", "iox2_", "services", ".data", ".service", ".dynamic", ".connection",
@@ -151,5 +158,4 @@ class Texts(unittest.TestCase):
             "iceoryx2", "iceoryx2/iceoryx2.toml",
         ]
         self.assertEqual([iox2sd.default_text(which) for which in DefaultText], expected)
-        for wrong in (0, "PREFIX", None):
-            self.assertRaises(iox2sd.WrongTypeError, iox2sd.default_text, wrong)
+        self.refuses(iox2sd.WrongTypeError, iox2sd.default_text, 0, "PREFIX", None)

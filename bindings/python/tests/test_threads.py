@@ -1,14 +1,15 @@
-import sys
 import threading
 import time
-import unittest
+from functools import partial
 from typing import Callable
 from unittest import mock
 
 import iox2sd
 from iox2sd import DynamicConfig, ServiceNumbers, UniqueNodeId, _native
 
-from .test_dynamic_config import publisher
+from . import TestCase
+from .test_dynamic_config import publisher, service
+from .test_traps import before, switches
 
 THREADS = 16
 
@@ -30,24 +31,18 @@ def run(work: "list[Callable[[], None]]") -> "list[BaseException]":
             raised.append(error)
 
     threads = [threading.Thread(target=carried_out, args=(part,)) for part in work]
-    interval = sys.getswitchinterval()
-    sys.setswitchinterval(1e-6)
-    try:
+    with switches():
         for thread in threads:
             thread.start()
         for thread in threads:
             thread.join()
-    finally:
-        sys.setswitchinterval(interval)
     return raised
 
 
-class Threads(unittest.TestCase):
+class Threads(TestCase):
     def test_sixteen_threads_share_a_service(self):
         rounds = 100
-        made = DynamicConfig.publish_subscribe(
-            7, max_nodes=THREADS + 1, max_publishers=THREADS, max_subscribers=0
-        )
+        made = service(THREADS + 1, THREADS, 0)
         stays = made.register_node_id(node(THREADS))
         tickets: "list[int]" = []
 
@@ -60,8 +55,7 @@ class Threads(unittest.TestCase):
                         found = made.ports_of(node(number))
                         self.assertEqual(found, (publisher(number, node(number)),))
 
-        raised = run([lambda number=number: join(number) for number in range(THREADS)])
-        self.assertEqual(raised, [])
+        self.assertEqual(run([partial(join, number) for number in range(THREADS)]), [])
         self.assertEqual(sorted(tickets), list(range(1, THREADS * rounds + 1)))
         self.assertEqual((made.list_node_ids(), made.list_publishers()), ((node(THREADS),), ()))
         self.assertEqual(made.node(stays), node(THREADS))
@@ -69,9 +63,7 @@ class Threads(unittest.TestCase):
 
     def test_closing_among_sixteen_threads(self):
         for _ in range(20):
-            made = DynamicConfig.publish_subscribe(
-                7, max_nodes=THREADS, max_publishers=THREADS, max_subscribers=0
-            )
+            made = service(THREADS, THREADS, 0)
             made.register_node_id(node(THREADS))
 
             def join(number: int):
@@ -154,25 +146,18 @@ class Threads(unittest.TestCase):
         self.assertEqual(sorted(taken), list(range(1, THREADS * rounds + 1)))
 
     def test_a_service_that_is_closed_while_it_is_printed(self):
-        made = DynamicConfig.event(7, max_nodes=1, max_listeners=1, max_notifiers=1)
-        asked = _native.max_nodes_at
-
-        def closes(*arguments):
-            made.close()
-            return asked(*arguments)
-
-        with mock.patch.object(_native, "max_nodes_at", closes):
+        made = service()
+        with before("max_nodes_at", lambda *_: made.close()):
             self.assertEqual(repr(made), "<a closed DynamicConfig>")
 
     def test_sixteen_threads_have_a_service_each(self):
         def keep(number: int):
             for _ in range(100):
-                with DynamicConfig.publish_subscribe(
-                    number, max_nodes=1, max_publishers=1, max_subscribers=1
-                ) as made:
+                room = iox2sd.Capacities(1, 1, 1)
+                with DynamicConfig(iox2sd.MessagingPattern.EVENT, number, room) as made:
                     handle = made.register_node_id(node(number))
                     self.assertEqual((handle.service_number, handle.ticket), (number, 0))
                     self.assertEqual(made.list_node_ids(), (node(number),))
 
-        work = [lambda number=number: keep(number) for number in range(THREADS)]
+        work = [partial(keep, number) for number in range(THREADS)]
         self.assertEqual(run(work), [])

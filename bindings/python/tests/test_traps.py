@@ -4,20 +4,22 @@ import ctypes
 import enum
 import gc
 import os
+import signal
 import subprocess
 import sys
 import tempfile
 import threading
-import time
 import unittest
+from contextlib import contextmanager
+from functools import partial
 from pathlib import Path
-from typing import Any
+from typing import Any, Callable, Iterator
 from unittest import mock
 
 import iox2sd
 from iox2sd import _native
 
-from . import PACKAGE
+from . import PACKAGE, TestCase
 from .test_dynamic_config import NODE, publisher, service
 from .test_texts import ALL
 
@@ -67,7 +69,27 @@ class LyingBytes(bytes):
         return 10**6
 
 
-class Values(unittest.TestCase):
+@contextmanager
+def before(name: str, does: "Callable[..., object]") -> "Iterator[None]":
+    """Before each call of an export something else is done with its arguments."""
+    call = getattr(_native, name)
+    both = mock.Mock(side_effect=lambda *given: (does(*given), call(*given))[1])
+    with mock.patch.object(_native, name, both):
+        yield
+
+
+@contextmanager
+def switches() -> "Iterator[None]":
+    """Threads are switched often."""
+    interval = sys.getswitchinterval()
+    sys.setswitchinterval(1e-6)
+    try:
+        yield
+    finally:
+        sys.setswitchinterval(interval)
+
+
+class Values(TestCase):
     def test_a_text_keeps_what_was_checked(self):
         for kind in ALL:
             for given in (Topic.LIDAR, Liar("lidar")):
@@ -75,9 +97,8 @@ class Values(unittest.TestCase):
                 self.assertEqual((str(made), made.encode()), ("lidar", b"lidar"))
                 self.assertEqual(repr(made), f"{kind.__name__}('lidar')")
                 self.assertIs(type(made), kind)
-            with self.assertRaises(iox2sd.IllegalByteError) as caught:
-                kind(Liar("li\0dar"))
-            self.assertTrue(str(caught.exception).startswith(f"{kind.__name__} 'li\\x00dar': "))
+            text = f"{kind.__name__} 'li\\x00dar': "
+            self.raised(iox2sd.IllegalByteError, kind, Liar("li\0dar"), text=text)
         self.assertEqual(iox2sd.InternalServiceName.prefixed(Liar("x")), "iox2://x")
         self.assertFalse(iox2sd.ServiceName.has_iox2_prefix(Liar("x")))
 
@@ -117,17 +138,14 @@ class Values(unittest.TestCase):
         ) as made:
             self.assertEqual((made.service_number, made.max_nodes), (7, 1))
 
-    def test_bytes_of_a_script_are_taken_by_their_value(self):
-        with self.assertRaises(iox2sd.BadLineError) as caught:
-            iox2sd.run_script(LyingBytes(b"nonsense\n"))
-        self.assertEqual(caught.exception.line, 1)
-
-    def test_bytes_of_a_log_are_taken_by_their_value(self):
+    def test_bytes_of_a_script_and_of_a_log_are_taken_by_their_value(self):
+        script = LyingBytes(b"nonsense\n")
+        self.raised(iox2sd.BadLineError, iox2sd.run_script, script, line=1)
         log = b"service event 7 1 0 0\nnodes\n= list\n"
         self.assertEqual(iox2sd.check_log(LyingBytes(log)), iox2sd.Conforms(1))
 
 
-class Errors(unittest.TestCase):
+class Errors(TestCase):
     def test_subclasses_of_values(self):
         class Event(iox2sd.EventStaticConfig):
             __slots__ = ()
@@ -145,13 +163,9 @@ class Errors(unittest.TestCase):
 
     def test_annotations_that_are_texts(self):
         source = (
-            "from __future__ import annotations\n"
-            "from dataclasses import dataclass\n"
-            "import iox2sd\n"
-            "@dataclass(frozen=True, slots=True)\n"
-            "class Marked(iox2sd.Capacities):\n"
-            "    nodes: int\n"
-            "    mark: list[int] | None = None\n"
+            "from __future__ import annotations\nfrom dataclasses import dataclass\nimport iox2sd\n"
+            "@dataclass(frozen=True, slots=True)\nclass Marked(iox2sd.Capacities):\n"
+            "    nodes: int\n    mark: list[int] | None = None\n"
         )
         names: "dict[str, Any]" = {"__name__": "elsewhere"}
         with mock.patch.dict(sys.modules, {"elsewhere": mock.Mock()}):
@@ -162,13 +176,12 @@ class Errors(unittest.TestCase):
     def test_what_cannot_be_iterated_over(self):
         with service() as made:
             for wrong in (None, 5, NODE):
-                with self.assertRaises(iox2sd.WrongTypeError) as caught:
-                    made.remove_dead_node_id(NODE, wrong)
-                text = "remove_dead_node_id.keep: expected an iterable"
-                self.assertIn(text, str(caught.exception))
-                with self.assertRaises(iox2sd.WrongTypeError) as caught:
-                    iox2sd.AttributeSet(wrong)
-                self.assertIn("AttributeSet: expected an iterable", str(caught.exception))
+                for text, call in {
+                    "remove_dead_node_id.keep": partial(made.remove_dead_node_id, NODE),
+                    "AttributeSet": iox2sd.AttributeSet,
+                }.items():
+                    text += ": expected an iterable"
+                    self.raised(iox2sd.WrongTypeError, call, wrong, text=text)
 
     def test_an_error_of_a_program_s_own(self):
         unknown = str(iox2sd.Status.UNKNOWN_STATUS)
@@ -177,35 +190,32 @@ class Errors(unittest.TestCase):
         self.assertEqual(unknown, "unknown status")
 
     def test_a_union_is_named_by_its_members(self):
-        with self.assertRaises(iox2sd.WrongTypeError) as caught:
-            iox2sd.EventSettings(deadline=5)
+        error = self.raised(iox2sd.WrongTypeError, partial(iox2sd.EventSettings, deadline=5))
         text = "EventSettings.deadline: expected Duration or None, got 5"
-        self.assertEqual(str(caught.exception), text)
+        self.assertEqual(str(error), text)
+
+    def imported(self, before: str = "", **variables: str) -> str:
+        """The last line of what an import that fails prints."""
+        environment = {**os.environ, "PYTHONPATH": str(PACKAGE), **variables}
+        command = [sys.executable, "-c", f"{before}import iox2sd"]
+        done = subprocess.run(command, env=environment, capture_output=True, text=True)
+        self.assertEqual(done.returncode, 1)
+        return done.stderr.splitlines()[-1]
 
     def test_an_interpreter_without_the_global_lock(self):
-        command = "import sys; sys._is_gil_enabled = lambda: False; import iox2sd"
-        environment = {**os.environ, "PYTHONPATH": str(PACKAGE)}
-        done = subprocess.run(
-            [sys.executable, "-c", command], env=environment, capture_output=True, text=True
-        )
         text = "ImportError: iox2sd needs the interpreter's global lock, which keeps calls on a"
-        self.assertTrue(done.stderr.splitlines()[-1].startswith(text), done.stderr)
+        found = self.imported("import sys; sys._is_gil_enabled = lambda: False; ")
+        self.assertTrue(found.startswith(text), found)
 
     def test_a_library_without_the_interface(self):
-        def imported(library: str) -> str:
-            environment = {**os.environ, "IOX2SD_LIBRARY": library, "PYTHONPATH": str(PACKAGE)}
-            command = [sys.executable, "-c", "import iox2sd"]
-            done = subprocess.run(command, env=environment, capture_output=True, text=True)
-            self.assertEqual(done.returncode, 1)
-            return done.stderr.splitlines()[-1]
-
         text = "^ImportError: .* is no libiox2sd: it has no iox2sd_abi"
-        self.assertRegex(imported(_libc()), text)
-        self.assertRegex(imported("/nowhere/x.so"), "^ImportError: libiox2sd was not loaded: ")
+        self.assertRegex(self.imported(IOX2SD_LIBRARY=_libc()), text)
         with tempfile.TemporaryDirectory() as folder:
             wrong = Path(folder, "wrong.so")
             wrong.write_bytes(b"no library")
-            self.assertRegex(imported(str(wrong)), "^ImportError: libiox2sd was not loaded: ")
+            for library in ("/nowhere/x.so", str(wrong)):
+                found = self.imported(IOX2SD_LIBRARY=library)
+                self.assertRegex(found, "^ImportError: libiox2sd was not loaded: ")
 
 
 def _libc() -> str:
@@ -216,7 +226,7 @@ def _libc() -> str:
     raise unittest.SkipTest("the C library was not found")
 
 
-class Calls(unittest.TestCase):
+class Calls(TestCase):
     """No call waits for another one."""
 
     def test_calls_keep_the_global_lock(self):
@@ -233,7 +243,8 @@ class Calls(unittest.TestCase):
         others = [name for name, kept in functions.items() if not kept]
         self.assertEqual(others, ["script_run_at", "conform_run_at"])
 
-    def joined(self, *threads: threading.Thread):
+    def joined(self, *work: "Callable[[], object]"):
+        threads = [threading.Thread(target=part, daemon=True) for part in work]
         for thread in threads:
             thread.start()
         for thread in threads:
@@ -244,51 +255,36 @@ class Calls(unittest.TestCase):
         """As finalizers do, which run within any call, on any thread."""
         one, other = service(), service()
         both_within = threading.Barrier(2)
-        asked = _native.is_locked_at
         answers: "list[int]" = []
 
-        def asks(place: Any, *arguments: Any) -> Any:
+        def asks(place: Any, *_: Any):
             both_within.wait()
             answers.append((other if place is one._place else one).number_of_nodes)
-            return asked(place, *arguments)
 
-        with mock.patch.object(_native, "is_locked_at", asks):
-            self.joined(
-                *(
-                    threading.Thread(target=lambda made=made: made.is_locked, daemon=True)
-                    for made in (one, other)
-                )
-            )
+        with before("is_locked_at", asks):
+            self.joined(lambda: one.is_locked, lambda: other.is_locked)
         self.assertEqual(answers, [0, 0])
 
     def test_a_service_that_is_closed_beside_a_call(self):
         made = service()
         within, closed = threading.Event(), threading.Event()
-        registered = _native.register_node_id_at
         raised: "list[BaseException]" = []
 
-        def waits(*arguments: Any) -> Any:
+        def waits(*_: Any):
             within.set()
             self.assertTrue(closed.wait(SECONDS))
-            return registered(*arguments)
 
         def register():
-            try:
-                made.register_node_id(NODE)
-            except iox2sd.Error as error:
-                raised.append(error)
+            raised.append(self.raised(iox2sd.NoServiceError, made.register_node_id, NODE))
 
         def close():
             self.assertTrue(within.wait(SECONDS))
             made.close()
             closed.set()
 
-        with mock.patch.object(_native, "register_node_id_at", waits):
-            self.joined(
-                threading.Thread(target=register, daemon=True),
-                threading.Thread(target=close, daemon=True),
-            )
-        self.assertEqual([type(error) for error in raised], [iox2sd.NoServiceError])
+        with before("register_node_id_at", waits):
+            self.joined(register, close)
+        self.assertEqual(len(raised), 1)
 
     def test_a_service_that_is_closed_within_a_listing(self):
         made = service(1, 100, 1)
@@ -315,61 +311,38 @@ class Calls(unittest.TestCase):
                 counted.append(made.number_of_nodes)
 
         counted: "list[int]" = []
-        with service() as made:
-            asked = _native.is_locked_at
-
-            def collects(*arguments: Any) -> Any:
-                Cycle()
-                gc.collect()
-                return asked(*arguments)
-
-            with mock.patch.object(_native, "is_locked_at", collects):
-                self.assertFalse(made.is_locked)
+        with service() as made, before("is_locked_at", lambda *_: (Cycle(), gc.collect())):
+            self.assertFalse(made.is_locked)
             self.assertEqual(counted, [0])
 
     @unittest.skipUnless(hasattr(os, "fork"), "there is no fork")
     def test_a_child_of_a_fork(self):
         """While other threads call, each child uses the service that it has a copy of."""
-        made = service()
-        done = threading.Event()
+        made, done = service(), threading.Event()
+        self.addCleanup(done.set)
 
         def calls():
             while not done.is_set():
                 made.list_node_ids()
 
         threads = [threading.Thread(target=calls, daemon=True) for _ in range(4)]
-        interval = sys.getswitchinterval()
-        sys.setswitchinterval(1e-6)
-        try:
+        with switches():
             for thread in threads:
                 thread.start()
             for _ in range(30):
                 child = os.fork()
                 if child == 0:
+                    signal.alarm(SECONDS)  # Ends a child that hangs.
                     made.register_node_id(NODE)
                     os._exit(len(made.list_node_ids()))
-                self.assertEqual(self.status_of(child), 1)
-        finally:
-            sys.setswitchinterval(interval)
+                self.assertEqual(os.waitstatus_to_exitcode(os.waitpid(child, 0)[1]), 1)
             done.set()
             for thread in threads:
                 thread.join()
         self.assertEqual(made.list_node_ids(), ())
 
-    def status_of(self, child: int) -> int:
-        """The status of a process that ends in time; one that hangs is ended."""
-        last = time.monotonic() + SECONDS
-        while time.monotonic() < last:
-            ended, status = os.waitpid(child, os.WNOHANG)
-            if ended:
-                return os.waitstatus_to_exitcode(status)
-            time.sleep(0.001)
-        os.kill(child, 9)
-        os.waitpid(child, 0)
-        return self.fail("a child of a fork hangs")
 
-
-class Kept(unittest.TestCase):
+class Kept(TestCase):
     def test_a_port_that_is_kept_keeps_no_other(self):
         """A listener and a notifier of one number are two ports."""
         listener = iox2sd.UniqueListenerId(1, 2, 3, 4)

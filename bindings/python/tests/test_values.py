@@ -1,54 +1,39 @@
 """What values of all kinds can do: be formatted, weakly referenced, pickled, taken by pydantic."""
 
 import inspect
-import io
 import pickle
-import unittest
 import weakref
 from typing import Any
 
 import iox2sd
 
+from . import TestCase
 from .test_attributes import pair
 from .test_fields import VALUES
 from .test_ids import KINDS
 from .test_texts import ALL
 
 TEXTS = [kind("abc") for kind in ALL]
-
-
-class Changed(pickle._Unpickler):  # type: ignore[name-defined]
-    """Reads a pickle with another value in the place of one."""
-
-    def __init__(self, pickled: bytes, was: object, now: object) -> None:
-        super().__init__(io.BytesIO(pickled))
-        self.values = was, now
-
-    def persistent_load(self, _: str) -> object:
-        return self.values[1]
-
-
-class Pickler(pickle._Pickler):  # type: ignore[name-defined]
-    """Leaves a hole where a value stands."""
-
-    def __init__(self, file: Any, was: object) -> None:
-        super().__init__(file)
-        self.was = was
-
-    def persistent_id(self, value: object) -> "str | None":
-        return "hole" if type(value) is type(self.was) and value == self.was else None
+ALL_VALUES = [*VALUES, *TEXTS, iox2sd.AttributeSet([pair("k", "v")]), iox2sd.Role.NODE]
 
 
 def changed(value: object, was: object, now: object) -> object:
     """What a pickle of a value gives in which another one stands in the place of a part."""
-    file = io.BytesIO()
-    Pickler(file, was).dump(value)
-    return Changed(file.getvalue(), was, now).load()
+
+    def other(part: Any) -> Any:
+        if isinstance(part, dict):
+            return {name: other(one) for name, one in part.items()}
+        if type(part) is tuple:
+            return tuple(map(other, part))
+        return now if type(part) is type(was) and part == was else part
+
+    make, arguments, *_ = value.__reduce_ex__(pickle.HIGHEST_PROTOCOL)
+    return make(*other(arguments))
 
 
-class Values(unittest.TestCase):
+class Values(TestCase):
     def test_values_are_formatted(self):
-        for value in [*VALUES, *TEXTS, iox2sd.AttributeSet([pair("k", "v")]), iox2sd.Role.NODE]:
+        for value in ALL_VALUES:
             text = str(value)
             self.assertEqual((f"{value}", f"{value:>999}"), (text, text.rjust(999)))
         with iox2sd.DynamicConfig.event(7, max_nodes=1, max_listeners=1, max_notifiers=1) as made:
@@ -59,11 +44,7 @@ class Values(unittest.TestCase):
             self.assertEqual(f"{id:.3}|{id:^11}", "100| 10000002f ")
 
     def test_values_are_weakly_referenced(self):
-        values = [
-            *VALUES, *TEXTS, iox2sd.AttributeSet([pair("k", "v")]), iox2sd.ServiceNumbers(),
-            iox2sd.Role.NODE,
-        ]
-        for value in values:
+        for value in [*ALL_VALUES, iox2sd.ServiceNumbers()]:
             self.assertIs(weakref.ref(value)(), value)
 
     def test_pickles_are_checked(self):
@@ -91,21 +72,13 @@ class Values(unittest.TestCase):
             from pydantic import create_model
         except ImportError:
             self.skipTest("not found: pydantic")
-        for kind in ALL:
-            model = create_model("Model", text=(kind, ...))
-            for given in ("abc", kind("abc")):
-                made = model(text=given)
-                self.assertEqual((made.text, type(made.text)), ("abc", kind))
-            for wrong in ("a\0", 5, None):
-                self.assertRaises(ValueError, model, text=wrong)
-        for kind in KINDS:
-            model = create_model("Model", id=(kind, ...))
-            id = kind(1, 2, 3, 4)
-            for given in (id, str(id)):
-                made = model(id=given)
-                self.assertEqual((made.id, type(made.id)), (id, kind))
-            for wrong in ("x", 5, None):
-                self.assertRaises(ValueError, model, id=wrong)
+        for value in [*TEXTS, *(kind(1, 2, 3, 4) for kind in KINDS)]:
+            model = create_model("Model", field=(type(value), ...))
+            for given in (value, str(value)):
+                made = model(field=given).field
+                self.assertEqual((made, type(made)), (value, type(value)))
+            for wrong in ("x\0", 5, None):
+                self.assertRaises(ValueError, model, field=wrong)
 
     def test_bases_are_public(self):
         for kind in ALL:
@@ -119,6 +92,6 @@ class Values(unittest.TestCase):
             self.assertEqual(isinstance(value, iox2sd.FixedSettings), fixed)
 
     def test_signatures(self):
-        names = ["messaging_pattern", "service_number", "capacities", "tickets"]
         for kind in (iox2sd.DynamicConfig, iox2sd.Recorder):
-            self.assertEqual(list(inspect.signature(kind).parameters), names)
+            names = " ".join(inspect.signature(kind).parameters)
+            self.assertEqual(names, "messaging_pattern service_number capacities tickets")

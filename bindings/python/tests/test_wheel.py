@@ -56,26 +56,22 @@ class Wheel(unittest.TestCase):
             found = base64.urlsafe_b64encode(hashlib.sha256(files[name]).digest())
             self.assertEqual(digest, f"sha256={found.rstrip(b'=').decode()}")
             self.assertEqual(int(size), len(files[name]))
-        for name in ("iox2sd/libiox2sd.so.2", "iox2sd/py.typed", "iox2sd/__init__.py"):
-            self.assertIn(name, rows)
+        for name in ("libiox2sd.so.2", "py.typed", "fields.txt", "__init__.py"):
+            self.assertIn(f"iox2sd/{name}", rows)
 
     def test_equal_files_make_equal_wheels(self):
         self.assertEqual(self.wheel.read_bytes(), self.built("again").read_bytes())
 
     def test_an_installed_wheel_needs_nothing_else(self):
-        environment = {
-            name: value
-            for name, value in os.environ.items()
-            if not name.startswith(("IOX2SD_", "PYTHON", "PIP_"))
-        }
+        own = ("IOX2SD_", "PYTHON", "PIP_")
+        environment = {name: os.environ[name] for name in os.environ if not name.startswith(own)}
         environment["PATH"] = ""  # neither a compiler nor any other program
         python = self.folder / "venv" / "bin" / "python"
         self.run_command([sys.executable, "-m", "venv", self.folder / "venv"], environment)
         install = [python, "-m", "pip", "install", "--no-index", "--quiet", self.wheel]
         self.run_command(install, environment)
-        self.assertEqual(
-            self.run_command([python, "-c", USE], environment).splitlines(), ["True", "0.1.0 new"]
-        )
+        printed = self.run_command([python, "-c", USE], environment)
+        self.assertEqual(printed, "True\n0.1.0 new\n")
         for example in [*PACKAGE.glob("examples/*.py"), PROJECT / "examples" / "builder.py"]:
             copied = self.folder / example.name
             copied.write_bytes(example.read_bytes())
@@ -87,10 +83,10 @@ class Wheel(unittest.TestCase):
     def test_pip_builds_the_same_wheel_of_the_folder_and_of_its_archive(self):
         sdist = self.built("sdist", "--sdist")
         self.assertEqual(sdist.read_bytes(), self.built("again", "--sdist").read_bytes())
+        environment = os.environ | {"PYTHONDONTWRITEBYTECODE": "1"}
+        pip = [sys.executable, "-m", "pip", "wheel", "--no-index", "--no-deps", "--quiet"]
         for source in (PACKAGE, sdist):
             made = self.folder / source.name / self.wheel.name
-            environment = os.environ | {"PYTHONDONTWRITEBYTECODE": "1"}
-            pip = [sys.executable, "-m", "pip", "wheel", "--no-index", "--no-deps", "--quiet"]
             self.run_command([*pip, "--wheel-dir", made.parent, source], environment)
             self.assertEqual(made.read_bytes(), self.wheel.read_bytes())
 
