@@ -1,4 +1,5 @@
 pub mod Findings
+pub mod InLine
 pub mod Limits
 pub mod Lines
 pub mod Notes

@@ -10,6 +10,7 @@ mod chunks;
 mod files;
 mod finding;
 mod key;
+pub mod laws;
 mod line;
 mod meant;
 mod named;
