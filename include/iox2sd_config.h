@@ -121,7 +121,7 @@ typedef struct iox2sd_unknown_key {
     iox2sd_config_table table;
     size_t key_length; /* The bytes of its path, in the buffer of all paths. */
     uint8_t meant[80]; /* The path of the known key that was probably meant, then zeros. */
-    size_t meant_length; /* 0 where no known key of the table is near. */
+    size_t meant_length; /* 0 where no known key is near. */
 } iox2sd_unknown_key;
 
 /* How many keys of a file no setting has. */
@@ -167,8 +167,9 @@ IOX2SD_CHECKED iox2sd_count_answer iox2sd_config_faults_str(const char *text,
 
 /* Writes the keys of a file that no setting has, in the order of the tables and of the keys in
  * each, to the front of `out`, and their paths, one after the other, to the front of `paths`, where
- * all of them fit. With each comes the known key of its table at the least edit distance, where
- * that is at most 2.
+ * all of them fit. With each comes the path of the known key that was probably meant: the key of
+ * its table that is the same but for '-', '_' and the case of letters; or else the same key of
+ * another table; or else the key whose path stands in quotes; or else the nearest key of its table.
  * Errors, after which both are as they were: those of iox2sd_config_read;
  * IOX2SD_STATUS_BUFFER_TOO_SHORT, with the lengths that they need. At any point:
  * IOX2SD_STATUS_NO_MEMORY. */

@@ -1,7 +1,7 @@
 -- The lines of settings, one after the other.
 use Rattle.std.proofs.Common.{◌≡◌, ℕ, zero, suc, ◌+◌, ◌≤◌, ◌<◌, List, [], ◌∷◌, ◌++◌, length, map, drop, get_or, slice_get, Some, None, refl, sym, ap, ◌∙◌, subst, add-one, append_assoc, append-nil, arith, length-append, drop-cons, drop_of_length-le}
 use Rattle.std.specs.Prelude.{flat_map}
-use Rattle.std.proofs.lemmas.List.{length-map}
+use Rattle.std.proofs.lemmas.List.{length-map, map-append}
 use Rattle.iox2_config.specs.declared.config.Config.{Config}
 use Rattle.iox2_config_file.specs.declared.kind.Kind.{Kind}
 use Rattle.iox2_config_file.specs.declared.section.Row.{Row}
@@ -30,6 +30,23 @@ one_more view text xs i x out new whole lt is before wrote =
     first ∙ ap (λ y. y ∷ drop (i + 1) xs) (sym is) in
     ap (λ l. l ++ more) wrote ∙ append_assoc out (text (view x)) more
     ∙ ap (λ l. out ++ flat_map text (map view l)) (sym split) ∙ before
+
+-- one more of some values is listed
+pub one_listed : {A B C D : Type 0} (seen : A → B) (f : B → C) (view : D → C) (xs : List A)
+    (i : ℕ) (x : A) (old new : List D) (y : D) (whole : List C) → i < length xs
+    → x ≡ get_or xs i x → map view old ++ map f (map seen (drop i xs)) ≡ whole
+    → new ≡ old ++ y ∷ [] → view y ≡ f (seen x)
+    → map view new ++ map f (map seen (drop (i + 1) xs)) ≡ whole
+one_listed seen f view xs i x old new y whole lt is before added same =
+    let more = map f (map seen (drop (i + 1) xs)) in
+    let first : drop i xs ≡ get_or xs i x ∷ drop (i + 1) xs = rw add-one (drop-cons xs i x lt) in
+    let split : drop i xs ≡ x ∷ drop (i + 1) xs =
+    first ∙ ap (λ z. z ∷ drop (i + 1) xs) (sym is) in
+    let listed : map view new ≡ map view old ++ f (seen x) ∷ [] =
+    ap (λ l. map view l) added ∙ map-append view old (y ∷ [])
+    ∙ ap (λ z. map view old ++ z ∷ []) same in
+    ap (λ l. l ++ more) listed ∙ append_assoc (map view old) (f (seen x) ∷ []) more
+    ∙ ap (λ l. map view old ++ map f (map seen l)) (sym split) ∙ before
 
 -- what a list that is mapped twice has at an index
 pub at_map : {A B C : Type 0} (view : A → B) (f : B → C) (xs : List A) (i : ℕ) (x : A) (d : C)

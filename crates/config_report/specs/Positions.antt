@@ -3,8 +3,6 @@ use Rattle.std.specs.Prelude.{ℕ, List, [], ◌∷◌, ◌++◌, codes, length,
 use Rattle.std.specs.Fmt.{decimal}
 use Rattle.iox2_config_file.specs.declared.section.Section.{Section}
 use Rattle.iox2_config_file.specs.declared.section.Section.TheVariants as section
-use Rattle.iox2_config_file.specs.Read.{Located}
-use Rattle.iox2_config_file.specs.Unknown.{Unknown}
 use Rattle.toml_positions.specs.declared.position.Position.{Position}
 use Rattle.toml_positions.specs.Written.{position_in}
 
@@ -23,20 +21,6 @@ table_path section.Blackboard = codes "defaults" ∷ codes "blackboard" ∷ []
 -- the position of a path in a file of at most 128 KiB, if an expression writes it
 abbrev pub position_for : List ℕ → List (List ℕ) → Option Position
 position_for bytes path = if nat_le (length bytes) 131_072 then position_in bytes path else None
-
--- the path of the key of a value that is not allowed, and of a key that no setting has
-abbrev pub fault_path : Located → List (List ℕ)
-fault_path (s, key, fault) = table_path s ++ key ∷ []
-
-abbrev pub unknown_path : Unknown → List (List ℕ)
-unknown_path (s, key, meant) = table_path s ++ key ∷ []
-
--- where these keys stand
-abbrev pub fault_position : List ℕ → Located → Option Position
-fault_position bytes fault = position_for bytes (fault_path fault)
-
-abbrev pub unknown_position : List ℕ → Unknown → Option Position
-unknown_position bytes unknown = position_for bytes (unknown_path unknown)
 
 -- a position, in front of what is reported there
 abbrev pub at_text : Option Position → List ℕ

@@ -5,14 +5,24 @@
 //! `specs/Report.antt`.
 #![tactic(auto)]
 
+mod check;
 mod chunks;
 mod files;
+mod finding;
+mod key;
+pub mod laws;
+mod line;
+mod meant;
 mod named;
 mod positions;
-mod refused;
 mod report;
+mod subject;
 mod text;
-mod warnings;
 
+pub use check::check_file;
 pub use chunks::{requests, responses, samples};
-pub use report::{FileConfig, Report, ReportError, default_file, read_file, report_file};
+pub use finding::{Finding, Findings, Severity};
+pub use report::{
+    FileConfig, Report, ReportError, default_file, read_file, report_file, settings_text,
+};
+pub use toml_positions::Position;

@@ -1,13 +1,13 @@
 //! Where in a file the keys stand that something is said of.
 ghost use Rattle.std.specs.Prelude.{◌≡◌, ◌++◌, ◌∷◌, [], Some, None, map, slice_index_or, IfOk, IsSome};
-ghost use Rattle.iox2_config_file.specs.Read.{fault_view};
-ghost use Rattle.iox2_config_file.specs.Unknown.{unknown_view};
+ghost use Rattle.config_report.specs.Notes.{topic_position};
+ghost use Rattle.config_report.specs.Subjects.{subject_view};
 ghost use Rattle.toml.specs.Parse.{parse_document};
 ghost use Rattle.toml_positions.specs.Written.{path_view};
 ghost use Rattle.config_report.specs.Positions.{table_path, at_text, position_for};
-ghost use Rattle.config_report.specs.Positions.{fault_position, unknown_position};
 
-use iox2_config_file::{Section, SettingFault, UnknownKey};
+use crate::subject::Subject;
+use iox2_config_file::Section;
 use std::alloc::{AllocError, Global};
 use std::fmt;
 use toml_positions::{KeyPath, Position, positions_of};
@@ -33,7 +33,7 @@ fn table_path(section: Section) -> &'static [&'static str]
 }
 
 /// The path of a key of a table.
-fn key_path(section: Section, key: &str) -> KeyPath<'_>
+pub(crate) fn key_path(section: Section, key: &str) -> KeyPath<'_>
     ensures { path_view result ≡ table_path section ++ key.now ∷ [] }
 {
     KeyPath {
@@ -59,34 +59,18 @@ fn positions_for(
     Ok(found)
 }
 
-/// The positions of the keys whose values are not allowed.
-pub(crate) fn fault_positions(
+/// The positions of the keys of some subjects.
+pub(crate) fn subject_positions(
     alloc: Global,
     text: &str,
-    faults: &[SettingFault],
+    subjects: &[Subject<'_>],
 ) -> Result<Vec<Option<Position>>, AllocError>
     ensures { IfOk result (λ found. IsSome (parse_document text.now)
-        → found.items ≡ map (fault_position text.now) (map fault_view faults.now)) }
+        → found.items ≡ map (topic_position text.now) (map subject_view subjects.now)) }
 {
     let mut paths = Vec::new(alloc);
-    for fault in faults {
-        paths.push(key_path(fault.section, fault.key))?;
-    }
-    positions_for(alloc, text, paths.as_slice())
-}
-
-/// The positions of the keys that no setting has.
-pub(crate) fn unknown_positions(
-    alloc: Global,
-    text: &str,
-    unknown: &[UnknownKey],
-) -> Result<Vec<Option<Position>>, AllocError>
-    ensures { IfOk result (λ found. IsSome (parse_document text.now)
-        → found.items ≡ map (unknown_position text.now) (map unknown_view unknown.now)) }
-{
-    let mut paths = Vec::new(alloc);
-    for key in unknown {
-        paths.push(key_path(key.section, key.key.as_str()))?;
+    for subject in subjects {
+        paths.push(subject.path())?;
     }
     positions_for(alloc, text, paths.as_slice())
 }

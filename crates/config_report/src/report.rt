@@ -1,19 +1,16 @@
 //! What is said of a file of settings.
 
-ghost use Rattle.std.specs.Prelude.{◌≡◌, IfOk, IsSome, map, flat_map, string_bytes};
-ghost use Rattle.config_report.specs.Report.{ReadsFile, Reports, HasDefaults, warning_in};
-ghost use Rattle.toml.specs.Parse.{parse_document};
+ghost use Rattle.std.specs.Prelude.{◌≡◌, ◌++◌, OnOk, IfOk, string_bytes};
+ghost use Rattle.config_report.specs.Findings.{lines_of};
+ghost use Rattle.config_report.specs.Report.{ReadsFile, Reports, HasDefaults};
 ghost use Rattle.config_report.specs.Text.{IsReportText};
-ghost use Rattle.iox2_config_file.specs.Unknown.{unknown_view};
 
-use crate::positions::unknown_positions;
-use crate::refused::{no_utf8, refusal};
+use crate::check::check_file;
+use crate::finding::{Finding, Findings};
 use crate::text::write_text;
-use crate::warnings::write_warnings;
 use iox2_config::config::Config;
-use iox2_config_file::{UnknownKey, read_config, write_config};
+use iox2_config_file::write_config;
 use std::alloc::{AllocError, Global};
-use std::str;
 
 /// What a file without faults says.
 #[derive(Debug, Drop)]
@@ -42,33 +39,34 @@ pub enum ReportError {
     NoMemory,
 }
 
-/// The settings of a file, or what is wrong with it: a line for each value that is not allowed, in
-/// the order of the settings.
+/// The settings of a file, or what is wrong with it: a line for each finding, in the order of the
+/// file.
 pub fn read_file(alloc: Global, bytes: &[u8]) -> Result<FileConfig, ReportError>
     ensures { ReadsFile bytes.now result }
 {
-    match str::from_utf8(bytes) {
-        Ok(text) => match read_config(alloc, text) {
-            Ok(settings) => match warnings_of(alloc, text, settings.unknown.as_slice()) {
-                Ok(warnings) => Ok(FileConfig {
-                    config: settings.config,
-                    warnings,
-                }),
-                Err(_) => Err(ReportError::NoMemory),
-            },
-            Err(error) => Err(refusal(alloc, text, &error)),
-        },
-        Err(error) => Err(no_utf8(alloc, bytes, error.valid_up_to())),
+    let Ok(found) = check_file(alloc, bytes) else {
+        return Err(ReportError::NoMemory);
+    };
+    let Findings { config, list } = found;
+    let Ok(lines) = lines_of(alloc, list.as_slice()) else {
+        return Err(ReportError::NoMemory);
+    };
+    match config {
+        Some(config) => Ok(FileConfig {
+            config,
+            warnings: lines,
+        }),
+        None => Err(ReportError::Refused(lines)),
     }
 }
 
-/// What a file of settings says, or what is wrong with it: a line for each value that is not
-/// allowed, in the order of the settings.
+/// What a file of settings says, or what is wrong with it: a line for each finding, in the order of
+/// the file.
 pub fn report_file(alloc: Global, bytes: &[u8]) -> Result<Report, ReportError>
     ensures { Reports bytes.now result }
 {
     let file = read_file(alloc, bytes)?;
-    match text_of(alloc, &file.config) {
+    match settings_text(alloc, &file.config) {
         Ok(text) => Ok(Report {
             text,
             warnings: file.warnings,
@@ -77,19 +75,28 @@ pub fn report_file(alloc: Global, bytes: &[u8]) -> Result<Report, ReportError>
     }
 }
 
-/// A line for each key of a text that no setting has.
-fn warnings_of(alloc: Global, text: &str, unknown: &[UnknownKey]) -> Result<String, AllocError>
-    ensures { IfOk result (λ warnings. IsSome (parse_document text.now) → string_bytes warnings
-        ≡ flat_map (warning_in text.now) (map unknown_view unknown.now)) }
+/// A line for each of some findings.
+fn lines_of(alloc: Global, list: &[Finding]) -> Result<String, AllocError>
+    ensures { IfOk result (λ lines. string_bytes lines ≡ lines_of list.now) }
 {
-    let positions = unknown_positions(alloc, text, unknown)?;
-    let mut warnings = String::new(alloc);
-    write_warnings(&mut warnings, unknown, positions.as_slice())?;
-    Ok(warnings)
+    let mut lines = String::new(alloc);
+    write_lines(&mut lines, list)?;
+    Ok(lines)
 }
 
-/// The text of settings, and of what follows from them.
-fn text_of(alloc: Global, config: &Config) -> Result<String, AllocError>
+/// Appends a line for each of some findings.
+fn write_lines(out: &mut String, list: &[Finding]) -> Result<(), AllocError>
+    ensures { OnOk result (string_bytes out.new ≡ string_bytes out.old ++ lines_of list.now) }
+{
+    for finding in list {
+        write!(out, "{finding}\n")?;
+    }
+    Ok(())
+}
+
+/// All settings, each marked where it differs from its default, and the directories, the files and
+/// the chunks that follow.
+pub fn settings_text(alloc: Global, config: &Config) -> Result<String, AllocError>
     ensures { IfOk result (λ text. IsReportText config.now (string_bytes text)) }
 {
     let mut text = String::new(alloc);

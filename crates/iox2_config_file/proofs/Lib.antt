@@ -2,6 +2,7 @@ pub mod Building
 pub mod Counting
 pub mod Filling
 pub mod First
+pub mod FoundKeys
 pub mod Legal
 pub mod ReadBack
 pub mod Reading

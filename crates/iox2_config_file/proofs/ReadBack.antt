@@ -1,5 +1,5 @@
 -- What is read of the text of a configuration.
-use Rattle.std.proofs.Common.{◌≡◌, ℕ, true, List, [], ◌∷◌, ◌++◌, map, Option, None, option_map, Result, Ok, Err, IfOk, IfErr, string_bytes, refl, sym, ap, length, arith}
+use Rattle.std.proofs.Common.{◌≡◌, ℕ, true, List, [], ◌∷◌, ◌++◌, map, Option, None, option_map, Result, Ok, Err, IfOk, IfErr, string_bytes, refl, sym, ap, subst, length, arith}
 use Rattle.std.specs.Prelude.{not, ◌||◌}
 use Rattle.std.specs.List.{filter_map}
 use Rattle.std.proofs.lemmas.List.Elements.{filter_map-append}
@@ -129,11 +129,11 @@ no_faults default config c written = search (rules, arith, both_none, section_ri
 
 -- ---- unknown keys
 
-known_among : (s : Section) (rows : List (List ℕ × Kind)) (ns : Nodes)
-    → AllKeys (λ k. is_known k rows) ns → unknown_among s rows (close ns) ≡ []
+known_among : (c : Config) (s : Section) (ns : Nodes)
+    → AllKeys (λ k. is_known k (rows_in s c)) ns → unknown_among c s (close ns) ≡ []
 unfolding unknown_at
-known_among s rows no_nodes all = refl
-known_among s rows (node k x ns) all = grind (arith, known_among s rows ns)
+known_among c s no_nodes all = refl
+known_among c s (node k x ns) all = grind (arith, known_among c s ns)
 
 abbrev AreKnown : Section → Config → Nodes → Type 0
 AreKnown s c ns = AllKeys (λ k. is_known k (rows_in s c)) ns
@@ -144,8 +144,10 @@ known_in c s = grind arith
 section_known : (config c : Config) (s : Section) → section_unknown c (file_of config) s ≡ []
 unfolding section_unknown
 section_known config c s =
-    rw (members_in config s, rows_in_all c config s)
-    (known_among s (rows_in s config) (nodes_in config s) (known_in config s))
+    let known : AreKnown s c (nodes_in config s) =
+    subst (λ rows. AllKeys (λ k. is_known k (rows ++ table_rows s)) (nodes_in config s))
+    (sym (rows_in_all c config s)) (known_in config s) in
+    rw (members_in config s) (known_among c s (nodes_in config s) known)
 
 none_unknown : (config c : Config) → unknown_in c (file_of config) ≡ []
 unfolding unknown_in

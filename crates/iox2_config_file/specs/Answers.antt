@@ -6,6 +6,7 @@ use Rattle.iox2_config_file.specs.declared.error.ConfigFileError.TheVariants as 
 use Rattle.iox2_config_file.specs.declared.fault.SettingFault.{SettingFault}
 use Rattle.iox2_config_file.specs.Read.{IsSettingsOf, faults_in, fault_view, Located}
 use Rattle.iox2_config.specs.Defaults.{IsDefaultConfig}
+use Rattle.iox2_config_file.specs.declared.read.FileContents.{FileContents}
 use Rattle.iox2_config_file.specs.declared.read.FileSettings.{FileSettings}
 use Rattle.iox2_config_file.specs.declared.unknown.UnknownKey.{UnknownKey}
 use Rattle.iox2_config_file.specs.Unknown.{unknown_view, unknown_in}
@@ -26,6 +27,13 @@ Reads default bytes settings =
     (file : Members) × (parse_document bytes ≡ Some file) × HasNoFault file
     × IsSettingsOf default file settings.config × ReportsUnknown file settings.unknown.items
 
+-- the text is a file, and this is all that it says: its settings, its faults and its unknown keys
+abbrev pub ReadsAll : Config → List ℕ → FileContents → Type 0
+ReadsAll default bytes contents =
+    (file : Members) × (parse_document bytes ≡ Some file)
+    × ((c : Config) → map fault_view contents.faults.items ≡ faults_in c file)
+    × IsSettingsOf default file contents.config × ReportsUnknown file contents.unknown.items
+
 -- the same, where an absent key has the default of the middleware
 abbrev pub ReadsOverDefaults : List ℕ → FileSettings → Type 0
 ReadsOverDefaults bytes settings =
@@ -35,11 +43,6 @@ ReadsOverDefaults bytes settings =
 abbrev pub IsFirstFault : Members → Located → Type 0
 IsFirstFault file fault =
     (c : Config) → (more : List Located) × (faults_in c file ≡ fault ∷ more)
-
--- the first fault of a file, if there is one
-abbrev pub FirstIs : Members → Option Located → Type 0
-FirstIs file None = HasNoFault file
-FirstIs file (Some fault) = IsFirstFault file fault
 
 -- why a text gives no settings: it is no TOML, or this is its first fault
 abbrev pub Refuses : List ℕ → ConfigFileError → Type 0
@@ -59,3 +62,8 @@ abbrev pub ReportsAll : List ℕ → List SettingFault → Type 0
 ReportsAll bytes faults =
     (file : Members) × (parse_document bytes ≡ Some file)
     × ((c : Config) → map fault_view faults ≡ faults_in c file)
+
+-- these are all the unknown keys of a text
+abbrev pub ReportsAllUnknown : List ℕ → List UnknownKey → Type 0
+ReportsAllUnknown bytes unknown =
+    (file : Members) × (parse_document bytes ≡ Some file) × ReportsUnknown file unknown

@@ -46,7 +46,7 @@ reason_text (NoPath e) = codes "is no path: " ++ why_text e
 reason_text (NoFileName e) = codes "is no name of a file: " ++ why_text e
 reason_text (UnknownVariant wanted) = codes "is not " ++ kind_text wanted
 reason_text NoDuration = codes "is not a table of the integers `secs` and `nanos` alone"
-reason_text NanosTooLarge = codes "has `nanos` of a second or more"
+reason_text NanosTooLarge = codes "has `nanos` of 2^32 or more"
 
 -- the path of a key, and what is wrong with its value
 abbrev pub located_text : Located → List ℕ

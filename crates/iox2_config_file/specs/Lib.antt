@@ -1,6 +1,7 @@
 pub mod Answers
 pub mod Depth
 pub mod Faults
+pub mod Proposals
 pub mod Read
 pub mod ReadBack
 pub mod Rows

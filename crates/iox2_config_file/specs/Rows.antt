@@ -6,6 +6,18 @@ use Rattle.iox2_config_file.specs.declared.section.Section.{Section}
 use Rattle.iox2_config_file.specs.declared.section.Section.TheVariants as section
 use Rattle.toml_parser.specs.Lexical.{is_non_eol}
 
+-- the name of a table, as a header spells it: nothing for the whole file
+abbrev pub table_name : Section → List ℕ
+table_name section.Root = []
+table_name section.Global = codes "global"
+table_name section.Service = codes "global.service"
+table_name section.Node = codes "global.node"
+table_name section.Defaults = codes "defaults"
+table_name section.PublishSubscribe = codes "defaults.publish-subscribe"
+table_name section.Event = codes "defaults.event"
+table_name section.RequestResponse = codes "defaults.request-response"
+table_name section.Blackboard = codes "defaults.blackboard"
+
 -- what stands before the keys of a table in their paths
 abbrev pub prefix_of : Section → List ℕ
 prefix_of section.Root = []

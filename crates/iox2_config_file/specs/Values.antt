@@ -1,5 +1,5 @@
 -- What the value of a key may be, and what it means.
-use Rattle.std.specs.Prelude.{ℕ, ◌+◌, ◌*◌, ℤ, pos, negsuc, List, length, Bool, true, Option, Some, None, Result, Ok, Err, if◌then◌else◌, ◌&&◌, ◌==◌, not, nat_lt, nat_le, codes, bytes_eq}
+use Rattle.std.specs.Prelude.{ℕ, ◌+◌, ◌*◌, ◌^◌, ℤ, pos, negsuc, List, length, Bool, true, Option, Some, None, Result, Ok, Err, if◌then◌else◌, ◌&&◌, ◌==◌, not, nat_lt, nat_le, codes, bytes_eq}
 use Rattle.std.specs.List.{list_all, list_any}
 use Rattle.std.specs.Result.{result_map_both, result_err, result_unwrap_or}
 use Rattle.iox2_texts.specs.Path.{is_slash}
@@ -84,10 +84,10 @@ abbrev pub part_in : Option Data → Option ℕ
 part_in (Some (integer (pos n))) = Some n
 part_in _ = None
 
--- so many seconds and nanoseconds
+-- so many seconds, and nanoseconds of at most 32 bits: those of a second or more are carried over
 abbrev pub seconds_in : Option ℕ → Option ℕ → Result SettingValue Fault
 seconds_in (Some secs) (Some nanos) =
-    if nat_lt nanos 1_000_000_000 then Ok (duration (secs * 1_000_000_000 + nanos))
+    if nat_lt nanos (2 ^ 32) then Ok (duration (secs * 1_000_000_000 + nanos))
     else Err NanosTooLarge
 seconds_in _ _ = Err NoDuration
 

@@ -5,7 +5,6 @@ ghost use Rattle.std.specs.List.{filter_map};
 ghost use Rattle.toml.specs.Data.{no_members};
 ghost use Rattle.toml.specs.View.{table_view};
 ghost use Rattle.iox2_config_file.specs.Read.{fault_view, row_fault, row_view, section_faults, faults_in};
-ghost use Rattle.iox2_config_file.specs.Answers.{FirstIs};
 ghost use Rattle.iox2_config.specs.declared.config.Config.{Config};
 
 use crate::kind::Fault;
@@ -106,19 +105,6 @@ fn add_sections(
         add_section(faults, *section, file, empty)?;
     }
     Ok(())
-}
-
-/// The first fault of a file.
-pub(crate) fn first_fault(
-    alloc: Global,
-    file: &Table,
-    empty: &Table,
-) -> Result<Option<SettingFault>, AllocError>
-    requires { table_view empty.now ≡ no_members }
-    ensures { IfOk result (λ first. FirstIs (table_view file.now) (option_map fault_view first)) }
-{
-    let faults = file_faults(alloc, file, empty)?;
-    Ok(faults.first().copied())
 }
 
 /// The faults of all values of a file, in the order of the tables and of the keys in each.

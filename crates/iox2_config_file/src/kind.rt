@@ -66,7 +66,7 @@ pub enum Fault {
     UnknownVariant(Kind),
     /// A table that does not have just the integers `secs` and `nanos`, none of them below 0.
     NoDuration,
-    /// A duration whose `nanos` are a second or more.
+    /// A duration whose `nanos` have more than 32 bits.
     NanosTooLarge,
 }
 
@@ -86,7 +86,7 @@ impl fmt::Display for Fault {
             Fault::NoDuration => f.write_str(
                 "is not a table of the integers `secs` and `nanos` alone",
             ),
-            Fault::NanosTooLarge => f.write_str("has `nanos` of a second or more"),
+            Fault::NanosTooLarge => f.write_str("has `nanos` of 2^32 or more"),
         }
     }
 }

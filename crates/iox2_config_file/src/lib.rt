@@ -7,9 +7,12 @@ mod error;
 mod fault;
 mod kind;
 pub mod laws;
+mod proposal;
 mod read;
+mod search;
 mod section;
 mod setting;
+mod spelling;
 mod tables;
 mod texts;
 mod unknown;
@@ -20,7 +23,10 @@ pub use depth::{TooDeep, too_deep};
 pub use error::ConfigFileError;
 pub use fault::SettingFault;
 pub use kind::{Fault, Kind, TomlType};
-pub use read::{FileSettings, read_config, read_config_over, report_all};
+pub use proposal::{Likeness, Proposal};
+pub use read::{
+    FileContents, FileSettings, read_all, read_config, read_config_over, report_all, report_unknown,
+};
 pub use section::{Row, SECTIONS, Section, rows};
 pub use setting::{SettingValue, value_at};
 pub use unknown::UnknownKey;

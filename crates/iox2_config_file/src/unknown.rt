@@ -2,14 +2,15 @@
 ghost use Rattle.std.specs.Prelude.{◌≡◌, ◌++◌, Some, map, flat_map, option_map, string_bytes, OnOk, IfOk};
 ghost use Rattle.iox2_config.specs.declared.config.Config.{Config};
 ghost use Rattle.iox2_config_file.specs.Read.{row_view};
-ghost use Rattle.iox2_config_file.specs.Unknown.{edit_distance, is_known, meant, unknown_view, unknown_at, unknown_among, section_unknown, unknown_in};
+ghost use Rattle.iox2_config_file.specs.Unknown.{is_known, unknown_view, unknown_at, unknown_among};
+ghost use Rattle.iox2_config_file.specs.Unknown.{section_unknown, unknown_in};
 ghost use Rattle.toml.specs.Data.{no_members};
 ghost use Rattle.toml.specs.View.{table_view};
 
+use crate::proposal::{Proposal, propose};
 use crate::section::{Row, SECTIONS, Section, rows};
 use crate::tables::section_table;
 use std::alloc::{AllocError, Global};
-use strsim::levenshtein;
 use toml::Table;
 
 /// A key of a file that no setting has.
@@ -19,17 +20,8 @@ pub struct UnknownKey {
     pub section: Section,
     /// The key.
     pub key: String,
-    /// The known key of the same table that was probably meant: the first of the nearest, where at
-    /// most two characters have to be put in, taken out or changed.
-    pub meant: Option<&'static str>,
-}
-
-/// How many characters have to be put in, taken out or changed.
-#[tactic(auto, unfolding(crate::specs::Unknown::edit_distance))]
-fn distance(alloc: Global, key: &str, known: &str) -> Result<usize, AllocError>
-    ensures { IfOk result (λ n. n ≡ edit_distance key.now known.now) }
-{
-    levenshtein(alloc, key, known)
+    /// The known key that was probably meant, if there is one.
+    pub meant: Option<Proposal>,
 }
 
 /// Whether a key is known.
@@ -44,41 +36,18 @@ fn is_known(key: &str, rows: &[Row]) -> bool
     false
 }
 
-/// The known key that was probably meant.
-#[tactic(auto, unfolding(crate::specs::Unknown::meant))]
-fn nearest(alloc: Global, key: &str, rows: &[Row]) -> Result<Option<&'static str>, AllocError>
-    ensures { IfOk result (λ found.
-        option_map (λ t. t.now) found ≡ meant key.now (map row_view rows.now)) }
-{
-    let mut found = None;
-    let mut limit = 3;
-    for row in rows {
-        let n = distance(alloc, key, row.key)?;
-        if n < limit {
-            found = Some(row.key);
-            limit = n;
-        }
-    }
-    Ok(found)
-}
-
 /// A key of a table, where it is not known.
 #[tactic(auto, unfolding(crate::specs::Unknown::unknown_at))]
-fn unknown_of(
-    alloc: Global,
-    section: Section,
-    key: &str,
-    rows: &[Row],
-) -> Result<Option<UnknownKey>, AllocError>
-    ensures { IfOk result (λ unknown.
-        option_map unknown_view unknown ≡ unknown_at section (map row_view rows.now) key.now) }
+fn unknown_of(alloc: Global, section: Section, key: &str) -> Result<Option<UnknownKey>, AllocError>
+    ensures { IfOk result (λ unknown. (c : Config)
+        → option_map unknown_view unknown ≡ unknown_at c section key.now) }
 {
-    if is_known(key, rows) {
+    if is_known(key, rows(section)) {
         return Ok(None);
     }
     Ok(Some(UnknownKey {
         section,
-        meant: nearest(alloc, key, rows)?,
+        meant: propose(alloc, section, key)?,
         key: String::from_str(alloc, key)?,
     }))
 }
@@ -89,14 +58,13 @@ fn add_unknown(
     unknown: &mut Vec<UnknownKey>,
     section: Section,
     table: &Table,
-    rows: &[Row],
 ) -> Result<(), AllocError>
-    ensures { OnOk result (map unknown_view unknown.new.items
+    ensures { OnOk result ((c : Config) → map unknown_view unknown.new.items
         ≡ map unknown_view unknown.old.items
-        ++ unknown_among section (map row_view rows.now) (table_view table.now)) }
+        ++ unknown_among c section (table_view table.now)) }
 {
     for (key, _) in table.iter() {
-        if let Some(found) = unknown_of(alloc, section, key.as_str(), rows)? {
+        if let Some(found) = unknown_of(alloc, section, key.as_str())? {
             unknown.push(found)?;
         }
     }
@@ -116,8 +84,7 @@ fn add_section(
     ensures { OnOk result ((c : Config) → map unknown_view unknown.new.items
         ≡ map unknown_view unknown.old.items ++ section_unknown c (table_view file.now) section) }
 {
-    let table = section_table(file, section, empty);
-    add_unknown(alloc, unknown, section, table, rows(section))
+    add_unknown(alloc, unknown, section, section_table(file, section, empty))
 }
 
 /// Adds the unknown keys of some tables of the file.

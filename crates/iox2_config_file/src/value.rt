@@ -1,5 +1,5 @@
 //! How the value of a key is read.
-ghost use Rattle.std.specs.Prelude.{◌≡◌, pos, Some, length};
+ghost use Rattle.std.specs.Prelude.{◌≡◌, ◌<◌, ◌^◌, pos, Some, IfSome, length};
 ghost use Rattle.std.specs.Result.{result_map_both, result_err};
 ghost use Rattle.std.specs.Duration.{as_nanos};
 ghost use Rattle.toml.specs.Data.{get_member};
@@ -180,15 +180,16 @@ fn duration(parts: &Table) -> Result<Duration, Fault>
     let Some(nanos) = part(parts, "nanos") else {
         return Err(Fault::NoDuration);
     };
-    if nanos >= 1_000_000_000 {
+    let Ok(nanos) = u32::try_from(nanos) else {
         return Err(Fault::NanosTooLarge);
-    }
-    Ok(Duration::new(secs, nanos as u32))
+    };
+    Ok(Duration::new(secs, nanos))
 }
 
 /// An integer that is not below 0.
 fn number(value: &Value) -> Option<u64>
-    ensures { result ≡ part_in (Some (view value.now)) }
+    ensures value { result ≡ part_in (Some (view value.now)) }
+    ensures range { IfSome result (λ n. n < 2 ^ 63) }
 {
     match value {
         Value::Integer(n) => u64::try_from(*n).ok(),
@@ -198,7 +199,8 @@ fn number(value: &Value) -> Option<u64>
 
 /// The number at a key.
 fn part(parts: &Table, key: &str) -> Option<u64>
-    ensures { result ≡ part_in (get_member key.now (table_view parts.now)) }
+    ensures value { result ≡ part_in (get_member key.now (table_view parts.now)) }
+    ensures range { IfSome result (λ n. n < 2 ^ 63) }
 {
     number(get(parts, key)?)
 }

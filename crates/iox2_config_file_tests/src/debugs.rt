@@ -1,10 +1,10 @@
 //! What `Debug` prints of settings and of what is wrong with them: each variant by name, each field
 //! by name and value.
-use config_report::{FileConfig, Report, ReportError};
+use config_report::{FileConfig, Finding, Findings, Position, Report, ReportError, Severity};
 use iox2_config::config::{AllocationStrategy, BackpressureStrategy, Config};
 use iox2_config_file::{
-    ConfigFileError, ConfigWriteError, Fault, FileSettings, Kind, Misfit, Row, Section,
-    SettingFault, SettingValue, TomlType, UnknownKey,
+    ConfigFileError, ConfigWriteError, Fault, FileContents, FileSettings, Kind, Likeness, Misfit,
+    Proposal, Row, Section, SettingFault, SettingValue, TomlType, UnknownKey,
 };
 use iox2_texts::bounded::SemanticStringError;
 use std::alloc::{AllocError, Global};
@@ -34,6 +34,18 @@ static KINDS: [(Kind, &str); 8] = [
     (Kind::Backpressure, "Backpressure"),
     (Kind::Allocation, "Allocation"),
     (Kind::Duration, "Duration"),
+];
+
+static LIKENESSES: [(Likeness, &str); 4] = [
+    (Likeness::Spelling, "Spelling"),
+    (Likeness::OtherTable, "OtherTable"),
+    (Likeness::Quoted, "Quoted"),
+    (Likeness::Near, "Near"),
+];
+
+static SEVERITIES: [(Severity, &str); 2] = [
+    (Severity::Error, "Error"),
+    (Severity::Warning, "Warning"),
 ];
 
 static TYPES: [(TomlType, &str); 7] = [
@@ -95,12 +107,14 @@ fn tables_kinds_faults_and_values_are_shown_by_name(rt: HostRuntime) {
             are_shown_as(&TYPES),
             are_shown_as(&FAULTS),
             are_shown_as(&VALUES),
+            are_shown_as(&LIKENESSES),
+            are_shown_as(&SEVERITIES),
             is_shown_as(
                 &SettingValue::Duration(Duration::from_millis(9)),
                 "Duration(9ms)",
             ),
         ],
-        [true; 6]
+        [true; 8]
     );
 }
 
@@ -155,9 +169,14 @@ fn rows_and_settings_are_shown_by_field(rt: HostRuntime) {
     let unknown = UnknownKey {
         section: Section::Node,
         key: String::from_str(rt.alloc(), "a").expect(&rt, "memory for a text"),
-        meant: Some("b"),
+        meant: Some(Proposal {
+            section: Section::Event,
+            key: "b",
+            likeness: Likeness::Near,
+        }),
     };
-    let key = "UnknownKey { section: Node, key: \"a\", meant: Some(\"b\") }";
+    let key = "UnknownKey { section: Node, key: \"a\", meant: Some(Proposal { section: Event, \
+               key: \"b\", likeness: Near }) }";
     assert!(rt; is_shown_as(&unknown, key));
     settings
         .unknown
@@ -197,5 +216,40 @@ fn reports_are_shown_by_field(rt: HostRuntime) -> Result<(), Fail> {
         ],
         [true; 4]
     );
+    Ok(())
+}
+
+#[test]
+fn contents_are_shown_by_field(rt: HostRuntime) {
+    let contents = FileContents {
+        config: Config::default(),
+        faults: Vec::new(rt.alloc()),
+        unknown: Vec::new(rt.alloc()),
+    };
+    let config = Config::default();
+    let shown = format!(in rt.alloc();
+        "FileContents {{ config: {config:?}, faults: [], unknown: [] }}"
+    ).expect(&rt, "memory for a text");
+    assert!(rt; is_shown_as(&contents, shown.as_str()));
+}
+
+#[test]
+fn findings_are_shown_by_field(rt: HostRuntime) -> Result<(), Fail> {
+    let finding = Finding {
+        position: Some(Position { line: 1, column: 2 }),
+        severity: Severity::Warning,
+        key: Some(letter(rt.alloc(), "a")?),
+        message: letter(rt.alloc(), "b")?,
+    };
+    let shown = "Finding { position: Some(Position { line: 1, column: 2 }), severity: Warning, \
+                 key: Some(\"a\"), message: \"b\" }";
+    assert!(rt; is_shown_as(&finding, shown));
+    let mut found = Findings {
+        config: None,
+        list: Vec::new(rt.alloc()),
+    };
+    found.list.push(finding).expect(&rt, "memory for a finding");
+    let shown = format!(in rt.alloc(); "Findings {{ config: None, list: [{shown}] }}")?;
+    assert!(rt; is_shown_as(&found, shown.as_str()));
     Ok(())
 }

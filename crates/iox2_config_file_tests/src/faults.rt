@@ -25,8 +25,8 @@ const FAULTS: [(&str, &str); 14] = [
         "global.creation-timeout: is not a table of the integers `secs` and `nanos` alone",
     ),
     (
-        "global.creation-timeout = { secs = 1, nanos = 1000000000 }",
-        "global.creation-timeout: has `nanos` of a second or more",
+        "global.creation-timeout = { secs = 1, nanos = 4294967296 }",
+        "global.creation-timeout: has `nanos` of 2^32 or more",
     ),
     (
         "global.service.cleanup-dead-nodes-on-open = 'true'",

@@ -10,6 +10,8 @@ mod memory;
 #[cfg(test)]
 mod positions;
 #[cfg(test)]
+mod proposals;
+#[cfg(test)]
 mod settings;
 #[cfg(test)]
 mod unknown;

@@ -36,13 +36,13 @@ const REPORTED: [(&[u8], &str); 14] = [
     ),
     (
         b"[[sizes]]\nb = 1\n[[ sizes ]]\nb = 2\n[ globl.x ]\n",
-        "5:3: warning: globl: this table has no such key, global may be meant\n\
-         1:3: warning: sizes: this table has no such key\n",
+        "1:3: warning: sizes: this table has no such key\n\
+         5:3: warning: globl: this table has no such key, global may be meant\n",
     ),
     (
         b"[global.service]\n[defaults]\nservice.x = 1\n[global]\nservices = 2\n",
-        "5:1: warning: global.services: this table has no such key, global.service may be meant\n\
-         3:1: warning: defaults.service: this table has no such key\n",
+        "3:1: warning: defaults.service: this table has no such key, it belongs to [global]\n\
+         5:1: warning: global.services: this table has no such key, global.service may be meant\n",
     ),
     (
         b"\"a\\u001b[31m\\nb\" = 1\n",

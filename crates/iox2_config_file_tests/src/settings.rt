@@ -167,3 +167,14 @@ fn a_file_lies_over_another(rt: HostRuntime) {
     let board = &both.defaults.blackboard;
     assert_eq!(rt; (board.max_nodes, board.max_readers), (7, 6));
 }
+
+/// Nanoseconds of a second or more are carried over, up to 32 bits of them.
+#[test]
+fn nanoseconds_are_carried_over(rt: HostRuntime) {
+    let text = "global.creation-timeout = { secs = 9223372036854775807, nanos = 4294967295 }";
+    let read = settings(&rt, text);
+    assert_eq!(rt;
+        read.config.global.creation_timeout,
+        Duration::new(9_223_372_036_854_775_811, 294_967_295)
+    );
+}

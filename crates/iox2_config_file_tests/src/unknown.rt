@@ -9,7 +9,11 @@ const UNKNOWN: [(&str, &str, Option<&'static str>); 9] = [
         "max-subscriber",
         Some("max-subscribers"),
     ),
-    ("defaults.event.max-listtenres = 1", "max-listtenres", None),
+    (
+        "defaults.event.max-listtenres = 1",
+        "max-listtenres",
+        Some("max-listeners"),
+    ),
     (
         "defaults.event.max-listeenrs = 1",
         "max-listeenrs",
@@ -36,7 +40,9 @@ fn names(
 ) -> bool {
     let read = read_config(rt.alloc(), text).expect(rt, "a file without faults");
     match read.unknown.first() {
-        Some(unknown) => unknown.key.as_str() == key && unknown.meant == meant,
+        Some(unknown) => {
+            unknown.key.as_str() == key && unknown.meant.map(|proposal| proposal.key) == meant
+        }
         None => false,
     }
 }

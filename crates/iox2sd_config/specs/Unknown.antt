@@ -17,7 +17,7 @@ unknown_path (s, key, meant) = key_path s key
 
 -- the path of the known key that was probably meant, or nothing
 abbrev pub meant_path : Unknown → List ℕ
-meant_path (s, key, Some meant) = key_path s meant
+meant_path (s, key, Some (table, meant, likeness)) = key_path table meant
 meant_path (s, key, None) = []
 
 -- an unknown key as a plain value

@@ -53,7 +53,7 @@ fn meant_path(alloc: Global, key: &UnknownKey) -> Result<String, AllocError>
     ensures { IfOk result (λ path. string_bytes path ≡ meant_path (unknown_view key.now)) }
 {
     match key.meant {
-        Some(meant) => key_path(alloc, key.section, meant),
+        Some(meant) => key_path(alloc, meant.section, meant.key),
         None => Ok(String::new(alloc)),
     }
 }

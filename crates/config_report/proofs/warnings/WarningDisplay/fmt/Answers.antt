@@ -1,9 +1,0 @@
-use Rattle.config_report.proofs.warnings.WarningDisplay.fmt.Goals as goal
-
-pub returns-in-Some-clause-writes : goal.returns-in-Some-clause-writes
-returns-in-Some-clause-writes g c =
-    rw (c.in-Some.is, ← c.prefix-prefix.ensures) c.write.ensures.writes
-
-pub returns-in-None-clause-writes : goal.returns-in-None-clause-writes
-returns-in-None-clause-writes g c =
-    rw (c.in-None.is, ← c.prefix-prefix.ensures) c.write-in-None.ensures.writes

@@ -1,0 +1,90 @@
+-- What is said of a file of settings, and how it is written.
+use Rattle.std.specs.Prelude.{ℕ, List, [], ◌∷◌, ◌++◌, codes, Option, Some, None, option_map}
+use Rattle.iox2_config_file.specs.Faults.{reason_text}
+use Rattle.iox2_config_file.specs.Read.{Located}
+use Rattle.iox2_config_file.specs.Proposals.{Proposed}
+use Rattle.iox2_config_file.specs.Rows.{prefix_of, table_name}
+use Rattle.iox2_config_file.specs.Unknown.{Unknown}
+use Rattle.iox2_config_file.specs.declared.proposal.Likeness.TheVariants.{Spelling, OtherTable, Quoted, Near}
+use Rattle.iox2_config_file.specs.declared.section.Section.{Section}
+use Rattle.iox2_config_file.specs.declared.section.Section.TheVariants as section
+use Rattle.config_report.specs.Lines.{in_line}
+use Rattle.config_report.specs.Positions.{at_text, position_for, table_path}
+use Rattle.config_report.specs.declared.finding.Severity.{Severity}
+use Rattle.config_report.specs.declared.finding.Severity.TheVariants.{Error, Warning}
+use Rattle.toml_positions.specs.declared.position.Position.{Position}
+use Rattle.toml_writer.specs.Text.{key_text}
+
+-- something that is said of a file: where, how much it weighs, of which key, and what
+pub record Note : Type 0 where
+  pub position : Option Position
+  pub severity : Severity
+  pub key : Option (List ℕ)
+  pub message : List ℕ
+
+-- the same with a key and words that stand in one line
+abbrev pub note : Option Position → Severity → Option (List ℕ) → List ℕ → Note
+note at severity key message = record {
+  position = at;
+  severity = severity;
+  key = option_map in_line key;
+  message = in_line message;
+}
+
+-- what there is to say something of: a value that is not allowed, or a key that no setting has
+pub data Topic : Type 0 where
+  fault : Located → Topic
+  unknown : Unknown → Topic
+
+-- the path of its key
+abbrev pub topic_path : Topic → List (List ℕ)
+topic_path (fault (s, key, reason)) = table_path s ++ key ∷ []
+topic_path (unknown (s, key, meant)) = table_path s ++ key ∷ []
+
+-- where a table is, in words
+abbrev pub table_text : Section → List ℕ
+table_text section.Root = codes "the top of the file"
+table_text s = codes "[" ++ (table_name s ++ codes "]")
+
+-- what was probably meant, in words
+abbrev pub proposed_text : Proposed → List ℕ
+proposed_text (s, key, Spelling) = prefix_of s ++ (key ++ codes " may be meant")
+proposed_text (s, key, OtherTable) = codes "it belongs to " ++ table_text s
+proposed_text (s, key, Quoted) = prefix_of s ++ (key ++ codes " without the quotes may be meant")
+proposed_text (s, key, Near) = prefix_of s ++ (key ++ codes " may be meant")
+
+-- that a table has no such key, and what was probably meant
+abbrev pub meant_text : Option Proposed → List ℕ
+meant_text None = codes "this table has no such key"
+meant_text (Some proposal) = codes "this table has no such key, " ++ proposed_text proposal
+
+-- what is said of it at a position
+abbrev pub topic_note : Option Position → Topic → Note
+topic_note at (fault (s, key, reason)) =
+    note at Error (Some (prefix_of s ++ key)) (reason_text reason)
+topic_note at (unknown (s, key, meant)) =
+    note at Warning (Some (prefix_of s ++ key_text key)) (meant_text meant)
+
+-- the position of its key in a file
+abbrev pub topic_position : List ℕ → Topic → Option Position
+topic_position bytes topic = position_for bytes (topic_path topic)
+
+-- what is said of it in a file
+abbrev pub note_in : List ℕ → Topic → Note
+note_in bytes topic = topic_note (topic_position bytes topic) topic
+
+-- how much it weighs, in words
+abbrev pub severity_text : Severity → List ℕ
+severity_text Error = codes "error"
+severity_text Warning = codes "warning"
+
+-- a key in front of what is said of it
+abbrev pub of_key : Option (List ℕ) → List ℕ
+of_key None = []
+of_key (Some key) = key ++ codes ": "
+
+-- what is said, without the end of its line
+abbrev pub note_text : Note → List ℕ
+note_text n =
+    at_text n.position
+    ++ (severity_text n.severity ++ (codes ": " ++ (of_key n.key ++ n.message)))

@@ -1,0 +1,169 @@
+//! What was probably meant by a key that no setting has.
+ghost use Rattle.std.specs.Prelude.{◌≡◌, ◌==◌, ◌++◌, IfOk, map, option_map, string_bytes};
+ghost use Rattle.std.specs.List.{list_any};
+ghost use Rattle.iox2_config.specs.declared.config.Config.{Config};
+ghost use Rattle.iox2_config_file.specs.Proposals.{edit_distance, elsewhere, nearest, of_any, of_table};
+ghost use Rattle.iox2_config_file.specs.Proposals.{nearest_below, proposal_view, proposed, unquoted};
+ghost use Rattle.iox2_config_file.specs.Read.{row_view, rows_in};
+ghost use Rattle.iox2_config_file.specs.Rows.{prefix_of};
+
+use crate::search::{Wanted, find_wanted};
+use crate::section::{Row, Section, rows};
+use crate::spelling::respelled;
+use std::alloc::{AllocError, Global};
+use strsim::levenshtein;
+
+/// How a known key is like one that is not known.
+#[derive(Clone, Copy, Debug, PartialEq, Eq)]
+pub enum Likeness {
+    /// It is a key of the same table, and the same but for `-`, `_` and the case of letters.
+    Spelling,
+    /// It is the same, and a key of another table.
+    OtherTable,
+    /// Its path, from the root or from the table on, stands in quotes.
+    Quoted,
+    /// It is the nearest key of the same table.
+    Near,
+}
+
+/// A known key that was probably meant.
+#[derive(Clone, Copy, Debug, PartialEq, Eq)]
+pub struct Proposal {
+    /// Its table.
+    pub section: Section,
+    /// The key.
+    pub key: &'static str,
+    /// How it is like the one that is not known.
+    pub likeness: Likeness,
+}
+
+/// The size of the longest key, in bytes, for which the nearest one is looked for.
+const LONGEST_NEAR: usize = 64;
+
+/// How many characters have to be put in, taken out or changed.
+#[tactic(auto, unfolding(crate::specs::Proposals::edit_distance))]
+fn distance(alloc: Global, key: &str, known: &str) -> Result<usize, AllocError>
+    ensures { IfOk result (λ n. n ≡ edit_distance key.now known.now) }
+{
+    levenshtein(alloc, key, known)
+}
+
+/// The first of the rows whose distance is the least, below a limit.
+fn nearest_below(
+    alloc: Global,
+    key: &str,
+    below: usize,
+    rows: &[Row],
+) -> Result<Option<&'static str>, AllocError>
+    ensures { IfOk result (λ found. option_map (λ t. t.now) found
+        ≡ nearest_below key.now below None (map row_view rows.now)) }
+{
+    let mut found = None;
+    let mut limit = below;
+    for row in rows {
+        let n = distance(alloc, key, row.key)?;
+        if n < limit {
+            found = Some(row.key);
+            limit = n;
+        }
+    }
+    Ok(found)
+}
+
+/// The nearest of the rows: at most two characters have to be put in, taken out or changed, or a
+/// third of the key's bytes.
+#[tactic(auto, unfolding(crate::specs::Proposals::nearest))]
+fn nearest(alloc: Global, key: &str, rows: &[Row]) -> Result<Option<&'static str>, AllocError>
+    ensures { IfOk result (λ found.
+        option_map (λ t. t.now) found ≡ nearest key.now (map row_view rows.now)) }
+{
+    if key.len() <= LONGEST_NEAR {
+        nearest_below(alloc, key, (key.len() / 3).max(2) + 1, rows)
+    } else {
+        Ok(None)
+    }
+}
+
+/// A proposal of a key of the same table.
+fn of_table(section: Section, likeness: Likeness, key: Option<&'static str>) -> Option<Proposal>
+    ensures { option_map proposal_view result
+        ≡ option_map (of_table section likeness) (option_map (λ t. t.now) key.entry) }
+{
+    match key {
+        Some(key) => Some(Proposal {
+            section,
+            key,
+            likeness,
+        }),
+        None => None,
+    }
+}
+
+/// A proposal of a key of any table.
+fn of_any(likeness: Likeness, found: Option<(Section, &'static str)>) -> Option<Proposal>
+    ensures { option_map proposal_view result
+        ≡ option_map (of_any likeness) (option_map (λ p. (p.0, p.1.now)) found.entry) }
+{
+    match found {
+        Some((section, key)) => Some(Proposal {
+            section,
+            key,
+            likeness,
+        }),
+        None => None,
+    }
+}
+
+/// The same key in another table.
+fn elsewhere(key: &str) -> Option<Proposal>
+    ensures { (c : Config) → option_map proposal_view result ≡ elsewhere c key.now }
+{
+    of_any(Likeness::OtherTable, find_wanted(Wanted::Key(key)))
+}
+
+/// Whether a byte of a key is a dot.
+fn has_dot(key: &[u8]) -> bool
+    ensures { result ≡ list_any (λ b. b == 46) key.now }
+{
+    key.iter().any(|byte| *byte == b'.')
+}
+
+/// Of a key with a dot, the known key whose path it is: from the root on, or from its table on.
+fn unquoted(alloc: Global, section: Section, key: &str) -> Result<Option<Proposal>, AllocError>
+    ensures { IfOk result (λ found. (c : Config)
+        → option_map proposal_view found ≡ unquoted c section key.now) }
+{
+    if !has_dot(key.as_bytes()) {
+        return Ok(None);
+    }
+    let mut path = String::new(alloc);
+    path.push_str(section.prefix())?;
+    path.push_str(key)?;
+    let found = find_wanted(Wanted::Path(key, path.as_str()));
+    Ok(of_any(Likeness::Quoted, found))
+}
+
+/// What was probably meant by a key that a table does not have: the same key but for `-`, `_` and
+/// the case of letters; or else the same key in another table; or else the key whose path stands in
+/// quotes; or else the nearest key.
+#[tactic(auto, unfolding(crate::specs::Proposals::proposed))]
+pub(crate) fn propose(
+    alloc: Global,
+    section: Section,
+    key: &str,
+) -> Result<Option<Proposal>, AllocError>
+    ensures { IfOk result (λ found. (c : Config)
+        → option_map proposal_view found ≡ proposed c section key.now) }
+{
+    let rows = rows(section);
+    if let Some(found) = of_table(section, Likeness::Spelling, respelled(key, rows)) {
+        return Ok(Some(found));
+    }
+    if let Some(found) = elsewhere(key) {
+        return Ok(Some(found));
+    }
+    if let Some(found) = unquoted(alloc, section, key)? {
+        return Ok(Some(found));
+    }
+    Ok(of_table(section, Likeness::Near, nearest(alloc, key, rows)?))
+}
