@@ -21,7 +21,7 @@ SOURCE_DATE_EPOCH=${SOURCE_DATE_EPOCH:-$(git -C "$top" log -1 --format=%ct)}
 export SOURCE_DATE_EPOCH LC_ALL=C TZ=UTC
 umask 022
 version=$(./version)
-programs=(iox2-replay iox2-describe iox2-conform)
+programs=(iox2-replay iox2-describe iox2-conform iox2-check)
 work=$(mktemp -d)
 trap 'rm -rf "$work"' EXIT
 rm -rf "$dist"
@@ -44,6 +44,9 @@ manual() {
     package/manual "$1" "$version" | gzip -9n > "$2/$1.1.gz"
 }
 
+# What bash completes for iox2-check.
+completions() { install -D -m 644 package/iox2-check.bash "$1/iox2-check"; }
+
 # ---- The prefix ----
 
 name=iox2sd-$version-x86_64-linux-gnu
@@ -55,6 +58,7 @@ for each in "${programs[@]}"; do
     install -m 755 "$(program "$each")" "$prefix/bin/$each"
     manual "$each" "$prefix/share/man/man1"
 done
+completions "$prefix/share/bash-completion/completions"
 install -m 644 "$top"/docs/{C,CPP,CALLS,GLOSSARY,SCRIPT,DESCRIBE,CONFORM,CONFIG}.md \
     "$top/docs/iceoryx2.toml" "$prefix/share/doc/iox2sd"
 "$top/docs/reference" "$prefix/share/doc/iox2sd/reference" > "$work/log"
@@ -139,6 +143,7 @@ for each in "${programs[@]}"; do
     strip "$tools/bin/$each"
     manual "$each" "$tools/share/man/man1"
 done
+completions "$tools/share/bash-completion/completions"
 deb iox2sd-tools
 
 # ---- What the bytes stand on ----

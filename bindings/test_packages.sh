@@ -16,6 +16,7 @@ if [ "${1:-}" != inside ]; then
     for program in replay describe conform; do
         mkdir "$work/$program" && cp "../crates/iox2_$program"/st* "$work/$program"
     done
+    mkdir "$work/check" && cp -r ../crates/iox2_check/{args,data,status,stdout} "$work/check"
     rm -rf ../dist && cp -r "$work/dist" ../dist
     # In a mount namespace of its own, an empty folder stands over the repository and the toolchain.
     kit=$(dirname "$(rt doc)")
@@ -102,6 +103,33 @@ for program in describe conform; do
     run "archive: iox2-$program with a bad argument" refuses_argument iox2-$program
 done
 run "archive: iox2-replay with any argument" ignores
+# The stored run of the program that reads files by their names.
+checks() {
+    local words
+    mapfile -t words < "$work/check/args"
+    (cd "$work/check/data" && "$prefix/bin/iox2-check" "${words[@]}") > "$work/printed"
+    [ $? = "$(cat "$work/check/status")" ] && diff "$work/printed" "$work/check/stdout"
+}
+run "archive: iox2-check" checks
+run "archive: iox2-check --version" has_version iox2-check
+run "archive: iox2-check with a bad argument" refuses_argument iox2-check
+default_is_documented() {
+    "$prefix/bin/iox2-check" --default | diff - "$prefix/share/doc/iox2sd/iceoryx2.toml"
+}
+run "archive: iox2-check --default" default_is_documented
+cannot_write() { "$prefix/bin/iox2-check" --schema > /dev/full; [ $? = 3 ]; }
+run "archive: iox2-check where nothing can be written" cannot_write
+# What bash completes for the words of a command line, of which the last is completed.
+completes() {
+    bash -c '. "$1"; COMP_WORDS=("${@:2}"); COMP_CWORD=$(($# - 2)); _iox2_check; printf "%s\n" "${COMPREPLY[@]}"' \
+        - "$prefix/share/bash-completion/completions/iox2-check" "$@"
+}
+completes_options() {
+    [ "$(completes iox2-check --s)" = $'--strict\n--show\n--schema' ] &&
+        [ "$(completes iox2-check --format j)" = json ] &&
+        [ "$(completes iox2-check "$work/check/ar")" = "$work/check/args" ]
+}
+run "archive: completions of iox2-check" completes_options
 fails_to_write() {
     "$prefix/bin/iox2-$1" < "$work/$1/stdin" > /dev/full
     [ $? = 3 ]
@@ -110,7 +138,7 @@ for program in replay describe conform; do
     run "archive: iox2-$program where nothing can be written" fails_to_write $program
 done
 if has man; then
-    for program in iox2-replay iox2-describe iox2-conform; do
+    for program in iox2-replay iox2-describe iox2-conform iox2-check; do
         run "archive: man $program" has_manual $program "usage: $program"
     done
 fi

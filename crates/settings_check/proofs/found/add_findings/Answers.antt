@@ -1,0 +1,27 @@
+use Rattle.std.proofs.Common.{◌≡◌, ◌∷◌, [], ◌++◌, length, map, sym, ap, ◌∙◌, arith}
+use Rattle.std.specs.Vec.Iter.{into_iter_items}
+use Rattle.settings_check.specs.Found.{report_of, reports_of}
+use Rattle.settings_check.proofs.Lists.{items_more, items_end, nothing_left}
+use Rattle.settings_check.proofs.found.add_findings.Goals as goal
+
+pub loop-finding-preserved : goal.loop-finding-preserved
+loop-finding-preserved c =
+    let at = c.loop-finding in
+    let steps : into_iter_items at.finding-iterator
+    ≡ c.in-Some.finding ∷ into_iter_items c.next.new.self = c.in-Some.ensures.steps.0 in (
+      items_more (report_of c.args.file.now) _ _ _ _ _ c.in-Some.finding at.invariant.0 steps
+          c.in_ok-add_report.ensures,
+      let was = at.invariant.1 in
+          let gone = c.in-Some.ensures.steps.1 in
+          let short = ap length steps in
+          omega arith,
+    )
+
+pub returns : goal.returns
+returns c =
+    let at = c.loop-finding in
+    let none = c.in-None.ensures.steps in
+    let empty : into_iter_items at.finding-iterator ≡ [] =
+    nothing_left _ (sym at.invariant.1 ∙ none.0) in
+    items_end (report_of c.args.file.now) _ _ _ _ _ at.invariant.0 empty
+    c.into_iter-finding-iterator.ensures.into_iter_gives.0

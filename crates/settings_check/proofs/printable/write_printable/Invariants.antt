@@ -1,0 +1,12 @@
+use Rattle.std.proofs.Common.{◌≡◌, ◌++◌, IsUtf8, chars, string_bytes}
+use Rattle.std.specs.Prelude.{flat_map}
+use Rattle.std.specs.Str.Iter.{chars_rest}
+use Rattle.settings_check.specs.Printable.{printable_char}
+use Rattle.settings_check.proofs.printable.write_printable.Given as goal
+
+abbrev pub invariant-loop-c : goal.invariant-loop-c
+invariant-loop-c l =
+    IsUtf8 (chars_rest l.c-iterator)
+    × (string_bytes l.out ++ flat_map printable_char (chars (chars_rest l.c-iterator))
+    ≡ string_bytes l.initial.out
+    ++ flat_map printable_char (chars (chars_rest l.initial.c-iterator)))

@@ -1,0 +1,129 @@
+-- What is answered to a request.
+use Rattle.std.specs.Prelude.{◌≡◌, ℕ, Bool, true, false, ◌&&◌, ◌||◌, nat_lt, List, [], ◌∷◌, ◌++◌, codes, flat_map, if◌then◌else◌, slice_get, Option, Some, None, Result, Ok, Err, String, string_bytes}
+use Rattle.std.specs.List.{list_any}
+use Rattle.std.specs.declared.alloc.Global.{Global}
+use Rattle.iox2_config.specs.declared.config.Config.{Config}
+use Rattle.config_report.specs.Report.{HasDefaults}
+use Rattle.config_report.specs.Text.{IsReportText}
+use Rattle.settings_check.specs.Compare.{AreAllDifferences}
+use Rattle.settings_check.specs.Found.{Said, Seen, AreFound}
+use Rattle.settings_check.specs.Lines.{lines_in, counts_text, errors_in, warnings_in, unread_line, style_of}
+use Rattle.settings_check.specs.Schema.{IsSchema}
+use Rattle.settings_check.specs.Words.{texts_of}
+use Rattle.settings_check.specs.declared.answer.Answer.{Answer}
+use Rattle.settings_check.specs.declared.answer.Status.{Status}
+use Rattle.settings_check.specs.declared.answer.Status.TheVariants.{Good, Faulty, Unusable}
+use Rattle.settings_check.specs.declared.answer.TheConstants.{HELP, VERSION, BAD_ARGUMENTS}
+use Rattle.settings_check.specs.declared.arguments.Request.{Request}
+use Rattle.settings_check.specs.declared.arguments.RequestError.{RequestError}
+use Rattle.settings_check.specs.declared.arguments.RequestError.TheVariants.{BadArguments, NoMemory}
+use Rattle.settings_check.specs.declared.arguments.Task.{Task}
+use Rattle.settings_check.specs.declared.arguments.Task.TheVariants as task
+use Rattle.settings_check.specs.declared.files.FileError.{FileError}
+use Rattle.settings_check.specs.declared.lines.Style.{Style}
+use Rattle.settings_check.specs.declared.lines.Style.TheVariants as style
+
+-- a file cannot be read
+abbrev pub has_unread : List (List ℕ × FileError) → Bool
+has_unread [] = false
+has_unread (file ∷ files) = true
+
+-- the status, by whether a file cannot be read, and whether there is an error, or a warning that
+-- counts as one
+abbrev pub status_of : Bool → Seen → Status
+status_of strict seen =
+    if has_unread seen.unread then Unusable
+    else (if nat_lt 0 (errors_in seen.said) || (strict && nat_lt 0 (warnings_in seen.said))
+    then Faulty else Good)
+
+-- the last line, which counts the findings: there is none among objects of JSON
+abbrev pub end_text : Style → Seen → List ℕ
+end_text style.Plain seen = counts_text seen.said
+end_text style.Coloured seen = counts_text seen.said
+end_text style.Json seen = []
+
+-- the lines of the files that cannot be read
+abbrev pub unread_text : Seen → List ℕ
+unread_text seen = flat_map unread_line seen.unread
+
+-- what was found is reported: to the output, and the files that cannot be read to the errors
+pub record IsChecked (way : Style) (strict : Bool) (seen : Seen) (answer : Answer) : Type 0 where
+  pub output : string_bytes answer.output ≡ lines_in way seen.said ++ end_text way seen
+  pub errors : string_bytes answer.errors ≡ unread_text seen
+  pub status : answer.status ≡ status_of strict seen
+
+-- all settings of the first configuration and what follows from them, or nothing
+abbrev pub IsTextOf : List Config → List ℕ → Type 0
+IsTextOf [] text = text ≡ []
+IsTextOf (config ∷ others) text = IsReportText config text
+
+-- the settings are shown, and all else is reported to the errors
+pub record IsShown (strict : Bool) (seen : Seen) (answer : Answer) : Type 0 where
+  pub output : IsTextOf seen.configs (string_bytes answer.output)
+  pub errors : string_bytes answer.errors ≡ lines_in style.Plain seen.said ++ unread_text seen
+  pub status : answer.status ≡ status_of strict seen
+
+-- what is said of the differences of two configurations, or nothing where there are not two
+abbrev pub AreCompared : Option (String Global) → Option Config → Option Config → List Said → Type 0
+AreCompared (Some file) (Some a) (Some b) said = AreAllDifferences (string_bytes file) a b said
+AreCompared file a b said = said ≡ []
+
+-- what is said of the settings of the first file and the second is added to what was found
+abbrev pub AddsCompared : List (String Global) → Seen → Seen → Type 0
+AddsCompared files old new =
+    (said : List Said)
+    × AreCompared (slice_get files 0) (slice_get old.configs 0) (slice_get old.configs 1) said
+    × (new.said ≡ old.said ++ said) × (new.unread ≡ old.unread) × (new.configs ≡ old.configs)
+
+-- what is answered to a request for files, by what was found in them
+abbrev pub AnswersTask : Task → Style → Bool → List (String Global) → Seen → Answer → Type 0
+AnswersTask task.Show way strict files seen answer = IsShown strict seen answer
+AnswersTask task.Compare way strict files seen answer =
+    (compared : Seen) × AddsCompared files seen compared × IsChecked way strict compared answer
+AnswersTask other way strict files seen answer = IsChecked way strict seen answer
+
+-- the files are read, and what is found in them is answered
+abbrev pub AnswersFiles : (List ℕ → Result (List ℕ) FileError → Type 0) → Bool → List ℕ → Request
+    → Answer → Type 0
+AnswersFiles Gives coloured input request answer =
+    (seen : Seen) × AreFound Gives input (texts_of request.files.items) seen
+    × AnswersTask request.task (style_of request.format coloured) request.strict
+    request.files.items seen answer
+
+-- this text is answered
+pub record IsTextAnswer (text : List ℕ) (answer : Answer) : Type 0 where
+  pub output : string_bytes answer.output ≡ text
+  pub errors : string_bytes answer.errors ≡ []
+  pub status : answer.status ≡ Good
+
+-- the file of the default settings, and the schema
+abbrev pub IsDefaultAnswer : Answer → Type 0
+IsDefaultAnswer answer =
+    (text : List ℕ) × HasDefaults text × IsTextAnswer text answer
+
+abbrev pub IsSchemaAnswer : Answer → Type 0
+IsSchemaAnswer answer = (text : List ℕ) × IsSchema text × IsTextAnswer text answer
+
+-- what is answered to a request
+abbrev pub AnswersRequest : Task → (List ℕ → Result (List ℕ) FileError → Type 0) → Bool → List ℕ
+    → Request → Answer → Type 0
+AnswersRequest task.DefaultFile Gives coloured input request answer = IsDefaultAnswer answer
+AnswersRequest task.Schema Gives coloured input request answer = IsSchemaAnswer answer
+AnswersRequest task.Help Gives coloured input request answer = IsTextAnswer HELP.now answer
+AnswersRequest task.Version Gives coloured input request answer = IsTextAnswer VERSION.now answer
+AnswersRequest other Gives coloured input request answer =
+    AnswersFiles Gives coloured input request answer
+
+-- bad arguments are reported
+pub record IsRefusedAnswer (answer : Answer) : Type 0 where
+  pub output : string_bytes answer.output ≡ []
+  pub errors : string_bytes answer.errors ≡ BAD_ARGUMENTS.now
+  pub status : answer.status ≡ Unusable
+
+-- what is answered to arguments
+abbrev pub Answers : (List ℕ → Result (List ℕ) FileError → Type 0) → Bool → List ℕ
+    → Result Request RequestError → Answer → Type 0
+Answers Gives coloured input (Ok request) answer =
+    AnswersRequest request.task Gives coloured input request answer
+Answers Gives coloured input (Err BadArguments) answer = IsRefusedAnswer answer
+Answers Gives coloured input (Err NoMemory) answer = ⊥

@@ -1,0 +1,72 @@
+-- Which settings of two configurations differ.
+use Rattle.std.specs.Prelude.{◌≡◌, ◌≢◌, ◌⊎◌, ℕ, Bool, true, false, List, [], ◌∷◌, ◌++◌, codes, if◌then◌else◌, Some, None}
+use Rattle.iox2_config.specs.declared.config.Config.{Config}
+use Rattle.iox2_config_file.specs.declared.section.Section.{Section}
+use Rattle.iox2_config_file.specs.declared.section.Section.TheVariants as section
+use Rattle.iox2_config_file.specs.Read.{sections}
+use Rattle.iox2_config_file.specs.Rows.{prefix_of}
+use Rattle.iox2_config_file.specs.Settings.{Setting, settings_in}
+use Rattle.iox2_config_file.specs.Values.{SettingValue}
+use Rattle.iox2_config_file.specs.Write.{value_text}
+use Rattle.config_report.specs.Notes.{note}
+use Rattle.config_report.specs.declared.finding.Severity.{Severity}
+use Rattle.config_report.specs.declared.finding.Severity.TheVariants.{Error, Warning}
+use Rattle.settings_check.specs.Found.{Said}
+
+-- all processes of one system share the settings of the table
+abbrev pub is_shared : Section → Bool
+is_shared section.Global = true
+is_shared section.Service = true
+is_shared section.Node = true
+is_shared other = false
+
+-- how much a difference weighs
+abbrev pub difference_severity : Section → Severity
+difference_severity s = if is_shared s then Error else Warning
+
+-- what is said of a setting that all processes share
+abbrev pub sharing_text : Section → List ℕ
+sharing_text s =
+    if is_shared s then codes ", and must be the same in all processes of one system" else []
+
+-- what is said of a setting that differs: its value in the file, and that in the other one
+abbrev pub difference : List ℕ → Section → List ℕ → SettingValue → SettingValue → Said
+difference file s key value other = (
+  file,
+  note None (difference_severity s) (Some (prefix_of s ++ key))
+      (codes "is " ++ (value_text value ++ (codes " here and " ++ (value_text other
+      ++ (codes " in the other file" ++ sharing_text s))))),
+)
+
+-- what is said of two values of a setting: something exactly where they differ
+abbrev pub IsDifferenceOf : List ℕ → Section → List ℕ → SettingValue → SettingValue → List Said
+    → Type 0
+IsDifferenceOf file s key value other said =
+    ((value ≡ other) × (said ≡ []))
+    ⊎ ((value ≢ other) × (said ≡ difference file s key value other ∷ []))
+
+-- the same is added to what was said before
+abbrev pub AddsDifference : List ℕ → Section → List ℕ → SettingValue → SettingValue → List Said
+    → List Said → Type 0
+AddsDifference file s key value other old new =
+    (said : List Said) × IsDifferenceOf file s key value other said × (new ≡ old ++ said)
+
+-- what is said of the settings of a table, in their order
+abbrev pub AreDifferences : List ℕ → Section → List Setting → List Setting → List Said → Type 0
+AreDifferences file s (x ∷ xs) (y ∷ ys) said =
+    (first : List Said) × (others : List Said)
+    × IsDifferenceOf file s x.key x.value y.value first × AreDifferences file s xs ys others
+    × (said ≡ first ++ others)
+AreDifferences file s _ _ said = said ≡ []
+
+-- what is said of the settings of some tables
+abbrev pub AreTableDifferences : List ℕ → List Section → Config → Config → List Said → Type 0
+AreTableDifferences file [] a b said = said ≡ []
+AreTableDifferences file (s ∷ ss) a b said =
+    (first : List Said) × (others : List Said)
+    × AreDifferences file s (settings_in s a) (settings_in s b) first
+    × AreTableDifferences file ss a b others × (said ≡ first ++ others)
+
+-- what is said of all settings, in the order of the tables: those that all processes share first
+abbrev pub AreAllDifferences : List ℕ → Config → Config → List Said → Type 0
+AreAllDifferences file a b said = AreTableDifferences file sections a b said

@@ -1,0 +1,106 @@
+-- What is found in some files.
+use Rattle.std.specs.Prelude.{◌≡◌, ℕ, Bool, List, [], ◌∷◌, ◌++◌, codes, map, Result, Ok, Err, String, string_bytes, option_to_list}
+use Rattle.std.specs.declared.alloc.Global.{Global}
+use Rattle.std.specs.List.{list_any}
+use Rattle.std.specs.Str.{bytes_eq}
+use Rattle.iox2_config.specs.declared.config.Config.{Config}
+use Rattle.config_report.specs.Findings.{Checks, finding_view}
+use Rattle.config_report.specs.Notes.{Note}
+use Rattle.config_report.specs.declared.finding.Finding.{Finding}
+use Rattle.config_report.specs.declared.finding.Findings.{Findings}
+use Rattle.settings_check.specs.Files.{IsGiven}
+use Rattle.settings_check.specs.declared.files.FileError.{FileError}
+use Rattle.settings_check.specs.declared.found.Found.{Found}
+use Rattle.settings_check.specs.declared.found.Report.{Report}
+use Rattle.settings_check.specs.declared.found.Unread.{Unread}
+
+-- what is said of a file: its name, and what
+abbrev pub Said : Type 0
+Said = List ℕ × Note
+
+-- a finding in a file
+abbrev pub report_of : List ℕ → Finding → Said
+report_of file finding = (file, finding_view finding)
+
+-- what some reports say
+abbrev pub reports_of : List Report → List Said
+reports_of reports = map (λ r. report_of r.file.now r.finding) reports
+
+-- files that cannot be read, and why
+abbrev pub unread_of : List Unread → List (List ℕ × FileError)
+unread_of unread = map (λ u. (u.file.now, u.why)) unread
+
+-- what was found in some files: what is said of them, those that cannot be read, and the settings
+-- of those without errors
+pub record Seen : Type 0 where
+  pub said : List Said
+  pub unread : List (List ℕ × FileError)
+  pub configs : List Config
+
+abbrev pub found_view : Found → Seen
+found_view f = record {
+  said = reports_of f.reports.items;
+  unread = unread_of f.unread.items;
+  configs = f.configs.items;
+}
+
+-- nothing was found
+abbrev pub nothing_seen : Seen
+nothing_seen = record { said = []; unread = []; configs = [] }
+
+-- both were found
+abbrev pub both_seen : Seen → Seen → Seen
+both_seen a b = record {
+  said = a.said ++ b.said;
+  unread = a.unread ++ b.unread;
+  configs = a.configs ++ b.configs;
+}
+
+-- what is found in a file
+abbrev pub findings_seen : List ℕ → Findings → Seen
+findings_seen file findings = record {
+  said = map (report_of file) findings.list.items;
+  unread = [];
+  configs = option_to_list findings.config;
+}
+
+-- that a file cannot be read
+abbrev pub unread_seen : List ℕ → FileError → Seen
+unread_seen file why = record { said = []; unread = (file, why) ∷ []; configs = [] }
+
+-- what is found in a file for which this is given
+abbrev pub IsSeenIn : List ℕ → Result (List ℕ) FileError → Seen → Type 0
+IsSeenIn file (Ok bytes) seen =
+    (findings : Findings) × Checks bytes findings × (seen ≡ findings_seen file findings)
+IsSeenIn file (Err why) seen = seen ≡ unread_seen file why
+
+-- what is found in a file, read by its name or from the standard input
+abbrev pub IsFound : (List ℕ → Result (List ℕ) FileError → Type 0) → List ℕ → List ℕ → Seen
+    → Type 0
+IsFound Gives input file seen =
+    (given : Result (List ℕ) FileError) × IsGiven Gives input file given
+    × IsSeenIn file given seen
+
+-- what is found in a file for which this is given is added
+abbrev pub AddsGiven : List ℕ → Result (List ℕ) FileError → Seen → Seen → Type 0
+AddsGiven file given old new =
+    (seen : Seen) × IsSeenIn file given seen × (new ≡ both_seen old seen)
+
+-- what is found in a file is added
+abbrev pub AddsFile : (List ℕ → Result (List ℕ) FileError → Type 0) → List ℕ → List ℕ → Seen
+    → Seen → Type 0
+AddsFile Gives input file old new =
+    (given : Result (List ℕ) FileError) × IsGiven Gives input file given
+    × AddsGiven file given old new
+
+-- what is found in some files, one after the other
+abbrev pub AreFound : (List ℕ → Result (List ℕ) FileError → Type 0) → List ℕ → List (List ℕ)
+    → Seen → Type 0
+AreFound Gives input [] seen = seen ≡ nothing_seen
+AreFound Gives input (file ∷ files) seen =
+    (first : Seen) × (others : Seen) × IsFound Gives input file first
+    × AreFound Gives input files others × (seen ≡ both_seen first others)
+
+-- the standard input is one of the files
+abbrev pub reads_input : List (String Global) → Bool
+reads_input files = list_any (λ file. bytes_eq (string_bytes file) (codes "-")) files

@@ -1,0 +1,143 @@
+-- What the arguments of the program request.
+use Rattle.std.specs.Prelude.{◌≡◌, ◌≢◌, ℕ, Bool, true, false, not, ◌&&◌, nat_eq, nat_le, nat_lt, List, [], ◌∷◌, ◌++◌, codes, map, drop, length, is_some, if◌then◌else◌, Option, Some, None, option_map, option_and_then, unwrap_or, Result, Ok, Err, String, string_bytes}
+use Rattle.std.specs.Str.{bytes_eq}
+use Rattle.std.specs.IoError.{error_kind}
+use Rattle.std.specs.Vec.Iter.{into_iter_items}
+use Rattle.std.specs.declared.alloc.Global.{Global}
+use Rattle.std.specs.declared.vec.IntoIter.{IntoIter}
+use Rattle.std.specs.declared.io.Error.{Error}
+use Rattle.std.specs.declared.io.ErrorKind.TheVariants.{OutOfMemory}
+use Rattle.settings_check.specs.declared.arguments.Chosen.{Chosen}
+use Rattle.settings_check.specs.declared.arguments.Format.{Format}
+use Rattle.settings_check.specs.declared.arguments.Format.TheVariants.{Text, Json}
+use Rattle.settings_check.specs.declared.arguments.Request.{Request}
+use Rattle.settings_check.specs.declared.arguments.RequestError.{RequestError}
+use Rattle.settings_check.specs.declared.arguments.RequestError.TheVariants.{BadArguments, NoMemory}
+use Rattle.settings_check.specs.declared.arguments.Task.{Task}
+use Rattle.settings_check.specs.declared.arguments.Task.TheVariants as task
+use Rattle.settings_check.specs.declared.arguments.Word.{Word}
+use Rattle.settings_check.specs.declared.arguments.Word.TheVariants as word
+
+-- the word is the name of a file: it begins with no dash, or is a dash alone
+abbrev pub is_file_word : List ℕ → Bool
+is_file_word (a ∷ b ∷ rest) = not (nat_eq a 45)
+is_file_word other = true
+
+-- what an option is
+abbrev pub option_of : List ℕ → Word
+option_of w =
+    if bytes_eq w (codes "--strict") then word.Strict
+    else (if bytes_eq w (codes "--format") then word.Format
+    else (if bytes_eq w (codes "--show") then word.Task task.Show
+    else (if bytes_eq w (codes "--compare") then word.Task task.Compare
+    else (if bytes_eq w (codes "--default") then word.Task task.DefaultFile
+    else (if bytes_eq w (codes "--schema") then word.Task task.Schema
+    else (if bytes_eq w (codes "--help") then word.Task task.Help
+    else (if bytes_eq w (codes "--version") then word.Task task.Version
+    else word.Unknown)))))))
+
+-- what a word is
+abbrev pub word_of : List ℕ → Word
+word_of w = if is_file_word w then word.File else option_of w
+
+-- no option is chosen
+abbrev pub none_chosen : Chosen
+none_chosen =
+    record { strict = false; format = None; task = None; awaits_format = false }
+
+-- a format is chosen by its name
+abbrev pub format_with : Chosen → List ℕ → Option Chosen
+format_with o w =
+    if bytes_eq w (codes "text")
+    then Some (record o { format = Some Text; awaits_format = false })
+    else (if bytes_eq w (codes "json")
+    then Some (record o { format = Some Json; awaits_format = false }) else None)
+
+-- an option is chosen, what is to be done and a format at most once each
+abbrev pub option_with : Chosen → Word → Option Chosen
+option_with o word.Strict = Some (record o { strict = true })
+option_with o word.Format =
+    if is_some o.format then None else Some (record o { awaits_format = true })
+option_with o (word.Task t) = if is_some o.task then None else Some (record o { task = Some t })
+option_with o word.File = None
+option_with o word.Unknown = None
+
+-- what is chosen with one word more, which names no file
+abbrev pub chosen_with : Chosen → List ℕ → Option Chosen
+chosen_with o w = if o.awaits_format then format_with o w else option_with o (word_of w)
+
+-- the word names a file, where no format is awaited
+abbrev pub names_file : Chosen → List ℕ → Bool
+names_file o w = not o.awaits_format && is_file_word w
+
+-- what words choose beside what was chosen before them, and the files that they name, in their
+-- order; nothing where one of them may not stand there
+unfoldable pub said : Chosen → List (List ℕ) → Option (Chosen × List (List ℕ))
+said o [] = if o.awaits_format then None else Some (o, [])
+said o (w ∷ ws) =
+    if names_file o w then option_map (λ p. (p.0, w ∷ p.1)) (said o ws)
+    else option_and_then (λ next. said next ws) (chosen_with o w)
+
+-- the same, after some files
+abbrev pub after_files : List (List ℕ) → Option (Chosen × List (List ℕ))
+    → Option (Chosen × List (List ℕ))
+after_files files = option_map (λ p. (p.0, files ++ p.1))
+
+-- how many files a task takes
+abbrev pub fits : Task → ℕ → Bool
+fits task.Check n = nat_lt 0 n
+fits task.Show n = nat_eq n 1
+fits task.Compare n = nat_eq n 2
+fits other n = nat_eq n 0
+
+-- the arguments
+abbrev pub words_of : IntoIter (String Global) Global → List (List ℕ)
+words_of words = map string_bytes (into_iter_items words)
+
+-- the texts of some files' names
+abbrev pub texts_of : List (String Global) → List (List ℕ)
+texts_of files = map string_bytes files
+
+-- the task, which is to check where none is chosen
+abbrev pub task_in : Chosen → Task
+task_in o = unwrap_or o.task task.Check
+
+-- what was said is a request
+abbrev pub IsRequest : Option (Chosen × List (List ℕ)) → Request → Type 0
+IsRequest None request = ⊥
+IsRequest (Some (o, files)) request =
+    (request.strict ≡ o.strict) × (request.format ≡ unwrap_or o.format Text)
+    × (request.task ≡ task_in o) × (texts_of request.files.items ≡ files)
+    × (fits (task_in o) (length files) ≡ true)
+
+-- what was said is none
+abbrev pub IsNoRequest : Option (Chosen × List (List ℕ)) → Type 0
+IsNoRequest None = Unit {0}
+IsNoRequest (Some (o, files)) = fits (task_in o) (length files) ≡ false
+
+-- what options and files request, where no format is awaited
+abbrev pub RequestsWith : Chosen → List (List ℕ) → Result Request RequestError → Type 0
+RequestsWith o files (Ok request) =
+    IsRequest (if o.awaits_format then None else Some (o, files)) request
+RequestsWith o files (Err BadArguments) =
+    IsNoRequest (if o.awaits_format then None else Some (o, files))
+RequestsWith o files (Err NoMemory) = ⊥
+
+-- the arguments are none that the program knows
+abbrev pub IsBadArguments : RequestError → Type 0
+IsBadArguments BadArguments = Unit {0}
+IsBadArguments NoMemory = ⊥
+
+-- what the words after the program's name request
+abbrev pub RequestsIn : List (List ℕ) → Result Request RequestError → Type 0
+RequestsIn words (Ok request) = IsRequest (said none_chosen words) request
+RequestsIn words (Err BadArguments) = IsNoRequest (said none_chosen words)
+RequestsIn words (Err NoMemory) = Unit {0}
+
+-- what the arguments request: where they could not be had, there is no memory or they are bad
+abbrev pub Requests : Result (IntoIter (String Global) Global) Error → Result Request RequestError
+    → Type 0
+Requests (Ok words) request = RequestsIn (drop 1 (words_of words)) request
+Requests (Err why) (Err NoMemory) = error_kind why ≡ OutOfMemory
+Requests (Err why) (Err BadArguments) = error_kind why ≢ OutOfMemory
+Requests (Err why) (Ok request) = ⊥

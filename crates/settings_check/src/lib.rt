@@ -1,0 +1,16 @@
+//! The program `iox2-check`: what is wrong in files of settings, where, and what was probably
+//! meant; their settings, how two files differ, the default file, and the schema.
+#![tactic(auto)]
+
+mod answer;
+mod arguments;
+mod compare;
+mod files;
+mod found;
+mod lines;
+mod printable;
+mod schema;
+mod streams;
+
+pub use files::{FileError, Files};
+pub use streams::check_streams;

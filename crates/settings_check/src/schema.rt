@@ -1,0 +1,172 @@
+//! The JSON Schema of files of settings.
+ghost use Rattle.std.specs.Prelude.{◌≡◌, ◌++◌, ℕ, List, true, IfOk, OnOk, string_bytes};
+ghost use Rattle.settings_check.specs.Schema.{kind_schema, reference, value_schema, property};
+ghost use Rattle.settings_check.specs.Schema.{comma_if, properties, name_of, HasObject, HasDefinition};
+ghost use Rattle.settings_check.specs.Schema.{AreDefinitions, IsSchema};
+
+use iox2_config_file::{Kind, Row, SECTIONS, Section, rows};
+use std::alloc::{AllocError, Global};
+
+/// What stands before all tables.
+const HEAD: &str = "{
+  \"$schema\": \"http://json-schema.org/draft-07/schema#\",
+  \"title\": \"iceoryx2.toml\",
+  \"description\": \"The settings of iceoryx2, version 0.9.3\",
+";
+
+/// What stands between the top of the file and the other tables.
+const DEFINITIONS: &str = ",
+  \"definitions\": {
+";
+
+/// What stands behind all tables.
+const TAIL: &str = "  \"duration\": {
+  \"type\": \"object\", \"additionalProperties\": false, \"required\": [\"secs\", \"nanos\"],
+  \"properties\": {
+    \"secs\": {\"type\": \"integer\", \"minimum\": 0, \"maximum\": 9223372036854775807},
+    \"nanos\": {\"type\": \"integer\", \"minimum\": 0, \"maximum\": 4294967295}
+  }}
+  }
+}
+";
+
+/// What the value of a key may be, but for a table.
+fn kind_schema(kind: Kind) -> &'static str
+    ensures { result.now ≡ kind_schema kind }
+{
+    match kind {
+        Kind::Table => "\"type\": \"object\"",
+        Kind::Number => "\"type\": \"integer\", \"minimum\": 0, \"maximum\": 9223372036854775807",
+        Kind::Flag => "\"type\": \"boolean\"",
+        Kind::Path => {
+            "\"type\": \"string\", \"maxLength\": 255, \"pattern\": \"^[\\\\u0001-\\\\u007f]*$\""
+        }
+        Kind::FileName => {
+            "\"type\": \"string\", \"maxLength\": 255, \
+             \"pattern\": \"^(?!\\\\.{1,2}$)[\\\\u0001-.0-\\\\u007f]+$\""
+        }
+        Kind::Backpressure => "\"enum\": [\"RetryUntilDelivered\", \"DiscardData\"]",
+        Kind::Allocation => "\"enum\": [\"BestFit\", \"PowerOfTwo\", \"Static\"]",
+        Kind::Duration => "\"allOf\": [{\"$ref\": \"#/definitions/duration\"}]",
+    }
+}
+
+/// Appends that the value of a key is a table.
+fn write_reference(out: &mut String, section: Section, key: &str) -> Result<(), AllocError>
+    ensures { OnOk result
+        (string_bytes out.new ≡ string_bytes out.old ++ reference section key.now) }
+{
+    out.push_str("\"allOf\": [{\"$ref\": \"#/definitions/")?;
+    out.push_str(section.prefix())?;
+    out.push_str(key)?;
+    out.push_str(".\"}]")?;
+    Ok(())
+}
+
+/// Appends what the value of a key may be.
+fn write_kind(out: &mut String, section: Section, row: &Row) -> Result<(), AllocError>
+    ensures { OnOk result
+        (string_bytes out.new ≡ string_bytes out.old ++ value_schema section row.now) }
+{
+    match row.kind {
+        Kind::Table => write_reference(out, section, row.key),
+        kind => out.push_str(kind_schema(kind)),
+    }
+}
+
+/// Appends a key, with what it means and what its value may be.
+fn write_property(out: &mut String, section: Section, row: &Row) -> Result<(), AllocError>
+    ensures { OnOk result
+        (string_bytes out.new ≡ string_bytes out.old ++ property section row.now) }
+{
+    write!(
+        out,
+        "    \"{}\": {{\"description\": \"{}\", ",
+        row.key, row.about
+    )?;
+    write_kind(out, section, row)?;
+    out.push_str("}")
+}
+
+/// Appends a key behind the others.
+fn write_next(
+    out: &mut String,
+    section: Section,
+    row: &Row,
+    is_first: bool,
+) -> Result<(), AllocError>
+    ensures { OnOk result (string_bytes out.new
+        ≡ string_bytes out.old ++ (comma_if is_first ++ property section row.now)) }
+{
+    if !is_first {
+        out.push_str(",\n")?;
+    }
+    write_property(out, section, row)
+}
+
+/// Appends the keys of a table.
+fn write_properties(out: &mut String, section: Section, rows: &[Row]) -> Result<(), AllocError>
+    ensures { OnOk result (string_bytes out.new
+        ≡ string_bytes out.old ++ properties section true rows.now) }
+{
+    let mut is_first = true;
+    for row in rows {
+        write_next(out, section, row, is_first)?;
+        is_first = false;
+    }
+    Ok(())
+}
+
+/// Appends what a table may have.
+fn write_object(out: &mut String, section: Section) -> Result<(), AllocError>
+    ensures { OnOk result (HasObject section (string_bytes out.old) (string_bytes out.new)) }
+{
+    out.push_str(
+        "  \"type\": \"object\", \"additionalProperties\": false,\n  \"properties\": {\n",
+    )?;
+    write_properties(out, section, rows(section))?;
+    out.push_str("\n  }")?;
+    Ok(())
+}
+
+/// Appends the name of a table.
+fn write_name(out: &mut String, section: Section) -> Result<(), AllocError>
+    ensures { OnOk result (string_bytes out.new ≡ string_bytes out.old ++ name_of section) }
+{
+    let prefix = section.prefix();
+    write!(out, "  \"{prefix}\": {{\n")
+}
+
+/// Appends a table by its name.
+fn write_definition(out: &mut String, section: Section) -> Result<(), AllocError>
+    ensures { OnOk result (HasDefinition section (string_bytes out.old) (string_bytes out.new)) }
+{
+    write_name(out, section)?;
+    write_object(out, section)?;
+    out.push_str("},\n")?;
+    Ok(())
+}
+
+/// Appends some tables.
+fn write_definitions(out: &mut String, sections: &[Section]) -> Result<(), AllocError>
+    ensures { OnOk result ((text : List ℕ)
+        × (string_bytes out.new ≡ string_bytes out.old ++ text)
+        × AreDefinitions sections.now text) }
+{
+    for section in sections {
+        write_definition(out, *section)?;
+    }
+    Ok(())
+}
+
+/// The JSON Schema of files of settings.
+pub(crate) fn schema(alloc: Global) -> Result<String, AllocError>
+    ensures { IfOk result (λ text. IsSchema (string_bytes text)) }
+{
+    let mut out = String::from_str(alloc, HEAD)?;
+    write_object(&mut out, Section::Root)?;
+    out.push_str(DEFINITIONS)?;
+    write_definitions(&mut out, &SECTIONS[1..])?;
+    out.push_str(TAIL)?;
+    Ok(out)
+}

@@ -1,0 +1,113 @@
+//! Streams that fail at a call that the test names.
+
+use super::running::{Known, arguments};
+use settings_check::check_streams;
+use std::alloc::{AllocError, Global};
+use std::io;
+use std::io::{ErrorKind, Read, Write};
+use std::test::Fail;
+
+/// Counts calls, one of which fails.
+#[derive(Clone, Copy)]
+struct Calls {
+    made: u64,
+    failing: Option<u64>,
+}
+
+impl Calls {
+    fn failing_at(failing: Option<u64>) -> Self {
+        Calls { made: 0, failing }
+    }
+
+    fn next(&mut self) -> io::Result<()> {
+        let now = self.made;
+        self.made = now.wrapping_add(1);
+        if self.failing == Some(now) {
+            Err(io::Error::from(ErrorKind::Interrupted))
+        } else {
+            Ok(())
+        }
+    }
+}
+
+/// Gives no bytes.
+#[derive(Clone, Copy)]
+struct Source {
+    calls: Calls,
+}
+
+impl Read for Source {
+    fn read(&mut self, _buf: &mut [u8]) -> io::Result<usize> {
+        self.calls.next()?;
+        Ok(0)
+    }
+}
+
+/// Takes at most 12 bytes at a call, and forgets them.
+#[derive(Clone, Copy)]
+struct Sink {
+    calls: Calls,
+}
+
+impl Write for Sink {
+    fn write(&mut self, buf: &[u8]) -> io::Result<usize> {
+        self.calls.next()?;
+        Ok(buf.len().min(12))
+    }
+
+    fn flush(&mut self) -> io::Result<()> {
+        self.calls.next()
+    }
+}
+
+/// The status of a run on the standard input and a file that is not there, where each stream fails
+/// at the call of its own number, and how many calls each had.
+fn run(alloc: Global, failing: [Option<u64>; 3]) -> Result<(u8, [u64; 3]), AllocError> {
+    let mut source = Source {
+        calls: Calls::failing_at(failing[0]),
+    };
+    let mut output = Sink {
+        calls: Calls::failing_at(failing[1]),
+    };
+    let mut errors = Sink {
+        calls: Calls::failing_at(failing[2]),
+    };
+    let words = Ok(arguments(alloc, &["-", "x"])?);
+    let files = Known(&[]);
+    let status = check_streams(
+        alloc,
+        false,
+        words,
+        &files,
+        &mut source,
+        &mut output,
+        &mut errors,
+    );
+    let made = [source.calls.made, output.calls.made, errors.calls.made];
+    Ok((status, made))
+}
+
+#[test]
+fn each_call_that_fails_is_the_last(rt: HostRuntime) -> Result<(), Fail> {
+    let alloc = rt.alloc();
+    // Nothing fails: the input ends at once, the 21 bytes of the last line and the 25 bytes of the
+    // file that is not there are written in two pieces and in three, and both are flushed.
+    assert_eq!(rt; run(alloc, [None, None, None])?, (2, [1, 3, 4]));
+    assert_eq!(rt; run(alloc, [Some(0), None, None])?, (3, [1, 0, 0]));
+    for call in 0..2 {
+        assert_eq!(rt;
+            run(alloc, [None, Some(call), None])?,
+            (3, [1, call + 1, 0])
+        );
+    }
+    // The flush of the output comes behind the errors, and theirs last.
+    assert_eq!(rt; run(alloc, [None, Some(2), None])?, (3, [1, 3, 3]));
+    for call in 0..3 {
+        assert_eq!(rt;
+            run(alloc, [None, None, Some(call)])?,
+            (3, [1, 2, call + 1])
+        );
+    }
+    assert_eq!(rt; run(alloc, [None, None, Some(3)])?, (3, [1, 3, 4]));
+    Ok(())
+}

@@ -1,0 +1,176 @@
+//! What is written of files.
+
+use super::running::{Known, run};
+use std::test::Fail;
+
+/// A file with a fault, a key that no setting has, and a key with a command to a terminal.
+const BAD: &[u8] = b"[global]
+prefix = 'a/b'
+[defaults.event]
+max-node = 3
+\"\\u001b[31m\\u009b1m\" = 1
+";
+
+/// A file with a key that no setting has.
+const DOUBTFUL: &[u8] = b"[defaults.blackboard]\nmax-reader = 3\n";
+
+const FILES: Known<'_> = Known(&[
+    ("bad.toml", BAD),
+    ("doubtful.toml", DOUBTFUL),
+    ("\x1b]0;title\x07\n\u{9b}2J", b"x"),
+    (
+        "one",
+        b"global.prefix = 'one_'\ndefaults.event.max-nodes = 5\n",
+    ),
+    (
+        "other",
+        b"[global.node]\nmonitor-suffix = '.seen'\n[global]\nprefix = \"\\u0022\"\n",
+    ),
+]);
+
+/// Words, the status, the output and the errors.
+type Run<'a> = (&'a [&'a str], u8, &'a str, &'a str);
+
+const RUNS: [Run<'_>; 10] = [
+    (
+        &["bad.toml"],
+        1,
+        "bad.toml:2:1: error: global.prefix: is no name of a file: a byte or the whole text is not \
+         allowed\n\
+         bad.toml:4:1: warning: defaults.event.max-node: this table has no such key, \
+         defaults.event.max-nodes may be meant\n\
+         bad.toml:5:1: warning: defaults.event.\"\\u001B[31m\\u{9b}1m\": this table has no such \
+         key\n\
+         1 error, 2 warnings\n",
+        "",
+    ),
+    (
+        &["--format", "json", "bad.toml"],
+        1,
+        "{\"column\":1,\"file\":\"bad.toml\",\"key\":\"global.prefix\",\"line\":2,\"message\":\"is no \
+         name of a file: a byte or the whole text is not allowed\",\"severity\":\"error\"}\n\
+         {\"column\":1,\"file\":\"bad.toml\",\"key\":\"defaults.event.max-node\",\"line\":4,\
+         \"message\":\"this table has no such key, defaults.event.max-nodes may be meant\",\
+         \"severity\":\"warning\"}\n\
+         {\"column\":1,\"file\":\"bad.toml\",\
+         \"key\":\"defaults.event.\\\"\\\\u001B[31m\u{9b}1m\\\"\",\"line\":5,\
+         \"message\":\"this table has no such key\",\"severity\":\"warning\"}\n",
+        "",
+    ),
+    (
+        &["doubtful.toml"],
+        0,
+        "doubtful.toml:2:1: warning: defaults.blackboard.max-reader: this table has no such key, \
+         defaults.blackboard.max-readers may be meant\n0 errors, 1 warning\n",
+        "",
+    ),
+    (
+        &["--strict", "--format", "json", "doubtful.toml"],
+        1,
+        "{\"column\":1,\"file\":\"doubtful.toml\",\"key\":\"defaults.blackboard.max-reader\",\"line\":2,\
+         \"message\":\"this table has no such key, defaults.blackboard.max-readers may be meant\",\
+         \"severity\":\"warning\"}\n",
+        "",
+    ),
+    (
+        &["gone\x1b[0m", "closed", "folder", "broken", "doubtful.toml"],
+        2,
+        "doubtful.toml:2:1: warning: defaults.blackboard.max-reader: this table has no such key, \
+         defaults.blackboard.max-readers may be meant\n0 errors, 1 warning\n",
+        "gone\\u{1b}[0m: there is no such file\nclosed: it may not be read\n\
+         folder: it is a directory\nbroken: it cannot be read\n",
+    ),
+    (
+        &["--show", "bad.toml"],
+        1,
+        "",
+        "bad.toml:2:1: error: global.prefix: is no name of a file: a byte or the whole text is not \
+         allowed\n\
+         bad.toml:4:1: warning: defaults.event.max-node: this table has no such key, \
+         defaults.event.max-nodes may be meant\n\
+         bad.toml:5:1: warning: defaults.event.\"\\u001B[31m\\u{9b}1m\": this table has no such \
+         key\n",
+    ),
+    (
+        &["--compare", "one", "other"],
+        1,
+        "one: error: global.prefix: is \"one_\" here and '\"' in the other file, and must be the \
+         same in all processes of one system\n\
+         one: error: global.node.monitor-suffix: is \".node_monitor\" here and \".seen\" in the \
+         other file, and must be the same in all processes of one system\n\
+         one: warning: defaults.event.max-nodes: is 5 here and 36 in the other file\n\
+         2 errors, 1 warning\n",
+        "",
+    ),
+    (
+        &["--compare", "one", "one"],
+        0,
+        "0 errors, 0 warnings\n",
+        "",
+    ),
+    (
+        &[
+            "--compare",
+            "one",
+            "doubtful.toml",
+            "--strict",
+            "--format",
+            "text",
+        ],
+        1,
+        "doubtful.toml:2:1: warning: defaults.blackboard.max-reader: this table has no such key, \
+         defaults.blackboard.max-readers may be meant\n\
+         one: error: global.prefix: is \"one_\" here and \"iox2_\" in the other file, and must be \
+         the same in all processes of one system\n\
+         one: warning: defaults.event.max-nodes: is 5 here and 36 in the other file\n\
+         1 error, 2 warnings\n",
+        "",
+    ),
+    (&["--version"], 0, "iox2-check 0.1.0 (iceoryx2 0.9.3)\n", ""),
+];
+
+#[test]
+fn files_are_reported(rt: HostRuntime) -> Result<(), Fail> {
+    for (words, status, output, errors) in &RUNS {
+        let found = run(rt.alloc(), false, words, FILES, b"")?;
+        assert_eq!(rt;
+            (found.0, found.1.as_slice(), found.2.as_slice()),
+            (*status, output.as_bytes(), errors.as_bytes())
+        );
+    }
+    Ok(())
+}
+
+/// The name of a file has commands to a terminal, and its text is no TOML.
+#[test]
+fn no_name_is_a_command_to_a_terminal(rt: HostRuntime) -> Result<(), Fail> {
+    let words = ["\x1b]0;title\x07\n\u{9b}2J"];
+    let (status, output, errors) = run(rt.alloc(), false, &words, FILES, b"")?;
+    let begin = b"\\u{1b}]0;title\\u{7}\\u{a}\\u{9b}2J:1:".as_slice();
+    assert_eq!(rt;
+        (status, output.starts_with(begin), errors.len()),
+        (1, true, 0)
+    );
+    Ok(())
+}
+
+/// Lines are in colour on a terminal, and objects of JSON are not.
+#[test]
+fn colours_are_those_of_findings(rt: HostRuntime) -> Result<(), Fail> {
+    let (_, output, _) = run(
+        rt.alloc(),
+        true,
+        &["-"],
+        FILES,
+        b"x = 1\n[global]\nprefix = ''\n",
+    )?;
+    let expected = b"\x1b[33m-:1:1: warning: x: this table has no such key\x1b[0m\n\
+        \x1b[31m-:3:1: error: global.prefix: is no name of a file: a byte or the whole text is not \
+        allowed\x1b[0m\n1 error, 1 warning\n";
+    assert_eq!(rt; output.as_slice(), expected.as_slice());
+    let json = ["--format", "json", "doubtful.toml"];
+    let plain = run(rt.alloc(), false, &json, FILES, b"")?;
+    let coloured = run(rt.alloc(), true, &json, FILES, b"")?;
+    assert_eq!(rt; plain.1.as_slice(), coloured.1.as_slice());
+    Ok(())
+}
