@@ -25,8 +25,7 @@ fn settings_are_written_with_what_follows(rt: HostRuntime) {
 #[test]
 fn all_faults_of_a_file_are_written(rt: HostRuntime) {
     let file = "defaults.event.max-nodes = ''\nglobal.prefix = 2\nsize = 1";
-    let faults =
-        b"1:1: error: defaults.event.max-nodes: is a string, and an integer is wanted
+    let faults = b"1:1: error: defaults.event.max-nodes: is a string, and an integer is wanted
 2:1: error: global.prefix: is an integer, and a string with the name of a file is wanted
 3:1: warning: size: this table has no such key
 ";
