@@ -52,7 +52,8 @@ fn a_length_of_more_than_32_bits_is_not_cut() {
     let text = String::from_utf8(vec![0; length]).unwrap();
     let refused = ServiceName::new(&text);
     assert_eq!(refused, Err(ServiceNameError::ExceedsMaximumLength));
-    is_refused::<AttributeKeyContent>(text.as_bytes(), SemanticStringError::ExceedsMaximumLength);
+    let refused = AttributeKey::new(text.as_bytes());
+    assert_eq!(refused, Err(SemanticStringError::ExceedsMaximumLength));
 }
 
 #[test]
