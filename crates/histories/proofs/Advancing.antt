@@ -7,13 +7,16 @@ use Rattle.histories.specs.declared.front.Advance.{Advance}
 use Rattle.histories.specs.declared.front.Advance.TheVariants as advance
 use Rattle.histories.specs.declared.front.Config.{Config}
 use Rattle.histories.specs.declared.front.Front.{Front}
+use Rattle.histories.specs.declared.front.Link.{Link}
 use Rattle.histories.specs.Histories.{begins, times, IsOpen}
 use Rattle.histories.specs.Advances.{AdvancesIn, Agrees, Ends, EndsOpen}
-use Rattle.histories.specs.Frontier.{HasManyOpen, HasSlot, IsFrontOf, IsSound, IsTable}
-use Rattle.histories.specs.Gathering.{AreTaken, HasMany, IsLeft, spot_of}
+use Rattle.histories.specs.Frontier.{HasManyOpen, HasSlot, IsFrontOf, IsFrontier, IsSound, IsTable}
+use Rattle.histories.specs.Gathering.{AreLaidIn, AreTaken, Finishes, FreesSlot, HasMany, IsLeft, spot_of}
+use Rattle.histories.proofs.Chains.{frontier_laid}
 use Rattle.histories.proofs.Closing.{made_as}
 use Rattle.histories.proofs.Counting.{times-cons, times_none, times_one, times_other, times_same}
 use Rattle.histories.proofs.Events.{begin_no_end, ends_one, open_begin_now, open_begin_still}
+use Rattle.histories.proofs.Frontiers.{front_many}
 
 -- by the configurations that are left
 pub advanced : {S : Type 0} (Step : S → ℕ → S → Type 0) (events : List Event) (olds : List S)
@@ -25,6 +28,36 @@ advanced Step events olds event front advance.Refused f left ends = (f, left, en
 advanced Step events olds event front advance.ManyConfigs f left ends = absurd left
 advanced Step events olds event front advance.ManyOpen f left ends = absurd left
 advanced Step events olds event front advance.NoEvent f left ends = absurd left
+
+-- the calls that were made went into the links
+pub laid_out : {S : Type 0} (Step : S → ℕ → S → Type 0) (events : List Event) (olds : List S)
+    (event : Event) (links : List Link) (configs : List (Config S)) (new : Front S)
+    (result : Advance)
+    → IsFrontier Step links new.slots.items (events ++ event ∷ []) olds configs
+    → AreLaidIn links configs new result → EndsOpen events event
+    → AdvancesIn Step events olds event new result
+laid_out Step events olds event links configs new result f laid ends =
+    advanced Step events olds event new result
+    (frontier_laid Step links new.links.items new.slots.items (events ++ event ∷ []) olds configs
+    new.configs.items laid.0 f) laid.1 ends
+
+-- the slot of a call that is over was made free
+pub finished : {S : Type 0} (Step : S → ℕ → S → Type 0) (events : List Event) (olds : List S)
+    (event : Event) (old new : Front S) (slot : ℕ) (configs : List (Config S)) (result : Advance)
+    → ((more : List (Option ℕ)) → FreesSlot old.slots.items slot more
+    → IsFrontier Step old.links.items more (events ++ event ∷ []) olds configs)
+    → EndsOpen events event → Finishes old slot configs new result
+    → AdvancesIn Step events olds event new result
+finished Step events olds event old new slot configs result f ends is =
+    let there = f new.slots.items is.0 in
+    elim is.1 as (λ _. AdvancesIn Step events olds event new result) [
+      | inl many ↦
+          subst (λ r. AdvancesIn Step events olds event new r) (sym many.1)
+          (inr (front_many Step old.links.items new.slots.items (events ++ event ∷ []) olds configs
+          there many.0))
+      | inr laid ↦
+          laid_out Step events olds event old.links.items configs new result there laid ends
+    ]
 
 pub begin_ends : (events : List Event) (c : ℕ) → EndsOpen events (Begin c)
 begin_ends events c x ends = absurd (begin_no_end c x ends)

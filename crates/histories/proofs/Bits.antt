@@ -26,6 +26,17 @@ pub put_other : (set slot other : ℕ) → slot < 64 → other ≢ slot
 unfolding put
 put_other set slot other h ne = bit_at_set_other w64 set slot h other ne
 
+-- two sets without the slot differ with it too
+pub put_apart : (one other slot : ℕ) → slot < 64 → bit_at one slot ≡ 0 → bit_at other slot ≡ 0
+    → put one slot ≡ put other slot → one ≡ other
+put_apart one other slot h none gone same =
+    same_from_bits one other (λ i.
+    elim (cases_eq i slot) as (λ _. bit_at one i ≡ bit_at other i) [
+      | inl e ↦ ap (bit_at one) e ∙ (none ∙ sym (ap (bit_at other) e ∙ gone))
+      | inr ne ↦
+          sym (put_other one slot i h ne) ∙ (ap (λ w. bit_at w i) same ∙ put_other other slot i h ne)
+    ])
+
 -- the order in which slots go is free
 pub cleared_swap : (set one other : ℕ)
     → cleared (cleared set one) other ≡ cleared (cleared set other) one

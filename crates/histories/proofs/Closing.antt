@@ -5,7 +5,7 @@ use Rattle.std.specs.Int.{bit_at}
 use Rattle.std.specs.List.{Contains}
 use Rattle.histories.specs.declared.front.Config.{Config}
 use Rattle.histories.specs.Frontier.{HasSlot, IsLighter, IsSame, LeadTo, Path, Runs, cleared, path_more, path_of}
-use Rattle.histories.specs.Gathering.{AreSettled, FromOne, Gathers, IsClosed, IsClosing, IsCopy, IsDone, IsMadeFrom, IsNext, IsSettled, IsUnderWay, Spot, ones, spot_of}
+use Rattle.histories.specs.Gathering.{AreSettled, FromOne, Gathers, IsClosed, IsClosing, IsCopy, IsDone, IsMadeFrom, IsNext, IsNextLayer, IsSettled, IsUnderWay, Spot, ones, spot_of}
 use Rattle.histories.proofs.Bits.{bit_cases, cleared_le, cleared_same, ones_le, ones_less, ones_most, slot_64, slot_within}
 use Rattle.histories.proofs.Running.{lighter_as, lighter_then, runs_as, runs_fewer, runs_lighter, runs_then}
 
@@ -250,6 +250,20 @@ module _ {S : Type 0} (Step : S → ℕ → S → Type 0) (slots : List (Option 
         );
     once = cl.once;
   }
+
+  -- both
+  pub closing_layer : (configs done layer more next : List (Config S)) (slot call left : ℕ)
+      → length slots ≤ 64 → HasSlot slots slot call
+      → IsClosing Step slots configs slot done layer (left + 1)
+      → Gathers (FromOne (IsDone slot) layer) done more
+      → IsNextLayer Step slots slot layer next
+      → IsClosing Step slots configs slot more next left
+      × AllPairs (λ a b. ¬ (IsSame a b)) next
+  closing_layer configs done layer more next slot call left few here cl f n = (
+    closing_settled configs more n.0 next slot left few n.2
+        (closing_more configs done layer more n.0 slot call left few here cl f n.1),
+    n.2.once,
+  )
 
   pub closing_end : (configs done layer : List (Config S)) (slot left : ℕ) → left ≡ 0
       → IsClosing Step slots configs slot done layer left → IsClosed Step slots configs slot done

@@ -8,9 +8,21 @@ use Rattle.std.proofs.lemmas.List.Elements.{All-contains, Contains-append_left, 
 use Rattle.std.proofs.lemmas.List.Quantifiers.{all_pairs_push}
 use Rattle.histories.specs.declared.front.Config.{Config}
 use Rattle.histories.specs.Histories.{AreAll}
-use Rattle.histories.specs.Frontier.{IsSame, IsWaiting, cleared, no_path, path_more, path_of}
+use Rattle.histories.specs.Frontier.{IsSame, IsWaiting, Path, cleared, no_path, path_more, path_of}
 use Rattle.histories.specs.Gathering.{FromOne, Gathers, IsAt, IsCopy, IsDone, IsDropped, IsFirst, IsKnown, IsNext, IsNextAt, IsNextBelow, IsNextIn, IsUnderWay, Spot, spot_of}
 use Rattle.histories.proofs.Bits.{slot_once}
+
+spot_with : {S : Type 0} → S → ℕ → Path → Spot S
+spot_with state waiting made = record { state = state; waiting = waiting; made = made }
+
+-- two spots with the same parts
+spot_is : {S : Type 0} (one other : Spot S) → one.state ≡ other.state
+    → one.waiting ≡ other.waiting → one.made ≡ other.made → one ≡ other
+unfolding spot_with
+spot_is {S} one other state waiting made =
+    ap (λ s. spot_with s one.waiting one.made) state
+    ∙ (ap (λ w. spot_with other.state w one.made) waiting
+    ∙ ap (λ (p : Path). spot_with other.state other.waiting p) made)
 
 module _ {S : Type 0} where
   pub gathers_none : (Found : Spot S → Type 0) (old : List (Config S))
@@ -83,31 +95,27 @@ module _ {S : Type 0} where
   }
 
   -- one state more that a call leaves
-  pub gathers_state : (from next : Config S) (slot call at : ℕ) (states : List S) (state : S)
-      (old mid new : List (Config S)) → at < length states → state ≡ get_or states at state
-      → next.state ≡ state → next.waiting ≡ cleared from.waiting slot
+  pub gathers_state : (from next : Config S) (slot call : ℕ) (states : List S) (state : S)
+      (old mid new : List (Config S)) → next.state ≡ state
+      → next.waiting ≡ cleared from.waiting slot
       → path_of next ≡ path_more (path_of from) (call ∷ [])
-      → Gathers (IsNextIn from slot call (take at states)) old mid
-      → Gathers (IsCopy next) mid new
-      → Gathers (IsNextIn from slot call (take (at + 1) states)) old new
-  gathers_state from next slot call at states state old mid new h is same waits made f g =
-      let one_more : take (at + 1) states ≡ take at states ++ state ∷ [] =
-      take_more states at state h ∙ ap (λ x. take at states ++ x ∷ []) (sym is) in
-      subst (λ l. Gathers (IsNextIn from slot call l) old new) (sym one_more)
-      (gathers_then (IsNextIn from slot call (take at states)) (IsCopy next)
-      (IsNextIn from slot call (take at states ++ state ∷ [])) old mid new
-      (λ k r. elim (Contains-push_cases (take at states) state k.state r.0)
-      as (λ _. IsNextIn from slot call (take at states) k ⊎ IsCopy next k) [
+      → Gathers (IsNextIn from slot call states) old mid → Gathers (IsCopy next) mid new
+      → Gathers (IsNextIn from slot call (states ++ state ∷ [])) old new
+  gathers_state from next slot call states state old mid new same waits made f g =
+      gathers_then (IsNextIn from slot call states) (IsCopy next)
+      (IsNextIn from slot call (states ++ state ∷ [])) old mid new
+      (λ k r. elim (Contains-push_cases states state k.state r.0)
+      as (λ _. IsNextIn from slot call states k ⊎ IsCopy next k) [
         | inl m ↦ inl (m, r.1, r.2)
         | inr e ↦ inr (sym e ∙ sym same, r.1 ∙ sym waits, r.2 ∙ sym made)
       ])
-      (λ k p. (Contains-append_left (take at states) (state ∷ []) k.state p.0, p.1, p.2))
+      (λ k p. (Contains-append_left states (state ∷ []) k.state p.0, p.1, p.2))
       (λ k q. (
-        subst (λ x. Contains (take at states ++ state ∷ []) x) (sym (q.0 ∙ same))
-            (Contains-push (take at states) state),
+        subst (λ x. Contains (states ++ state ∷ []) x) (sym (q.0 ∙ same))
+            (Contains-push states state),
         q.1 ∙ waits,
         q.2 ∙ made,
-      )) f g)
+      )) f g
 
   pub gathers_no_state : (from : Config S) (slot call : ℕ) (old : List (Config S))
       → Gathers (IsNextIn from slot call []) old old
@@ -166,6 +174,20 @@ module _ {S : Type 0} where
         gathers_none (IsNextBelow Step slots from 0) old (λ k f. absurd (omega (arith, f.1)))
 
   -- one configuration more of those from which others are found
+  pub gathers_pushed : (Fact : Config S → Spot S → Type 0) (layer : List (Config S))
+      (from : Config S) (old mid new : List (Config S)) → Gathers (FromOne Fact layer) old mid
+      → Gathers (Fact from) mid new → Gathers (FromOne Fact (layer ++ from ∷ [])) old new
+  gathers_pushed Fact layer from old mid new f g =
+      gathers_then (FromOne Fact layer) (Fact from) (FromOne Fact (layer ++ from ∷ [])) old mid new
+      (λ k r. elim (Contains-push_cases layer from r.0 r.1)
+      as (λ _. FromOne Fact layer k ⊎ Fact from k) [
+        | inl m ↦ inl (r.0, m, r.2)
+        | inr e ↦ inr (subst (λ (x : Config S). Fact x k) (sym e) r.2)
+      ])
+      (λ k p. (p.0, Contains-append_left layer (from ∷ []) p.0 p.1, p.2))
+      (λ k q. (from, Contains-push layer from, q)) f g
+
+  -- the same of a place
   pub gathers_one : (Fact : Config S → Spot S → Type 0) (layer : List (Config S)) (at : ℕ)
       (from : Config S) (old mid new : List (Config S)) → at < length layer
       → from ≡ get_or layer at from → Gathers (FromOne Fact (take at layer)) old mid
@@ -174,15 +196,7 @@ module _ {S : Type 0} where
       let one_more : take (at + 1) layer ≡ take at layer ++ from ∷ [] =
       take_more layer at from h ∙ ap (λ (x : Config S). take at layer ++ x ∷ []) (sym is) in
       subst (λ l. Gathers (FromOne Fact l) old new) (sym one_more)
-      (gathers_then (FromOne Fact (take at layer)) (Fact from)
-      (FromOne Fact (take at layer ++ from ∷ [])) old mid new
-      (λ k r. elim (Contains-push_cases (take at layer) from r.0 r.1)
-      as (λ _. FromOne Fact (take at layer) k ⊎ Fact from k) [
-        | inl m ↦ inl (r.0, m, r.2)
-        | inr e ↦ inr (subst (λ (x : Config S). Fact x k) (sym e) r.2)
-      ])
-      (λ k p. (p.0, Contains-append_left (take at layer) (from ∷ []) p.0 p.1, p.2))
-      (λ k q. (from, Contains-push (take at layer) from, q)) f g)
+      (gathers_pushed Fact (take at layer) from old mid new f g)
 
   -- of none, nothing is found
   pub gathers_no_one : (Fact : Config S → Spot S → Type 0) (old : List (Config S))
@@ -219,14 +233,34 @@ module _ {S : Type 0} where
   gathers_no_first old =
       gathers_none (IsFirst []) old (λ k f. absurd (omega (arith, f.0.1)))
 
-  -- a copy is gathered where a configuration is done
-  pub gathers_done : (slot : ℕ) (config copy : Config S) (old new : List (Config S))
-      → bit_at config.waiting slot ≡ 0 → IsCopy config (spot_of copy)
-      → Gathers (IsCopy copy) old new → Gathers (IsDone slot config) old new
-  gathers_done slot config copy old new gone is g =
-      gathers_as (IsCopy copy) (IsDone slot config) old new
-      (λ k p. (gone, (p.0 ∙ is.0, p.1 ∙ is.1, p.2 ∙ is.2)))
-      (λ k p. (p.1.0 ∙ sym is.0, p.1.1 ∙ sym is.1, p.1.2 ∙ sym is.2)) g
+  -- of those that are found by copies of others
+  pub gathers_through : (Fact : Spot S → Type 0) (others old new : List (Config S))
+      → Gathers Fact [] others → Gathers (FromOne IsCopy others) old new → Gathers Fact old new
+  gathers_through Fact others old new f g = record {
+    sound = λ k has. elim (g.sound k has) as (λ _. Contains old k ⊎ Fact (spot_of k)) [
+      | inl before ↦ inl before
+      | inr copy ↦
+          elim (f.sound copy.0 copy.1) as (λ _. Contains old k ⊎ Fact (spot_of k)) [
+            | inl none ↦ absurd (omega (arith, none.1))
+            | inr found ↦ inr
+                (subst (λ (s : Spot S). Fact s)
+                (sym (spot_is (spot_of k) (spot_of copy.0) copy.2.0 copy.2.1 copy.2.2)) found)
+          ]
+    ];
+    kept = g.kept;
+    complete = λ spot found.
+        let other = f.complete spot found in
+        let known = g.complete (spot_of other.0) (other.0, other.1, (refl, refl, refl)) in
+        (known.0, known.1, (known.2.0 ∙ other.2.0, known.2.1 ∙ other.2.1));
+    once = g.once;
+  }
+
+  -- a configuration is gathered where it is done
+  pub gathers_done : (slot : ℕ) (config : Config S) (old new : List (Config S))
+      → bit_at config.waiting slot ≡ 0 → Gathers (IsCopy config) old new
+      → Gathers (IsDone slot config) old new
+  gathers_done slot config old new gone g =
+      gathers_as (IsCopy config) (IsDone slot config) old new (λ k p. (gone, p)) (λ k p. p.1) g
 
   pub gathers_not_done : (slot : ℕ) (config : Config S) (old : List (Config S))
       → bit_at config.waiting slot ≡ 1 → Gathers (IsDone slot config) old old

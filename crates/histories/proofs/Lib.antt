@@ -1,5 +1,6 @@
 pub mod Bits
 pub mod Places
+pub mod Linking
 pub mod Counting
 pub mod Events
 pub mod Tables
@@ -10,6 +11,8 @@ pub mod Closing
 pub mod Settlings
 pub mod Chains
 pub mod Frontiers
+pub mod Beginning
+pub mod Cutting
 pub mod Splitting
 pub mod Verdicts
 pub mod Advancing

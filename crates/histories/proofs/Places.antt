@@ -1,7 +1,7 @@
 -- Lists that are changed place by place.
-use Rattle.std.proofs.Common.{◌≡◌, ◌≢◌, ℕ, ◌+◌, ◌<◌, ◌≤◌, List, ◌++◌, take, drop, append-nil, take_all, length, get_or, ◌∙◌, ap, arith, inl, inr}
-use Rattle.std.proofs.lemmas.Bool.{cases_lt}
-use Rattle.std.proofs.lemmas.List.{drop_all}
+use Rattle.std.proofs.Common.{◌≡◌, ◌≢◌, ℕ, ◌+◌, ◌<◌, ◌≤◌, List, ◌++◌, take, drop, append-nil, take_all, length, get_or, set, refl, sym, ◌∙◌, ap, subst, arith, inl, inr}
+use Rattle.std.proofs.lemmas.Bool.{cases_eq, cases_lt}
+use Rattle.std.proofs.lemmas.List.{drop_all, get_or-set_other, get_or-set_same, get_or_default, length-set, set-get_or}
 
 -- up to a place each value is related to the one that was there, and from there on it is that one
 pub record AreDone {X : Type 0} (R : X → X → Type 0) (olds now : List X) (at : ℕ) : Type 0 where
@@ -15,6 +15,44 @@ less_of i n h ne =
       | inl less ↦ less
       | inr past ↦ absurd (ne (omega (arith, h, past)))
     ]
+
+-- none yet
+pub done_none : {X : Type 0} (R : X → X → Type 0) (olds : List X) → AreDone R olds olds 0
+done_none R olds = record {
+  many = refl;
+  done = λ place d h. absurd (omega (arith, h));
+  rest = λ place d h. refl;
+}
+
+-- one place more
+pub done_more : {X : Type 0} (R : X → X → Type 0) (olds now : List X) (at : ℕ) (item one : X)
+    → at < length now → item ≡ get_or now at item → R item one → AreDone R olds now at
+    → AreDone R olds (set now at one) (at + 1)
+done_more {X} R olds now at item one h is r a = record {
+  many = length-set now at one ∙ a.many;
+  done = λ place d less.
+      elim (cases_eq place at)
+      as (λ _. R (get_or olds place d) (get_or (set now at one) place d)) [
+        | inl e ↦
+            subst (λ i. R (get_or olds i d) (get_or (set now at one) i d)) (sym e)
+            (subst (λ (y : X). R (get_or olds at d) y) (sym (get_or-set_same now at one d h))
+            (subst (λ (x : X). R x one)
+            (is ∙ (get_or_default now at item d h ∙ a.rest at d (omega arith))) r))
+        | inr ne ↦
+            subst (λ (y : X). R (get_or olds place d) y)
+            (sym (get_or-set_other now at place one d ne))
+            (a.done place d (less_of place at less ne))
+      ];
+  rest = λ place d past.
+      get_or-set_other now at place one d (λ e. absurd (omega (arith, past, e)))
+      ∙ a.rest place d (omega (arith, past));
+}
+
+-- an element is put where it stood
+pub same_set : {X : Type 0} (now : List X) (at : ℕ) (item one : X) → at < length now
+    → item ≡ get_or now at item → one ≡ item → set now at one ≡ now
+same_set {X} now at item one h is same =
+    ap (λ (x : X). set now at x) (same ∙ is) ∙ set-get_or now at item
 
 -- what was changed in place is all there is
 pub put_back : {X : Type 0} (new old : List X) (len : ℕ) → length new ≡ length old

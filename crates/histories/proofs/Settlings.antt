@@ -1,11 +1,12 @@
 -- Calls that change nothing are made at once.
-use Rattle.std.proofs.Common.{◌≡◌, ℕ, ◌+◌, ◌<◌, ◌≤◌, List, [], ◌∷◌, ◌++◌, length, take, get_or, refl, sym, ◌∙◌, ap, subst, inl, inr, Option}
+use Rattle.std.proofs.Common.{◌≡◌, ℕ, ◌<◌, ◌≤◌, List, [], ◌∷◌, ◌++◌, length, get_or, arith, refl, sym, ◌∙◌, ap, subst, inl, inr, Option}
+use Rattle.std.specs.Prelude.{AllPairs}
 use Rattle.std.specs.List.{Contains}
-use Rattle.std.proofs.lemmas.List.{take_more}
-use Rattle.std.proofs.lemmas.List.Elements.{Contains-append_left, Contains-push, Contains-push_cases}
+use Rattle.std.proofs.lemmas.List.Elements.{Contains-get_or}
 use Rattle.histories.specs.declared.front.Config.{Config}
-use Rattle.histories.specs.Frontier.{IsIdle, IsLighter, IsWaiting, Path, Runs, cleared, path_more, path_of}
-use Rattle.histories.specs.Gathering.{AreSettled, Gathers, IsCopy, IsSettled, Spot, spot_of}
+use Rattle.histories.specs.Frontier.{IsIdle, IsLighter, IsSame, IsWaiting, Path, Runs, cleared, path_more, path_of}
+use Rattle.histories.specs.Gathering.{AreOpened, AreSame, AreSettled, AreSettledEach, FromOne, Gathers, IsCopy, IsSettled, Spot, WaitsInNone, spot_of}
+use Rattle.histories.proofs.Bits.{put_apart}
 use Rattle.histories.proofs.Closing.{none_same, nothing_in, path_none, path_then}
 use Rattle.histories.proofs.Running.{lighter_idle, lighter_is, lighter_then, runs_then}
 
@@ -49,60 +50,93 @@ module _ {S : Type 0} (Step : S → ℕ → S → Type 0) (slots : List (Option 
     made = made;
   }
 
-  pub are_settled_none : AreSettled Step slots [] []
-  are_settled_none = record {
-    sound = λ k has. absurd (nothing_in Step slots k has);
-    complete = λ k has. absurd (nothing_in Step slots k has);
-    once = none_same;
+  -- a copy of what was settled
+  settled_copy : (config one : Config S) (copy : Spot S) → IsSettled Step slots config (spot_of one)
+      → IsCopy one copy → IsSettled Step slots config copy
+  settled_copy config one copy s is = record {
+    state = is.0 ∙ s.state;
+    calls = s.calls;
+    runs = subst (λ w. Runs Step slots config.state config.waiting s.calls config.state w)
+        (sym is.1) s.runs;
+    lighter = subst (λ w. IsLighter Step slots w config.waiting) (sym is.1) s.lighter;
+    made = is.2 ∙ s.made;
   }
 
-  -- one configuration more
-  pub are_settled_more : (configs old new : List (Config S)) (at : ℕ) (config one : Config S)
-      → at < length configs → config ≡ get_or configs at config
-      → AreSettled Step slots (take at configs) old → IsSettled Step slots config (spot_of one)
-      → Gathers (IsCopy one) old new → AreSettled Step slots (take (at + 1) configs) new
-  are_settled_more configs old new at config one h is a s g =
-      let front : List (Config S) = take at configs in
-      let one_more : take (at + 1) configs ≡ front ++ config ∷ [] =
-      take_more configs at config h ∙ ap (λ (x : Config S). front ++ x ∷ []) (sym is) in
-      subst (λ l. AreSettled Step slots l new) (sym one_more) (record {
-        sound = λ k has.
-            elim (g.sound k has)
-            as (λ _. (from : Config S) × Contains (front ++ config ∷ []) from
-            × IsSettled Step slots from (spot_of k)) [
-              | inl before ↦
-                  let was = a.sound k before in
-                  (was.0, Contains-append_left front (config ∷ []) was.0 was.1, was.2)
-              | inr copy ↦ (
-                config,
-                Contains-push front config,
-                record {
-                  state = copy.0 ∙ s.state;
-                  calls = s.calls;
-                  runs = subst (λ w. Runs Step slots config.state config.waiting s.calls
-                      config.state w)
-                      (sym copy.1) s.runs;
-                  lighter = subst (λ w. IsLighter Step slots w config.waiting) (sym copy.1)
-                      s.lighter;
-                  made = copy.2 ∙ s.made;
-                },
-              )
-            ];
-        complete = λ from has.
-            elim (Contains-push_cases front config from has)
-            as (λ _. (k : Config S) × Contains new k × (k.state ≡ from.state)
-            × IsLighter Step slots k.waiting from.waiting) [
-              | inl before ↦
-                  let was = a.complete from before in (was.0, g.kept was.0 was.1, was.2, was.3)
-              | inr e ↦
-                  let known = g.complete (spot_of one) (refl, refl, refl) in
-                  subst (λ (x : Config S). (k : Config S) × Contains new k × (k.state ≡ x.state)
-                  × IsLighter Step slots k.waiting x.waiting) e (
-                    known.0,
-                    known.1,
-                    known.2.0 ∙ s.state,
-                    subst (λ w. IsLighter Step slots w config.waiting) (sym known.2.1) s.lighter,
-                  )
-            ];
-        once = g.once a.once;
-      })
+  -- a settled one is settled from a configuration, and a configuration has a settled one
+  settled_from : (configs settled : List (Config S)) (one : Config S)
+      → AreSettledEach Step slots configs settled → Contains settled one
+      → (config : Config S) × Contains configs config × IsSettled Step slots config (spot_of one)
+  settled_from configs settled one each has =
+      let place = has.0 in (
+        get_or configs place one,
+        Contains-get_or configs place one (omega (arith, has.1, each.0)),
+        subst (λ (k : Config S). IsSettled Step slots (get_or configs place one) (spot_of k)) has.2
+            (each.1 place one has.1),
+      )
+
+  settled_to : (configs settled : List (Config S)) (config : Config S)
+      → AreSettledEach Step slots configs settled → Contains configs config
+      → (one : Config S) × Contains settled one × IsSettled Step slots config (spot_of one)
+  settled_to configs settled config each has =
+      let place = has.0 in
+      let within : place < length settled = omega (arith, has.1, each.0) in (
+        get_or settled place config,
+        Contains-get_or settled place config within,
+        subst (λ (k : Config S). IsSettled Step slots k (spot_of (get_or settled place config)))
+            has.2 (each.1 place config within),
+      )
+
+  -- each was settled, and none has become the same as another
+  pub settled_apart : (configs settled : List (Config S))
+      → AreSettledEach Step slots configs settled
+      → AreSame configs settled
+      → AllPairs (λ a b. ¬ (IsSame a b)) configs → AreSettled Step slots configs settled
+  settled_apart configs settled each same apart = record {
+    sound = λ one has. settled_from configs settled one each has;
+    complete = λ config has.
+        let one = settled_to configs settled config each has in
+        (one.0, one.1, one.2.state, one.2.lighter);
+    once = λ i j d less h.
+        subst (λ (k : Config S). ¬ (IsSame k (get_or settled j d))) (sym (same i d))
+        (subst (λ (k : Config S). ¬ (IsSame (get_or configs i d) k)) (sym (same j d))
+        (apart i j d less (omega (arith, h, each.0))));
+  }
+
+  -- each was settled, and the new ones are these, each once
+  pub settled_once : (configs settled new : List (Config S))
+      → AreSettledEach Step slots configs settled → Gathers (FromOne IsCopy settled) [] new
+      → AreSettled Step slots configs new
+  settled_once configs settled new each g = record {
+    sound = λ k has.
+        elim (g.sound k has)
+        as (λ _. (config : Config S) × Contains configs config
+        × IsSettled Step slots config (spot_of k)) [
+          | inl none ↦ absurd (nothing_in Step slots k none)
+          | inr copy ↦
+              let from = settled_from configs settled copy.0 each copy.1 in
+              (from.0, from.1, settled_copy from.0 copy.0 (spot_of k) from.2 copy.2)
+        ];
+    complete = λ config has.
+        let one = settled_to configs settled config each has in
+        let known = g.complete (spot_of one.0) (one.0, one.1, (refl, refl, refl)) in (
+          known.0,
+          known.1,
+          known.2.0 ∙ one.2.state,
+          subst (λ w. IsLighter Step slots w config.waiting) (sym known.2.1) one.2.lighter,
+        );
+    once = g.once none_same;
+  }
+
+-- a call that waits in each, and waited in none, makes no two the same
+pub opened_apart : {S : Type 0} (slot : ℕ) (configs opened : List (Config S)) → slot < 64
+    → AreOpened slot configs opened → WaitsInNone slot configs
+    → AllPairs (λ a b. ¬ (IsSame a b)) configs → AllPairs (λ a b. ¬ (IsSame a b)) opened
+opened_apart slot configs opened within o none apart i j d less h same =
+    let one = o.1 i d (omega (arith, less, h)) in
+    let other = o.1 j d h in
+    apart i j d less (omega (arith, h, o.0)) (
+      sym one.0 ∙ (same.0 ∙ other.0),
+      put_apart (get_or configs i d).waiting (get_or configs j d).waiting slot within
+          (none i d (omega (arith, less, h, o.0))) (none j d (omega (arith, h, o.0)))
+          (sym one.1 ∙ (same.1 ∙ other.1)),
+    )

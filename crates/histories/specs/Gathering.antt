@@ -6,12 +6,17 @@ use Rattle.std.specs.List.{Contains}
 use Rattle.histories.specs.declared.front.Advance.{Advance}
 use Rattle.histories.specs.declared.front.Advance.TheVariants as advance
 use Rattle.histories.specs.declared.front.Config.{Config}
+use Rattle.histories.specs.declared.front.Front.{Front}
 use Rattle.histories.specs.declared.front.Link.{Link}
 use Rattle.histories.specs.Frontier.{HasSlot, IsLighter, IsSame, IsWaiting, LeadTo, Path, Runs, cleared, no_path, order_of, path_more, path_of, put, read}
 
+-- one of the configurations is the same
+abbrev pub HasSame : {S : Type 0} → List (Config S) → Config S → Type 0
+HasSame {S} configs config = (known : Config S) × Contains configs known × IsSame known config
+
 -- whether one of the configurations is the same
 abbrev pub IsKnown : {S : Type 0} → List (Config S) → Config S → Bool → Type 0
-IsKnown {S} configs config true = (known : Config S) × Contains configs known × IsSame known config
+IsKnown configs config true = HasSame configs config
 IsKnown configs config false = All (λ known. ¬ (IsSame known config)) configs
 
 -- the call has taken a slot that was free
@@ -73,6 +78,16 @@ AreOpened {S} slot configs opened =
     × ((place : ℕ) (d : Config S) → place < length opened
     → IsOpened slot (get_or configs place d) (get_or opened place d))
 
+-- the call in this slot waits in none of the configurations
+abbrev pub WaitsInNone : {S : Type 0} → ℕ → List (Config S) → Type 0
+WaitsInNone {S} slot configs =
+    (place : ℕ) (d : Config S) → place < length configs
+    → bit_at (get_or configs place d).waiting slot ≡ 0
+
+-- the same value at each place
+abbrev pub AreSame : {S : Type 0} → List (Config S) → List (Config S) → Type 0
+AreSame {S} configs same = (place : ℕ) (d : Config S) → get_or same place d ≡ get_or configs place d
+
 -- calls that can be made and change nothing were made
 pub record IsSettled {S : Type 0} (Step : S → ℕ → S → Type 0) (slots : List (Option ℕ))
     (config : Config S) (settled : Spot S) : Type 0 where
@@ -81,6 +96,14 @@ pub record IsSettled {S : Type 0} (Step : S → ℕ → S → Type 0) (slots : L
   pub runs : Runs Step slots config.state config.waiting calls config.state settled.waiting
   pub lighter : IsLighter Step slots settled.waiting config.waiting
   pub made : settled.made ≡ path_more (path_of config) calls
+
+-- the same in each of the configurations, at its place
+abbrev pub AreSettledEach : {S : Type 0} → (S → ℕ → S → Type 0) → List (Option ℕ)
+    → List (Config S) → List (Config S) → Type 0
+AreSettledEach {S} Step slots configs settled =
+    (length settled ≡ length configs)
+    × ((place : ℕ) (d : Config S) → place < length settled
+    → IsSettled Step slots (get_or configs place d) (spot_of (get_or settled place d)))
 
 -- each is settled from a configuration, each configuration has one, and each is there once
 pub record AreSettled {S : Type 0} (Step : S → ℕ → S → Type 0) (slots : List (Option ℕ))
@@ -182,6 +205,13 @@ pub record IsClosed {S : Type 0} (Step : S → ℕ → S → Type 0) (slots : Li
       → LeadTo Step slots done new rest
   pub once : AllPairs (λ a b. ¬ (IsSame a b)) done
 
+-- of those to which one more call leads each is settled
+abbrev pub IsNextLayer : {S : Type 0} → (S → ℕ → S → Type 0) → List (Option ℕ) → ℕ
+    → List (Config S) → List (Config S) → Type 0
+IsNextLayer {S} Step slots slot layer next =
+    (raw : List (Config S)) × Gathers (FromOne (IsUnderWay Step slots slot) layer) [] raw
+    × AreSettled Step slots raw next
+
 -- an order of no calls has come to the spot from one of these states
 abbrev pub IsFirst : {S : Type 0} → List S → Spot S → Type 0
 IsFirst olds spot = Contains olds spot.state × (spot.waiting ≡ 0) × (spot.made ≡ no_path)
@@ -240,3 +270,20 @@ IsLeft configs advance.Refused = length configs ≡ 0
 IsLeft configs advance.ManyConfigs = ⊥
 IsLeft configs advance.ManyOpen = ⊥
 IsLeft configs advance.NoEvent = ⊥
+
+-- the calls that were made in these configurations went into the links, and are those of the front
+abbrev pub AreLaidIn : {S : Type 0} → List Link → List (Config S) → Front S → Advance → Type 0
+AreLaidIn links configs new result =
+    AreLaid links new.links.items configs new.configs.items × IsLeft new.configs.items result
+
+-- the same of the front's own configurations, and the slots stay
+abbrev pub LaysOut : {S : Type 0} → Front S → Front S → Advance → Type 0
+LaysOut old new result =
+    (new.slots ≡ old.slots) × AreLaidIn old.links.items old.configs.items new result
+
+-- the slot was made free, and these configurations are left, or too many
+abbrev pub Finishes : {S : Type 0} → Front S → ℕ → List (Config S) → Front S → Advance → Type 0
+Finishes old slot configs new result =
+    FreesSlot old.slots.items slot new.slots.items
+    × (((4096 < length configs) × (result ≡ advance.ManyConfigs))
+    ⊎ AreLaidIn old.links.items configs new result)

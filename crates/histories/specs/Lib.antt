@@ -12,3 +12,5 @@ pub mod Laws
 pub mod Frontier
 -- Inner facts: how configurations are gathered, and calls are made in them.
 pub mod Gathering
+-- Inner facts: configurations in chains.
+pub mod Chained

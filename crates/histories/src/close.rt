@@ -1,10 +1,10 @@
 //! A call that ends is made.
 ghost use Rattle.std.specs.Prelude.{◌≡◌, ◌<◌, ◌≤◌, ◌++◌, ◌∷◌, [], ℕ, IfOk, OnOk, length};
 ghost use Rattle.histories.specs.Frontier.{HasSlot, IsWaiting, cleared};
-ghost use Rattle.histories.specs.Gathering.{FromOne, Gathers, IsCloseOutcome, IsDone, IsDropped, IsNext, IsNextAt, IsUnderWay, spot_of};
+ghost use Rattle.histories.specs.Gathering.{FromOne, Gathers, IsCloseOutcome, IsDone, IsDropped, IsNext, IsNextAt, IsNextLayer, IsUnderWay, spot_of};
 
 use super::front::{Config, MAX_CONFIGS};
-use super::gather::{add, copy_of};
+use super::gather::{Gathered, add, copy_of};
 use super::machine::Machine;
 use super::sets::{has, without};
 use super::settle::settle_all;
@@ -42,18 +42,17 @@ fn make_call<M: Machine>(
     config: &Config<M::State>,
     slot: usize,
     call: usize,
-    next: &mut Vec<Config<M::State>>,
+    next: &mut Gathered<M::State>,
 ) -> Result<(), AllocError>
     requires within { slot < 64 }
     requires waits { IsWaiting slots.now config.now.waiting slot call }
     ensures { OnOk result (Gathers (IsNextAt (M.Step machine.now) slots.now config.now slot)
-        next.old.items next.new.items) }
+        next.old next.new) }
 {
     let found = machine.follow(&config.state, call)?;
-    for state in &found {
-        let left = machine.copied(state)?;
-        let made = next_config(alloc, config, slot, call, left)?;
-        add(machine, next, made)?;
+    for state in found {
+        let made = next_config(alloc, config, slot, call, state)?;
+        add(alloc, machine, next, made)?;
     }
     Ok(())
 }
@@ -65,12 +64,12 @@ fn make_slot<M: Machine>(
     slots: &[Option<usize>],
     config: &Config<M::State>,
     slot: usize,
-    next: &mut Vec<Config<M::State>>,
+    next: &mut Gathered<M::State>,
 ) -> Result<(), AllocError>
     requires few { length slots.now ≤ 64 }
     requires within { slot < length slots.now }
     ensures { OnOk result (Gathers (IsNextAt (M.Step machine.now) slots.now config.now slot)
-        next.old.items next.new.items) }
+        next.old next.new) }
 {
     let Some(call) = slots[slot] else {
         return Ok(());
@@ -87,11 +86,11 @@ fn make_calls<M: Machine>(
     machine: &M,
     slots: &[Option<usize>],
     config: &Config<M::State>,
-    next: &mut Vec<Config<M::State>>,
+    next: &mut Gathered<M::State>,
 ) -> Result<(), AllocError>
     requires few { length slots.now ≤ 64 }
     ensures { OnOk result (Gathers (IsNext (M.Step machine.now) slots.now config.now)
-        next.old.items next.new.items) }
+        next.old next.new) }
 {
     for slot in 0..slots.len() {
         make_slot(alloc, machine, slots, config, slot, next)?;
@@ -99,30 +98,26 @@ fn make_calls<M: Machine>(
     Ok(())
 }
 
-/// Adds a copy of the configuration to those that are done where the call in the slot has been made
-/// there. Else adds the configurations to which one more call leads to the next ones.
+/// Adds the configuration to those that are done where the call in the slot has been made there.
+/// Else adds the configurations to which one more call leads to the next ones.
 fn close_one<M: Machine>(
     alloc: Global,
     machine: &M,
     slots: &[Option<usize>],
-    config: &Config<M::State>,
+    config: Config<M::State>,
     slot: usize,
-    done: &mut Vec<Config<M::State>>,
-    next: &mut Vec<Config<M::State>>,
+    done: &mut Gathered<M::State>,
+    next: &mut Gathered<M::State>,
 ) -> Result<(), AllocError>
     requires few { length slots.now ≤ 64 }
     requires within { slot < 64 }
-    ensures { OnOk result (Gathers (IsDone slot config.now) done.old.items done.new.items
-        × Gathers (IsUnderWay (M.Step machine.now) slots.now slot config.now) next.old.items
-        next.new.items) }
+    ensures { OnOk result (Gathers (IsDone slot config) done.old done.new
+        × Gathers (IsUnderWay (M.Step machine.now) slots.now slot config) next.old next.new) }
 {
     if has(config.waiting, slot) {
-        make_calls(alloc, machine, slots, config, next)?;
-        return Ok(());
+        return make_calls(alloc, machine, slots, &config, next);
     }
-    let copy = copy_of(alloc, machine, config)?;
-    add(machine, done, copy)?;
-    Ok(())
+    add(alloc, machine, done, config)
 }
 
 /// The same for each of these configurations. Returns the next ones.
@@ -130,21 +125,39 @@ fn close_round<M: Machine>(
     alloc: Global,
     machine: &M,
     slots: &[Option<usize>],
-    layer: &[Config<M::State>],
+    layer: Vec<Config<M::State>>,
     slot: usize,
-    done: &mut Vec<Config<M::State>>,
+    done: &mut Gathered<M::State>,
 ) -> Result<Vec<Config<M::State>>, AllocError>
     requires few { length slots.now ≤ 64 }
     requires within { slot < 64 }
-    ensures { IfOk result (λ next. Gathers (FromOne (IsDone slot) layer.now) done.old.items
-        done.new.items
-        × Gathers (FromOne (IsUnderWay (M.Step machine.now) slots.now slot) layer.now) []
+    ensures { IfOk result (λ next. Gathers (FromOne (IsDone slot) layer.items) done.old done.new
+        × Gathers (FromOne (IsUnderWay (M.Step machine.now) slots.now slot) layer.items) []
         next.items) }
 {
-    let mut next = Vec::new(alloc);
+    let mut next = Gathered::new(alloc);
     for config in layer {
         close_one(alloc, machine, slots, config, slot, done, &mut next)?;
     }
+    Ok(next.into_configs())
+}
+
+/// The same, where calls that change nothing are made at once in the next ones.
+fn close_settled<M: Machine>(
+    alloc: Global,
+    machine: &M,
+    slots: &[Option<usize>],
+    layer: Vec<Config<M::State>>,
+    slot: usize,
+    done: &mut Gathered<M::State>,
+) -> Result<Vec<Config<M::State>>, AllocError>
+    requires few { length slots.now ≤ 64 }
+    requires within { slot < 64 }
+    ensures { IfOk result (λ next. Gathers (FromOne (IsDone slot) layer.items) done.old done.new
+        × IsNextLayer (M.Step machine.now) slots.now slot layer.items next.items) }
+{
+    let mut next = close_round(alloc, machine, slots, layer, slot, done)?;
+    settle_all(alloc, machine, slots, &mut next, true)?;
     Ok(next)
 }
 
@@ -154,26 +167,25 @@ pub fn close<M: Machine>(
     alloc: Global,
     machine: &M,
     slots: &[Option<usize>],
-    configs: &[Config<M::State>],
+    configs: Vec<Config<M::State>>,
     slot: usize,
 ) -> Result<Option<Vec<Config<M::State>>>, AllocError>
     requires few { length slots.now ≤ 64 }
     requires within { slot < 64 }
     requires taken { (call : ℕ) × HasSlot slots.now slot call }
-    ensures { IfOk result (IsCloseOutcome (M.Step machine.now) slots.now configs.now slot) }
+    ensures { IfOk result (IsCloseOutcome (M.Step machine.now) slots.now configs.items slot) }
 {
     let mut left = slots.len();
-    let mut done = Vec::new(alloc);
-    let mut raw = close_round(alloc, machine, slots, configs, slot, &mut done)?;
-    let mut layer = settle_all(alloc, machine, slots, &raw)?;
+    let mut done = Gathered::new(alloc);
+    let mut layer = close_settled(alloc, machine, slots, configs, slot, &mut done)?;
     while left > 0 {
         if layer.len() > MAX_CONFIGS {
             return Ok(None);
         }
-        raw = close_round(alloc, machine, slots, &layer, slot, &mut done)?;
-        layer = settle_all(alloc, machine, slots, &raw)?;
+        layer = close_settled(alloc, machine, slots, layer, slot, &mut done)?;
         left -= 1;
     }
+    let done = done.into_configs();
     if done.len() > MAX_CONFIGS {
         return Ok(None);
     }
@@ -186,34 +198,33 @@ fn drop_one<M: Machine>(
     machine: &M,
     config: &Config<M::State>,
     slot: usize,
-    more: &mut Vec<Config<M::State>>,
+    more: &mut Gathered<M::State>,
 ) -> Result<(), AllocError>
     requires within { slot < 64 }
-    ensures { OnOk result (Gathers (IsDropped slot config.now) more.old.items more.new.items) }
+    ensures { OnOk result (Gathers (IsDropped slot config.now) more.old more.new) }
 {
     if !has(config.waiting, slot) {
         return Ok(());
     }
     let mut dropped = copy_of(alloc, machine, config)?;
     dropped.waiting = without(dropped.waiting, slot);
-    add(machine, more, dropped)?;
-    Ok(())
+    add(alloc, machine, more, dropped)
 }
 
-/// Adds the configurations in which the call in the slot, which waits there, is never made.
-pub fn drop_all<M: Machine>(
+/// The configurations in which the call in the slot, which waits there, is never made.
+pub fn dropped_all<M: Machine>(
     alloc: Global,
     machine: &M,
     configs: &[Config<M::State>],
     slot: usize,
-    more: &mut Vec<Config<M::State>>,
-) -> Result<(), AllocError>
+) -> Result<Vec<Config<M::State>>, AllocError>
     requires within { slot < 64 }
-    ensures { OnOk result (Gathers (FromOne (IsDropped slot) configs.now) more.old.items
-        more.new.items) }
+    ensures { IfOk result (λ dropped. Gathers (FromOne (IsDropped slot) configs.now) []
+        dropped.items) }
 {
+    let mut dropped = Gathered::new(alloc);
     for config in configs {
-        drop_one(alloc, machine, config, slot, more)?;
+        drop_one(alloc, machine, config, slot, &mut dropped)?;
     }
-    Ok(())
+    Ok(dropped.into_configs())
 }

@@ -1,22 +1,83 @@
 //! Configurations that are gathered, each once.
 ghost use Rattle.std.specs.Prelude.{◌≡◌, ◌↔◌, ◌∷◌, List, [], IfOk, OnOk, IsTrue};
 ghost use Rattle.histories.specs.declared.front.Link.{Link};
+ghost use Rattle.histories.specs.Chained.{AreChained};
 ghost use Rattle.histories.specs.Frontier.{IsFrontOf, IsSame};
-ghost use Rattle.histories.specs.Gathering.{Gathers, IsCopy, IsKnown, spot_of};
+ghost use Rattle.histories.specs.Gathering.{FromOne, Gathers, IsCopy, IsKnown, spot_of};
 
+use super::chained::{is_in_chain, is_same, link_all};
 use super::front::{Config, Front};
 use super::machine::Machine;
 use std::alloc::{AllocError, Global};
+use std::marker::Model;
 
-/// Whether two orders have come equally far: to one state, with the same calls that wait.
-fn is_same<M: Machine>(machine: &M, one: &Config<M::State>, other: &Config<M::State>) -> bool
-    ensures { IsTrue result ↔ IsSame one.now other.now }
-{
-    one.waiting == other.waiting && machine.same(&one.state, &other.state)
+/// So many configurations are looked through one by one.
+const FEW: usize = 32;
+
+/// Configurations, each once. Where they are many, most are in chains by the calls that wait.
+#[derive(Drop)]
+pub struct Gathered<S> {
+    configs: Vec<Config<S>>,
+    heads: Vec<usize>,
+    before: Vec<usize>,
+}
+
+impl<S> Model for Gathered<S> {
+    ghost use Rattle.std.specs.Prelude.{List};
+    ghost use Rattle.histories.specs.declared.front.Config.{Config};
+    ghost use Rattle.histories.specs.Chained.{AreChained};
+
+    ghost Value = { List (Config S) };
+
+    ghost view = { λ g. g.configs.items };
+
+    ghost invariant = { λ g. AreChained g.configs.items g.heads.items g.before.items };
+}
+
+impl<S> Gathered<S> {
+    /// No configuration.
+    pub fn new(alloc: Global) -> Self
+        ensures { result ≡ [] }
+    {
+        Gathered::of(alloc, Vec::new(alloc))
+    }
+
+    /// These configurations.
+    pub fn of(alloc: Global, configs: Vec<Config<S>>) -> Self
+        ensures { result ≡ configs.items }
+    {
+        Gathered {
+            configs,
+            heads: Vec::new(alloc),
+            before: Vec::new(alloc),
+        }
+    }
+
+    /// The configurations.
+    pub fn into_configs(self) -> Vec<Config<S>>
+        ensures { result.items ≡ self }
+    {
+        let Gathered {
+            configs,
+            heads: _,
+            before: _,
+        } = self;
+        configs
+    }
+
+    /// Puts configurations into chains once many of them are in none.
+    fn link_many(&mut self, alloc: Global) -> Result<(), AllocError>
+        ensures { self.new ≡ self.old }
+    {
+        if self.configs.len() - self.before.len() < FEW {
+            return Ok(());
+        }
+        link_all(alloc, &self.configs, &mut self.heads, &mut self.before)
+    }
 }
 
 /// Whether one of the configurations is the same.
-fn is_known<M: Machine>(
+fn is_among<M: Machine>(
     machine: &M,
     configs: &[Config<M::State>],
     config: &Config<M::State>,
@@ -31,19 +92,59 @@ fn is_known<M: Machine>(
     false
 }
 
+/// The same, where the first ones are in chains.
+fn is_known<M: Machine>(
+    machine: &M,
+    configs: &[Config<M::State>],
+    heads: &[usize],
+    before: &[usize],
+    config: &Config<M::State>,
+) -> bool
+    requires { AreChained configs.now heads.now before.now }
+    ensures { IsKnown configs.now config.now result }
+{
+    if is_in_chain(machine, configs, heads, before, config) {
+        return true;
+    }
+    is_among(machine, &configs[before.len()..], config)
+}
+
 /// Adds a configuration, unless there is the same.
 pub fn add<M: Machine>(
+    alloc: Global,
     machine: &M,
-    configs: &mut Vec<Config<M::State>>,
+    gathered: &mut Gathered<M::State>,
     config: Config<M::State>,
 ) -> Result<(), AllocError>
-    ensures { OnOk result (Gathers (IsCopy config) configs.old.items configs.new.items) }
+    ensures { OnOk result (Gathers (IsCopy config) gathered.old gathered.new) }
 {
-    if is_known(machine, configs, &config) {
+    if is_known(
+        machine,
+        &gathered.configs,
+        &gathered.heads,
+        &gathered.before,
+        &config,
+    ) {
         return Ok(());
     }
-    configs.push(config)?;
-    Ok(())
+    gathered.configs.push(config)?;
+    gathered.link_many(alloc)
+}
+
+/// The first configurations, and of the others those that are not there yet.
+pub fn joined<M: Machine>(
+    alloc: Global,
+    machine: &M,
+    configs: Vec<Config<M::State>>,
+    others: Vec<Config<M::State>>,
+) -> Result<Vec<Config<M::State>>, AllocError>
+    ensures { IfOk result (λ all. Gathers (FromOne IsCopy others.items) configs.items all.items) }
+{
+    let mut all = Gathered::of(alloc, configs);
+    for config in others {
+        add(alloc, machine, &mut all, config)?;
+    }
+    Ok(all.into_configs())
 }
 
 /// A copy of the configuration.
@@ -64,7 +165,8 @@ pub fn copy_of<M: Machine>(
     })
 }
 
-/// The front before any event: these states, each once.
+/// The front before any event: these states, each once. Where they are more than `MAX_CONFIGS`, the
+/// first event finds that.
 pub fn start<M: Machine>(
     alloc: Global,
     machine: &M,
@@ -72,7 +174,7 @@ pub fn start<M: Machine>(
 ) -> Result<Front<M::State>, AllocError>
     ensures { IfOk result (λ front. IsFrontOf (M.Step machine.now) front [] states.now) }
 {
-    let mut configs = Vec::new(alloc);
+    let mut configs = Gathered::new(alloc);
     for from in states {
         let state = machine.copied(from)?;
         let made = Vec::new(alloc);
@@ -82,13 +184,13 @@ pub fn start<M: Machine>(
             base: 0,
             made,
         };
-        add(machine, &mut configs, first)?;
+        add(alloc, machine, &mut configs, first)?;
     }
     let slots = Vec::new(alloc);
     let links = Vec::new(alloc);
     Ok(Front {
         slots,
-        configs,
+        configs: configs.into_configs(),
         links,
     })
 }

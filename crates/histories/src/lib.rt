@@ -3,6 +3,7 @@
 
 mod anew;
 mod chain;
+mod chained;
 mod close;
 mod event;
 mod front;

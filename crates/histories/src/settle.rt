@@ -1,67 +1,95 @@
 //! Calls that change nothing are made at once.
-ghost use Rattle.std.specs.Prelude.{◌≡◌, ◌<◌, ◌≤◌, IfOk, OnOk, length};
-ghost use Rattle.histories.specs.Gathering.{AreSettled, IsSettled, spot_of};
+ghost use Rattle.std.specs.Prelude.{◌≡◌, ◌<◌, ◌≤◌, AllPairs, IfOk, IsFalse, IsTrue, OnOk, length};
+ghost use Rattle.histories.specs.Frontier.{IsSame};
+ghost use Rattle.histories.specs.Gathering.{AreSame, AreSettled, AreSettledEach, IsSettled, spot_of};
 
 use super::front::Config;
-use super::gather::{add, copy_of};
+use super::gather::joined;
 use super::machine::Machine;
 use super::sets::{has, without};
 use std::alloc::{AllocError, Global};
+use std::mem;
 
-/// Makes the call in the slot, if it waits, can be made, and changes nothing.
+/// Makes the call in the slot, if it waits, can be made, and changes nothing. Returns whether it
+/// did.
 fn settle_slot<M: Machine>(
     machine: &M,
     slots: &[Option<usize>],
     slot: usize,
     config: &mut Config<M::State>,
-) -> Result<(), AllocError>
+) -> Result<bool, AllocError>
     requires few { length slots.now ≤ 64 }
     requires within { slot < length slots.now }
-    ensures { OnOk result (IsSettled (M.Step machine.now) slots.now config.old
+    ensures settled { OnOk result (IsSettled (M.Step machine.now) slots.now config.old
         (spot_of config.new)) }
+    ensures same { IfOk result (λ made. IsFalse made → config.new ≡ config.old) }
 {
     let Some(call) = slots[slot] else {
-        return Ok(());
+        return Ok(false);
     };
     if has(config.waiting, slot) && machine.is_idle(&config.state, call) {
         config.made.push(call)?;
         config.waiting = without(config.waiting, slot);
+        return Ok(true);
     }
-    Ok(())
+    Ok(false)
 }
 
-/// The configuration in which the calls were made that can be made and change nothing.
-fn settled<M: Machine>(
-    alloc: Global,
+/// Makes the calls that can be made and change nothing. Returns whether there are any.
+fn settle<M: Machine>(
     machine: &M,
     slots: &[Option<usize>],
-    config: &Config<M::State>,
-) -> Result<Config<M::State>, AllocError>
+    config: &mut Config<M::State>,
+) -> Result<bool, AllocError>
     requires few { length slots.now ≤ 64 }
-    ensures { IfOk result (λ one. IsSettled (M.Step machine.now) slots.now config.now
-        (spot_of one)) }
+    ensures settled { OnOk result (IsSettled (M.Step machine.now) slots.now config.old
+        (spot_of config.new)) }
+    ensures same { IfOk result (λ made. IsFalse made → config.new ≡ config.old) }
 {
-    let mut one = copy_of(alloc, machine, config)?;
+    let mut any = false;
     for slot in 0..slots.len() {
-        settle_slot(machine, slots, slot, &mut one)?;
+        any = settle_slot(machine, slots, slot, config)? || any;
     }
-    Ok(one)
+    Ok(any)
 }
 
-/// The same of each of the configurations, each once.
+/// The same in each of the configurations.
+fn settle_each<M: Machine>(
+    machine: &M,
+    slots: &[Option<usize>],
+    configs: &mut [Config<M::State>],
+) -> Result<bool, AllocError>
+    requires few { length slots.now ≤ 64 }
+    ensures settled { OnOk result (AreSettledEach (M.Step machine.now) slots.now configs.old
+        configs.new) }
+    ensures same { IfOk result (λ made. IsFalse made → AreSame configs.old configs.new) }
+{
+    let mut any = false;
+    for config in configs.iter_mut() {
+        any = settle(machine, slots, config)? || any;
+    }
+    Ok(any)
+}
+
+/// The same, and each is there once then. Where nothing was made, and each is said to be there once
+/// before, none is compared.
 pub fn settle_all<M: Machine>(
     alloc: Global,
     machine: &M,
     slots: &[Option<usize>],
-    configs: &[Config<M::State>],
-) -> Result<Vec<Config<M::State>>, AllocError>
+    configs: &mut Vec<Config<M::State>>,
+    are_apart: bool,
+) -> Result<(), AllocError>
     requires few { length slots.now ≤ 64 }
-    ensures { IfOk result (λ all. AreSettled (M.Step machine.now) slots.now configs.now all.items) }
+    ensures { OnOk result ((IsTrue are_apart
+        → AllPairs (λ a b. ¬ (IsSame a b)) configs.old.items)
+        → AreSettled (M.Step machine.now) slots.now configs.old.items configs.new.items) }
 {
-    let mut all = Vec::new(alloc);
-    for config in configs {
-        let one = settled(alloc, machine, slots, config)?;
-        add(machine, &mut all, one)?;
+    let any = settle_each(machine, slots, configs)?;
+    if are_apart && !any {
+        return Ok(());
     }
-    Ok(all)
+    let settled = mem::replace(configs, Vec::new(alloc));
+    *configs = joined(alloc, machine, Vec::new(alloc), settled)?;
+    Ok(())
 }

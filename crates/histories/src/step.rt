@@ -1,27 +1,44 @@
 //! One event more.
-ghost use Rattle.std.specs.Prelude.{◌<◌, ◌≤◌, IfOk, length};
+ghost use Rattle.std.specs.Prelude.{◌≡◌, ◌<◌, ◌≤◌, IfOk, IsTrue, length};
+ghost use Rattle.std.specs.Int.{bit_at};
 ghost use Rattle.histories.specs.declared.event.Event.TheVariants.{Begin, End, Crash};
 ghost use Rattle.histories.specs.Advances.{IsAdvance};
-ghost use Rattle.histories.specs.Gathering.{AreOpened, IsLeft};
+ghost use Rattle.histories.specs.Gathering.{AreOpened, Finishes, IsLeft, IsOpened, LaysOut, WaitsInNone};
 
-use super::close::{close, drop_all};
+use super::close::{close, dropped_all};
 use super::event::Event;
 use super::front::{Advance, Config, Front, MAX_CONFIGS};
+use super::gather::joined;
 use super::links::lay_all;
 use super::machine::Machine;
-use super::sets::with;
+use super::sets::{has, with};
 use super::settle::settle_all;
 use super::slots::{free, slot_of, take_slot};
 use std::alloc::{AllocError, Global};
+use std::mem;
 
-/// The call in the slot waits in each of the configurations.
-fn open_all<S>(configs: &mut [Config<S>], slot: usize)
+/// The call in the slot waits in the configuration. Returns whether it did not before.
+fn open<S>(config: &mut Config<S>, slot: usize) -> bool
     requires { slot < 64 }
-    ensures { AreOpened slot configs.old configs.new }
+    ensures opened { IsOpened slot config.old config.new }
+    ensures new { IsTrue result → bit_at config.old.waiting slot ≡ 0 }
 {
+    let was = has(config.waiting, slot);
+    config.waiting = with(config.waiting, slot);
+    !was
+}
+
+/// The call in the slot waits in each of the configurations. Returns whether it did in none before.
+fn open_all<S>(configs: &mut [Config<S>], slot: usize) -> bool
+    requires { slot < 64 }
+    ensures opened { AreOpened slot configs.old configs.new }
+    ensures new { IsTrue result → WaitsInNone slot configs.old }
+{
+    let mut is_new = true;
     for config in configs.iter_mut() {
-        config.waiting = with(config.waiting, slot);
+        is_new = open(config, slot) && is_new;
     }
+    is_new
 }
 
 /// What was done, by the configurations that are left.
@@ -32,6 +49,14 @@ fn left<S>(configs: &[Config<S>]) -> Advance
         return Advance::Refused;
     }
     Advance::Done
+}
+
+/// The calls that were made go into the links. Returns what was done.
+fn lay<S>(front: &mut Front<S>) -> Result<Advance, AllocError>
+    ensures { IfOk result (LaysOut front.old front.new) }
+{
+    lay_all(&mut front.links, &mut front.configs)?;
+    Ok(left(&front.configs))
 }
 
 /// A call begins, and waits in each configuration, or is made at once where it changes nothing.
@@ -47,10 +72,26 @@ fn begin<M: Machine>(
     let Some(slot) = take_slot(&mut front.slots, call)? else {
         return Ok(Advance::ManyOpen);
     };
-    open_all(&mut front.configs, slot);
-    front.configs = settle_all(alloc, machine, &front.slots, &front.configs)?;
-    lay_all(&mut front.links, &mut front.configs)?;
-    Ok(left(&front.configs))
+    let is_new = open_all(&mut front.configs, slot);
+    settle_all(alloc, machine, &front.slots, &mut front.configs, is_new)?;
+    lay(front)
+}
+
+/// The call in the slot is over, and these configurations are left.
+fn finish<S: Drop>(
+    front: &mut Front<S>,
+    slot: usize,
+    configs: Vec<Config<S>>,
+) -> Result<Advance, AllocError>
+    requires { slot < length front.old.slots.items }
+    ensures { IfOk result (Finishes front.old slot configs.items front.new) }
+{
+    free(&mut front.slots, slot);
+    if configs.len() > MAX_CONFIGS {
+        return Ok(Advance::ManyConfigs);
+    }
+    front.configs = configs;
+    lay(front)
 }
 
 /// A call ends: it is made in each configuration.
@@ -66,13 +107,11 @@ fn end<M: Machine>(
     let Some(slot) = slot_of(&front.slots, call) else {
         return Ok(Advance::NoEvent);
     };
-    let Some(closed) = close(alloc, machine, &front.slots, &front.configs, slot)? else {
-        return Ok(Advance::ManyConfigs);
-    };
-    free(&mut front.slots, slot);
-    front.configs = closed;
-    lay_all(&mut front.links, &mut front.configs)?;
-    Ok(left(&front.configs))
+    let configs = mem::replace(&mut front.configs, Vec::new(alloc));
+    match close(alloc, machine, &front.slots, configs, slot)? {
+        Some(closed) => finish(front, slot, closed),
+        None => Ok(Advance::ManyConfigs),
+    }
 }
 
 /// The caller of a call crashed: the call is made in each configuration, or never.
@@ -88,18 +127,15 @@ fn crash<M: Machine>(
     let Some(slot) = slot_of(&front.slots, call) else {
         return Ok(Advance::NoEvent);
     };
-    let Some(closed) = close(alloc, machine, &front.slots, &front.configs, slot)? else {
-        return Ok(Advance::ManyConfigs);
-    };
-    let mut more = closed;
-    drop_all(alloc, machine, &front.configs, slot, &mut more)?;
-    free(&mut front.slots, slot);
-    front.configs = more;
-    if front.configs.len() > MAX_CONFIGS {
-        return Ok(Advance::ManyConfigs);
+    let dropped = dropped_all(alloc, machine, &front.configs, slot)?;
+    let configs = mem::replace(&mut front.configs, Vec::new(alloc));
+    match close(alloc, machine, &front.slots, configs, slot)? {
+        Some(closed) => {
+            let more = joined(alloc, machine, closed, dropped)?;
+            finish(front, slot, more)
+        }
+        None => Ok(Advance::ManyConfigs),
     }
-    lay_all(&mut front.links, &mut front.configs)?;
-    Ok(left(&front.configs))
 }
 
 /// Goes on with one event more.
@@ -125,6 +161,9 @@ pub fn advance<M: Machine>(
     requires few { length front.old.slots.items ≤ 64 }
     ensures { IfOk result (IsAdvance M.Step machine.now front.old event front.new) }
 {
+    if front.configs.len() > MAX_CONFIGS {
+        return Ok(Advance::ManyConfigs);
+    }
     match event {
         Event::Begin(call) => begin(alloc, machine, front, call),
         Event::End(call) => end(alloc, machine, front, call),

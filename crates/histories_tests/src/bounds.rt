@@ -23,6 +23,7 @@ fn calls_that_are_open(rt: HostRuntime) -> Result<(), Fail> {
     // The first write was made after each set of the others.
     assert_eq!(rt; writes(alloc, 1)?, Found::Left(1));
     assert_eq!(rt; writes(alloc, 4)?, Found::Left(8));
+    assert_eq!(rt; writes(alloc, 10)?, Found::Left(512));
     assert_eq!(rt; writes(alloc, MAX_OPEN + 1)?, Found::ManyOpen(MAX_OPEN));
     Ok(())
 }

@@ -5,7 +5,7 @@ use Rattle.histories.proofs.close.close.Given as goal
 
 abbrev pub invariant-loop-left : goal.invariant-loop-left
 invariant-loop-left g l =
-    IsClosing (g.M.Machine.Step l.machine) l.slots l.configs l.slot l.done.items l.layer.items
+    IsClosing (g.M.Machine.Step l.machine) l.slots l.fn.configs.items l.slot l.done l.layer.items
     l.left
     × AllPairs (λ a b. ¬ (IsSame a b)) l.layer.items
 

@@ -1,15 +1,42 @@
-use Rattle.histories.specs.Gathering.{IsDone, IsUnderWay}
-use Rattle.histories.proofs.Gathering.{gathers_one}
+use Rattle.std.proofs.Common.{[], ◌≡◌, List, subst, sym, ◌∙◌}
+use Rattle.std.proofs.lemmas.List.{map-id}
+use Rattle.std.proofs.lemmas.Iterator.Adapters.{YieldsList-from_vec}
+use Rattle.std.proofs.lemmas.Iterator.Consumers.{YieldsList-end}
+use Rattle.histories.specs.declared.front.Config.{Config}
+use Rattle.histories.specs.Gathering.{FromOne, Gathers, IsDone, IsUnderWay}
+use Rattle.histories.proofs.Gathering.{gathers_no_one, gathers_pushed}
 use Rattle.histories.proofs.close.close_round.Goals as goal
 
+pub loop-config-init : goal.loop-config-init
+loop-config-init g c = (
+  gathers_no_one (IsDone c.args.slot) _,
+  rw c.new-next.ensures
+      (gathers_no_one
+      (IsUnderWay (g.M.Machine.Step c.args.machine.now) c.args.slots.now c.args.slot) []),
+)
+
 pub loop-config-preserved : goal.loop-config-preserved
-loop-config-preserved g c =
-    let layer = c.args.layer.now in
-    let at = c.loop-config.config-index in (
-      gathers_one (IsDone c.args.slot) layer at c.config-item.result _ _ _ c.loop-config-test.true
-          c.config-item.is c.loop-config.invariant.0 c.in_ok-close_one.ensures.0,
-      gathers_one (IsUnderWay (g.M.Machine.Step c.args.machine.now) c.args.slots.now c.args.slot)
-          layer at
-          c.config-item.result _ _ _ c.loop-config-test.true c.config-item.is
-          c.loop-config.invariant.1 c.in_ok-close_one.ensures.1,
+loop-config-preserved g c = (
+  gathers_pushed (IsDone c.args.slot) c.loop-config.yielded c.in-Some.config _ _ _
+      c.loop-config.invariant.0 c.in_ok-close_one.ensures.0,
+  gathers_pushed (IsUnderWay (g.M.Machine.Step c.args.machine.now) c.args.slots.now c.args.slot)
+      c.loop-config.yielded c.in-Some.config _ _ _ c.loop-config.invariant.1
+      c.in_ok-close_one.ensures.1,
+)
+
+pub returns : goal.returns
+returns g c =
+    let Step = g.M.Machine.Step c.args.machine.now in
+    let layer = c.args.layer in
+    let end = YieldsList-end
+    (YieldsList-from_vec {s = c.into_iter-config-iterator.result} layer.items c.into_iter-config-iterator.ensures.into_iter_gives.0 (c.into_iter-config-iterator.ensures.into_iter_gives.1 ∙ layer.ok.0))
+    c.loop-config.yielded _ c.loop-config.yielded_by _ c.next.new.self c.in-None.is c.next.ensures.steps in
+    let all : c.loop-config.yielded ≡ layer.items = sym (map-id c.loop-config.yielded) ∙ end.0 in (
+      subst (λ (l : List (Config _)). Gathers (FromOne (IsDone c.args.slot) l) c.args.done.now
+          c.loop-config.done) all c.loop-config.invariant.0,
+      rw c.into_configs.ensures
+          (subst
+          (λ (l : List (Config _)). Gathers
+          (FromOne (IsUnderWay Step c.args.slots.now c.args.slot) l) [] c.loop-config.next) all
+          c.loop-config.invariant.1),
     )

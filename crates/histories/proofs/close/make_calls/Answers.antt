@@ -5,7 +5,7 @@ use Rattle.histories.proofs.close.make_calls.Goals as goal
 pub loop-slot-init : goal.loop-slot-init
 loop-slot-init g c =
     gathers_no_slot (g.M.Machine.Step c.args.machine.now) c.args.slots.now c.args.config.now
-    c.args.next.now.items
+    c.args.next.now
 
 pub loop-slot-preserved : goal.loop-slot-preserved
 loop-slot-preserved g c =

@@ -3,8 +3,11 @@ use Rattle.histories.specs.Frontier.{IsFrontier, no_path}
 use Rattle.histories.specs.Gathering.{Gathers, IsFirst}
 use Rattle.histories.proofs.Closing.{path_is}
 use Rattle.histories.proofs.Frontiers.{frontier_first}
-use Rattle.histories.proofs.Gathering.{gathers_first}
+use Rattle.histories.proofs.Gathering.{gathers_first, gathers_no_first}
 use Rattle.histories.proofs.gather.start.Goals as goal
+
+pub loop-from-init : goal.loop-from-init
+loop-from-init g c = rw c.new-configs.ensures (gathers_no_first [])
 
 pub loop-from-preserved : goal.loop-from-preserved
 loop-from-preserved g c =
@@ -23,8 +26,9 @@ returns g c =
     let states = c.args.states.now in
     let all : length states ≤ c.loop-from.from-index = search rules in
     let Step = g.M.Machine.Step c.args.machine.now in
-    subst (λ l. IsFrontier Step c.new-links.result.items l [] states c.loop-from.configs.items)
+    rw c.into_configs.ensures
+    (subst (λ l. IsFrontier Step c.new-links.result.items l [] states c.loop-from.configs)
     (sym c.new-slots.ensures.items)
-    (frontier_first Step c.new-links.result.items states c.loop-from.configs.items
-    (subst (λ l. Gathers (IsFirst l) [] c.loop-from.configs.items)
-    (take_all c.loop-from.from-index states all) c.loop-from.invariant))
+    (frontier_first Step c.new-links.result.items states c.loop-from.configs
+    (subst (λ l. Gathers (IsFirst l) [] c.loop-from.configs)
+    (take_all c.loop-from.from-index states all) c.loop-from.invariant)))

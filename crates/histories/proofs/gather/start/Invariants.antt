@@ -3,5 +3,4 @@ use Rattle.histories.specs.Gathering.{Gathers, IsFirst}
 use Rattle.histories.proofs.gather.start.Given as goal
 
 abbrev pub invariant-loop-from : goal.invariant-loop-from
-invariant-loop-from g l =
-    Gathers (IsFirst (take l.from-index l.states)) [] l.configs.items
+invariant-loop-from g l = Gathers (IsFirst (take l.from-index l.states)) [] l.configs

@@ -1,23 +1,36 @@
-use Rattle.std.proofs.Common.{rules, ◌≤◌, length, subst, take_all}
-use Rattle.histories.specs.Gathering.{AreSettled}
-use Rattle.histories.proofs.Settlings.{are_settled_more, are_settled_none}
+use Rattle.std.proofs.Common.{[], List, subst, sym}
+use Rattle.histories.specs.declared.front.Config.{Config}
+use Rattle.histories.specs.Gathering.{AreSettled, AreSettledEach, FromOne, Gathers, IsCopy}
+use Rattle.histories.proofs.Places.{put_back}
+use Rattle.histories.proofs.Settlings.{settled_apart, settled_once}
 use Rattle.histories.proofs.settle.settle_all.Goals as goal
 
-pub loop-config-init : goal.loop-config-init
-loop-config-init g c =
-    rw c.new-all.ensures.items (are_settled_none (g.M.Machine.Step c.args.machine.now)
-    c.args.slots.now)
-
-pub loop-config-preserved : goal.loop-config-preserved
-loop-config-preserved g c =
-    are_settled_more (g.M.Machine.Step c.args.machine.now) c.args.slots.now c.args.configs.now _ _
-    c.loop-config.config-index c.config-item.result c.in_ok-one.one c.loop-config-test.true
-    c.config-item.is c.loop-config.invariant c.in_ok-one.ensures c.in_ok-add.ensures
-
 pub returns : goal.returns
-returns g c =
-    let configs = c.args.configs.now in
-    let all : length configs ≤ c.loop-config.config-index = search rules in
-    subst (λ l. AreSettled (g.M.Machine.Step c.args.machine.now) c.args.slots.now l
-    c.loop-config.all.items)
-    (take_all c.loop-config.config-index configs all) c.loop-config.invariant
+returns g c apart =
+    let S = g.row.M-State.Denot in
+    let Step = g.M.Machine.Step c.args.machine.now in
+    let slots = c.args.slots.now in
+    let old = c.args.configs.now in
+    let settled : List (Config S) = c.settle_each.new.configs in
+    let new = c.in_ok-configs.field-0.items in
+    let each : AreSettledEach Step slots old.items settled =
+    rw c.deref_mut.ensures.value at c.in_ok-any.ensures.settled in
+    settled_once Step slots old.items settled new each
+    (subst (λ (l : List (Config S)). Gathers (FromOne IsCopy l) [] new)
+    (put_back settled old.items old.len each.0 old.ok.0)
+    (rw c.new-2.ensures.items at (rw c.replace-settled.ensures.value at c.in_ok-configs.ensures)))
+
+pub returns-then-not-any : goal.returns-then-not-any
+returns-then-not-any g c apart =
+    let S = g.row.M-State.Denot in
+    let Step = g.M.Machine.Step c.args.machine.now in
+    let slots = c.args.slots.now in
+    let old = c.args.configs.now in
+    let settled : List (Config S) = c.settle_each.new.configs in
+    let each : AreSettledEach Step slots old.items settled =
+    rw c.deref_mut.ensures.value at c.in_ok-any.ensures.settled in
+    subst (λ (l : List (Config S)). AreSettled Step slots old.items l)
+    (sym (put_back settled old.items old.len each.0 old.ok.0))
+    (settled_apart Step slots old.items settled each
+    (rw c.deref_mut.ensures.value at (c.in_ok-any.ensures.same c.if-not-any.true))
+    (apart c.if-are_apart.true))

@@ -4,8 +4,8 @@ use Rattle.histories.proofs.Closing.{path_is}
 use Rattle.histories.proofs.Settlings.{settled_call}
 use Rattle.histories.proofs.settle.settle_slot.Goals as goal
 
-pub returns-in_ok-push : goal.returns-in_ok-push
-returns-in_ok-push g c =
+pub returns-then-is_idle-clause-settled : goal.returns-then-is_idle-clause-settled
+returns-then-is_idle-clause-settled g c =
     let config = c.args.config.now in
     let call = c.in-Some.call in
     let here : HasSlot c.args.slots.now c.args.slot call = search rules in

@@ -1,6 +1,11 @@
+use Rattle.std.proofs.Common.{◌≡◌, ◌<◌, ℕ, get_or, IsTrue}
+use Rattle.std.specs.Int.{bit_at}
 use Rattle.histories.specs.Gathering.{IsOpened}
 use Rattle.histories.proofs.Places.{AreDone}
 use Rattle.histories.proofs.step.open_all.Given as goal
 
 abbrev pub invariant-loop-config : goal.invariant-loop-config
-invariant-loop-config g l = AreDone (IsOpened l.slot) l.fn.configs l.configs l.config-index
+invariant-loop-config g l =
+    AreDone (IsOpened l.slot) l.fn.configs l.configs l.config-index
+    × (IsTrue l.is_new → (place : ℕ) (d : _) → place < l.config-index
+    → bit_at (get_or l.fn.configs place d).waiting l.slot ≡ 0)

@@ -1,6 +1,6 @@
 use Rattle.std.proofs.Common.{All, take}
 use Rattle.histories.specs.Frontier.{IsSame}
-use Rattle.histories.proofs.gather.is_known.Given as goal
+use Rattle.histories.proofs.gather.is_among.Given as goal
 
 abbrev pub invariant-loop-known : goal.invariant-loop-known
 invariant-loop-known g l =

@@ -1,0 +1,258 @@
+-- Configurations in chains.
+use Rattle.std.proofs.Common.{◌≡◌, ◌≢◌, ℕ, ◌+◌, ◌-◌, ◌<◌, ◌≤◌, Bool, true, false, All, List, [], ◌∷◌, ◌++◌, drop, length, get_or, set, replicate, sym, ◌∙◌, ap, subst, arith, inl, inr}
+use Rattle.std.proofs.Math.ListN.{get_or-append}
+use Rattle.std.proofs.Math.Seq.{get_or-append_seam}
+use Rattle.std.proofs.lemmas.Bool.{cases_eq, cases_lt, cases_order}
+use Rattle.std.proofs.lemmas.List.{get_or-drop, get_or-replicate, get_or-set_other, get_or-set_same, get_or_default, get_or_past, length-drop, length-replicate, length_push}
+use Rattle.histories.specs.declared.front.Config.{Config}
+use Rattle.histories.specs.Chained.{AreChained, AreLinked, AreOther, chain_at, chain_of}
+use Rattle.histories.specs.Frontier.{IsSame}
+use Rattle.histories.specs.Gathering.{IsKnown}
+use Rattle.histories.proofs.Places.{less_of}
+
+-- where no place is in a chain
+pub linked_none : (chain : ℕ → ℕ) (heads before : List ℕ) → length before ≡ 0
+    → ((number : ℕ) → get_or heads number 0 ≡ 0) → AreLinked chain heads before
+linked_none chain heads before none empty = record {
+  reached = λ place h. absurd (omega (arith, h, none));
+  head = λ number place e. absurd (omega (arith, e, empty number));
+  kept = λ place at h below e. absurd (omega (arith, below, none));
+  link = λ at place below e. absurd (omega (arith, below, none));
+}
+
+-- the same chains by other words
+pub linked_as : (one other : ℕ → ℕ) (heads before : List ℕ)
+    → ((place : ℕ) → place < length before → other place ≡ one place)
+    → AreLinked one heads before → AreLinked other heads before
+linked_as one other heads before same l = record {
+  reached = λ place h. subst (λ c. place < get_or heads c 0) (sym (same place h))
+      (l.reached place h);
+  head = λ number place e.
+      let is = l.head number place e in (is.0, same place is.0 ∙ is.1);
+  kept = λ place at h below e.
+      l.kept place at h below
+      (sym (same place (omega (arith, h, below))) ∙ (e ∙ same at below));
+  link = λ at place below e.
+      let is = l.link at place below e in (
+        is.0,
+        same place (omega (arith, is.0, below)) ∙ (is.1 ∙ sym (same at below)),
+      );
+}
+
+-- one place more
+pub linked_more : (chain : ℕ → ℕ) (heads before : List ℕ) (number : ℕ)
+    → number ≡ chain (length before) → number < length heads → AreLinked chain heads before
+    → AreLinked chain (set heads number (length before + 1))
+    (before ++ get_or heads number 0 ∷ [])
+linked_more chain heads before number is within l =
+    let last = length before in
+    let head = get_or heads number 0 in
+    let more : List ℕ = before ++ head ∷ [] in
+    let now : List ℕ = set heads number (last + 1) in
+    let many : length more ≡ last + 1 = length_push before head in
+    let here : get_or now number 0 ≡ last + 1 = get_or-set_same heads number (last + 1) 0 within in
+    let there : (other : ℕ) → other ≢ number → get_or now other 0 ≡ get_or heads other 0 = λ other
+    ne.
+    get_or-set_other heads number other (last + 1) 0 ne in
+    let was : (at : ℕ) → at < last → get_or more at 0 ≡ get_or before at 0 = λ at below.
+    get_or-append before (head ∷ []) 0 at below in
+    let end : get_or more last 0 ≡ head = get_or-append_seam before head [] 0 in
+    record {
+      reached = λ place h.
+          elim (cases_eq (chain place) number) as (λ _. place < get_or now (chain place) 0) [
+            | inl e ↦ subst (λ c. place < get_or now c 0) (sym e) (omega (arith, here, h, many))
+            | inr ne ↦
+                let below : place < last =
+                less_of place last (omega (arith, h, many)) (λ e. ne (ap chain e ∙ sym is)) in
+                omega (arith, there (chain place) ne, l.reached place below)
+          ];
+      head = λ other place e.
+          elim (cases_eq other number)
+          as (λ _. (place < length more) × (chain place ≡ other)) [
+            | inl same ↦
+                let at : place ≡ last =
+                omega (arith, here, e, ap (λ c. get_or now c 0) same) in
+                (omega (arith, at, many), ap chain at ∙ (sym is ∙ sym same))
+            | inr ne ↦
+                let before_ = l.head other place (sym (there other ne) ∙ e) in
+                (omega (arith, before_.0, many), before_.1)
+          ];
+      kept = λ place at h below e.
+          elim (cases_eq at last) as (λ _. place < get_or more at 0) [
+            | inl same ↦
+                let chained : chain place ≡ number = e ∙ (ap chain same ∙ sym is) in
+                omega (
+                  arith,
+                  ap (λ i. get_or more i 0) same,
+                  end,
+                  ap (λ c. get_or heads c 0) chained,
+                  l.reached place (omega (arith, h, same)),
+                )
+            | inr ne ↦
+                let less : at < last = less_of at last (omega (arith, below, many)) ne in
+                omega (arith, was at less, l.kept place at h less e)
+          ];
+      link = λ at place below e.
+          elim (cases_eq at last) as (λ _. (place < at) × (chain place ≡ chain at)) [
+            | inl same ↦
+                let before_ = l.head number place
+                (sym end ∙ (ap (λ i. get_or more i 0) (sym same) ∙ e)) in
+                (omega (arith, before_.0, same), before_.1 ∙ (is ∙ ap chain (sym same)))
+            | inr ne ↦
+                let less : at < last = less_of at last (omega (arith, below, many)) ne in
+                l.link at place less (sym (was at less) ∙ e)
+          ];
+    }
+
+-- each of many copies of a number is that
+pub copies : (count place number : ℕ) → get_or (replicate count number) place number ≡ number
+copies count place number =
+    elim (cases_lt place count)
+    as (λ _. get_or (replicate count number) place number ≡ number) [
+      | inl within ↦ get_or-replicate count place number number within
+      | inr past ↦
+          get_or_past (replicate count number) place number
+          (omega (arith, length-replicate count number, past))
+    ]
+
+module _ {S : Type 0} where
+  -- a configuration more, which is in no chain yet
+  pub chained_push : (configs : List (Config S)) (config : Config S) (heads before : List ℕ)
+      → AreChained configs heads before → AreChained (configs ++ config ∷ []) heads before
+  chained_push configs config heads before c = (
+    omega (arith, c.0, length_push configs config),
+    λ d. linked_as (chain_at configs d) (chain_at (configs ++ config ∷ []) d) heads before
+        (λ place h.
+        ap (λ (k : Config S). chain_of k.waiting)
+        (get_or-append configs (config ∷ []) d place (omega (arith, h, c.0))))
+        (c.1 d),
+  )
+
+  -- where none is in a chain
+  pub chained_none : (configs : List (Config S)) (heads before : List ℕ) → length before ≡ 0
+      → ((number : ℕ) → get_or heads number 0 ≡ 0) → AreChained configs heads before
+  chained_none configs heads before none empty = (
+    omega (arith, none),
+    λ d. linked_none (chain_at configs d) heads before none empty,
+  )
+
+  -- one configuration more is in its chain
+  pub chained_more : (configs : List (Config S)) (item : Config S) (heads before : List ℕ)
+      (number : ℕ) → number ≡ chain_of item.waiting
+      → item ≡ get_or configs (length before) item → number < length heads
+      → length before < length configs → AreChained configs heads before
+      → AreChained configs (set heads number (length before + 1))
+      (before ++ get_or heads number 0 ∷ [])
+  chained_more configs item heads before number is at within more c = (
+    omega (arith, length_push before (get_or heads number 0), more),
+    λ d. linked_more (chain_at configs d) heads before number
+        (is ∙ ap (λ (k : Config S). chain_of k.waiting)
+        (at ∙ get_or_default configs (length before) item d more))
+        within (c.1 d),
+  )
+
+  -- How far a chain was followed: those from here on are others.
+  pub record IsFollowing (configs : List (Config S)) (before : List ℕ) (config : Config S)
+      (left : ℕ) : Type 0 where
+    pub within : left ≤ length before
+    pub here : (place : ℕ) (d : Config S) → left ≡ place + 1
+        → chain_at configs d place ≡ chain_of config.waiting
+    pub others : AreOther configs left (length before) config
+
+  pub following_head : (configs : List (Config S)) (heads before : List ℕ) (config : Config S)
+      (left : ℕ) → left ≡ get_or heads (chain_of config.waiting) 0
+      → AreChained configs heads before → IsFollowing configs before config left
+  following_head configs heads before config left is c =
+      let linked = c.1 config in record {
+        within = elim (cases_eq left 0) as (λ _. left ≤ length before) [
+          | inl none ↦ omega (arith, none)
+          | inr some ↦
+              let at = linked.head (chain_of config.waiting) (left - 1) (omega (arith, is, some)) in
+              omega (arith, at.0, some)
+        ];
+        here = λ place d e.
+            ((c.1 d).head (chain_of config.waiting) place (sym is ∙ e)).1;
+        others = λ place d from below same.
+            let chained : chain_at configs d place ≡ chain_of config.waiting =
+            ap chain_of same.1 in
+            absurd (omega (
+              arith,
+              from,
+              is,
+              ap (λ n. get_or heads n 0) chained,
+              (c.1 d).reached place below,
+            ));
+      }
+
+  pub following_more : (configs : List (Config S)) (heads before : List ℕ)
+      (config known : Config S) (at left next : ℕ) → left ≡ at + 1
+      → next ≡ get_or before at 0 → known ≡ get_or configs at known
+      → ¬ (IsSame known config) → AreChained configs heads before
+      → IsFollowing configs before config left
+      → IsFollowing configs before config next × (next < left)
+  following_more configs heads before config known at left next one is item other c f =
+      let below : at < length before = omega (arith, f.within, one) in
+      let less : next < left = elim (cases_eq next 0) as (λ _. next < left) [
+        | inl none ↦ omega (arith, none, one)
+        | inr some ↦
+            let to = (c.1 config).link at (next - 1) below (omega (arith, is, some)) in
+            omega (arith, to.0, some, one)
+      ] in (
+        record {
+          within = omega (arith, less, f.within);
+          here = λ place d e.
+              ((c.1 d).link at place below (sym is ∙ e)).1 ∙ f.here at d one;
+          others = λ place d from end same.
+              elim (cases_order place at) as (λ _. ⊥) [
+                | inl e ↦ other
+                    (subst (λ (k : Config S). IsSame k config)
+                    (ap (λ i. get_or configs i d) e
+                    ∙ (get_or_default configs at d known (omega (arith, below, c.0)) ∙ sym item))
+                    same)
+                | inr (inl before_) ↦
+                    let chained : chain_at configs d place ≡ chain_at configs d at =
+                    ap chain_of same.1 ∙ sym (f.here at d one) in
+                    absurd (omega (
+                      arith,
+                      from,
+                      is,
+                      (c.1 d).kept place at before_ below chained,
+                    ))
+                | inr (inr behind) ↦
+                    f.others place d (omega (arith, behind, one)) end same
+              ];
+        },
+        less,
+      )
+
+  -- the first ones are others, and so are the rest
+  pub all_other : (configs : List (Config S)) (config : Config S) (from : ℕ)
+      → AreOther configs 0 from config
+      → All (λ known. ¬ (IsSame known config)) (drop from configs)
+      → All (λ known. ¬ (IsSame known config)) configs
+  all_other configs config from first rest place d below =
+      elim (cases_lt place from) as (λ _. ¬ (IsSame (get_or configs place d) config)) [
+        | inl less ↦ first place d (omega arith) less
+        | inr past ↦
+            let at : from + (place - from) ≡ place = omega (arith, past) in
+            subst (λ i. ¬ (IsSame (get_or configs i d) config)) at
+            (subst (λ (k : Config S). ¬ (IsSame k config)) (get_or-drop from configs (place - from) d)
+            (rest (place - from) d
+            (omega (arith, length-drop from configs, below, past))))
+      ]
+
+  -- whether one of the rest is the same, where the first ones are others
+  pub known_rest : (configs : List (Config S)) (config : Config S) (from : ℕ) (r : Bool)
+      → AreOther configs 0 from config → IsKnown (drop from configs) config r
+      → IsKnown configs config r
+  known_rest configs config from true first is =
+      let at = is.1.0 in (
+        is.0,
+        (
+          from + at,
+          omega (arith, length-drop from configs, is.1.1),
+          sym (get_or-drop from configs at is.0) ∙ is.1.2,
+        ),
+        is.2,
+      )
+  known_rest configs config from false first is = all_other configs config from first is

@@ -1,0 +1,8 @@
+use Rattle.histories.proofs.Linking.{IsFollowing}
+use Rattle.histories.proofs.chained.is_in_chain.Given as goal
+
+abbrev pub invariant-loop-left : goal.invariant-loop-left
+invariant-loop-left g l = IsFollowing l.configs l.before l.config l.left
+
+abbrev pub decreases-loop-left : goal.decreases-loop-left
+decreases-loop-left g l = l.left

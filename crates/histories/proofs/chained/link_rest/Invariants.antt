@@ -1,0 +1,10 @@
+use Rattle.std.proofs.Common.{◌≡◌, ◌-◌, length}
+use Rattle.histories.specs.Chained.{AreChained}
+use Rattle.histories.proofs.chained.link_rest.Given as goal
+
+abbrev pub invariant-loop-heads : goal.invariant-loop-heads
+invariant-loop-heads g l =
+    AreChained l.configs l.heads l.before.items × (length l.heads ≡ 1021)
+
+abbrev pub decreases-loop-heads : goal.decreases-loop-heads
+decreases-loop-heads g l = length l.configs - length l.before.items

@@ -1,8 +1,0 @@
-use Rattle.std.proofs.Common.{take}
-use Rattle.histories.specs.Gathering.{FromOne, Gathers, IsDropped}
-use Rattle.histories.proofs.close.drop_all.Given as goal
-
-abbrev pub invariant-loop-config : goal.invariant-loop-config
-invariant-loop-config g l =
-    Gathers (FromOne (IsDropped l.slot) (take l.config-index l.configs)) l.fn.more.items
-    l.more.items

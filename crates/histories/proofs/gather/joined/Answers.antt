@@ -1,0 +1,28 @@
+use Rattle.std.proofs.Common.{◌≡◌, List, ◌∙◌, subst, sym}
+use Rattle.std.proofs.lemmas.List.{map-id}
+use Rattle.std.proofs.lemmas.Iterator.Adapters.{YieldsList-from_vec}
+use Rattle.std.proofs.lemmas.Iterator.Consumers.{YieldsList-end}
+use Rattle.histories.specs.declared.front.Config.{Config}
+use Rattle.histories.specs.Gathering.{FromOne, Gathers, IsCopy}
+use Rattle.histories.proofs.Gathering.{gathers_no_one, gathers_pushed}
+use Rattle.histories.proofs.gather.joined.Goals as goal
+
+pub loop-config-init : goal.loop-config-init
+loop-config-init g c = rw c.of-all.ensures (gathers_no_one IsCopy c.args.configs.items)
+
+pub loop-config-preserved : goal.loop-config-preserved
+loop-config-preserved g c =
+    gathers_pushed IsCopy c.loop-config.yielded c.in-Some.config _ _ _ c.loop-config.invariant
+    c.in_ok-add.ensures
+
+pub returns : goal.returns
+returns g c =
+    let others = c.args.others in
+    let end = YieldsList-end
+    (YieldsList-from_vec {s = c.into_iter-config-iterator.result} others.items c.into_iter-config-iterator.ensures.into_iter_gives.0
+    (c.into_iter-config-iterator.ensures.into_iter_gives.1 ∙ others.ok.0)) c.loop-config.yielded _ c.loop-config.yielded_by _ c.next.new.self
+    c.in-None.is c.next.ensures.steps in
+    let all : c.loop-config.yielded ≡ others.items = sym (map-id c.loop-config.yielded) ∙ end.0 in
+    rw c.into_configs.ensures
+    (subst (λ (l : List (Config _)). Gathers (FromOne IsCopy l) c.args.configs.items c.loop-config.all)
+    all c.loop-config.invariant)

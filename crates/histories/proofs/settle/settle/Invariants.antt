@@ -1,0 +1,8 @@
+use Rattle.std.proofs.Common.{◌≡◌, IsFalse}
+use Rattle.histories.specs.Gathering.{IsSettled, spot_of}
+use Rattle.histories.proofs.settle.settle.Given as goal
+
+abbrev pub invariant-loop-slot : goal.invariant-loop-slot
+invariant-loop-slot g l =
+    IsSettled (g.M.Machine.Step l.machine) l.slots l.fn.config (spot_of l.config)
+    × (IsFalse l.any → l.config ≡ l.fn.config)

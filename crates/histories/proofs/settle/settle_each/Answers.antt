@@ -1,0 +1,43 @@
+use Rattle.std.proofs.Common.{◌<◌, ◌∙◌, ap, arith, get_or, length, refl, sym, true≢false}
+use Rattle.std.proofs.lemmas.List.{get_or_default}
+use Rattle.histories.specs.Gathering.{IsSettled, spot_of}
+use Rattle.histories.proofs.Places.{done_more, done_none, same_set}
+use Rattle.histories.proofs.settle.settle_each.Goals.{then-branch, else-branch}
+use Rattle.histories.proofs.settle.settle_each.Goals as goal
+
+pub loop-config-init : goal.loop-config-init
+loop-config-init g c = (
+  done_none
+      (λ x y. IsSettled (g.M.Machine.Step c.args.machine.now) c.args.slots.now x (spot_of y))
+      c.args.configs.now,
+  λ none place d. refl,
+)
+
+pub loop-config-preserved : goal.loop-config-preserved
+loop-config-preserved g c =
+    let now = c.loop-config.configs in
+    let at = c.loop-config.config-index in
+    let one = c.settle.new.config in
+    let h : at < length now = omega (arith, c.loop-config-test.true, c.loop-config.auto.configs) in
+    let config = get_or now at c.config-item.result in
+    let is = get_or_default now at c.config-item.result config h in (
+      done_more
+          (λ x y. IsSettled (g.M.Machine.Step c.args.machine.now) c.args.slots.now x (spot_of y))
+          c.args.configs.now now at config one h is c.in_ok-any.ensures.settled
+          c.loop-config.invariant.0,
+      λ none place d.
+          elim c.if-branch.branch [
+            | then-branch w ↦ absurd (true≢false (sym w.if-branch.true ∙ (sym w.any-is ∙ none)))
+            | else-branch w ↦
+                ap (λ l. get_or l place d)
+                (same_set now at config one h is (c.in_ok-any.ensures.same w.if-branch.false))
+                ∙ c.loop-config.invariant.1 (sym w.any-is ∙ none) place d
+          ],
+    )
+
+pub returns-clause-settled : goal.returns-clause-settled
+returns-clause-settled g c =
+    let done = c.loop-config.invariant.0 in (
+      done.many,
+      λ place d h. done.done place d (omega (arith, h, done.many, c.loop-config-test.false)),
+    )

@@ -1,0 +1,33 @@
+use Rattle.std.proofs.Common.{rules, inl, subst, sym}
+use Rattle.std.specs.Result.{IfOk}
+use Rattle.histories.specs.declared.event.Event.{Event}
+use Rattle.histories.specs.Advances.{IsAdvance}
+use Rattle.histories.proofs.Frontiers.{front_many}
+use Rattle.histories.proofs.step.advance.Goals as goal
+
+pub returns-then-len-gt-MAX_CONFIGS : goal.returns-then-len-gt-MAX_CONFIGS
+returns-then-len-gt-MAX_CONFIGS g c whole events olds before after sound fresh f =
+    let front = c.args.front.now in
+    inl (front_many (g.M.Machine.Step whole) front.links.items front.slots.items events olds
+    front.configs.items f (search rules))
+
+pub returns-in-Begin : goal.returns-in-Begin
+returns-in-Begin g c =
+    subst
+    (λ (e : Event). IfOk c.begin.result
+    (IsAdvance g.M.Machine.Step c.args.machine.now c.args.front.now e c.begin.new.front))
+    (sym c.in-Begin.is) c.begin.ensures
+
+pub returns-in-End : goal.returns-in-End
+returns-in-End g c =
+    subst
+    (λ (e : Event). IfOk c.end.result
+    (IsAdvance g.M.Machine.Step c.args.machine.now c.args.front.now e c.end.new.front))
+    (sym c.in-End.is) c.end.ensures
+
+pub returns-in-Crash : goal.returns-in-Crash
+returns-in-Crash g c =
+    subst
+    (λ (e : Event). IfOk c.crash.result
+    (IsAdvance g.M.Machine.Step c.args.machine.now c.args.front.now e c.crash.new.front))
+    (sym c.in-Crash.is) c.crash.ensures
