@@ -191,8 +191,7 @@ class Errors(TestCase):
 
     def test_a_union_is_named_by_its_members(self):
         error = self.raised(iox2sd.WrongTypeError, partial(iox2sd.EventSettings, deadline=5))
-        text = "EventSettings.deadline: expected Duration or None, got 5"
-        self.assertEqual(str(error), text)
+        self.assertEqual(str(error), "EventSettings.deadline: expected Duration or None, got 5")
 
     def imported(self, before: str = "", **variables: str) -> str:
         """The last line of what an import that fails prints."""
@@ -311,7 +310,7 @@ class Calls(TestCase):
                 counted.append(made.number_of_nodes)
 
         counted: "list[int]" = []
-        with service() as made, before("is_locked_at", lambda *_: (Cycle(), gc.collect())):
+        with service() as made, before("is_locked_at", lambda *_: Cycle() and gc.collect()):
             self.assertFalse(made.is_locked)
             self.assertEqual(counted, [0])
 
