@@ -19,3 +19,8 @@ pub mod CallsAlone
 pub mod QuietGroups
 pub mod Dying
 pub mod DeadSteps
+pub mod IdTexts
+pub mod Seen
+pub mod Calls
+pub mod Fixed
+pub mod Alone

@@ -42,14 +42,14 @@ spaced slot ticket =
     (append_assoc (decimal slot) (32 ∷ []) (decimal ticket))
 
 -- handles of one slot that may be given are the same
-same_handle : {T : Type 0} (r : RegistryState T) (h k : Handle) → MayGive r h → MayGive r k
+pub same_handle : {T : Type 0} (r : RegistryState T) (h k : Handle) → MayGive r h → MayGive r k
     → h.slot ≡ k.slot → h ≡ k
 same_handle r h k m n e =
     let same : k ≡ record { service = r.service; role = r.role; slot = h.slot; ticket = r.used } =
     rw (e, ← n.service, ← n.role, ← n.ticket) refl in
     rw (same, ← m.service, ← m.role, ← m.ticket) refl
 
-same_reply : (r : Reply) → IsSameReply r r
+pub same_reply : (r : Reply) → IsSameReply r r
 same_reply (reply.Nodes ids) = refl
 same_reply (reply.Ports ports) = refl
 same_reply _ = refl
@@ -64,18 +64,27 @@ is_ports : (ports : Vec PortDetails) (r : Reply) → IsSameReply (reply.Ports po
 is_ports ports (reply.Ports other) e = (other, refl, e)
 is_ports ports _ e = absurd (cc)
 
--- slots and tickets with one text are the same
-parts_same : (s t u v : ℕ) → s < 2 ^ 64 → t < 2 ^ 64 → u < 2 ^ 64 → v < 2 ^ 64
-    → handle_words s t ≡ handle_words u v → (s ≡ u) × (t ≡ v)
-parts_same s t u v p q p' q' e =
+-- the slots, and what follows them, in one text are the same
+slot_and_rest : (s t u v : ℕ) → s < 2 ^ 64 → u < 2 ^ 64 → handle_words s t ≡ handle_words u v
+    → (s ≡ u) × (32 ∷ decimal t ≡ 32 ∷ decimal v)
+slot_and_rest s t u v p p' e =
     let ends : (t : ℕ) → EndsNumber (32 ∷ decimal t) = λ t digit. omega arith in
     let most = s + u in
-    let parts =
     (number_one most).same (s, 32 ∷ decimal t) (u, 32 ∷ decimal v) (omega arith, p, ends t)
     (omega arith, p', ends v)
     (append_cancel_left (codes "handle ") (decimal s ++ 32 ∷ decimal t)
     (decimal u ++ 32 ∷ decimal v)
-    (sym (spaced s t) ∙ (e ∙ spaced u v))) in
+    (sym (spaced s t) ∙ (e ∙ spaced u v)))
+
+pub slots_same : (s t u v : ℕ) → s < 2 ^ 64 → u < 2 ^ 64 → handle_words s t ≡ handle_words u v
+    → s ≡ u
+slots_same s t u v p p' e = (slot_and_rest s t u v p p' e).0
+
+-- slots and tickets with one text are the same
+pub parts_same : (s t u v : ℕ) → s < 2 ^ 64 → t < 2 ^ 64 → u < 2 ^ 64 → v < 2 ^ 64
+    → handle_words s t ≡ handle_words u v → (s ≡ u) × (t ≡ v)
+parts_same s t u v p q p' q' e =
+    let parts = slot_and_rest s t u v p p' e in
     (parts.0, decimal_injective t v q q' (cons_same parts.1).1)
 
 abbrev pub handle_phrase : Spelling (ℕ × (ℕ × Unit {0}))
@@ -255,7 +264,7 @@ module _ (s : Service) (Step : Reply → Service → Type 0) where
       by_registry part.Second next all s.ports.second.registry is (λ h m. m) (λ h m. m)
 
 -- what no handle has, given or not
-neither : (Has : Option Handle → Type 0) → ¬ (Has None) → ((h : Handle) → ¬ (Has (Some h)))
+pub neither : (Has : Option Handle → Type 0) → ¬ (Has None) → ((h : Handle) → ¬ (Has (Some h)))
     → (h : Option Handle) → ¬ (Has h)
 neither Has none some None = none
 neither Has none some (Some h) = some h

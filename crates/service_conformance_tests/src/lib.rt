@@ -5,6 +5,10 @@
 #[cfg(test)]
 mod groups;
 #[cfg(test)]
+mod histories;
+#[cfg(test)]
 mod rows;
 #[cfg(test)]
 mod runs;
+#[cfg(test)]
+mod seen;

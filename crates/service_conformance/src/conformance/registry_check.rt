@@ -11,7 +11,7 @@ ghost use Rattle.iox2_dynamic.specs.Details.{node_of};
 ghost use Rattle.iox2_dynamic.specs.Service.{entries_of_node};
 ghost use Rattle.service_conformance.specs.Dead.{stays, without_node, without_ports};
 ghost use Rattle.service_conformance.specs.Entries.{MayGive, Refuses, StandsAt};
-ghost use Rattle.service_conformance.specs.Words.{IsNextHandle, TellsHandle};
+ghost use Rattle.service_conformance.specs.Words.{IsNextHandle, TellsHandle, handle_words};
 
 use super::placed::{Placed, copied, details_of, free_position, position_with, put, slots_of};
 use super::possible::NextHandle;
@@ -110,6 +110,13 @@ impl<T: Copy> RegistryCheck<T> {
         self.entries.len()
     }
 
+    /// How many slots there are. They are numbered from 0.
+    pub(super) fn capacity(&self) -> usize
+        ensures { result ≡ self.now.capacity }
+    {
+        self.capacity
+    }
+
     /// Why an add is refused now, or `None` where it is not.
     pub(super) fn refusal(&self) -> Option<ContainerAddFailure>
         ensures refuses { Refuses self.now result }
@@ -152,6 +159,23 @@ impl<T: Copy> RegistryCheck<T> {
         })
     }
 
+    /// The handle of this slot and this ticket that the next add may give, or `None` where it may
+    /// not.
+    pub(super) fn handle_at(&self, slot: usize, ticket: u64) -> Option<ContainerHandle>
+        ensures told { TellsHandle (MayGive self.now) (handle_words slot ticket) result }
+        ensures kept { IsRegistry self.now }
+    {
+        // For the proof: slots and tickets are numbers of 64 bits.
+        let (_capacity, _used) = (self.capacity, self.used);
+        let Some(handle) = self.next(slot) else {
+            return None;
+        };
+        if handle.ticket() != ticket {
+            return None;
+        }
+        Some(handle)
+    }
+
     /// The handle that the next add may give and that has these words, or `None` where none has.
     pub(super) fn told(&self, words: &[u8]) -> Option<ContainerHandle>
         ensures told { TellsHandle (MayGive self.now) words.now result }
@@ -162,13 +186,7 @@ impl<T: Copy> RegistryCheck<T> {
         let Some((slot, ticket)) = slot_and_ticket(words) else {
             return None;
         };
-        let Some(handle) = self.next(slot) else {
-            return None;
-        };
-        if handle.ticket() != ticket {
-            return None;
-        }
-        Some(handle)
+        self.handle_at(slot, ticket)
     }
 
     /// Whether the next add may give the handle.

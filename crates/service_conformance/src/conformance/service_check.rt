@@ -15,6 +15,7 @@ ghost use Rattle.service_descriptions.specs.Steps.{Serves};
 mod following;
 mod replies_possible;
 mod reply_told;
+mod seeing;
 
 use super::registry_check::RegistryCheck;
 use iox2_config::hash::PatternKind;
@@ -27,7 +28,7 @@ use std::marker::Model;
 
 /// What a service must hold, by what was seen of it.
 #[derive(Drop)]
-pub(super) struct ServiceCheck {
+pub struct ServiceCheck {
     pattern: PatternKind,
     nodes: RegistryCheck<UniqueNodeId>,
     first: RegistryCheck<PortDetails>,
@@ -71,7 +72,7 @@ fn has_left_in(
 
 impl ServiceCheck {
     /// A new service.
-    pub(super) fn new(
+    pub fn new(
         alloc: Global,
         settings: &MessagingPatternSettings,
         max_nodes: usize,
@@ -150,7 +151,8 @@ impl ServiceCheck {
 
     /// A copy.
     pub(super) fn copied(&self, alloc: Global) -> Result<Self, AllocError>
-        ensures { IfOk result (λ copy. copy ≡ self.now) }
+        ensures copy { IfOk result (λ copy. copy ≡ self.now) }
+        ensures rest { quiet self.now ≡ self.now }
     {
         // For the proof: what is true of every check.
         let pattern = self.kind();
@@ -197,9 +199,10 @@ impl ServiceCheck {
     }
 
     /// The pattern.
-    fn kind(&self) -> PatternKind
+    pub(super) fn kind(&self) -> PatternKind
         ensures pattern { result ≡ self.now.pattern }
         ensures kept { IsService self.now }
+        ensures rest { quiet self.now ≡ self.now }
     {
         self.pattern
     }

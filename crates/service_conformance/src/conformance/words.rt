@@ -8,7 +8,7 @@ use service_descriptions::replay::{Reply, write_reply};
 use std::alloc::{AllocError, Global};
 
 /// A number.
-const NUMBER: Number = Number(u64::MAX);
+pub(super) const NUMBER: Number = Number(u64::MAX);
 
 /// The slot and the ticket of the handle in the words.
 pub(super) fn slot_and_ticket(words: &[u8]) -> Option<(usize, u64)>

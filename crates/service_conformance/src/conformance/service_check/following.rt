@@ -130,7 +130,7 @@ impl ServiceCheck {
 
     /// The service after a command that has a line, and its reply.
     #[tactic(auto, using(crate::proofs::Following::reported))]
-    pub(super) fn follow_line(
+    pub(in super::super) fn follow_line(
         &mut self,
         earlier: &[Option<ContainerHandle>],
         command: &LineCommand,

@@ -1,5 +1,6 @@
 //! The replies that a command may have.
-ghost use Rattle.std.specs.Prelude.{◌≡◌, ◌↔◌, IsTrue, IfOk, None};
+ghost use Rattle.std.specs.Prelude.{◌≡◌, ◌↔◌, ◌<◌, IsTrue, IfNone, IfOk, IfSome, None};
+ghost use Rattle.iox2_container.specs.Handle.{Handle};
 ghost use Rattle.service_conformance.specs.Possible.{Allows, ArePossible, IsCovered, MayGiveIn};
 ghost use Rattle.service_conformance.specs.Quiet.{Reports};
 ghost use Rattle.service_descriptions.specs.Cleanups.{ServesDead};
@@ -160,7 +161,7 @@ impl ServiceCheck {
     }
 
     /// The same for a command that has a line.
-    pub(super) fn possible_for_line(
+    pub(in super::super) fn possible_for_line(
         &self,
         alloc: Global,
         earlier: &[Option<ContainerHandle>],
@@ -179,6 +180,30 @@ impl ServiceCheck {
             LineCommand::List(role) => self.possible_list(alloc, *role),
             LineCommand::Count(role) => Ok(self.possible_count(*role)),
             LineCommand::Dead(dead, cleanup) => Ok(self.possible_cleanup(dead, cleanup)),
+        }
+    }
+
+    /// How many slots the registry of the part has.
+    pub(in super::super) fn capacity(&self, part: Part) -> usize
+        ensures { (handle : Handle) → MayGiveIn self.now part handle → handle.slot < result }
+    {
+        match part {
+            Part::Nodes => self.nodes.capacity(),
+            Part::First => self.first.capacity(),
+            Part::Second => self.second.capacity(),
+        }
+    }
+
+    /// The handle that the registry of the part may give next where it gives this slot.
+    pub(in super::super) fn next_in_slot(&self, part: Part, slot: usize) -> Option<ContainerHandle>
+        ensures some { IfSome result (λ h. (h.slot ≡ slot) × MayGiveIn self.now part h) }
+        ensures none { IfNone result
+            ((h : Handle) → h.slot ≡ slot → ¬ (MayGiveIn self.now part h)) }
+    {
+        match part {
+            Part::Nodes => self.nodes.next(slot),
+            Part::First => self.first.next(slot),
+            Part::Second => self.second.next(slot),
         }
     }
 

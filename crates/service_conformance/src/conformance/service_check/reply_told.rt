@@ -76,21 +76,16 @@ impl ServiceCheck {
         }
     }
 
-    /// The nodes by rising slot.
-    pub(in super::super) fn nodes_listed(
-        &self,
-        alloc: Global,
-    ) -> Result<Vec<UniqueNodeId>, AllocError>
+    /// The nodes that are registered now, by rising slot.
+    pub fn nodes_listed(&self, alloc: Global) -> Result<Vec<UniqueNodeId>, AllocError>
         ensures { IfOk result (λ nodes. nodes.items ≡ listed self.now.nodes.registry) }
     {
         self.nodes.listed(alloc)
     }
 
-    /// The ports: those of the first kind by rising slot, and then the others.
-    pub(in super::super) fn ports_listed(
-        &self,
-        alloc: Global,
-    ) -> Result<Vec<PortDetails>, AllocError>
+    /// The ports that are attached now: those of the pattern's first kind by rising slot, and then
+    /// the others.
+    pub fn ports_listed(&self, alloc: Global) -> Result<Vec<PortDetails>, AllocError>
         ensures { IfOk result (λ ports. ports.items ≡ listed self.now.ports.first.registry
             ++ listed self.now.ports.second.registry) }
     {

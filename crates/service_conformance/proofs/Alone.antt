@@ -1,0 +1,395 @@
+-- Calls that overlap nothing are runs.
+use Rattle.std.proofs.Common.{◌≡◌, ◌↔◌, ℕ, zero, suc, ◌+◌, ◌<◌, ◌^◌, Option, Some, None, List, [], ◌∷◌, ◌++◌, length, map, refl, sym, ◌∙◌, ap, subst, arith}
+use Rattle.std.specs.List.{AllByRecursion, Contains, range_with_len, slice_get}
+use Rattle.histories.specs.Histories.{IsExplained, Leads}
+use Rattle.histories.specs.Laws.{calls_alone, in_order}
+use Rattle.histories.proofs.Alone.{calls_alone_are_runs}
+use Rattle.iox2_container.specs.declared.container.role.Role.{Role}
+use Rattle.iox2_container.specs.Handle.{Handle}
+use Rattle.iox2_container.specs.State.{IsRegistry, RegistryState}
+use Rattle.iox2_dynamic.specs.declared.dynamic_config.port_details.PortDetails.{PortDetails}
+use Rattle.iox2_dynamic.specs.Details.{role_of}
+use Rattle.iox2_dynamic.specs.PortsState.{Side}
+use Rattle.iox2_dynamic.specs.PortsState.Side.{First, Second}
+use Rattle.iox2_dynamic.specs.Service.{Service, IsService}
+use Rattle.line_streams.specs.Numerals.{cons_same}
+use Rattle.service_descriptions.specs.declared.replay.machine.command.Command.{Command}
+use Rattle.service_descriptions.specs.declared.replay.machine.command.Command.TheVariants as command
+use Rattle.service_descriptions.specs.declared.replay.machine.reply.Reply.{Reply}
+use Rattle.service_descriptions.specs.declared.replay.machine.reply.Reply.TheVariants as reply
+use Rattle.service_descriptions.specs.Handles.{KeepsHandles, named}
+use Rattle.service_descriptions.specs.Replies.{text_of}
+use Rattle.service_descriptions.specs.Steps.{Run, Serves, ServesDeregister, ServesRelease, ServiceStep, State, handle_in}
+use Rattle.service_descriptions.proofs.Moves.{moves}
+use Rattle.service_descriptions.proofs.Serving.{keeps}
+use Rattle.service_conformance.specs.Alone.{Answered, Gives, IsBare, IsBounded, IsBoundedRegistry, added_role, calls_of, handle_named}
+use Rattle.service_conformance.specs.Calls.{Call, CallStep, WindowStep, answered, at_first, call_of}
+use Rattle.service_conformance.specs.Entries.{MayGive}
+use Rattle.service_conformance.specs.Quiet.{quiet, quiet_state}
+use Rattle.service_conformance.specs.Sides.{ports_at, role_at}
+use Rattle.service_conformance.specs.Words.{handle_words}
+use Rattle.service_conformance.proofs.Fixed.{stays_bounded}
+use Rattle.service_conformance.proofs.Following.{attach_may, register_may}
+use Rattle.service_conformance.proofs.Quiet.{run_quiet, serves_quiet, service_quiet}
+use Rattle.service_conformance.proofs.Seen.{no_handle_text}
+use Rattle.service_conformance.proofs.Words.{neither, parts_same}
+
+-- a handle that the service may give to a command
+record IsOwn (s : Service) (c : Command) (h : Handle) : Type 0 where
+  pub slot : h.slot < 2 ^ 64
+  pub ticket : h.ticket < 2 ^ 64
+  pub service : h.service ≡ s.nodes.registry.service
+  pub role : h.role ≡ added_role c
+
+own_of : {T : Type 0} (s : Service) (c : Command) (r : RegistryState T) (h : Handle)
+    → IsRegistry r → IsBoundedRegistry r → r.service ≡ s.nodes.registry.service
+    → r.role ≡ added_role c → MayGive r h → IsOwn s c h
+own_of s c r h i b number role may =
+    let used = i.budget_kept in
+    let tickets = b.tickets in
+    let slots = b.slots in
+    let fits = may.fits in
+    record {
+      slot = omega (arith, fits, slots);
+      ticket = omega (arith, may.ticket, used, tickets);
+      service = may.service ∙ number;
+      role = may.role ∙ role;
+    }
+
+module _ (s mid : Service) (i : IsService s) (kept : IsService mid) (b : IsBounded s) where
+  own_port : (d : PortDetails) (h : Handle) (side : Side)
+      → role_of d ≡ (ports_at s side).registry.role → MayGive (ports_at s side).registry h
+      → IsOwn s (command.Add d) h
+  own_port d h First role may =
+      let ports = i.ports_are.first in
+      own_of s (command.Add d) s.ports.first.registry h ports.is_registry b.first ports.number_is
+      (sym role) may
+  own_port d h Second role may =
+      let ports = i.ports_are.second in
+      own_of s (command.Add d) s.ports.second.registry h ports.is_registry b.second
+      ports.number_is (sym role) may
+
+  role_at_side : (side : Side) (d : PortDetails)
+      → role_of d ≡ role_at s.pattern side → role_of d ≡ (ports_at s side).registry.role
+  role_at_side First d e = e ∙ sym i.ports_are.first.role_is
+  role_at_side Second d e = e ∙ sym i.ports_are.second.role_is
+
+  own_given : (handles : List (Option Handle)) (c : Command) (h : Handle)
+      → Serves s None handles c (reply.Handle h) mid → IsOwn s c h
+  own_given handles (command.Register id) h so =
+      own_of s (command.Register id) s.nodes.registry h i.nodes_are b.nodes refl i.role_is
+      (register_may s id h (mid, so, kept)).1
+  own_given handles (command.Add d) h so =
+      let a = so.1.1.0 in
+      own_port d h a.side (role_at_side a.side d a.role_is)
+      (attach_may s d a.side h a.role_is (mid, so, kept)).1
+  own_given handles (command.Deregister k) h so =
+      absurd (neither (λ x. ServesDeregister s x (reply.Handle h) mid) (λ n. n) (λ x n. n)
+      (named handles k) so)
+  own_given handles (command.Release k) h so =
+      absurd (neither (λ x. ServesRelease s x (reply.Handle h) mid) (λ n. n) (λ x n. n)
+      (named handles k) so)
+  own_given handles command.Nodes h so = absurd so.0
+  own_given handles (command.List role) h so = absurd so.0
+  own_given handles (command.Count role) h so = absurd so.0
+  own_given handles (command.Dead dead cleanup) h so = absurd so
+  own_given handles (command.Verify required) h so = absurd (let z = so.0 in cc)
+  own_given handles (command.Layout part n) h so = absurd (let z = so.0 in cc)
+  own_given handles (command.Places part header) h so = absurd (let z = so.0 in cc)
+  own_given handles (command.Compatible part opener) h so = absurd (let z = so.0 in cc)
+
+same_handle : (h k : Handle) → h.service ≡ k.service → h.role ≡ k.role → h.slot ≡ k.slot
+    → h.ticket ≡ k.ticket → h ≡ k
+same_handle h k a b c d =
+    let make : ℕ → Role → ℕ → ℕ → Handle =
+    λ service role slot ticket.
+    record { service = service; role = role; slot = slot; ticket = ticket } in
+    ap (λ x. make x h.role h.slot h.ticket) a
+    ∙ (ap (λ x. make k.service x h.slot h.ticket) b
+    ∙ (ap (λ x. make k.service k.role x h.ticket) c
+    ∙ ap (λ x. make k.service k.role k.slot x) d))
+
+some_handle : (h k : Handle) → Some h ≡ Some k → h ≡ k
+some_handle h k e = cc
+
+is_handle : (r : Reply) (h : Handle) → handle_in r ≡ Some h → r ≡ reply.Handle h
+is_handle (reply.Handle k) h e = ap reply.Handle (some_handle k h e)
+is_handle _ h e = absurd (let z : ◌≡◌ {A = Option Handle} None (Some h) = e in cc)
+
+-- the handle that a reply gives is that which its words give
+module _ (s mid : Service) (i : IsService s) (kept : IsService mid) (b : IsBounded s)
+    (handles : List (Option Handle)) (c : Command) (r : Reply)
+    (so : Serves s None handles c r mid) where
+  given_is : (found : Option Handle) → handle_in r ≡ found → (g : Option Handle)
+      → Gives s.nodes.registry.service c (text_of r) g → found ≡ g
+  given_is None e None gives = refl
+  given_is None e (Some k) gives = absurd (no_handle_text r e k.slot k.ticket gives.0)
+  given_is (Some h) e g gives =
+      let is = is_handle r h e in
+      let own =
+      own_given s mid i kept b handles c h (subst (λ q. Serves s None handles c q mid) is so) in
+      by_words h own (ap text_of is) g gives
+    where
+      by_words : (h : Handle) → IsOwn s c h → text_of r ≡ handle_words h.slot h.ticket
+          → (g : Option Handle) → Gives s.nodes.registry.service c (text_of r) g → Some h ≡ g
+      by_words h own text None gives = absurd (gives h.slot h.ticket own.slot own.ticket (sym text))
+      by_words h own text (Some k) gives =
+          let parts =
+          parts_same h.slot h.ticket k.slot k.ticket own.slot own.ticket gives.1 gives.2
+          (sym text ∙ gives.0) in
+          ap Some (same_handle h k (own.service ∙ sym gives.3) (own.role ∙ sym gives.4) parts.0
+          parts.1)
+
+  pub given_same : (words : List ℕ) (g : Option Handle) → text_of r ≡ words
+      → Gives s.nodes.registry.service c words g → handle_in r ≡ g
+  given_same words g text gives =
+      given_is (handle_in r) refl g
+      (subst (λ w. Gives s.nodes.registry.service c w g) (sym text) gives)
+
+-- a command that names a number is one that names command 0, where that gave its handle
+first_serves : (s mid : Service) (handles : List (Option Handle)) (c : Command) (r : Reply)
+    → Serves s None (handle_named handles c ∷ []) (at_first c) r mid
+    ≡ Serves s None handles c r mid
+first_serves s mid handles (command.Deregister k) r = refl
+first_serves s mid handles (command.Release k) r = refl
+first_serves s mid handles _ r = refl
+
+-- calls lead from one service to another, one after the other
+abbrev CallsLead : Service → List Call → Service → Type 0
+CallsLead old [] new = new ≡ old
+CallsLead old (c ∷ cs) new = (mid : Service) × CallStep c old mid × CallsLead mid cs new
+
+abbrev call_for : List (Option Handle) → Answered → Call
+call_for handles a = answered (call_of a.command (handle_named handles a.command)) a.words
+
+abbrev next : State → Service → Option Handle → State
+next old mid g = record old { service = mid; handles = old.handles ++ g ∷ [] }
+
+-- a step of a call is one of its command
+record IsNextStep (old : State) (a : Answered) (mid : Service) (r : Reply) : Type 0 where
+  pub text : text_of r ≡ a.words
+  pub step : ServiceStep old a.command r (next old mid a.given)
+  pub bare : IsBare (next old mid a.given)
+  pub number : mid.nodes.registry.service ≡ old.service.nodes.registry.service
+
+module _ (old : State) (a : Answered) (bare : IsBare old)
+    (gives : Gives old.service.nodes.registry.service a.command a.words a.given) where
+  next_step : (mid : Service) (r : Reply) → text_of r ≡ a.words → IsService mid
+      → quiet mid ≡ mid → Serves old.service None old.handles a.command r mid
+      → IsNextStep old a mid r
+  next_step mid r text is rest so =
+      let same =
+      given_same old.service mid bare.is_service is bare.bounded old.handles a.command r so a.words
+      a.given text gives in
+      let move = moves old.service None old.handles a.command r mid bare.is_service so in
+      let kept = subst (λ g. KeepsHandles mid (old.handles ++ g ∷ [])) same
+      (keeps old.service mid old.handles (handle_in r) move bare.keeps) in
+      record {
+        text = text;
+        step = (
+          subst (λ d. Serves old.service d old.handles a.command r mid) (sym bare.bare) so,
+          ap (next old mid) (sym same),
+          record { is_service = is; differ = kept.differ },
+        );
+        bare = record {
+          is_service = is;
+          keeps = kept;
+          bounded = stays_bounded old.service mid old.handles a.command r so bare.bounded;
+          bare = bare.bare;
+          rest = rest;
+        };
+        number = move.number;
+      }
+
+  there_step : (mid : Service) → CallStep (call_for old.handles a) old.service mid
+      → (r : Reply) × IsNextStep old a mid r
+  there_step mid step =
+      let r = step.1.0 in
+      let on = step.1.2 in
+      let served = subst (λ (T : Type 0). T)
+      (first_serves old.service on.0 old.handles a.command r) on.1 in
+      let seen =
+      subst (λ s. Serves s None old.handles a.command r mid) bare.rest
+      (subst (Serves (quiet old.service) None old.handles a.command r) on.3
+      (serves_quiet old.service None old.handles a.command r on.0 served)) in (
+        r,
+        next_step mid r step.1.1 (subst IsService on.3 (service_quiet on.0 on.2))
+            (ap quiet (sym on.3) ∙ on.3) seen,
+      )
+
+  module _ (r : Reply) (new : State) (text : text_of r ≡ a.words)
+      (step : ServiceStep old a.command r new) where
+    served_bare : Serves old.service None old.handles a.command r new.service
+    served_bare =
+        subst (λ d. Serves old.service d old.handles a.command r new.service) bare.bare step.0
+
+    back_step : CallStep (call_for old.handles a) old.service (quiet new.service)
+    back_step = (
+      bare.rest,
+      (
+        r,
+        text,
+        (
+          new.service,
+          subst (λ (T : Type 0). T)
+              (sym (first_serves old.service new.service old.handles a.command r)) served_bare,
+          step.2.is_service,
+          refl,
+        ),
+      ),
+    )
+
+    back_next : IsNextStep old a (quiet new.service) r
+    back_next =
+        next_step (quiet new.service) r text (service_quiet new.service step.2.is_service) refl
+        (subst (λ s. Serves s None old.handles a.command r (quiet new.service)) bare.rest
+        (serves_quiet old.service None old.handles a.command r new.service served_bare))
+
+    back_state : quiet_state new ≡ next old (quiet new.service) a.given
+    back_state =
+        ap quiet_state step.1
+        ∙ ap (next old (quiet new.service))
+        (given_same old.service new.service bare.is_service step.2.is_service bare.bounded
+        old.handles a.command r served_bare a.words a.given text gives)
+
+abbrev AllGive : ℕ → List Answered → Type 0
+AllGive number told = AllByRecursion (λ a. Gives number a.command a.words a.given) told
+
+abbrev words_in : List Answered → List (List ℕ)
+words_in told = map (λ (a : Answered). a.words) told
+
+abbrev commands_in : List Answered → List Command
+commands_in told = map (λ (a : Answered). a.command) told
+
+there : (told : List Answered) (old : State) → IsBare old
+    → AllGive old.service.nodes.registry.service told → (new : Service)
+    → CallsLead old.service (calls_of old.handles told) new
+    → (replies : List Reply) × (map text_of replies ≡ words_in told)
+    × ((last : State) × Run old (commands_in told) replies last)
+there [] old bare gives new leads = ([], refl, (old, refl))
+there (a ∷ told) old bare gives new leads =
+    let found = there_step old a bare gives.0 leads.0 leads.1 in
+    let r = found.0 in
+    let step = found.1 in
+    let after = next old leads.0 a.given in
+    let rest =
+    there told after step.bare (subst (λ n. AllGive n told) (sym step.number) gives.1) new leads.2
+    in (
+      r ∷ rest.0,
+      ap (λ (w : List ℕ). w ∷ map text_of rest.0) step.text
+          ∙ ap (λ (l : List (List ℕ)). a.words ∷ l) rest.1,
+      (rest.2.0, (after, step.step, rest.2.1)),
+    )
+
+back : (told : List Answered) (old : State) → IsBare old
+    → AllGive old.service.nodes.registry.service told → (replies : List Reply)
+    → map text_of replies ≡ words_in told → (last : State)
+    → Run old (commands_in told) replies last
+    → (new : Service) × CallsLead old.service (calls_of old.handles told) new
+back [] old bare gives replies e last run = (old.service, refl)
+back (a ∷ told) old bare gives [] e last run = absurd run
+back (a ∷ told) old bare gives (r ∷ rs) e last run =
+    let both = cons_same e in
+    let mid = run.0 in
+    let next_is = back_next old a bare gives.0 r mid both.0 run.1 in
+    let after = next old (quiet mid.service) a.given in
+    let rest =
+    back told after next_is.bare (subst (λ n. AllGive n told) (sym next_is.number) gives.1) rs
+    both.1 (quiet_state last)
+    (subst (λ s. Run s (commands_in told) rs (quiet_state last))
+    (back_state old a bare gives.0 r mid both.0 run.1)
+    (run_quiet mid last (commands_in told) rs run.2)) in (
+      rest.0,
+      (quiet mid.service, back_step old a bare gives.0 r mid both.0 run.1, rest.1),
+    )
+
+some_call : (a b : Call) → Some a ≡ Some b → a ≡ b
+some_call a b e = cc
+
+-- the calls from a number on lead as those of a window do
+module _ (all : List Call) where
+  leads_there : (calls : List Call) (k : ℕ)
+      → ((at : ℕ) → slice_get calls at ≡ slice_get all (k + at)) → (old new : Service)
+      → Leads (WindowStep 0 all) old (range_with_len k (length calls)) new
+      → CallsLead old calls new
+  leads_there [] k same old new leads = leads
+  leads_there (c ∷ calls) k same old new leads =
+      let step = leads.1 in
+      let has = step.1 in
+      let at : has.0 ≡ k + 0 = omega (arith, has.1) in
+      let is : step.0 ≡ c =
+      some_call step.0 c (sym has.2 ∙ (ap (slice_get all) at ∙ sym (same 0))) in (
+        leads.0,
+        subst (λ x. CallStep x old leads.0) is step.2,
+        leads_there calls (k + 1) (λ n. same (suc n) ∙ ap (slice_get all) (omega arith)) leads.0
+            new leads.2,
+      )
+
+  leads_back : (calls : List Call) (k : ℕ)
+      → ((at : ℕ) → slice_get calls at ≡ slice_get all (k + at)) → (old new : Service)
+      → CallsLead old calls new
+      → Leads (WindowStep 0 all) old (range_with_len k (length calls)) new
+  leads_back [] k same old new leads = leads
+  leads_back (c ∷ calls) k same old new leads = (
+    leads.0,
+    (c, (k, omega arith, ap (slice_get all) (omega arith) ∙ sym (same 0)), leads.1),
+    leads_back calls (k + 1) (λ n. same (suc n) ∙ ap (slice_get all) (omega arith)) leads.0 new
+        leads.2,
+  )
+
+range_more : (a n b : ℕ) → a + n ≡ b
+    → range_with_len a (suc n) ≡ range_with_len a n ++ b ∷ []
+range_more a zero b e = (let same : a ≡ b = omega arith in ap (λ (k : ℕ). k ∷ []) same)
+range_more a (suc n) b e = ap (λ (l : List ℕ). a ∷ l) (range_more (a + 1) n b (omega arith))
+
+rising : (n : ℕ) → in_order n ≡ range_with_len 0 n
+unfolding in_order
+rising zero = refl
+rising (suc n) =
+    ap (λ (l : List ℕ). l ++ n ∷ []) (rising n) ∙ sym (range_more 0 n n (omega arith))
+
+calls_length : (told : List Answered) (handles : List (Option Handle))
+    → length (calls_of handles told) ≡ length told
+calls_length [] handles = refl
+calls_length (a ∷ told) handles = ap suc (calls_length told (handles ++ a.given ∷ []))
+
+same_places : (calls : List Call) (n : ℕ) → slice_get calls n ≡ slice_get calls (0 + n)
+same_places calls n = (let e : n ≡ 0 + n = omega arith in ap (slice_get calls) e)
+
+first_only : (x y : Service) → Contains (x ∷ []) y → x ≡ y
+first_only x y (zero, within, is) = is
+first_only x y (suc k, within, is) = absurd (omega (arith, within))
+
+pub alone : (old : State) (told : List Answered) → IsBare old
+    → AllByRecursion (λ a. Gives old.service.nodes.registry.service a.command a.words a.given) told
+    → IsExplained (WindowStep 0 (calls_of old.handles told)) (calls_alone (length told))
+    (old.service ∷ [])
+    ↔ ((replies : List Reply) × (map text_of replies ≡ words_in told)
+    × ((new : State) × Run old (commands_in told) replies new))
+alone old told bare gives =
+    let calls = calls_of old.handles told in
+    let Step = WindowStep 0 calls in
+    let order : in_order (length told) ≡ range_with_len 0 (length calls) =
+    rising (length told) ∙ ap (range_with_len 0) (sym (calls_length told old.handles)) in (
+      λ explained.
+          let from = explained.0 in
+          let new = explained.2 in
+          let is = first_only old.service from explained.3 in
+          let leads = ((calls_alone_are_runs Step (length told) from new explained.1).0
+          explained.4).1 in
+          there told old bare gives new
+          (leads_there calls calls 0 (same_places calls) old.service new
+          (subst (λ l. Leads Step old.service l new) order
+          (subst (λ s. Leads Step s (in_order (length told)) new) (sym is) leads))),
+      λ run.
+          let found = back told old bare gives run.0 run.1 run.2.0 run.2.1 in
+          let leads = subst (λ l. Leads Step old.service l found.0) (sym order)
+          (leads_back calls calls 0 (same_places calls) old.service found.0 found.1) in (
+            old.service,
+            in_order (length told),
+            found.0,
+            (0, omega arith, refl),
+            (calls_alone_are_runs Step (length told) old.service found.0
+                (in_order (length told))).1 (refl, leads),
+          ),
+    )

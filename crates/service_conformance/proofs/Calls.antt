@@ -1,0 +1,306 @@
+-- What calls that were seen do.
+use Rattle.std.proofs.Common.{◌≡◌, ◌↔◌, ℕ, zero, suc, ◌+◌, ◌<◌, ◌⊎◌, inl, inr, true, false, Option, Some, None, Result, Ok, Err, List, [], ◌∷◌, ◌++◌, length, get_or, refl, sym, ◌∙◌, ap, subst, arith}
+use Rattle.std.specs.List.{Contains, slice_get}
+use Rattle.std.specs.Prelude.{IfOk}
+use Rattle.std.specs.Global.{Vec}
+use Rattle.std.specs.declared.alloc.AllocError.{AllocError}
+use Rattle.std.proofs.lemmas.List.Elements.{All-push, All-weaker, Contains-append_left, Contains-push}
+use Rattle.std.proofs.lemmas.Option.{slice_get_within}
+use Rattle.histories.specs.Frontier.{IsIdle}
+use Rattle.histories.specs.Histories.{AreAll}
+use Rattle.iox2_container.specs.Handle.{Handle}
+use Rattle.iox2_dynamic.specs.Service.{Service}
+use Rattle.service_descriptions.specs.declared.replay.machine.command.Cleanup.TheVariants.{ByPort}
+use Rattle.service_descriptions.specs.declared.replay.machine.command.Command.{Command}
+use Rattle.service_descriptions.specs.declared.replay.machine.command.Command.TheVariants as command
+use Rattle.service_descriptions.specs.declared.replay.machine.reply.Reply.{Reply}
+use Rattle.service_descriptions.specs.declared.replay.machine.reply.Reply.TheVariants as reply
+use Rattle.service_descriptions.specs.Cleanups.{ServesDead}
+use Rattle.service_descriptions.specs.Handles.{named}
+use Rattle.service_descriptions.specs.Replies.{IsSameReply, text_of}
+use Rattle.service_descriptions.specs.Steps.{Serves, ServesDeregister, ServesRelease, handle_in}
+use Rattle.service_conformance.specs.declared.conformance.possible.Part.{Part}
+use Rattle.service_conformance.specs.declared.conformance.possible.Part.TheVariants as part
+use Rattle.service_conformance.specs.declared.conformance.possible.Possible.{Possible}
+use Rattle.service_conformance.specs.declared.conformance.possible.Possible.TheVariants as possible
+use Rattle.service_conformance.specs.declared.conformance.possible.PossibleReplies.{PossibleReplies}
+use Rattle.service_conformance.specs.declared.conformance.seen_reply.SeenReply.{SeenReply}
+use Rattle.service_conformance.specs.Calls.{AreRepliesOf, Call, CallStep, GivesBelow, HasNumber, IsIdleCall, IsWithin, LacksNumber, LeadsOn, ServesCall, WindowStep, answered, unanswered}
+use Rattle.service_conformance.specs.Possible.{ArePossible, IsCovered, MayGiveIn}
+use Rattle.service_conformance.specs.Quiet.{CanServe, LeadsTo, is_removal, quiet}
+use Rattle.service_conformance.specs.Seen.{changes_nothing, seen_text}
+use Rattle.service_conformance.specs.Words.{ArePossibleWords, Tells}
+use Rattle.service_conformance.proofs.Following.{attach_stays, deregister_none, deregister_stays, register_stays, release_none, release_stays}
+use Rattle.service_conformance.proofs.Seen.{told_nothing}
+use Rattle.service_conformance.proofs.Words.{same_handle, same_reply, same_step}
+
+one_only : {S : Type 0} (Fact : S → Type 0) (x : S) → Fact x → (k : ℕ) (d : S)
+    → k < length (x ∷ []) → Fact (get_or (x ∷ []) k d)
+one_only Fact x is zero d h = is
+one_only Fact x is (suc k) d h = absurd (omega arith)
+
+all_of_one : {S : Type 0} (Fact : S → Type 0) (x : S) → Fact x
+    → ((other : S) → Fact other → other ≡ x) → AreAll Fact (x ∷ [])
+all_of_one {S} Fact x is alone =
+    (one_only Fact x is, λ value holds. (0, omega arith, sym (alone value holds)))
+
+all_of_none : {S : Type 0} (Fact : S → Type 0) → ((x : S) → ¬ (Fact x)) → AreAll Fact []
+all_of_none Fact none =
+    (λ k d h. absurd (omega arith), λ value holds. absurd (none value holds))
+
+all_as : {S : Type 0} (Fact Other : S → Type 0) (xs : List S) → ((x : S) → Fact x → Other x)
+    → ((x : S) → Other x → Fact x) → AreAll Fact xs → AreAll Other xs
+all_as Fact Other xs there back all =
+    (All-weaker Fact Other there xs all.0, λ x o. all.1 x (back x o))
+
+all_and_one : {S : Type 0} (Fact Other : S → Type 0) (xs : List S) (x : S)
+    → ((y : S) → Fact y → Other y) → Other x → ((y : S) → Other y → Fact y ⊎ (y ≡ x))
+    → AreAll Fact xs → AreAll Other (xs ++ x ∷ [])
+all_and_one {S} Fact Other xs x there is back all = (
+  All-push Other xs x (All-weaker Fact Other there xs all.0) is,
+  λ y o. found y (back y o),
+)
+  where
+    found : (y : S) → Fact y ⊎ (y ≡ x) → Contains (xs ++ x ∷ []) y
+    found y (inl f) = Contains-append_left xs (x ∷ []) y (all.1 y f)
+    found y (inr e) = subst (Contains (xs ++ x ∷ [])) (sym e) (Contains-push xs x)
+
+below_next : (a b : ℕ) → a < b + 1 → (a < b) ⊎ (a ≡ b)
+below_next zero zero h = inr refl
+below_next zero (suc b) h = inl (omega arith)
+below_next (suc a) zero h = absurd (omega (arith, h))
+below_next (suc a) (suc b) h = elim (below_next a b (omega (arith, h))) [
+  | inl l ↦ inl (omega (arith, l))
+  | inr e ↦ inr (ap suc e)
+]
+
+-- handles of one slot that a registry may give are the same
+same_given : (s : Service) (p : Part) (h k : Handle) → MayGiveIn s p h → MayGiveIn s p k
+    → h.slot ≡ k.slot → h ≡ k
+same_given s part.Nodes h k m n e = same_handle s.nodes.registry h k m n e
+same_given s part.First h k m n e = same_handle s.ports.first.registry h k m n e
+same_given s part.Second h k m n e = same_handle s.ports.second.registry h k m n e
+
+module _ (call : Call) (s : Service) where
+  leads_on : (r : Reply) (next : Service) → CanServe (ServesCall call s) r
+      → LeadsTo (ServesCall call s) r next → LeadsOn call s r next
+  leads_on r next can leads = (can.0, can.1, can.2, leads can.0 can.1)
+
+  -- the same reply leads on to one service
+  one_next : IsCovered call.command → (r q : Reply) (next other : Service) → IsSameReply r q
+      → LeadsTo (ServesCall call s) r next → LeadsOn call s q other → other ≡ next
+  one_next covered r q next other same leads on =
+      sym on.3 ∙ leads on.0
+      (same_step s on.0 (call.handle ∷ []) call.command covered r q same on.1)
+
+  module _ (rest : quiet s ≡ s) (covered : IsCovered call.command) where
+    module _ (p : Possible) (words : List ℕ) (all : ArePossible s (ServesCall call s) p) where
+      pub seen_one : (r : Reply) (next : Service) → Tells s p words (Some r)
+          → LeadsTo (ServesCall call s) r next
+          → AreAll (CallStep (answered call words) s) (next ∷ [])
+      seen_one r next tells leads =
+          all_of_one (CallStep (answered call words) s) next
+          (rest, (r, tells.1, leads_on r next (all.can r tells.0) leads))
+          (λ other step.
+          let q = step.1.0 in
+          let on = step.1.2 in
+          one_next covered r q next other
+          (tells.2 q (all.only q on.0 on.1 on.2) step.1.1) leads on)
+
+      pub seen_none : Tells s p words None → AreAll (CallStep (answered call words) s) []
+      seen_none tells =
+          all_of_none (CallStep (answered call words) s)
+          (λ other step.
+          let q = step.1.0 in
+          let on = step.1.2 in
+          tells q (all.only q on.0 on.1 on.2) step.1.1)
+
+    pub any_one : (r : Reply) (next : Service)
+        → ArePossible s (ServesCall call s) (possible.One r)
+        → LeadsTo (ServesCall call s) r next
+        → AreAll (CallStep (unanswered call) s) (next ∷ [])
+    any_one r next all leads =
+        all_of_one (CallStep (unanswered call) s) next
+        (rest, (r, tt, leads_on r next (all.can r (same_reply r)) leads))
+        (λ other step.
+        let q = step.1.0 in
+        let on = step.1.2 in
+        one_next covered r q next other (all.only q on.0 on.1 on.2) leads on)
+
+  module _ (p : Part) where
+    pub none_below : AreAll (GivesBelow call s p 0) []
+    none_below = all_of_none (GivesBelow call s p 0) (λ x g. omega (arith, g.2))
+
+    pub slot_taken : (slot : ℕ) (xs : List Service)
+        → ((h : Handle) → h.slot ≡ slot → ¬ (MayGiveIn s p h))
+        → AreAll (GivesBelow call s p slot) xs → AreAll (GivesBelow call s p (slot + 1)) xs
+    slot_taken slot xs never =
+        all_as (GivesBelow call s p slot) (GivesBelow call s p (slot + 1)) xs
+        (λ x g. (g.0, g.1, omega (arith, g.2), g.3))
+        (λ x g. (
+          g.0,
+          g.1,
+          (elim (below_next g.0.slot slot g.2) [
+            | inl l ↦ l
+            | inr e ↦ absurd (never g.0 e g.1)
+          ]),
+          g.3,
+        ))
+
+    pub slot_given : (slot : ℕ) (xs : List Service) (h : Handle) (next : Service)
+        → IsCovered call.command → h.slot ≡ slot → MayGiveIn s p h
+        → CanServe (ServesCall call s) (reply.Handle h)
+        → LeadsTo (ServesCall call s) (reply.Handle h) next
+        → AreAll (GivesBelow call s p slot) xs
+        → AreAll (GivesBelow call s p (slot + 1)) (xs ++ next ∷ [])
+    slot_given slot xs h next covered at may can leads =
+        all_and_one (GivesBelow call s p slot) (GivesBelow call s p (slot + 1)) xs next
+        (λ x g. (g.0, g.1, omega (arith, g.2), g.3))
+        (h, may, omega (arith, at), leads_on (reply.Handle h) next can leads)
+        (λ x g. (elim (below_next g.0.slot slot g.2) [
+          | inl l ↦ inl (g.0, g.1, l, g.3)
+          | inr e ↦ inr (one_next covered (reply.Handle h) (reply.Handle g.0) next x
+              (ap reply.Handle (same_given s p h g.0 may g.1 (at ∙ sym e))) leads g.3)
+        ]))
+
+    pub all_given : quiet s ≡ s → ArePossible s (ServesCall call s) (possible.Given p)
+        → (limit : ℕ) → ((h : Handle) → MayGiveIn s p h → h.slot < limit) → (xs : List Service)
+        → AreAll (GivesBelow call s p limit) xs → AreAll (CallStep (unanswered call) s) xs
+    all_given rest all limit below xs =
+        all_as (GivesBelow call s p limit) (CallStep (unanswered call) s) xs
+        (λ x g. (rest, (reply.Handle g.0, tt, g.3)))
+        (λ x step.
+        let on = step.1.2 in
+        let a = all.only step.1.0 on.0 on.1 on.2 in
+        (a.0, a.2, below a.0 a.2, subst (λ q. LeadsOn call s q x) a.1 on))
+
+-- a reply that gives no handle and is of no removal changes nothing
+deregister_any : (s mid : Service) → quiet s ≡ s → (handle : Option Handle) (r : Reply)
+    → is_removal r ≡ false → ServesDeregister s handle r mid → quiet mid ≡ s
+deregister_any s mid rest None r stays so = deregister_none s rest r mid so
+deregister_any s mid rest (Some h) r stays so = deregister_stays s rest h r stays mid so
+
+release_any : (s mid : Service) → quiet s ≡ s → (handle : Option Handle) (r : Reply)
+    → is_removal r ≡ false → ServesRelease s handle r mid → quiet mid ≡ s
+release_any s mid rest None r stays so = release_none s rest r mid so
+release_any s mid rest (Some h) r stays so = release_stays s h rest r stays mid so
+
+dead_any : (s mid : Service) (dead : ℕ) (kept : Vec ℕ) (r : Reply) → is_removal r ≡ false
+    → ServesDead s dead (ByPort kept) r mid → quiet mid ≡ s
+dead_any s mid dead kept reply.HasOwners e so = absurd (let z : true ≡ false = e in cc)
+dead_any s mid dead kept reply.NoMoreOwners e so = absurd (let z : true ≡ false = e in cc)
+dead_any s mid dead kept _ e so = absurd so
+
+stays : (s mid : Service) (handles : List (Option Handle)) (c : Command) (r : Reply) → IsCovered c
+    → quiet s ≡ s → handle_in r ≡ None → is_removal r ≡ false
+    → Serves s None handles c r mid → quiet mid ≡ s
+stays s mid handles (command.Register id) r i rest none e so =
+    register_stays s rest id r none mid so
+stays s mid handles (command.Deregister k) r i rest none e so =
+    deregister_any s mid rest (named handles k) r e so
+stays s mid handles command.Nodes r i rest none e so = ap quiet so.1 ∙ rest
+stays s mid handles (command.Add d) r i rest none e so = attach_stays s d rest r none mid so
+stays s mid handles (command.Release k) r i rest none e so =
+    release_any s mid rest (named handles k) r e so
+stays s mid handles (command.List role) r i rest none e so = ap quiet so.1 ∙ rest
+stays s mid handles (command.Count role) r i rest none e so = ap quiet so.1 ∙ rest
+stays s mid handles (command.Dead dead (ByPort kept)) r i rest none e so =
+    dead_any s mid dead kept r e so
+stays s mid handles _ r i rest none e so = absurd i
+
+module _ (call : Call) (covered : IsCovered call.command) (seen : SeenReply)
+    (nothing : changes_nothing seen ≡ true) where
+  same_state : (old mid : Service) (r : Reply) → quiet old ≡ old → text_of r ≡ seen_text seen
+      → ServesCall call old r mid → quiet mid ≡ old
+  same_state old mid r rest text served =
+      let told = told_nothing r seen nothing text in
+      stays old mid (call.handle ∷ []) call.command r covered rest told.0 told.1 served
+
+  pub idle : (s : Service) (p : Possible) (r : Reply) → quiet s ≡ s
+      → ArePossible s (ServesCall call s) p → Tells s p (seen_text seen) (Some r)
+      → IsIdleCall (answered call (seen_text seen)) s
+  idle s p r rest all tells =
+      let can = all.can r tells.0 in (
+        (rest, (r, tells.1, (can.0, can.1, can.2, same_state s can.0 r rest tells.1 can.1))),
+        λ old new step.
+            let on = step.1.2 in
+            sym on.3 ∙ same_state old on.0 step.1.0 step.0 step.1.1 on.1,
+      )
+
+replies_by_words : (call : Call) (s : Service) (p : PossibleReplies) → quiet s ≡ s
+    → ArePossibleWords (ServesCall call s) p → AreRepliesOf s call p
+replies_by_words call s p rest all words = (
+  λ a.
+      let r = (all words).0 a in
+      (quiet r.2.0, (rest, (r.0, r.1, (r.2.0, r.2.1, r.2.2, refl)))),
+  λ j.
+      let on = j.1.1.2 in
+      (all words).1 (j.1.1.0, j.1.1.1, (on.0, on.1, on.2)),
+)
+
+pub replies_found : (call : Call) (s : Service) (found : Result PossibleReplies AllocError)
+    → quiet s ≡ s → IfOk found (ArePossibleWords (ServesCall call s))
+    → IfOk found (AreRepliesOf s call)
+replies_found call s (Ok p) rest all = replies_by_words call s p rest all
+replies_found call s (Err e) rest all = tt
+
+some_same : (a b : Call) → Some a ≡ Some b → a ≡ b
+some_same a b e = cc
+
+module _ (first : ℕ) (calls : List Call) (number : ℕ) where
+  one_call : (a b : Call) → HasNumber first calls number a → HasNumber first calls number b
+      → b ≡ a
+  one_call a b p q =
+      let at : q.0 ≡ p.0 = omega (arith, p.1, q.1) in
+      some_same b a (sym q.2 ∙ (ap (slice_get calls) at ∙ p.2))
+
+  module _ (call : Call) (has : HasNumber first calls number call) (s : Service) where
+    window_all : (xs : List Service) → AreAll (CallStep call s) xs
+        → AreAll (λ new. WindowStep first calls s number new) xs
+    window_all xs =
+        all_as (CallStep call s) (λ new. WindowStep first calls s number new) xs
+        (λ x step. (call, has, step))
+        (λ x step. subst (λ c. CallStep c s x) (one_call call step.0 has step.1) step.2)
+
+    pub window_followed : (found : Result (Vec Service) AllocError)
+        → IfOk found (λ f. AreAll (CallStep call s) f.items)
+        → IfOk found (λ f. AreAll (λ new. WindowStep first calls s number new) f.items)
+    window_followed (Ok f) all = window_all f.items all
+    window_followed (Err e) all = tt
+
+    pub window_idle : IsIdleCall call s
+        → WindowStep first calls s number s
+        × IsIdle (WindowStep first calls) number
+    window_idle idle = (
+      (call, has, idle.0),
+      λ old new step. idle.1 old new
+          (subst (λ c. CallStep c old new) (one_call call step.0 has step.1) step.2),
+    )
+
+  pub window_none : LacksNumber first calls number → (s : Service) (xs : List Service)
+      → AreAll {S = Service} (λ _. ⊥) xs → AreAll (λ new. WindowStep first calls s number new) xs
+  window_none lacks s xs =
+      all_as (λ _. ⊥) (λ new. WindowStep first calls s number new) xs (λ x no. absurd no)
+      (λ x step. lacks step.0 step.1)
+
+pub windows_agree : (first : ℕ) (calls all : List Call)
+    → ((at : ℕ) → at < length calls → slice_get calls at ≡ slice_get all (first + at))
+    → (number : ℕ) → IsWithin first (length calls) number → (old new : Service)
+    → WindowStep first calls old number new ↔ WindowStep 0 all old number new
+windows_agree first calls all same number within old new = (
+  λ step.
+      let has = step.1 in
+      let at = slice_get_within calls has.0 step.0 has.2 in
+      (step.0, (first + has.0, omega (arith, has.1), sym (same has.0 at) ∙ has.2), step.2),
+  λ step.
+      let has = step.1 in
+      let at : has.0 ≡ first + within.0 = omega (arith, has.1, within.2) in (
+        step.0,
+        (
+          within.0,
+          within.2,
+          same within.0 within.1 ∙ (ap (slice_get all) (sym at) ∙ has.2),
+        ),
+        step.2,
+      ),
+)

@@ -1,0 +1,414 @@
+-- What the words of replies say.
+use Rattle.std.proofs.Common.{◌≡◌, ◌≢◌, ◌↔◌, ℕ, zero, suc, ◌<◌, ◌≤◌, ◌^◌, ◌+◌, ◌⊎◌, inl, inr, Bool, true, false, ◌&&◌, List, [], ◌∷◌, ◌++◌, All, codes, map, take, length, get_or, Option, Some, None, refl, sym, ◌∙◌, ap, subst, arith, cond, ◌==◌}
+use Rattle.std.specs.Fmt.{decimal}
+use Rattle.std.specs.List.{flat_map}
+use Rattle.std.proofs.lemmas.Fmt.{decimal_injective}
+use Rattle.iox2_container.specs.Handle.{Handle}
+use Rattle.line_streams.specs.Numerals.{cons_same}
+use Rattle.service_descriptions.specs.Steps.{handle_in}
+use Rattle.service_conformance.specs.Quiet.{is_removal}
+use Rattle.std.proofs.lemmas.List.{append-nil, append_cancel_left}
+use Rattle.std.proofs.lemmas.List.Elements.{All-cons, All-head, All-map, All-nil, All-tail}
+use Rattle.iox2_dynamic.specs.declared.dynamic_config.port_details.PortDetails.{PortDetails}
+use Rattle.iox2_dynamic.specs.Details.{port_of}
+use Rattle.iox2_ids.specs.PortId.{port_value}
+use Rattle.iox2_ids.specs.Packing.{hexadecimal}
+use Rattle.line_streams.specs.OneWay.{listed_one}
+use Rattle.line_streams.specs.declared.phrase.LineEnd.TheVariants.{Bytes}
+use Rattle.line_streams.specs.Spelling.{EndsNumber, OthersFit, Reads, Spelling, after, line_end, listed, number, others_text, sequence}
+use Rattle.service_descriptions.specs.declared.replay.machine.reply.Reply.{Reply}
+use Rattle.service_descriptions.specs.declared.replay.machine.reply.Reply.TheVariants as reply
+use Rattle.service_descriptions.specs.Replies.{id_word, port_word, text_of}
+use Rattle.service_conformance.specs.declared.conformance.seen_reply.ReplyWord.{ReplyWord}
+use Rattle.service_conformance.specs.declared.conformance.seen_reply.ReplyWord.TheVariants as word
+use Rattle.service_conformance.specs.declared.conformance.seen_reply.SeenReply.{SeenReply}
+use Rattle.service_conformance.specs.declared.conformance.seen_reply.SeenReply.TheVariants as seen
+use Rattle.service_conformance.specs.IdWords.{apart, has_no_space, printed_one, same_id}
+use Rattle.service_conformance.specs.Seen.{EndsWord, IsIdNumber, IsSeen, IsToLine, changes_nothing, count_words, list_words, printed_id, seen_text, word_of, word_text}
+use Rattle.service_conformance.specs.Words.{handle_words}
+
+-- the ids of a list, each after a space
+abbrev pub ids_phrase : Spelling (List ℕ)
+ids_phrase = listed (codes " ") 32 printed_id
+
+others_is : (ids : List ℕ) → others_text 32 printed_id ids [] ≡ flat_map id_word ids
+others_is [] = refl
+others_is (id ∷ ids) = ap (λ (l : List ℕ). 32 ∷ (hexadecimal id ++ l)) (others_is ids)
+
+pub listed_is : (ids : List ℕ) → ids_phrase.text (ids, []) ≡ flat_map id_word ids
+listed_is [] = refl
+listed_is (id ∷ ids) = ap (λ (l : List ℕ). 32 ∷ (hexadecimal id ++ l)) (others_is ids)
+
+space_next : (ids : List ℕ) → EndsWord (others_text 32 printed_id ids [])
+space_next [] = refl
+space_next (id ∷ ids) = refl
+
+others_fit : (ids : List ℕ) → All IsIdNumber ids → OthersFit 32 printed_id ids []
+others_fit [] a = λ rest e. cc
+others_fit (id ∷ ids) a = (
+  (All-head IsIdNumber id ids a, space_next ids),
+  others_fit ids (All-tail IsIdNumber id ids a),
+)
+
+pub listed_fit : (ids : List ℕ) → All IsIdNumber ids → ids_phrase.Fits (ids, [])
+listed_fit [] a = λ rest e. cc
+listed_fit (id ∷ ids) a = others_fit (id ∷ ids) a
+
+others_small : (ids rest : List ℕ) → OthersFit 32 printed_id ids rest → All IsIdNumber ids
+others_small [] rest f = All-nil IsIdNumber
+others_small (id ∷ ids) rest f =
+    All-cons IsIdNumber id ids f.0.0 (others_small ids rest f.1)
+
+pub listed_small : (ids rest : List ℕ) → ids_phrase.Fits (ids, rest) → All IsIdNumber ids
+listed_small [] rest f = All-nil IsIdNumber
+listed_small (id ∷ ids) rest f = others_small (id ∷ ids) rest f
+
+empty : (xs : List ℕ) → length xs ≡ 0 → xs ≡ []
+empty [] e = refl
+empty (x ∷ xs) e = absurd (omega (arith, e))
+
+module _ (words rest : List ℕ) (follows : words ≡ codes "list" ++ rest) where
+  -- no ids follow the word
+  pub no_ids : ((a : List ℕ × List ℕ) → ids_phrase.Fits a → rest ≢ ids_phrase.text a)
+      → (ids : List ℕ) → All IsIdNumber ids → list_words ids ≢ words
+  no_ids never ids small e =
+      never (ids, []) (listed_fit ids small)
+      (sym (append_cancel_left (codes "list") (flat_map id_word ids) rest (e ∙ follows))
+      ∙ sym (listed_is ids))
+
+  module _ (found ids left : List ℕ) (same : found ≡ ids)
+      (read : Reads ids_phrase.Fits ids_phrase.text (Some (found, left)) rest) where
+    -- ids follow it, and then something else
+    pub more_than_ids : (left ≡ [] → ⊥) → (others : List ℕ) → All IsIdNumber others
+        → list_words others ≢ words
+    more_than_ids some others small e =
+        some ((listed_one (codes " ") 32 printed_one).same (found, left) (others, []) read.0
+        (listed_fit others small)
+        (sym read.1
+        ∙ (sym (append_cancel_left (codes "list") (flat_map id_word others) rest (e ∙ follows))
+        ∙ sym (listed_is others)))).1
+
+    pub ids_found : length left ≡ 0 → (list_words ids ≡ words) × All IsIdNumber ids
+    ids_found none = let end = empty left none in (
+      ap (λ (l : List ℕ). codes "list" ++ l)
+          (ap (flat_map id_word) (sym same) ∙ (sym (listed_is found)
+          ∙ (ap (λ (l : List ℕ). ids_phrase.text (found, l)) (sym end) ∙ sym read.1)))
+          ∙ sym follows,
+      subst (All IsIdNumber) same (listed_small found left read.0),
+    )
+
+-- where the phrase of a count is not read, no number has the words
+abbrev pub count_phrase : Spelling (ℕ × Unit {0})
+count_phrase =
+    after (codes "count ") (sequence (number 18446744073709551615) (line_end Bytes))
+
+pub uncounted : (words : List ℕ)
+    → ((a : (ℕ × Unit {0}) × List ℕ) → count_phrase.Fits a → words ≢ count_phrase.text a)
+    → (n : ℕ) → n < 2 ^ 64 → count_words n ≢ words
+uncounted words never n small e =
+    let nothing : EndsNumber [] = λ digit. omega arith in
+    never ((n, tt), []) ((omega (arith, small), small, nothing), refl)
+    (sym e ∙ ap (λ (l : List ℕ). codes "count " ++ l) (sym (append-nil (decimal n))))
+
+-- the number of the id of a port
+abbrev pub value_of : PortDetails → ℕ
+value_of d = port_value (port_of d)
+
+port_words : (ds : List PortDetails) → flat_map port_word ds ≡ flat_map id_word (map value_of ds)
+port_words [] = refl
+port_words (d ∷ ds) = ap (λ (l : List ℕ). port_word d ++ l) (port_words ds)
+
+-- a list of ports has the text of their ids
+pub ports_list : (ds : List PortDetails) (ids : List ℕ)
+    → (flat_map id_word (map value_of ds) ≡ flat_map id_word ids)
+    ↔ (codes "list" ++ flat_map port_word ds ≡ list_words ids)
+ports_list ds ids = (
+  λ e. ap (λ (l : List ℕ). codes "list" ++ l) (port_words ds ∙ e),
+  λ e. sym (port_words ds)
+      ∙ append_cancel_left (codes "list") (flat_map port_word ds) (flat_map id_word ids) e,
+)
+
+-- words that are none of these are those of no reply
+module _ (words : List ℕ)
+    (handles : (slot ticket : ℕ) → slot < 2 ^ 64 → ticket < 2 ^ 64
+    → handle_words slot ticket ≢ words)
+    (plain : (w : ReplyWord) → word_text w ≢ words)
+    (counts : (n : ℕ) → n < 2 ^ 64 → count_words n ≢ words)
+    (lists : (ids : List ℕ) → All IsIdNumber ids → list_words ids ≢ words) where
+  pub none_seen : (r : SeenReply) → IsSeen r → seen_text r ≢ words
+  none_seen (seen.Handle slot ticket) i = handles slot ticket i.0 i.1
+  none_seen (seen.Word w) i = plain w
+  none_seen (seen.List ids) i = lists ids.items i
+  none_seen (seen.Count n) i = counts n i
+
+  pub none_replied : (r : Reply) → IsToLine r → text_of r ≢ words
+  none_replied (reply.Handle h) i = handles h.slot h.ticket i.0 i.1
+  none_replied reply.Locked i = plain word.Locked
+  none_replied reply.Full i = plain word.Full
+  none_replied reply.NotRegistered i = plain word.NotRegistered
+  none_replied reply.HasOwners i = plain word.HasOwners
+  none_replied reply.NoMoreOwners i = plain word.NoMoreOwners
+  none_replied reply.PortsAttached i = plain word.PortsAttached
+  none_replied reply.Released i = plain word.Released
+  none_replied reply.NotOwned i = plain word.NotOwned
+  none_replied reply.NoHandle i = plain word.NoHandle
+  none_replied reply.WrongPattern i = plain word.WrongPattern
+  none_replied (reply.Nodes ids) i = lists ids.items i
+  none_replied (reply.Ports ports) i =
+      let never =
+      lists (map value_of ports.items) (All-map IsIdNumber value_of ports.items i) in
+      λ e. never (ap (λ (l : List ℕ). codes "list" ++ l) (sym (port_words ports.items)) ∙ e)
+  none_replied (reply.Count n) i = counts n i
+  none_replied _ i = absurd i
+
+-- the reply without numbers whose words begin so
+abbrev by_letters : ℕ → ℕ → ℕ → Option ReplyWord
+by_letters first fourth fifth =
+    cond (first == 108) (cond (fourth == 107) (Some word.Locked) None)
+    (cond (first == 102) (Some word.Full)
+    (cond (first == 104) (cond (fifth == 111) (Some word.HasOwners) None)
+    (cond (first == 112) (cond (fifth == 115) (Some word.PortsAttached) None)
+    (cond (first == 114) (cond (fifth == 97) (Some word.Released) None)
+    (cond (first == 119) (Some word.WrongPattern)
+    (cond (first == 110) (cond (fourth == 111) (Some word.NoMoreOwners)
+    (cond (fourth == 104) (Some word.NoHandle)
+    (cond (fifth == 114) (Some word.NotRegistered)
+    (cond (fifth == 111) (Some word.NotOwned) None))))
+    None))))))
+
+abbrev by_text : List ℕ → Option ReplyWord
+by_text text = by_letters (get_or text 0 0) (get_or text 3 0) (get_or text 4 0)
+
+of_reply : (r : Reply) → by_text (text_of r) ≡ word_of r
+of_reply (reply.Compatible true) = refl
+of_reply (reply.Compatible false) = refl
+of_reply _ = refl
+
+of_word : (w : ReplyWord) → by_text (word_text w) ≡ Some w
+of_word word.Locked = refl
+of_word word.Full = refl
+of_word word.NotRegistered = refl
+of_word word.HasOwners = refl
+of_word word.NoMoreOwners = refl
+of_word word.PortsAttached = refl
+of_word word.Released = refl
+of_word word.NotOwned = refl
+of_word word.NoHandle = refl
+of_word word.WrongPattern = refl
+
+-- the text of a reply without numbers, if there is one
+abbrev by_word : Option ReplyWord → List ℕ
+by_word None = []
+by_word (Some w) = word_text w
+
+has_text : (r : Reply) (w : ReplyWord) → word_of r ≡ Some w → text_of r ≡ word_text w
+has_text reply.Locked w e = ap by_word e
+has_text reply.Full w e = ap by_word e
+has_text reply.NotRegistered w e = ap by_word e
+has_text reply.HasOwners w e = ap by_word e
+has_text reply.NoMoreOwners w e = ap by_word e
+has_text reply.PortsAttached w e = ap by_word e
+has_text reply.Released w e = ap by_word e
+has_text reply.NotOwned w e = ap by_word e
+has_text reply.NoHandle w e = ap by_word e
+has_text reply.WrongPattern w e = ap by_word e
+has_text _ w e = absurd (let z : ◌≡◌ {A = Option ReplyWord} None (Some w) = e in cc)
+
+-- a reply has the words of one without numbers exactly where it is that one
+pub is_word : (r : Reply) (w : ReplyWord) → (word_of r ≡ Some w) ↔ (text_of r ≡ word_text w)
+is_word r w = (
+  has_text r w,
+  λ e. sym (of_reply r) ∙ (ap by_text e ∙ of_word w),
+)
+
+-- whether a text begins with these letters
+abbrev begins : ℕ → ℕ → List ℕ → Bool
+begins first third text = (get_or text 0 0 == first) && (get_or text 2 0 == third)
+
+differs : (a b : List ℕ) (first third : ℕ) → begins first third a ≡ false
+    → begins first third b ≡ true → a ≢ b
+differs a b first third f t e = (
+    let z : false ≡ true = sym f ∙ (ap (begins first third) e ∙ t) in cc)
+
+handle_begins : (r : Reply) → handle_in r ≡ None → begins 104 110 (text_of r) ≡ false
+handle_begins (reply.Handle h) e =
+    absurd (let z : ◌≡◌ {A = Option Handle} (Some h) None = e in cc)
+handle_begins (reply.Compatible true) e = refl
+handle_begins (reply.Compatible false) e = refl
+handle_begins _ e = refl
+
+pub no_handle_text : (r : Reply) → handle_in r ≡ None → (slot ticket : ℕ)
+    → text_of r ≢ handle_words slot ticket
+no_handle_text r none slot ticket =
+    differs (text_of r) (handle_words slot ticket) 104 110 (handle_begins r none) refl
+
+pub same_count : (m n : ℕ) → m < 2 ^ 64 → n < 2 ^ 64 → (m ≡ n) ↔ (count_words m ≡ count_words n)
+same_count m n p q = (
+  ap count_words,
+  λ e. decimal_injective m n p q (append_cancel_left (codes "count ") (decimal m) (decimal n) e),
+)
+
+-- a handle's words are of no other kind
+pub not_handle : (slot ticket : ℕ) (s : SeenReply)
+    → ((a b : ℕ) → s ≢ seen.Handle a b) → handle_words slot ticket ≢ seen_text s
+not_handle slot ticket (seen.Handle a b) none = absurd (none a b refl)
+not_handle slot ticket (seen.Word w) none = λ e.
+    (let z : None ≡ Some w = ap by_text e ∙ of_word w in cc)
+not_handle slot ticket (seen.List ids) none = λ e.
+    differs (list_words ids.items) (handle_words slot ticket) 104 110 refl refl (sym e)
+not_handle slot ticket (seen.Count n) none = λ e.
+    differs (count_words n) (handle_words slot ticket) 104 110 refl refl (sym e)
+
+space_first : (ids : List ℕ) → EndsWord (flat_map id_word ids)
+space_first [] = refl
+space_first (id ∷ ids) = refl
+
+-- lists with one text have the same ids at each place that was read
+pub differ_at : (xs ys : List ℕ) (i : ℕ) → i < length xs → i < length ys → take i xs ≡ take i ys
+    → IsIdNumber (get_or xs i 0) → IsIdNumber (get_or ys i 0) → get_or xs i 0 ≢ get_or ys i 0
+    → flat_map id_word xs ≢ flat_map id_word ys
+differ_at [] ys i p q t s u n e = omega (arith, p)
+differ_at (a ∷ xs) [] i p q t s u n e = omega (arith, q)
+differ_at (a ∷ xs) (b ∷ ys) zero p q t s u n e =
+    n (same_id a b s u (apart (hexadecimal a) (hexadecimal b) (flat_map id_word xs)
+    (flat_map id_word ys) (has_no_space a s) (has_no_space b u) (space_first xs) (space_first ys)
+    (cons_same e).1).0)
+differ_at (a ∷ xs) (b ∷ ys) (suc i) p q t s u n e =
+    let both = cons_same t in
+    differ_at xs ys i (omega (arith, p)) (omega (arith, q)) both.1 s u n
+    (append_cancel_left (id_word a) (flat_map id_word xs) (flat_map id_word ys)
+    (e ∙ ap (λ x. id_word x ++ flat_map id_word ys) (sym both.0)))
+
+-- lists with one text, of which one was read to its end, have one length
+pub same_length : (xs ys : List ℕ) (i : ℕ) → i ≤ length xs → i ≤ length ys
+    → take i xs ≡ take i ys → (i < length xs → i < length ys → ⊥)
+    → flat_map id_word xs ≡ flat_map id_word ys → length xs ≡ length ys
+same_length [] [] i p q t end e = refl
+same_length [] (b ∷ ys) zero p q t end e =
+    absurd (let z : [] ≡ id_word b ++ flat_map id_word ys = e in cc)
+same_length [] (b ∷ ys) (suc i) p q t end e = absurd (omega (arith, p))
+same_length (a ∷ xs) [] zero p q t end e =
+    absurd (let z : id_word a ++ flat_map id_word xs ≡ [] = e in cc)
+same_length (a ∷ xs) [] (suc i) p q t end e = absurd (omega (arith, q))
+same_length (a ∷ xs) (b ∷ ys) zero p q t end e = absurd (end (omega arith) (omega arith))
+same_length (a ∷ xs) (b ∷ ys) (suc i) p q t end e =
+    let both = cons_same t in
+    let rest =
+    same_length xs ys i (omega (arith, p)) (omega (arith, q)) both.1
+    (λ l m. end (omega (arith, l)) (omega (arith, m)))
+    (append_cancel_left (id_word a) (flat_map id_word xs) (flat_map id_word ys)
+    (e ∙ ap (λ x. id_word x ++ flat_map id_word ys) (sym both.0))) in
+    ap suc rest
+
+-- lists that were read to their ends are the same
+take_all : (xs : List ℕ) (n : ℕ) → n ≡ length xs → take n xs ≡ xs
+take_all [] zero e = refl
+take_all [] (suc n) e = absurd (omega (arith, e))
+take_all (x ∷ xs) zero e = absurd (omega (arith, e))
+take_all (x ∷ xs) (suc n) e = ap (λ (l : List ℕ). x ∷ l) (take_all xs n (omega (arith, e)))
+
+take_next : (xs ys : List ℕ) (i : ℕ) → i < length xs → i < length ys → take i xs ≡ take i ys
+    → get_or xs i 0 ≡ get_or ys i 0 → take (suc i) xs ≡ take (suc i) ys
+take_next [] ys i p q t e = absurd (omega (arith, p))
+take_next (x ∷ xs) [] i p q t e = absurd (omega (arith, q))
+take_next (x ∷ xs) (y ∷ ys) zero p q t e = ap (λ z. z ∷ []) e
+take_next (x ∷ xs) (y ∷ ys) (suc i) p q t e =
+    let both = cons_same t in
+    ap (λ z. z ∷ take (suc i) xs) both.0
+    ∙ ap (λ (l : List ℕ). y ∷ l)
+    (take_next xs ys i (omega (arith, p)) (omega (arith, q)) both.1 e)
+
+below_or_at : (a b : ℕ) → a ≤ b → (a < b) ⊎ (a ≡ b)
+below_or_at zero zero h = inr refl
+below_or_at zero (suc b) h = inl (omega arith)
+below_or_at (suc a) zero h = absurd (omega (arith, h))
+below_or_at (suc a) (suc b) h = elim (below_or_at a b (omega (arith, h))) [
+  | inl l ↦ inl (omega (arith, l))
+  | inr e ↦ inr (ap suc e)
+]
+
+-- the ids of items, and others
+module _ {A : Type 0} (id : A → ℕ) where
+  mapped_length : (xs : List A) → length (map id xs) ≡ length xs
+  mapped_length [] = refl
+  mapped_length (x ∷ xs) = ap suc (mapped_length xs)
+
+  mapped_at : (xs : List A) (i : ℕ) (x : A) → i < length xs → x ≡ get_or xs i x
+      → get_or (map id xs) i 0 ≡ id x
+  mapped_at [] i x p e = absurd (omega (arith, p))
+  mapped_at (y ∷ ys) zero x p e = ap id (sym e)
+  mapped_at (y ∷ ys) (suc i) x p e = mapped_at ys i x (omega (arith, p)) e
+
+  module _ (xs : List A) (ids : List ℕ) (i : ℕ) where
+    module _ (p : i < length xs) (q : i < length ids)
+        (same : take i (map id xs) ≡ take i ids) (x : A) (is : x ≡ get_or xs i x) (value : ℕ)
+        (has : value ≡ id x) where
+      within : i < length (map id xs)
+      within = rw (mapped_length xs) p
+
+      pub ids_differ : IsIdNumber value → IsIdNumber (get_or ids i 0)
+          → (value ≡ get_or ids i 0 → ⊥)
+          → flat_map id_word (map id xs) ≢ flat_map id_word ids
+      ids_differ small other never =
+          let at : get_or (map id xs) i 0 ≡ value = mapped_at xs i x p is ∙ sym has in
+          differ_at (map id xs) ids i within q same (subst IsIdNumber (sym at) small) other
+          (λ e. never (sym at ∙ e))
+
+      pub ids_go_on : value ≡ get_or ids i 0 → take (i + 1) (map id xs) ≡ take (i + 1) ids
+      ids_go_on e =
+          let next : suc i ≡ i + 1 = omega arith in
+          ap (λ n. take n (map id xs)) (sym next)
+          ∙ (take_next (map id xs) ids i within q same (mapped_at xs i x p is ∙ sym has ∙ e)
+          ∙ ap (λ n. take n ids) next)
+
+    pub ids_alike : i ≤ length xs → i ≤ length ids → take i (map id xs) ≡ take i ids
+        → (i < length xs → i < length ids → ⊥)
+        → (length xs ≡ length ids) ↔ (flat_map id_word (map id xs) ≡ flat_map id_word ids)
+    ids_alike p q same end = (
+      λ e. elim (below_or_at i (length xs) p) [
+        | inl l ↦ absurd (end l (omega (arith, l, e)))
+        | inr at ↦ ap (flat_map id_word)
+            (sym (take_all (map id xs) i (at ∙ sym (mapped_length xs)))
+            ∙ (same ∙ take_all ids i (at ∙ e)))
+      ],
+      λ e.
+          let within : i ≤ length (map id xs) = rw (mapped_length xs) p in
+          sym (mapped_length xs)
+          ∙ same_length (map id xs) ids i within q same
+          (λ l m. end (rw (mapped_length xs) at l) m) e,
+    )
+
+-- whether a text tells that something changed
+abbrev tells_change : List ℕ → Bool
+tells_change text =
+    cond (get_or text 0 0 == 104) true
+    (cond (get_or text 0 0 == 110) (get_or text 3 0 == 111)
+    (cond (get_or text 0 0 == 114) (get_or text 4 0 == 97) false))
+
+abbrev is_change : Reply → Bool
+is_change (reply.Handle h) = true
+is_change r = is_removal r
+
+of_change : (r : Reply) → tells_change (text_of r) ≡ is_change r
+of_change (reply.Compatible true) = refl
+of_change (reply.Compatible false) = refl
+of_change _ = refl
+
+of_seen : (s : SeenReply) → changes_nothing s ≡ true → tells_change (seen_text s) ≡ false
+of_seen (seen.Handle slot ticket) e = absurd (let z : false ≡ true = e in cc)
+of_seen (seen.Word word.HasOwners) e = absurd (let z : false ≡ true = e in cc)
+of_seen (seen.Word word.NoMoreOwners) e = absurd (let z : false ≡ true = e in cc)
+of_seen (seen.Word word.Released) e = absurd (let z : false ≡ true = e in cc)
+of_seen (seen.Word _) e = refl
+of_seen (seen.List ids) e = refl
+of_seen (seen.Count n) e = refl
+
+no_change : (r : Reply) → is_change r ≡ false → (handle_in r ≡ None) × (is_removal r ≡ false)
+no_change (reply.Handle h) e = absurd (let z : true ≡ false = e in cc)
+no_change _ e = (refl, e)
+
+-- a reply with words that tell that nothing changed gives no handle and is of no removal
+pub told_nothing : (r : Reply) (s : SeenReply) → changes_nothing s ≡ true
+    → text_of r ≡ seen_text s → (handle_in r ≡ None) × (is_removal r ≡ false)
+told_nothing r s nothing e =
+    no_change r (sym (of_change r) ∙ (ap tells_change e ∙ of_seen s nothing))

@@ -1,0 +1,10 @@
+use Rattle.std.proofs.Common.{arith}
+use Rattle.service_conformance.proofs.Calls.{all_given}
+use Rattle.service_conformance.proofs.conformance.seen_call.SeenCall.follow_add.Goals as goal
+
+pub returns : goal.returns
+returns c =
+    all_given c.args.self.now c.args.state.now c.args.part c.kind-pattern.ensures.rest
+    c.requires.all c.loop-slot.slot
+    (λ h may. omega (arith, c.capacity-slot-end.ensures h may, c.loop-slot-test.false))
+    c.loop-slot.found.items c.loop-slot.invariant

@@ -1,0 +1,6 @@
+use Rattle.histories.specs.Histories.{AreAll}
+use Rattle.service_conformance.specs.Calls.{GivesBelow}
+use Rattle.service_conformance.proofs.conformance.seen_call.SeenCall.follow_add.Given as goal
+
+abbrev pub invariant-loop-slot : goal.invariant-loop-slot
+invariant-loop-slot l = AreAll (GivesBelow l.self l.state l.part l.slot) l.found.items

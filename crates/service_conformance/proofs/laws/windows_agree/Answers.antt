@@ -1,0 +1,5 @@
+use Rattle.service_conformance.proofs.Calls.{windows_agree}
+use Rattle.service_conformance.proofs.laws.windows_agree.Goals as goal
+
+pub returns : goal.returns
+returns c = windows_agree

@@ -1,0 +1,82 @@
+-- Calls that overlap nothing, and runs.
+use Rattle.std.specs.Prelude.{◌≡◌, ◌≢◌, ◌↔◌, ℕ, ◌<◌, ◌^◌, List, [], ◌∷◌, ◌++◌, Option, Some, None, length, map}
+use Rattle.std.specs.List.{AllByRecursion}
+use Rattle.histories.specs.Histories.{IsExplained}
+use Rattle.histories.specs.Laws.{calls_alone}
+use Rattle.iox2_container.specs.declared.container.role.Role.{Role}
+use Rattle.iox2_container.specs.declared.container.role.Role.TheVariants as role
+use Rattle.iox2_container.specs.Handle.{Handle}
+use Rattle.iox2_container.specs.State.{RegistryState}
+use Rattle.iox2_dynamic.specs.Details.{role_of}
+use Rattle.iox2_dynamic.specs.Service.{Service, IsService}
+use Rattle.service_descriptions.specs.declared.replay.machine.command.Command.{Command}
+use Rattle.service_descriptions.specs.declared.replay.machine.command.Command.TheVariants as command
+use Rattle.service_descriptions.specs.declared.replay.machine.reply.Reply.{Reply}
+use Rattle.service_descriptions.specs.Handles.{KeepsHandles, named}
+use Rattle.service_descriptions.specs.Replies.{text_of}
+use Rattle.service_descriptions.specs.Steps.{Run, State}
+use Rattle.service_conformance.specs.Calls.{Call, WindowStep, answered, call_of}
+use Rattle.service_conformance.specs.Quiet.{quiet}
+use Rattle.service_conformance.specs.Words.{handle_words}
+
+-- the role of what the command adds
+abbrev pub added_role : Command → Role
+added_role (command.Add d) = role_of d
+added_role _ = role.Node
+
+-- the handle that the command names, where earlier ones gave these
+abbrev pub handle_named : List (Option Handle) → Command → Option Handle
+handle_named handles (command.Deregister k) = named handles k
+handle_named handles (command.Release k) = named handles k
+handle_named handles _ = None
+
+-- the handle that a reply with these words to the command gives, on the service of this number; or
+-- that it gives none
+abbrev pub Gives : ℕ → Command → List ℕ → Option Handle → Type 0
+Gives number c words (Some h) =
+    (words ≡ handle_words h.slot h.ticket) × (h.slot < 2 ^ 64) × (h.ticket < 2 ^ 64)
+    × (h.service ≡ number) × (h.role ≡ added_role c)
+Gives number c words None =
+    (slot ticket : ℕ) → slot < 2 ^ 64 → ticket < 2 ^ 64 → handle_words slot ticket ≢ words
+
+-- a command, the words of its reply, and the handle that they give, or none
+pub record Answered : Type 0 where
+  pub command : Command
+  pub words : List ℕ
+  pub given : Option Handle
+
+-- the calls of these commands, where earlier ones gave these handles
+abbrev pub calls_of : List (Option Handle) → List Answered → List Call
+calls_of handles [] = []
+calls_of handles (a ∷ others) =
+    answered (call_of a.command (handle_named handles a.command)) a.words
+    ∷ calls_of (handles ++ a.given ∷ []) others
+
+-- slots and tickets are numbers of 64 bits
+pub record IsBoundedRegistry {T : Type 0} (r : RegistryState T) : Type 0 where
+  pub slots : r.capacity < 2 ^ 64
+  pub tickets : r.budget < 2 ^ 64
+
+pub record IsBounded (s : Service) : Type 0 where
+  pub nodes : IsBoundedRegistry s.nodes.registry
+  pub first : IsBoundedRegistry s.ports.first.registry
+  pub second : IsBoundedRegistry s.ports.second.registry
+
+-- a service without a description, of which no touch is counted, and which has given the handles
+pub record IsBare (s : State) : Type 0 where
+  pub is_service : IsService s.service
+  pub keeps : KeepsHandles s.service s.handles
+  pub bounded : IsBounded s.service
+  pub bare : s.description ≡ None
+  pub rest : quiet s.service ≡ s.service
+
+-- Calls that overlap nothing are a run as scripts have it: some order explains them exactly where
+-- there are replies with these words which are a run of the commands.
+abbrev pub CallsAloneAreRuns : Type 0
+CallsAloneAreRuns =
+    (old : State) (told : List Answered) → IsBare old
+    → AllByRecursion (λ a. Gives old.service.nodes.registry.service a.command a.words a.given) told
+    → IsExplained (WindowStep 0 (calls_of old.handles told)) (calls_alone (length told))
+    (old.service ∷ [])
+    ↔ ((replies : List Reply) × (map text_of replies ≡ map (λ (a : Answered). a.words) told)
+    × ((new : State) × Run old (map (λ (a : Answered). a.command) told) replies new))

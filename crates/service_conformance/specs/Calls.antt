@@ -1,0 +1,102 @@
+-- Calls as they were seen, and what they do.
+use Rattle.std.specs.Prelude.{◌≡◌, ℕ, ◌+◌, ◌<◌, ◌↔◌, List, [], ◌∷◌, Option, Some, None, slice_get, length}
+use Rattle.iox2_container.specs.Handle.{Handle}
+use Rattle.iox2_dynamic.specs.Service.{Service, IsService}
+use Rattle.service_descriptions.specs.declared.replay.machine.command.Command.{Command}
+use Rattle.service_descriptions.specs.declared.replay.machine.command.Command.TheVariants as command
+use Rattle.service_descriptions.specs.declared.replay.machine.reply.Reply.{Reply}
+use Rattle.service_descriptions.specs.declared.replay.machine.reply.Reply.TheVariants as reply
+use Rattle.service_descriptions.specs.Replies.{text_of}
+use Rattle.service_descriptions.specs.Steps.{Serves}
+use Rattle.service_conformance.specs.declared.conformance.possible.Part.{Part}
+use Rattle.service_conformance.specs.declared.conformance.possible.PossibleReplies.{PossibleReplies}
+use Rattle.service_conformance.specs.Possible.{MayGiveIn}
+use Rattle.service_conformance.specs.Quiet.{quiet}
+use Rattle.service_conformance.specs.Words.{AllowsWords}
+
+-- A call: its command, the handle that the command names, if it names one, and the words of the
+-- reply that was seen, or none. The command names it as command 0.
+pub record Call : Type 0 where
+  pub command : Command
+  pub handle : Option Handle
+  pub words : Option (List ℕ)
+
+-- the command, where it names command 0
+abbrev pub at_first : Command → Command
+at_first (command.Deregister k) = command.Deregister 0
+at_first (command.Release k) = command.Release 0
+at_first c = c
+
+-- a call whose reply was not seen
+abbrev pub call_of : Command → Option Handle → Call
+call_of c handle = record { command = at_first c; handle = handle; words = None }
+
+-- the same call, where the reply that was seen has these words
+abbrev pub answered : Call → List ℕ → Call
+answered call words = record call { words = Some words }
+
+-- the same call, where none was seen
+abbrev pub unanswered : Call → Call
+unanswered call = record call { words = None }
+
+-- the reply has the words that were seen; where none were seen, it may be any
+abbrev pub HasWords : Option (List ℕ) → Reply → Type 0
+HasWords None r = Unit {0}
+HasWords (Some words) r = text_of r ≡ words
+
+-- with this reply the command of the call leads from one service to another
+abbrev pub ServesCall : Call → Service → Reply → Service → Type 0
+ServesCall call old r new = Serves old None (call.handle ∷ []) call.command r new
+
+-- with this reply the call leads to a service that is seen as the new one
+abbrev pub LeadsOn : Call → Service → Reply → Service → Type 0
+LeadsOn call s r new =
+    (mid : Service) × ServesCall call s r mid × IsService mid × (quiet mid ≡ new)
+
+-- the call leads to it with a handle of a slot below this one, which the registry may give
+abbrev pub GivesBelow : Call → Service → Part → ℕ → Service → Type 0
+GivesBelow call s p limit new =
+    (h : Handle) × MayGiveIn s p h × (h.slot < limit) × LeadsOn call s (reply.Handle h) new
+
+-- From a service of which no touch is counted, the call leads with a reply of its words to one that
+-- is seen as the new one.
+abbrev pub CallStep : Call → Service → Service → Type 0
+CallStep call old new =
+    (quiet old ≡ old) × ((r : Reply) × HasWords call.words r × LeadsOn call old r new)
+
+-- the call can be made in this state, and changes nothing in whatever state it is made
+abbrev pub IsIdleCall : Call → Service → Type 0
+IsIdleCall call state =
+    CallStep call state state × ((old new : Service) → CallStep call old new → new ≡ old)
+
+-- the call has this number among these, the first of which has the first number
+abbrev pub HasNumber : ℕ → List Call → ℕ → Call → Type 0
+HasNumber first calls number call =
+    (at : ℕ) × (number ≡ first + at) × (slice_get calls at ≡ Some call)
+
+-- none of them has this number
+abbrev pub LacksNumber : ℕ → List Call → ℕ → Type 0
+LacksNumber first calls number = (call : Call) → ¬ (HasNumber first calls number call)
+
+-- the call of this number is one of these, and leads from one service to another
+abbrev pub WindowStep : ℕ → List Call → Service → ℕ → Service → Type 0
+WindowStep first calls old number new =
+    (call : Call) × HasNumber first calls number call × CallStep call old new
+
+-- these are the replies, by their words, with which the call leads from the service to another
+abbrev pub AreRepliesOf : Service → Call → PossibleReplies → Type 0
+AreRepliesOf s call p =
+    (words : List ℕ)
+    → AllowsWords p words ↔ ((new : Service) × CallStep (answered call words) s new)
+
+-- the number is that of one of so many calls from the first one on
+abbrev pub IsWithin : ℕ → ℕ → ℕ → Type 0
+IsWithin first count number = (at : ℕ) × (at < count) × (number ≡ first + at)
+
+-- A window of calls makes those that it has as all calls do.
+abbrev pub WindowsAgree : Type 0
+WindowsAgree =
+    (first : ℕ) (calls all : List Call)
+    → ((at : ℕ) → at < length calls → slice_get calls at ≡ slice_get all (first + at))
+    → (number : ℕ) → IsWithin first (length calls) number → (old new : Service)
+    → WindowStep first calls old number new ↔ WindowStep 0 all old number new

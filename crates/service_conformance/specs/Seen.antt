@@ -1,0 +1,112 @@
+-- What the words of replies say.
+use Rattle.std.specs.Prelude.{◌≡◌, ◌≢◌, ℕ, ◌<◌, ◌^◌, Bool, true, false, List, ◌++◌, All, codes, get_or, Option, Some, None}
+use Rattle.std.specs.Fmt.{decimal}
+use Rattle.std.specs.List.{flat_map}
+use Rattle.iox2_dynamic.specs.Details.{port_of}
+use Rattle.iox2_ids.specs.PortId.{port_value}
+use Rattle.iox2_ids.specs.Packing.{hexadecimal}
+use Rattle.line_streams.specs.Spelling.{Spelling}
+use Rattle.service_descriptions.specs.declared.replay.machine.reply.Reply.{Reply}
+use Rattle.service_descriptions.specs.declared.replay.machine.reply.Reply.TheVariants as reply
+use Rattle.service_descriptions.specs.Replies.{id_word}
+use Rattle.service_conformance.specs.declared.conformance.seen_reply.ReplyWord.{ReplyWord}
+use Rattle.service_conformance.specs.declared.conformance.seen_reply.ReplyWord.TheVariants as word
+use Rattle.service_conformance.specs.declared.conformance.seen_reply.SeenReply.{SeenReply}
+use Rattle.service_conformance.specs.declared.conformance.seen_reply.SeenReply.TheVariants as seen
+use Rattle.service_conformance.specs.Words.{handle_words}
+
+-- the words of a reply without numbers
+abbrev pub word_text : ReplyWord → List ℕ
+word_text word.Locked = codes "locked"
+word_text word.Full = codes "full"
+word_text word.NotRegistered = codes "not-registered"
+word_text word.HasOwners = codes "has-owners"
+word_text word.NoMoreOwners = codes "no-owners"
+word_text word.PortsAttached = codes "ports-attached"
+word_text word.Released = codes "released"
+word_text word.NotOwned = codes "not-owned"
+word_text word.NoHandle = codes "no-handle"
+word_text word.WrongPattern = codes "wrong-pattern"
+
+-- the words of a list of ids
+abbrev pub list_words : List ℕ → List ℕ
+list_words ids = codes "list" ++ flat_map id_word ids
+
+-- the words of a count
+abbrev pub count_words : ℕ → List ℕ
+count_words n = codes "count " ++ decimal n
+
+-- the words that say so
+abbrev pub seen_text : SeenReply → List ℕ
+seen_text (seen.Handle slot ticket) = handle_words slot ticket
+seen_text (seen.Word w) = word_text w
+seen_text (seen.List ids) = list_words ids.items
+seen_text (seen.Count n) = count_words n
+
+-- the number of an id
+abbrev pub IsIdNumber : ℕ → Type 0
+IsIdNumber id = id < 2 ^ 128
+
+-- its numbers are of 64 bits, and its ids of 128
+abbrev pub IsSeen : SeenReply → Type 0
+IsSeen (seen.Handle slot ticket) = (slot < 2 ^ 64) × (ticket < 2 ^ 64)
+IsSeen (seen.Word w) = Unit {0}
+IsSeen (seen.List ids) = All IsIdNumber ids.items
+IsSeen (seen.Count n) = n < 2 ^ 64
+
+-- The reply is one to a command that has a line, with numbers of 64 bits and ids of 128.
+abbrev pub IsToLine : Reply → Type 0
+IsToLine (reply.Handle handle) = (handle.slot < 2 ^ 64) × (handle.ticket < 2 ^ 64)
+IsToLine (reply.Nodes ids) = All IsIdNumber ids.items
+IsToLine (reply.Ports ports) = All (λ d. IsIdNumber (port_value (port_of d))) ports.items
+IsToLine (reply.Count n) = n < 2 ^ 64
+IsToLine reply.Verified = ⊥
+IsToLine (reply.Refused fault) = ⊥
+IsToLine (reply.Layout room) = ⊥
+IsToLine reply.NoLayout = ⊥
+IsToLine (reply.Places user_header payload) = ⊥
+IsToLine reply.NoPlaces = ⊥
+IsToLine (reply.Compatible can) = ⊥
+IsToLine reply.NoAlignments = ⊥
+IsToLine reply.NoDescription = ⊥
+IsToLine _ = Unit {0}
+
+-- the reply without numbers that it is, if it is one
+abbrev pub word_of : Reply → Option ReplyWord
+word_of reply.Locked = Some word.Locked
+word_of reply.Full = Some word.Full
+word_of reply.NotRegistered = Some word.NotRegistered
+word_of reply.HasOwners = Some word.HasOwners
+word_of reply.NoMoreOwners = Some word.NoMoreOwners
+word_of reply.PortsAttached = Some word.PortsAttached
+word_of reply.Released = Some word.Released
+word_of reply.NotOwned = Some word.NotOwned
+word_of reply.NoHandle = Some word.NoHandle
+word_of reply.WrongPattern = Some word.WrongPattern
+word_of _ = None
+
+-- whether a reply that says so says that nothing changed
+abbrev pub changes_nothing : SeenReply → Bool
+changes_nothing (seen.Handle slot ticket) = false
+changes_nothing (seen.Word word.HasOwners) = false
+changes_nothing (seen.Word word.NoMoreOwners) = false
+changes_nothing (seen.Word word.Released) = false
+changes_nothing (seen.Word _) = true
+changes_nothing (seen.List ids) = true
+changes_nothing (seen.Count n) = true
+
+-- the text ends, or a space is next
+abbrev pub EndsWord : List ℕ → Type 0
+EndsWord rest = get_or rest 0 32 ≡ 32
+
+-- an id, as it prints, up to a space or the end
+abbrev pub printed_id : Spelling ℕ
+printed_id = record {
+  Fits = λ front. IsIdNumber front.0 × EndsWord front.1;
+  text = λ front. hexadecimal front.0 ++ front.1;
+}
+
+-- the number of an id that a text is, or that it is that of none
+abbrev pub ReadsId : List ℕ → Option ℕ → Type 0
+ReadsId text (Some id) = (hexadecimal id ≡ text) × IsIdNumber id
+ReadsId text None = (id : ℕ) → IsIdNumber id → hexadecimal id ≢ text

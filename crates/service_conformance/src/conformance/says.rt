@@ -1,0 +1,124 @@
+//! Whether a reply says what was seen.
+ghost use Rattle.std.specs.Prelude.{◌≡◌, ◌↔◌, ◌<◌, ◌^◌, ℕ, All, IsTrue, List, map};
+ghost use Rattle.std.specs.List.{flat_map};
+ghost use Rattle.iox2_dynamic.specs.Details.{port_of};
+ghost use Rattle.iox2_ids.specs.PortId.{port_value};
+ghost use Rattle.service_conformance.specs.Seen.{IsIdNumber, IsSeen, count_words, list_words, seen_text, word_of, word_text};
+ghost use Rattle.service_conformance.specs.Words.{handle_words};
+ghost use Rattle.service_descriptions.specs.Replies.{id_word, text_of};
+
+use super::replies::given;
+use super::seen_reply::{ReplyWord, SeenReply};
+use iox2_dynamic::dynamic_config::PortDetails;
+use iox2_ids::identifiers::UniqueNodeId;
+use service_descriptions::replay::Reply;
+
+/// What a list prints the id of.
+pub(super) trait Printed {
+    /// The number of its id.
+    ghost id: { Self → ℕ };
+
+    /// The number of its id.
+    fn printed(&self) -> u128
+        ensures { result ≡ id self.now };
+}
+
+impl Printed for UniqueNodeId {
+    ghost id = { λ n. n };
+
+    fn printed(&self) -> u128 {
+        self.value()
+    }
+}
+
+impl Printed for PortDetails {
+    ghost id = { λ d. port_value (port_of d) };
+
+    fn printed(&self) -> u128 {
+        self.port_id().value()
+    }
+}
+
+/// Whether these are the ids that are printed of the items.
+fn are_ids<T: Printed>(items: &[T], ids: &[u128]) -> bool
+    ensures { IsTrue result ↔ (flat_map id_word (map T.id items.now) ≡ flat_map id_word ids.now) }
+{
+    let mut at = 0;
+    while at < items.len() && at < ids.len() {
+        let (one, other) = (items[at].printed(), ids[at]);
+        if one != other {
+            return false;
+        }
+        at += 1;
+    }
+    items.len() == ids.len()
+}
+
+/// Whether the reply is a list of these ids.
+fn is_list(reply: &Reply, ids: &[u128]) -> bool
+    ensures { IsTrue result ↔ (text_of reply.now ≡ list_words ids.now) }
+{
+    match reply {
+        Reply::Nodes(nodes) => are_ids(nodes.as_slice(), ids),
+        Reply::Ports(ports) => are_ids(ports.as_slice(), ids),
+        _ => false,
+    }
+}
+
+/// Whether the reply is this count.
+fn is_count(reply: &Reply, count: usize) -> bool
+    ensures { IsTrue result ↔ (text_of reply.now ≡ count_words count) }
+{
+    match reply {
+        Reply::Count(n) => *n == count,
+        _ => false,
+    }
+}
+
+/// Whether the reply is a handle of this slot and this ticket.
+fn is_handle(reply: &Reply, slot: usize, ticket: u64) -> bool
+    ensures { IsTrue result ↔ (text_of reply.now ≡ handle_words slot ticket) }
+{
+    let Some(handle) = given(reply) else {
+        return false;
+    };
+    handle.slot() == slot && handle.ticket() == ticket
+}
+
+/// The reply without numbers that it is, if it is one.
+fn word_of(reply: &Reply) -> Option<ReplyWord>
+    ensures { result ≡ word_of reply.now }
+{
+    match reply {
+        Reply::Locked => Some(ReplyWord::Locked),
+        Reply::Full => Some(ReplyWord::Full),
+        Reply::NotRegistered => Some(ReplyWord::NotRegistered),
+        Reply::HasOwners => Some(ReplyWord::HasOwners),
+        Reply::NoMoreOwners => Some(ReplyWord::NoMoreOwners),
+        Reply::PortsAttached => Some(ReplyWord::PortsAttached),
+        Reply::Released => Some(ReplyWord::Released),
+        Reply::NotOwned => Some(ReplyWord::NotOwned),
+        Reply::NoHandle => Some(ReplyWord::NoHandle),
+        Reply::WrongPattern => Some(ReplyWord::WrongPattern),
+        _ => None,
+    }
+}
+
+/// Whether the reply is the one without numbers.
+fn is_word(reply: &Reply, word: ReplyWord) -> bool
+    ensures { IsTrue result ↔ (text_of reply.now ≡ word_text word) }
+{
+    word_of(reply) == Some(word)
+}
+
+/// Whether the reply has the words of what was seen.
+pub(super) fn says(reply: &Reply, seen: &SeenReply) -> bool
+    ensures { IsTrue result ↔ (text_of reply.now ≡ seen_text seen.now) }
+{
+    match seen {
+        SeenReply::Handle(slot, ticket) => is_handle(reply, *slot, *ticket),
+        SeenReply::Word(word) => is_word(reply, *word),
+        SeenReply::List(ids) => is_list(reply, ids.as_slice()),
+        SeenReply::Count(n) => is_count(reply, *n),
+    }
+}

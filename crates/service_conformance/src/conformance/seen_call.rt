@@ -1,0 +1,251 @@
+//! Calls that were seen.
+ghost use Rattle.std.specs.Prelude.{◌≡◌, ◌+◌, IfOk, IsTrue, OnOk};
+ghost use Rattle.histories.specs.Histories.{AreAll};
+ghost use Rattle.service_conformance.specs.Calls.{AreRepliesOf, CallStep, GivesBelow, IsIdleCall, ServesCall};
+ghost use Rattle.service_conformance.specs.Calls.{answered, at_first, call_of, unanswered};
+ghost use Rattle.service_conformance.specs.Possible.{ArePossible, IsCovered};
+ghost use Rattle.service_conformance.specs.Quiet.{CanServe, LeadsTo};
+ghost use Rattle.service_conformance.specs.Seen.{changes_nothing, seen_text};
+ghost use Rattle.service_descriptions.specs.Lines.{command_of};
+ghost use Rattle.service_conformance.specs.declared.conformance.possible.Possible.TheVariants as possible;
+
+use super::possible::{Part, Possible, PossibleReplies};
+use super::seen_reply::{SeenReply, changes_nothing};
+use super::service_check::ServiceCheck;
+use iox2_container::container::ContainerHandle;
+use service_descriptions::replay::{LineCommand, Reply};
+use std::alloc::{AllocError, Global};
+use std::marker::Model;
+
+/// A call: its command, the handle that the command names, if it names one, and the reply that was
+/// seen, or none.
+#[derive(Drop)]
+pub struct SeenCall {
+    command: LineCommand,
+    handle: Option<ContainerHandle>,
+    seen: Option<SeenReply>,
+}
+
+impl Model for SeenCall {
+    ghost use Rattle.service_conformance.specs.Calls.{Call};
+    ghost use Rattle.service_conformance.specs.SeenFields.{IsSoundSeen, seen_as};
+
+    ghost Value = { Call };
+
+    ghost view = { seen_as };
+
+    ghost invariant = { IsSoundSeen };
+}
+
+/// The command, where it names command 0.
+fn at_first(command: LineCommand) -> LineCommand
+    ensures { command_of result ≡ at_first (command_of command) }
+{
+    match command {
+        LineCommand::Register(id) => LineCommand::Register(id),
+        LineCommand::Deregister(_) => LineCommand::Deregister(0),
+        LineCommand::Nodes => LineCommand::Nodes,
+        LineCommand::Add(port) => LineCommand::Add(port),
+        LineCommand::Release(_) => LineCommand::Release(0),
+        LineCommand::List(role) => LineCommand::List(role),
+        LineCommand::Count(role) => LineCommand::Count(role),
+        LineCommand::Dead(node, cleanup) => LineCommand::Dead(node, cleanup),
+    }
+}
+
+impl SeenCall {
+    /// A call whose reply was not seen. The command of a removal names the handle, whatever its
+    /// number; where it names none, and for other commands, there is none.
+    pub fn new(command: LineCommand, handle: Option<ContainerHandle>) -> Self
+        requires { IsCovered (command_of command) }
+        ensures { result ≡ call_of (command_of command) handle }
+    {
+        SeenCall {
+            command: at_first(command),
+            handle,
+            seen: None,
+        }
+    }
+
+    /// This reply was seen.
+    pub fn answer(&mut self, reply: SeenReply)
+        ensures { self.new ≡ answered self.old (seen_text reply) }
+    {
+        self.seen = Some(reply);
+    }
+
+    /// The replies that the call may have in this state.
+    fn possible(&self, alloc: Global, state: &ServiceCheck) -> Result<Possible, AllocError>
+        ensures possible { IfOk result (ArePossible state.now (ServesCall self.now state.now)) }
+        ensures covered { IsCovered self.now.command }
+    {
+        state.possible_for_line(alloc, &[self.handle], &self.command)
+    }
+
+    /// The state that the call leaves with this reply.
+    fn state_after(
+        &self,
+        alloc: Global,
+        state: &ServiceCheck,
+        reply: &Reply,
+    ) -> Result<ServiceCheck, AllocError>
+        requires { CanServe (ServesCall self.now state.now) reply.now }
+        ensures { IfOk result (LeadsTo (ServesCall self.now state.now) reply.now) }
+    {
+        let mut next = state.copied(alloc)?;
+        next.follow_line(&[self.handle], &self.command, reply)?;
+        Ok(next)
+    }
+
+    /// The states that the call leaves with the reply that was seen: one, or none.
+    fn follow_seen(
+        &self,
+        alloc: Global,
+        state: &ServiceCheck,
+        seen: &SeenReply,
+    ) -> Result<Vec<ServiceCheck>, AllocError>
+        ensures { IfOk result (λ found.
+            AreAll (CallStep (answered self.now (seen_text seen.now)) state.now) found.items) }
+    {
+        // For the proof: what is true of every check.
+        let _pattern = state.kind();
+        let possible = self.possible(alloc, state)?;
+        let mut found = Vec::new(alloc);
+        let Some(reply) = state.reply_seen(possible, seen) else {
+            return Ok(found);
+        };
+        found.push(self.state_after(alloc, state, &reply)?)?;
+        Ok(found)
+    }
+
+    /// Adds the state that an add leaves where it gives this slot, if it is free.
+    fn follow_slot(
+        &self,
+        alloc: Global,
+        state: &ServiceCheck,
+        part: Part,
+        slot: usize,
+        found: &mut Vec<ServiceCheck>,
+    ) -> Result<(), AllocError>
+        requires covered { IsCovered self.now.command }
+        requires all { ArePossible state.now (ServesCall self.now state.now) (possible.Given part) }
+        ensures { OnOk result (AreAll (GivesBelow self.now state.now part slot) found.old.items
+            → AreAll (GivesBelow self.now state.now part (slot + 1)) found.new.items) }
+    {
+        let Some(handle) = state.next_in_slot(part, slot) else {
+            return Ok(());
+        };
+        let next = self.state_after(alloc, state, &Reply::Handle(handle))?;
+        found.push(next)?;
+        Ok(())
+    }
+
+    /// The states that an add leaves: one for each free slot of the registry of the part.
+    fn follow_add(
+        &self,
+        alloc: Global,
+        state: &ServiceCheck,
+        part: Part,
+    ) -> Result<Vec<ServiceCheck>, AllocError>
+        requires covered { IsCovered self.now.command }
+        requires all { ArePossible state.now (ServesCall self.now state.now) (possible.Given part) }
+        ensures { IfOk result (λ found.
+            AreAll (CallStep (unanswered self.now) state.now) found.items) }
+    {
+        // For the proof: what is true of every check.
+        let _pattern = state.kind();
+        let mut found = Vec::new(alloc);
+        for slot in 0..state.capacity(part) {
+            self.follow_slot(alloc, state, part, slot, &mut found)?;
+        }
+        Ok(found)
+    }
+
+    /// The states that the call leaves with any reply.
+    fn follow_any(
+        &self,
+        alloc: Global,
+        state: &ServiceCheck,
+    ) -> Result<Vec<ServiceCheck>, AllocError>
+        ensures { IfOk result (λ found.
+            AreAll (CallStep (unanswered self.now) state.now) found.items) }
+    {
+        // For the proof: what is true of every check.
+        let _pattern = state.kind();
+        match self.possible(alloc, state)? {
+            Possible::One(reply) => {
+                let mut found = Vec::new(alloc);
+                found.push(self.state_after(alloc, state, &reply)?)?;
+                Ok(found)
+            }
+            Possible::Given(part) => self.follow_add(alloc, state, part),
+        }
+    }
+
+    /// All states that the call leaves.
+    pub(super) fn follow(
+        &self,
+        alloc: Global,
+        state: &ServiceCheck,
+    ) -> Result<Vec<ServiceCheck>, AllocError>
+        ensures { IfOk result (λ found. AreAll (CallStep self.now state.now) found.items) }
+    {
+        match &self.seen {
+            Some(seen) => self.follow_seen(alloc, state, seen),
+            None => self.follow_any(alloc, state),
+        }
+    }
+
+    /// Whether the reply can be given in this state, and says that nothing changed.
+    fn is_idle_with(&self, alloc: Global, state: &ServiceCheck, seen: &SeenReply) -> bool
+        ensures { IsTrue result → IsIdleCall (answered self.now (seen_text seen.now)) state.now }
+    {
+        if !changes_nothing(seen) {
+            return false;
+        }
+        // For the proof: what is true of every check.
+        let _pattern = state.kind();
+        let Ok(possible) = self.possible(alloc, state) else {
+            return false;
+        };
+        let Some(_reply) = state.reply_seen(possible, seen) else {
+            return false;
+        };
+        true
+    }
+
+    /// Whether the call can be made in this state, and changes nothing in whatever state it is
+    /// made. A no says nothing.
+    pub(super) fn is_idle(&self, alloc: Global, state: &ServiceCheck) -> bool
+        ensures { IsTrue result → IsIdleCall self.now state.now }
+    {
+        match &self.seen {
+            Some(seen) => self.is_idle_with(alloc, state, seen),
+            None => false,
+        }
+    }
+
+    /// The replies that the call may have in this state.
+    pub(super) fn replies(
+        &self,
+        alloc: Global,
+        state: &ServiceCheck,
+    ) -> Result<PossibleReplies, AllocError>
+        ensures { IfOk result (AreRepliesOf state.now self.now) }
+    {
+        // For the proof: what is true of every check.
+        let _pattern = state.kind();
+        state.possible_replies(alloc, &[self.handle], &self.command)
+    }
+}
+
+/// The replies with which the call leads on from this state.
+pub fn possible_replies(
+    alloc: Global,
+    state: &ServiceCheck,
+    call: &SeenCall,
+) -> Result<PossibleReplies, AllocError>
+    ensures { IfOk result (AreRepliesOf state.now call.now) }
+{
+    call.replies(alloc, state)
+}

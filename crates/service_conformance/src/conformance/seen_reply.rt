@@ -1,0 +1,159 @@
+//! Replies that were seen, by what their words say.
+ghost use Rattle.std.specs.Prelude.{◌≡◌, ◌≢◌, ◌<◌, ◌^◌, ◌↔◌, ℕ, List, All, IfNone, IfOk, IfSome, IsTrue, true};
+ghost use Rattle.service_conformance.specs.Seen.{IsIdNumber, IsSeen, IsToLine, changes_nothing, count_words};
+ghost use Rattle.service_conformance.specs.Seen.{list_words, seen_text, word_of, word_text};
+ghost use Rattle.service_conformance.specs.Words.{handle_words};
+ghost use Rattle.service_descriptions.specs.declared.replay.machine.reply.Reply.{Reply as OneReply};
+ghost use Rattle.service_descriptions.specs.Replies.{text_of};
+
+use super::id_word::PrintedId;
+use super::words::{NUMBER, slot_and_ticket};
+use line_streams::{After, LineEnd, Phrase, Then, after_word, list_before};
+use service_descriptions::replay::Reply;
+use std::alloc::{AllocError, Global};
+
+/// A reply without numbers.
+#[derive(Clone, Copy, Debug, PartialEq, Eq)]
+pub enum ReplyWord {
+    /// As `Reply::Locked`.
+    Locked,
+    /// As `Reply::Full`.
+    Full,
+    /// As `Reply::NotRegistered`.
+    NotRegistered,
+    /// As `Reply::HasOwners`.
+    HasOwners,
+    /// As `Reply::NoMoreOwners`.
+    NoMoreOwners,
+    /// As `Reply::PortsAttached`.
+    PortsAttached,
+    /// As `Reply::Released`.
+    Released,
+    /// As `Reply::NotOwned`.
+    NotOwned,
+    /// As `Reply::NoHandle`.
+    NoHandle,
+    /// As `Reply::WrongPattern`.
+    WrongPattern,
+}
+
+/// What the words of a reply to a command that has a line say.
+#[derive(Debug, Drop)]
+pub enum SeenReply {
+    /// The slot and the ticket of a handle.
+    Handle(usize, u64),
+    /// A reply without numbers.
+    Word(ReplyWord),
+    /// The ids of nodes, or of ports.
+    List(Vec<u128>),
+    /// How many ports there are.
+    Count(usize),
+}
+
+/// Whether a reply that says so says that nothing changed.
+pub(super) fn changes_nothing(seen: &SeenReply) -> bool
+    ensures { result ≡ changes_nothing seen.now }
+{
+    match seen {
+        SeenReply::Handle(_, _) => false,
+        SeenReply::Word(ReplyWord::HasOwners) => false,
+        SeenReply::Word(ReplyWord::NoMoreOwners) => false,
+        SeenReply::Word(ReplyWord::Released) => false,
+        SeenReply::Word(_) => true,
+        SeenReply::List(_) => true,
+        SeenReply::Count(_) => true,
+    }
+}
+
+/// The reply without numbers that the words are.
+fn word_in(words: &[u8]) -> Option<ReplyWord>
+    ensures some { IfSome result (λ w. word_text w ≡ words.now) }
+    ensures none { IfNone result ((w : ReplyWord) → word_text w ≢ words.now) }
+{
+    if words == b"locked".as_slice() {
+        return Some(ReplyWord::Locked);
+    }
+    if words == b"full".as_slice() {
+        return Some(ReplyWord::Full);
+    }
+    if words == b"not-registered".as_slice() {
+        return Some(ReplyWord::NotRegistered);
+    }
+    if words == b"has-owners".as_slice() {
+        return Some(ReplyWord::HasOwners);
+    }
+    if words == b"no-owners".as_slice() {
+        return Some(ReplyWord::NoMoreOwners);
+    }
+    if words == b"ports-attached".as_slice() {
+        return Some(ReplyWord::PortsAttached);
+    }
+    if words == b"released".as_slice() {
+        return Some(ReplyWord::Released);
+    }
+    if words == b"not-owned".as_slice() {
+        return Some(ReplyWord::NotOwned);
+    }
+    if words == b"no-handle".as_slice() {
+        return Some(ReplyWord::NoHandle);
+    }
+    if words == b"wrong-pattern".as_slice() {
+        return Some(ReplyWord::WrongPattern);
+    }
+    None
+}
+
+/// The count in the words.
+fn count_in(words: &[u8]) -> Option<usize>
+    ensures some { IfSome result (λ n. (count_words n ≡ words.now) × (n < 2 ^ 64)) }
+    ensures none { IfNone result ((n : ℕ) → n < 2 ^ 64 → count_words n ≢ words.now) }
+{
+    let Some(((n, ()), _)) = After(b"count ", Then(NUMBER, LineEnd::Bytes)).read(words) else {
+        return None;
+    };
+    Some(n as usize)
+}
+
+/// The ids in the words of a list.
+fn ids_in(alloc: Global, words: &[u8]) -> Result<Option<Vec<u128>>, AllocError>
+    ensures some { IfOk result (λ found. IfSome found (λ ids.
+        (list_words ids.items ≡ words.now) × All IsIdNumber ids.items)) }
+    ensures none { IfOk result (λ found. IfNone found
+        ((ids : List ℕ) → All IsIdNumber ids → list_words ids ≢ words.now)) }
+{
+    let Some(rest) = after_word(words, b"list") else {
+        return Ok(None);
+    };
+    let Some((ids, rest)) = list_before(alloc, rest, b" ", b' ', &PrintedId)? else {
+        return Ok(None);
+    };
+    if !rest.is_empty() {
+        return Ok(None);
+    }
+    Ok(Some(ids))
+}
+
+/// What the words of a reply to a command that has a line say, or `None` where they are the words
+/// of no such reply.
+pub fn read_reply(alloc: Global, words: &[u8]) -> Result<Option<SeenReply>, AllocError>
+    ensures some { IfOk result (λ found. IfSome found
+        (λ r. (seen_text r ≡ words.now) × IsSeen r)) }
+    ensures none { IfOk result (λ found. IfNone found
+        ((r : SeenReply) → IsSeen r → seen_text r ≢ words.now)) }
+    ensures no_reply { IfOk result (λ found. IfNone found
+        ((r : OneReply) → IsToLine r → text_of r ≢ words.now)) }
+{
+    if let Some((slot, ticket)) = slot_and_ticket(words) {
+        return Ok(Some(SeenReply::Handle(slot, ticket)));
+    }
+    if let Some(word) = word_in(words) {
+        return Ok(Some(SeenReply::Word(word)));
+    }
+    if let Some(n) = count_in(words) {
+        return Ok(Some(SeenReply::Count(n)));
+    }
+    let Some(ids) = ids_in(alloc, words)? else {
+        return Ok(None);
+    };
+    Ok(Some(SeenReply::List(ids)))
+}

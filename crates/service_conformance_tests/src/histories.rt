@@ -1,0 +1,319 @@
+//! Histories of calls that overlapped, with what becomes of them.
+ghost use Rattle.std.specs.Prelude.{IfOk, IfSome};
+ghost use Rattle.service_conformance.specs.Possible.{IsCovered};
+ghost use Rattle.service_descriptions.specs.Lines.{command_of};
+
+use histories::{Event, Verdict, judge};
+use iox2_container::container::{ContainerHandle, Role};
+use iox2_dynamic::dynamic_config::MessagingPatternSettings;
+use iox2_dynamic::dynamic_config::event::DynamicConfigSettings;
+use line_streams::LineEnd;
+use service_conformance::conformance::{Calls, SeenCall, ServiceCheck, read_reply};
+use service_descriptions::replay::{LineCommand, command_before};
+use std::alloc::{AllocError, Global};
+use std::process::Abort;
+use std::test::Fail;
+
+/// A command's line, the handle that it names, and the words of its reply; none where it was never
+/// answered.
+type Call = (&'static str, Option<(Role, usize, u64)>, &'static str);
+
+/// A history of calls on an event service with room for three nodes and two listeners.
+#[derive(Clone, Copy)]
+struct Row {
+    /// The calls, by their begins.
+    calls: &'static [Call],
+    /// Their begins and ends.
+    events: &'static [Event],
+    /// What becomes of it.
+    found: Found,
+}
+
+/// What becomes of a history.
+#[derive(Clone, Copy, Debug, PartialEq, Eq)]
+pub(super) enum Found {
+    /// It is explained, and orders have left so many configurations.
+    Left(usize),
+    /// No order explains it up to this event.
+    Refused(usize),
+    /// Not decided.
+    Other,
+}
+
+const LIST_1: &str = "list 1000000000000000000000001";
+
+const REGISTER_1: Call = ("register 1.0.0.1", None, "handle 0 0");
+
+const NONE_LISTED: Call = ("nodes", None, "list");
+
+const ONE_LISTED: Call = ("nodes", None, LIST_1);
+
+/// A call that is registered and never answered.
+const OPEN_1: Call = ("register 1.0.0.1", None, "");
+
+const ROWS: [Row; 14] = [
+    // A list saw the node while it was registered, and a later list did not.
+    Row {
+        calls: &[REGISTER_1, ONE_LISTED, NONE_LISTED],
+        events: &[
+            Event::Begin(0),
+            Event::Begin(1),
+            Event::End(1),
+            Event::Begin(2),
+            Event::End(2),
+            Event::End(0),
+        ],
+        found: Found::Refused(4),
+    },
+    // The other way round.
+    Row {
+        calls: &[REGISTER_1, NONE_LISTED, ONE_LISTED],
+        events: &[
+            Event::Begin(0),
+            Event::Begin(1),
+            Event::End(1),
+            Event::Begin(2),
+            Event::End(2),
+            Event::End(0),
+        ],
+        found: Found::Left(1),
+    },
+    // The lists overlapped each other.
+    Row {
+        calls: &[REGISTER_1, ONE_LISTED, NONE_LISTED],
+        events: &[
+            Event::Begin(0),
+            Event::Begin(1),
+            Event::Begin(2),
+            Event::End(1),
+            Event::End(2),
+            Event::End(0),
+        ],
+        found: Found::Left(1),
+    },
+    // A caller crashed: its node was registered.
+    Row {
+        calls: &[OPEN_1, ONE_LISTED],
+        events: &[
+            Event::Begin(0),
+            Event::Crash(0),
+            Event::Begin(1),
+            Event::End(1),
+        ],
+        found: Found::Left(3),
+    },
+    // Or it was not.
+    Row {
+        calls: &[OPEN_1, NONE_LISTED],
+        events: &[
+            Event::Begin(0),
+            Event::Crash(0),
+            Event::Begin(1),
+            Event::End(1),
+        ],
+        found: Found::Left(1),
+    },
+    // But not after it crashed.
+    Row {
+        calls: &[OPEN_1, NONE_LISTED, ONE_LISTED],
+        events: &[
+            Event::Begin(0),
+            Event::Crash(0),
+            Event::Begin(1),
+            Event::End(1),
+            Event::Begin(2),
+            Event::End(2),
+        ],
+        found: Found::Refused(5),
+    },
+    // A caller that says nothing more may register its node at any time.
+    Row {
+        calls: &[OPEN_1, NONE_LISTED, ONE_LISTED],
+        events: &[
+            Event::Begin(0),
+            Event::Begin(1),
+            Event::End(1),
+            Event::Begin(2),
+            Event::End(2),
+        ],
+        found: Found::Left(3),
+    },
+    // A later call shows the slot.
+    Row {
+        calls: &[
+            OPEN_1,
+            ("deregister 0", Some((Role::Node, 1, 0)), "no-owners"),
+            NONE_LISTED,
+        ],
+        events: &[
+            Event::Begin(0),
+            Event::Begin(1),
+            Event::End(1),
+            Event::Begin(2),
+            Event::End(2),
+        ],
+        found: Found::Left(1),
+    },
+    // No slot has the number.
+    Row {
+        calls: &[
+            OPEN_1,
+            ("deregister 0", Some((Role::Node, 3, 0)), "no-owners"),
+        ],
+        events: &[Event::Begin(0), Event::Begin(1), Event::End(1)],
+        found: Found::Refused(2),
+    },
+    // A handle that is not known yet, and one that is none.
+    Row {
+        calls: &[
+            ("deregister 0", Some((Role::Node, 0, 0)), "not-owned"),
+            ("release 5", None, "no-handle"),
+            REGISTER_1,
+            ("deregister 9", Some((Role::Node, 0, 0)), "no-owners"),
+        ],
+        events: &[
+            Event::Begin(0),
+            Event::End(0),
+            Event::Begin(1),
+            Event::End(1),
+            Event::Begin(2),
+            Event::End(2),
+            Event::Begin(3),
+            Event::End(3),
+        ],
+        found: Found::Left(1),
+    },
+    // A node and its listener.
+    Row {
+        calls: &[
+            REGISTER_1,
+            ("add listener 1.0.0.9 1.0.0.1", None, "handle 1 0"),
+            ("list listener", None, "list 1000000000000000000000009"),
+            ("count listener", None, "count 1"),
+            ("release 1", Some((Role::Listener, 1, 0)), "released"),
+            ("dead 1.0.0.1", None, "no-owners"),
+        ],
+        events: &[
+            Event::Begin(0),
+            Event::End(0),
+            Event::Begin(1),
+            Event::Begin(2),
+            Event::End(1),
+            Event::Begin(3),
+            Event::End(2),
+            Event::End(3),
+            Event::Begin(4),
+            Event::Begin(5),
+            Event::End(4),
+            Event::End(5),
+        ],
+        found: Found::Left(1),
+    },
+    // A list of another node, of more nodes, and another count.
+    Row {
+        calls: &[
+            REGISTER_1,
+            ("nodes", None, "list 1000000000000000000000002"),
+        ],
+        events: &[
+            Event::Begin(0),
+            Event::End(0),
+            Event::Begin(1),
+            Event::End(1),
+        ],
+        found: Found::Refused(3),
+    },
+    Row {
+        calls: &[
+            REGISTER_1,
+            (
+                "nodes",
+                None,
+                "list 1000000000000000000000001 1000000000000000000000001",
+            ),
+        ],
+        events: &[
+            Event::Begin(0),
+            Event::End(0),
+            Event::Begin(1),
+            Event::End(1),
+        ],
+        found: Found::Refused(3),
+    },
+    Row {
+        calls: &[("count listener", None, "count 1")],
+        events: &[Event::Begin(0), Event::End(0)],
+        found: Found::Refused(1),
+    },
+];
+
+/// The command of a line.
+#[tactic(auto, using(service_conformance::proofs::Words::covered))]
+fn command(alloc: Global, line: &str) -> Result<Option<LineCommand>, AllocError>
+    ensures { IfOk result (λ found. IfSome found (λ c. IsCovered (command_of c))) }
+{
+    match command_before(alloc, line.as_bytes(), LineEnd::Bytes)? {
+        Some((command, _)) => Ok(Some(command)),
+        None => Ok(None),
+    }
+}
+
+/// The calls as they were seen.
+fn calls_of(alloc: Global, calls: &[Call]) -> Result<Vec<SeenCall>, AllocError> {
+    let mut list = Vec::new(alloc);
+    for (line, named, words) in calls {
+        let handle = match named {
+            Some((role, slot, ticket)) => {
+                Some(ContainerHandle::from_parts(7, *role, *slot, *ticket))
+            }
+            None => None,
+        };
+        if let Some(command) = command(alloc, line)? {
+            let mut call = SeenCall::new(command, handle);
+            if let Some(reply) = read_reply(alloc, words.as_bytes())? {
+                call.answer(reply);
+            }
+            list.push(call)?;
+        }
+    }
+    Ok(list)
+}
+
+/// What becomes of a history.
+pub(super) fn judged(
+    alloc: Global,
+    calls: &[SeenCall],
+    events: &[Event],
+) -> Result<Found, AllocError> {
+    let settings = MessagingPatternSettings::Event(DynamicConfigSettings {
+        number_of_listeners: 2,
+        number_of_notifiers: 2,
+    });
+    let machine = Calls {
+        alloc,
+        first: 0,
+        calls,
+    };
+    let states = [ServiceCheck::new(alloc, &settings, 3, 7)];
+    match judge(alloc, &machine, &states, events)? {
+        Verdict::Explained(front) => Ok(Found::Left(front.configs.len())),
+        Verdict::Refused(at) => Ok(Found::Refused(at)),
+        Verdict::ManyConfigs(_) => Ok(Found::Other),
+        Verdict::ManyOpen(_) => Ok(Found::Other),
+        Verdict::NoHistory(_) => Ok(Found::Other),
+    }
+}
+
+/// What becomes of the history of a row.
+fn outcome(alloc: Global, row: &Row) -> Result<Found, AllocError> {
+    let calls = calls_of(alloc, row.calls)?;
+    judged(alloc, &calls, row.events)
+}
+
+#[test]
+fn histories_are_judged(rt: HostRuntime) -> Result<(), Fail> {
+    for row in ROWS {
+        assert_eq!(rt; outcome(rt.alloc(), &row)?, row.found);
+    }
+    Ok(())
+}
