@@ -7,4 +7,4 @@ mod judge;
 mod window;
 
 pub use judge::judge_windows;
-pub use window::{Verdict, Window};
+pub use window::{Stop, Verdict, Window};

@@ -27,7 +27,7 @@ pub enum Verdict<S> {
 
 /// Why a history is not followed further.
 #[derive(Clone, Copy, Debug, PartialEq, Eq)]
-pub(crate) enum Stop {
+pub enum Stop {
     /// No order explains the events up to this one.
     Refused,
     /// More configurations were to be followed than are.
