@@ -11,8 +11,9 @@ use Rattle.history_windows.specs.declared.window.Verdict.{Verdict}
 use Rattle.history_windows.specs.declared.window.Verdict.TheVariants as verdict
 use Rattle.history_windows.specs.declared.window.Window.{Window}
 
--- The events are cut here: no call is open after the first ones, and an order explains all, whatever
--- comes behind them, exactly where one explains what comes behind from one of these states.
+-- The events are cut here: no call is open after the first ones, and an order explains all,
+-- whatever comes behind them, exactly where one explains what comes behind from one of these
+-- states.
 pub record IsCut {S : Type 0} (Step : S → ℕ → S → Type 0) (olds : List S) (past : List Event)
     (states : List S) : Type 0 where
   pub quiet : IsQuiet past

@@ -99,10 +99,10 @@ fn end_of(line: &[u8]) -> Option<LogLine<'_>>
 /// Parses a line without its newline, or returns `None` where it is not the text of one.
 ///
 /// The lines are those of services, the commands of scripts, `= WORDS`, `CALLER> COMMAND`,
-/// `CALLER< WORDS` and `CALLER!`. A caller's name is one to sixteen ASCII letters and digits. Before
-/// a command or a caller that begins one, `7: ` says that it is on the service with this number.
-/// Removals may also be `deregister SLOT TICKET` and `release ROLE SLOT TICKET`. No line has two
-/// readings.
+/// `CALLER< WORDS` and `CALLER!`. A caller's name is one to sixteen ASCII letters and digits.
+/// Before a command or a caller that begins one, `7: ` says that it is on the service with this
+/// number. Removals may also be `deregister SLOT TICKET` and `release ROLE SLOT TICKET`. No line
+/// has two readings.
 pub fn read_log_line(alloc: Global, line: &[u8]) -> Result<Option<LogLine<'_>>, AllocError>
     ensures { IfOk result (λ found. Reads IsLine line_text (option_map line_seen found) line.now) }
 {

@@ -18,5 +18,6 @@ returns-then-not-is_empty c l p e =
     sym found.ensures.1 ∙ (c.deref.ensures.value ∙ (c.in_ok-push.ensures.items
     ∙ ap (λ (t : List ℕ). t ++ 10 ∷ []) (c.in_ok-whole.ensures.items ∙ e))) in
     let n : length found.rest.now ≡ 0 =
-    ap (length {A = ℕ}) (same_service found.service l found.rest.now [] found.ensures.0 p whole).1 in
+    ap (length {A = ℕ})
+    (same_service found.service l found.rest.now [] found.ensures.0 p whole).1 in
     absurd (grind (arith, n, c.if-not-is_empty.true, c.if-not-is_empty.ensures))
