@@ -1,0 +1,400 @@
+-- Windows that go on event by event.
+use Rattle.std.proofs.Common.{◌≡◌, ◌⊎◌, ℕ, zero, suc, ◌+◌, ◌-◌, ◌<◌, ◌≤◌, List, [], ◌∷◌, ◌++◌, length, take, get_or, refl, sym, ◌∙◌, ap, subst, arith, inl, inr, append_assoc, append-nil, take_all, true}
+use Rattle.std.proofs.lemmas.List.{length-take-le, take-take}
+use Rattle.std.proofs.lemmas.Option.{slice_get-get_or}
+use Rattle.histories.specs.declared.event.Event.{Event}
+use Rattle.histories.specs.declared.event.Event.TheVariants.{Begin, End, Crash}
+use Rattle.histories.specs.declared.front.Advance.{Advance}
+use Rattle.histories.specs.declared.front.Advance.TheVariants as advance
+use Rattle.histories.specs.declared.front.Front.{Front}
+use Rattle.histories.specs.Advances.{AdvancesIn, IsAdvance}
+use Rattle.histories.specs.Histories.{begins, IsExplained, IsHistory, IsOpen, MayFollow, StandsAt}
+use Rattle.histories.specs.Frontier.{HasManyOpen, IsFrontOf, IsSound}
+use Rattle.histories.specs.Splitting.{BeginsAnew, IsQuiet}
+use Rattle.histories.proofs.Events.{begins_none, sound_none}
+use Rattle.histories.proofs.Explaining.{explains_begin, explains_end}
+use Rattle.histories.proofs.Splitting.{begins-append}
+use Rattle.histories.proofs.Verdicts.{AreNumbered, agrees_same, ends_of, explained_take, frontier_explained, frontier_refused, frontier_some, next_fresh, next_of, numbered_more, numbered_none, one_more, sound_more}
+use Rattle.history_windows.specs.declared.window.Stop.TheVariants as stop
+use Rattle.history_windows.specs.declared.window.Window.{Window}
+use Rattle.history_windows.specs.Windows.{BeginsWindow, IsStop, IsStopAt, IsWindowOf, LeadsTooFar}
+use Rattle.history_windows.proofs.Joins.{open_inside, open_whole, quiet_both, sound_back}
+
+module _ {S : Type 0} (Step : S → ℕ → S → Type 0) (olds : List S) where
+  -- the events end in the window, and each part of them is sound
+  pub record GoesTo (events : List Event) (window : Window S) : Type 0 where
+    pub is : IsWindowOf Step olds events window
+    pub first : IsSound is.past
+    pub second : IsSound is.inside
+    pub whole : IsSound events
+    pub numbered : AreNumbered events
+
+  pub goes_begin : (front : Front S) → 0 < length olds → IsFrontOf Step front [] olds
+      → GoesTo [] (record { begin = 0; front = front })
+  goes_begin front some f = record {
+    is = record {
+      past = [];
+      inside = [];
+      split = refl;
+      begins = refl;
+      states = olds;
+      cut = record {
+        quiet = λ c h. absurd (omega (arith, h, begins_none c));
+        same = λ rest s t. (λ x. x, λ x. x);
+      };
+      front = f;
+      some = frontier_some Step front.links.items front.slots.items olds front.configs.items some f;
+    };
+    first = sound_none;
+    second = sound_none;
+    whole = sound_none;
+    numbered = numbered_none;
+  }
+
+  module _ (es : List Event) (w : Window S) (g : GoesTo es w) where
+    parts_sound : IsSound (g.is.past ++ g.is.inside)
+    parts_sound = subst (λ (l : List Event). IsSound l) g.is.split g.whole
+
+    explained_inside : IsExplained Step g.is.inside g.is.states
+    explained_inside =
+        frontier_explained Step w.front.links.items w.front.slots.items g.is.inside g.is.states
+        w.front.configs.items g.is.front g.is.some
+
+    -- an order explains the events
+    pub goes_explained : IsExplained Step es olds
+    goes_explained =
+        subst (λ (l : List Event). IsExplained Step l olds) (sym g.is.split)
+        ((g.is.cut.same g.is.inside g.second parts_sound).1 explained_inside)
+
+    module _ (e : Event) (may : MayFollow es e) where
+      fresh : (c : ℕ) → e ≡ Begin c → begins c es ≡ 0
+      fresh = next_fresh es e g.numbered (next_of es e may)
+
+      fresh_inside : (c : ℕ) → e ≡ Begin c → begins c g.is.inside ≡ 0
+      fresh_inside c is =
+          omega (
+            arith,
+            fresh c is,
+            ap (begins c) g.is.split,
+            begins-append c g.is.past g.is.inside,
+          )
+
+      whole_more : IsSound (es ++ e ∷ [])
+      whole_more = sound_more es e g.whole fresh (ends_of es e may)
+
+      split_more : es ++ e ∷ [] ≡ g.is.past ++ (g.is.inside ++ e ∷ [])
+      split_more =
+          ap (λ (l : List Event). l ++ e ∷ []) g.is.split
+          ∙ append_assoc g.is.past g.is.inside (e ∷ [])
+
+      parts_more : IsSound (g.is.past ++ (g.is.inside ++ e ∷ []))
+      parts_more = subst (λ (l : List Event). IsSound l) split_more whole_more
+
+      ends_inside : (c : ℕ) → (e ≡ End c) ⊎ (e ≡ Crash c)
+          → IsOpen g.is.inside c
+      ends_inside c ends =
+          open_inside g.is.past g.is.inside c g.is.cut.quiet
+          (subst (λ (l : List Event). IsOpen l c) g.is.split
+          (ends_of es e may c ends))
+
+      inside_more : IsSound (g.is.inside ++ e ∷ [])
+      inside_more = sound_more g.is.inside e g.second fresh_inside ends_inside
+
+      -- an order explains no less where a call begins, or its caller crashes
+      explained_begin : (c : ℕ) → e ≡ Begin c → IsExplained Step (es ++ e ∷ []) olds
+      explained_begin c is =
+          let x = goes_explained in
+          subst (λ (f : Event). IsExplained Step (es ++ f ∷ []) olds) (sym is)
+          (x.0, x.1, x.2, x.3, explains_begin Step es x.0 x.2 x.1 c (fresh c is) x.4)
+
+      explained_crash : (c : ℕ) → e ≡ Crash c → IsExplained Step (es ++ e ∷ []) olds
+      explained_crash c is =
+          let x = goes_explained in
+          subst (λ (f : Event). IsExplained Step (es ++ f ∷ []) olds) (sym is) (
+            x.0,
+            x.1,
+            x.2,
+            x.3,
+            explains_end Step es (Crash c) x.0 x.2 x.1 c (inr refl) (λ no. absurd (cc)) x.4,
+          )
+
+      answered : ¬ (IsExplained Step (es ++ e ∷ []) olds) → (c : ℕ) × (e ≡ End c)
+      answered none = cases e refl
+        where
+          cases : (f : Event) → e ≡ f → (c : ℕ) × (e ≡ End c)
+          cases (Begin c) is = absurd (none (explained_begin c is))
+          cases (End c) is = (c, is)
+          cases (Crash c) is = absurd (none (explained_crash c is))
+
+      -- the event is in the window
+      pub goes_done : (new : Front S)
+          → AdvancesIn Step g.is.inside g.is.states e new advance.Done
+          → GoesTo (es ++ e ∷ []) (record { begin = w.begin; front = new })
+      goes_done new done = record {
+        is = record {
+          past = g.is.past;
+          inside = g.is.inside ++ e ∷ [];
+          split = split_more;
+          begins = g.is.begins;
+          states = g.is.states;
+          cut = g.is.cut;
+          front = done.0;
+          some = done.1;
+        };
+        first = g.first;
+        second = inside_more;
+        whole = whole_more;
+        numbered = numbered_more es e g.numbered (next_of es e may);
+      }
+
+      -- no order explains the events with this one, by which a call was answered
+      pub goes_refused : (new : Front S)
+          → AdvancesIn Step g.is.inside g.is.states e new advance.Refused
+          → ((c : ℕ) × (e ≡ End c)) × (¬ (IsExplained Step (es ++ e ∷ []) olds))
+      goes_refused new done =
+          let none : ¬ (IsExplained Step (es ++ e ∷ []) olds) =
+          λ x. frontier_refused Step new.links.items new.slots.items (g.is.inside ++ e ∷ [])
+          g.is.states new.configs.items done.0 done.1
+          ((g.is.cut.same (g.is.inside ++ e ∷ []) inside_more parts_more).0
+          (subst (λ (l : List Event). IsExplained Step l olds) split_more x)) in
+          (answered none, none)
+
+      pub goes_many : (new : Front S)
+          → AdvancesIn Step g.is.inside g.is.states e new advance.ManyConfigs
+          → LeadsTooFar Step olds es ⊎ LeadsTooFar Step olds (es ++ e ∷ [])
+      goes_many new many =
+          elim many as (λ _. LeadsTooFar Step olds es ⊎ LeadsTooFar Step olds (es ++ e ∷ [])) [
+            | inl before ↦ inl (record {
+              past = g.is.past;
+              inside = g.is.inside;
+              split = g.is.split;
+              states = g.is.states;
+              cut = g.is.cut;
+              many = before;
+            })
+            | inr now ↦ inr (record {
+              past = g.is.past;
+              inside = g.is.inside ++ e ∷ [];
+              split = split_more;
+              states = g.is.states;
+              cut = g.is.cut;
+              many = now;
+            })
+          ]
+
+      pub goes_open : (new : Front S)
+          → AdvancesIn Step g.is.inside g.is.states e new advance.ManyOpen
+          → HasManyOpen (es ++ e ∷ [])
+      goes_open new many = (
+        many.0,
+        many.1,
+        many.2,
+        λ c has. subst (λ (l : List Event). IsOpen l c) (sym split_more)
+            (open_whole g.is.past (g.is.inside ++ e ∷ []) c g.first parts_more (many.3 c has)),
+      )
+
+      pub goes_closed : (new : Front S)
+          → AdvancesIn Step g.is.inside g.is.states e new advance.NoEvent → ⊥
+      goes_closed new closed = closed ends_inside
+
+    -- a window begins where no call is open
+    pub goes_anew : (new : Front S) → BeginsAnew Step w.front new true
+        → GoesTo es (record { begin = length es; front = new })
+    goes_anew new anew =
+        let a = anew g.is.inside g.is.states g.second g.is.front in
+        let left : IsExplained Step [] a.1.0 =
+        (a.1.2 [] sound_none
+        (subst (λ (l : List Event). IsSound l) (sym (append-nil g.is.inside)) g.second)).0
+        (subst (λ (l : List Event). IsExplained Step l g.is.states) (sym (append-nil g.is.inside))
+        explained_inside) in
+        let states = a.1.0 in
+        let some : 0 < length states = omega (arith, left.3.1) in
+        record {
+          is = record {
+            past = es;
+            inside = [];
+            split = sym (append-nil es);
+            begins = refl;
+            states = states;
+            cut = record {
+              quiet = subst (λ (l : List Event). IsQuiet l) (sym g.is.split)
+                  (quiet_both g.is.past g.is.inside g.is.cut.quiet a.0);
+              same = λ rest sound all.
+                  let whole = g.is.past ++ (g.is.inside ++ rest) in
+                  let is : es ++ rest ≡ whole =
+                  ap (λ (l : List Event). l ++ rest) g.is.split
+                  ∙ append_assoc g.is.past g.is.inside rest in
+                  let parts : IsSound whole = subst (λ (l : List Event). IsSound l) is all in
+                  let behind : IsSound (g.is.inside ++ rest) =
+                  sound_back g.is.past g.is.inside rest g.second sound parts in
+                  let first = g.is.cut.same (g.is.inside ++ rest) behind parts in
+                  let second = a.1.2 rest sound behind in (
+                    λ x. second.0
+                        (first.0 (subst (λ (l : List Event). IsExplained Step l olds) is x)),
+                    λ x. subst (λ (l : List Event). IsExplained Step l olds) (sym is)
+                        (first.1 (second.1 x)),
+                  );
+            };
+            front = a.1.1;
+            some = frontier_some Step new.links.items new.slots.items states new.configs.items some
+                a.1.1;
+          };
+          first = g.whole;
+          second = sound_none;
+          whole = g.whole;
+          numbered = g.numbered;
+        }
+
+-- a new window begins, or the old one goes on
+pub goes_window : {S : Type 0} (Step : S → ℕ → S → Type 0) (olds : List S) (es : List Event)
+    (old new : Window S) (count : ℕ) → count ≡ length es → GoesTo Step olds es old
+    → BeginsWindow Step count old new → GoesTo Step olds es new
+goes_window Step olds es old new count is g b =
+    elim b as (λ _. GoesTo Step olds es new) [
+      | inl anew ↦ subst (λ n. GoesTo Step olds es (record { begin = n; front = new.front }))
+          (sym (anew.0 ∙ is)) (goes_anew Step olds es old g new.front anew.1)
+      | inr stays ↦ subst (λ n. GoesTo Step olds es (record { begin = n; front = new.front }))
+          (sym stays.0)
+          (subst (λ f. GoesTo Step olds es (record { begin = old.begin; front = f }))
+          (sym stays.1.0) g)
+    ]
+
+-- what an event does to the front of the window
+pub goes_advance : {M S : Type 0} (StepOf : M → S → ℕ → S → Type 0) (machine : M) (olds : List S)
+    (es : List Event) (w : Window S) (g : GoesTo (StepOf machine) olds es w) (e : Event)
+    (may : MayFollow es e) (new : Front S) (result : Advance)
+    → IsAdvance StepOf machine w.front e new result
+    → AdvancesIn (StepOf machine) g.is.inside g.is.states e new result
+goes_advance StepOf machine olds es w g e may new result advances =
+    advances machine g.is.inside g.is.states (agrees_same (StepOf machine) g.is.inside)
+    (agrees_same (StepOf machine) (g.is.inside ++ e ∷ [])) g.second
+    (fresh_inside (StepOf machine) olds es w g e may) g.is.front
+
+-- the event at a place of a history may follow those before it
+pub may_at : (es : List Event) (at : ℕ) (d : Event) → IsHistory es → at < length es
+    → MayFollow (take at es) (get_or es at d)
+may_at es at d history h = history at (get_or es at d) (slice_get-get_or es at d h)
+
+module _ {S : Type 0} (Step : S → ℕ → S → Type 0) (olds : List S) (es : List Event) (at : ℕ)
+    (d : Event) (h : at < length es) (w : Window S) (g : GoesTo Step olds (take at es) w) where
+  stands : StandsAt es at (get_or es at d)
+  stands = slice_get-get_or es at d h
+
+  more : take (at + 1) es ≡ take at es ++ get_or es at d ∷ []
+  more = one_more es at d h
+
+  pub stop_refused : ((c : ℕ) × (get_or es at d ≡ End c))
+      × (¬ (IsExplained Step (take at es ++ get_or es at d ∷ []) olds))
+      → IsStop Step olds es at stop.Refused
+  stop_refused none = record {
+    within = h;
+    before = goes_explained Step olds (take at es) w g;
+    at = (
+      (none.0.0, subst (λ (e : Event). StandsAt es at e) none.0.1 stands),
+      λ x. none.1 (subst (λ (l : List Event). IsExplained Step l olds) more x),
+    );
+  }
+
+  pub stop_many : LeadsTooFar Step olds (take at es)
+      ⊎ LeadsTooFar Step olds (take at es ++ get_or es at d ∷ [])
+      → IsStop Step olds es at stop.ManyConfigs
+  stop_many many = record {
+    within = h;
+    before = goes_explained Step olds (take at es) w g;
+    at = subst (λ (l : List Event). LeadsTooFar Step olds (take at es) ⊎ LeadsTooFar Step olds l)
+        (sym more) many;
+  }
+
+  pub stop_open : HasManyOpen (take at es ++ get_or es at d ∷ [])
+      → IsStop Step olds es at stop.ManyOpen
+  stop_open many = record {
+    within = h;
+    before = goes_explained Step olds (take at es) w g;
+    at = subst (λ (l : List Event). HasManyOpen l) (sym more) many;
+  }
+
+  pub follow_done : (new : Front S) (window : Window S) → IsHistory es
+      → AdvancesIn Step g.is.inside g.is.states (get_or es at d) new advance.Done
+      → BeginsWindow Step (at + 1) (record { begin = w.begin; front = new }) window
+      → GoesTo Step olds (take (at + 1) es) window
+  follow_done new window history done begins =
+      let now : GoesTo Step olds (take (at + 1) es) (record { begin = w.begin; front = new }) =
+      subst
+      (λ (l : List Event). GoesTo Step olds l (record { begin = w.begin; front = new }))
+      (sym more)
+      (goes_done Step olds (take at es) w g (get_or es at d) (may_at es at d history h) new done) in
+      goes_window Step olds (take (at + 1) es) (record { begin = w.begin; front = new }) window
+      (at + 1) (sym (length-take-le (at + 1) es (omega arith))) now begins
+
+  pub follow_refused : (new : Front S) → IsHistory es
+      → AdvancesIn Step g.is.inside g.is.states (get_or es at d) new advance.Refused
+      → IsStop Step olds es at stop.Refused
+  follow_refused new history done =
+      stop_refused
+      (goes_refused Step olds (take at es) w g (get_or es at d) (may_at es at d history h) new done)
+
+  pub follow_many : (new : Front S) → IsHistory es
+      → AdvancesIn Step g.is.inside g.is.states (get_or es at d) new advance.ManyConfigs
+      → IsStop Step olds es at stop.ManyConfigs
+  follow_many new history done =
+      stop_many
+      (goes_many Step olds (take at es) w g (get_or es at d) (may_at es at d history h) new done)
+
+  pub follow_open : (new : Front S) → IsHistory es
+      → AdvancesIn Step g.is.inside g.is.states (get_or es at d) new advance.ManyOpen
+      → IsStop Step olds es at stop.ManyOpen
+  follow_open new history done =
+      stop_open
+      (goes_open Step olds (take at es) w g (get_or es at d) (may_at es at d history h) new done)
+
+  pub follow_closed : (new : Front S) → IsHistory es
+      → AdvancesIn Step g.is.inside g.is.states (get_or es at d) new advance.NoEvent → ⊥
+  follow_closed new history done =
+      goes_closed Step olds (take at es) w g (get_or es at d) (may_at es at d history h) new done
+
+-- what the next event does to the front of the window
+pub follow_advance : {M S : Type 0} (StepOf : M → S → ℕ → S → Type 0) (machine : M)
+    (olds : List S) (es : List Event) (at : ℕ) (d : Event) (h : at < length es) (w : Window S)
+    (g : GoesTo (StepOf machine) olds (take at es) w) (new : Front S) (result : Advance)
+    → IsHistory es → IsAdvance StepOf machine w.front (get_or es at d) new result
+    → AdvancesIn (StepOf machine) g.is.inside g.is.states (get_or es at d) new result
+follow_advance StepOf machine olds es at d h w g new result history advances =
+    goes_advance StepOf machine olds (take at es) w g (get_or es at d) (may_at es at d history h)
+    new result advances
+
+-- all events were followed
+pub follow_end : {S : Type 0} (Step : S → ℕ → S → Type 0) (olds : List S) (es : List Event)
+    (at : ℕ) (w : Window S) → length es ≤ at → GoesTo Step olds (take at es) w
+    → GoesTo Step olds es w
+follow_end Step olds es at w h g =
+    subst (λ (l : List Event). GoesTo Step olds l w) (take_all at es h) g
+
+stands_take : (es : List Event) (k p : ℕ) (e : Event) → StandsAt (take k es) p e
+    → StandsAt es p e × (p < k)
+stands_take [] zero p e at = absurd (cc)
+stands_take [] (suc k) p e at = absurd (cc)
+stands_take (x ∷ es) zero p e at = absurd (cc)
+stands_take (x ∷ es) (suc k) zero e at = (at, omega arith)
+stands_take (x ∷ es) (suc k) (suc p) e at =
+    let rest = stands_take es k p e at in (rest.0, omega (arith, rest.1))
+
+-- the first events of a history are one
+pub history_front : (es : List Event) (k : ℕ) → IsHistory es → IsHistory (take k es)
+history_front es k history place event at =
+    let there = stands_take es k place event at in
+    subst (λ (l : List Event). MayFollow l event)
+    (sym (take-take place k es (omega (arith, there.1))))
+    (history place event there.0)
+
+module _ {S : Type 0} (Step : S → ℕ → S → Type 0) (olds : List S) (es : List Event) (k : ℕ) where
+  -- where an order explains the first events, none of them is refused
+  pub not_refused : (at : ℕ) → IsHistory es → IsExplained Step (take k es) olds
+      → IsStop Step olds (take k es) at stop.Refused → ⊥
+  not_refused at history x s =
+      let front = take k es in
+      let within : at < length front = s.within in
+      s.at.1
+      (explained_take Step front olds (at + 1) (length front - (at + 1))
+      (history_front es k history) (omega arith)
+      (subst (λ (l : List Event). IsExplained Step l olds)
+      (sym (take_all (at + 1 + (length front - (at + 1))) front (omega arith))) x))

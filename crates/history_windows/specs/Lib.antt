@@ -1,0 +1,2 @@
+-- Promises: windows of histories, and what is found of a history.
+pub mod Windows

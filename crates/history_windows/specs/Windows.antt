@@ -1,0 +1,82 @@
+-- Windows of histories, and what is found of a history.
+use Rattle.std.specs.Prelude.{◌≡◌, ℕ, ◌+◌, ◌<◌, ◌⊎◌, ◌↔◌, List, ◌++◌, length, take, true, false}
+use Rattle.histories.specs.declared.event.Event.{Event}
+use Rattle.histories.specs.declared.event.Event.TheVariants.{End}
+use Rattle.histories.specs.Histories.{IsExplained, StandsAt}
+use Rattle.histories.specs.Frontier.{HasManyOpen, HasManyOrders, IsFrontOf, IsSound}
+use Rattle.histories.specs.Splitting.{BeginsAnew, IsQuiet}
+use Rattle.history_windows.specs.declared.window.Stop.{Stop}
+use Rattle.history_windows.specs.declared.window.Stop.TheVariants as stop
+use Rattle.history_windows.specs.declared.window.Verdict.{Verdict}
+use Rattle.history_windows.specs.declared.window.Verdict.TheVariants as verdict
+use Rattle.history_windows.specs.declared.window.Window.{Window}
+
+-- The events are cut here: no call is open after the first ones, and an order explains all,
+-- whatever comes behind them, exactly where one explains what comes behind from one of these
+-- states.
+pub record IsCut {S : Type 0} (Step : S → ℕ → S → Type 0) (olds : List S) (past : List Event)
+    (states : List S) : Type 0 where
+  pub quiet : IsQuiet past
+  pub same : (rest : List Event) → IsSound rest → IsSound (past ++ rest)
+      → IsExplained Step (past ++ rest) olds ↔ IsExplained Step rest states
+
+-- The window that the events end in: its configurations are those of the orders that explain what
+-- comes in it, from the states that were left where it begins. There is one at least.
+pub record IsWindowOf {S : Type 0} (Step : S → ℕ → S → Type 0) (olds : List S)
+    (events : List Event) (window : Window S) : Type 0 where
+  pub past : List Event
+  pub inside : List Event
+  pub split : events ≡ past ++ inside
+  pub begins : window.begin ≡ length past
+  pub states : List S
+  pub cut : IsCut Step olds past states
+  pub front : IsFrontOf Step window.front inside states
+  pub some : 0 < length window.front.configs.items
+
+-- Orders of what comes since a place at which no call is open lead to more configurations than are
+-- followed.
+pub record LeadsTooFar {S : Type 0} (Step : S → ℕ → S → Type 0) (olds : List S)
+    (events : List Event) : Type 0 where
+  pub past : List Event
+  pub inside : List Event
+  pub split : events ≡ past ++ inside
+  pub states : List S
+  pub cut : IsCut Step olds past states
+  pub many : HasManyOrders Step inside states
+
+-- An order explains the events before this place. Then at the place:
+-- Refused: a call was answered, and no order explains the events up to it.
+-- ManyConfigs: orders that explain the events before it, or those up to it, lead too far.
+-- ManyOpen: more than 64 calls are open.
+abbrev pub IsStopAt : {S : Type 0} → (S → ℕ → S → Type 0) → List S → List Event → ℕ → Stop → Type 0
+IsStopAt Step olds events place stop.Refused =
+    ((call : ℕ) × StandsAt events place (End call))
+    × (¬ (IsExplained Step (take (place + 1) events) olds))
+IsStopAt Step olds events place stop.ManyConfigs =
+    LeadsTooFar Step olds (take place events) ⊎ LeadsTooFar Step olds (take (place + 1) events)
+IsStopAt Step olds events place stop.ManyOpen = HasManyOpen (take (place + 1) events)
+
+pub record IsStop {S : Type 0} (Step : S → ℕ → S → Type 0) (olds : List S) (events : List Event)
+    (place : ℕ) (why : Stop) : Type 0 where
+  pub within : place < length events
+  pub before : IsExplained Step (take place events) olds
+  pub at : IsStopAt Step olds events place why
+
+-- Explained: some order explains the history.
+-- Refused, ManyConfigs, ManyOpen: an order explains the events before this place, and it is refused
+-- or not decided there; with the window that they end in.
+abbrev pub IsVerdict : {S : Type 0} → (S → ℕ → S → Type 0) → List S → List Event → Verdict S
+    → Type 0
+IsVerdict Step olds events verdict.Explained = IsExplained Step events olds
+IsVerdict Step olds events (verdict.Refused place window) =
+    IsStop Step olds events place stop.Refused × IsWindowOf Step olds (take place events) window
+IsVerdict Step olds events (verdict.ManyConfigs place) =
+    IsStop Step olds events place stop.ManyConfigs
+IsVerdict Step olds events (verdict.ManyOpen place) =
+    IsStop Step olds events place stop.ManyOpen
+
+-- a new window begins after so many events, or a call is open and nothing changes
+abbrev pub BeginsWindow : {S : Type 0} → (S → ℕ → S → Type 0) → ℕ → Window S → Window S → Type 0
+BeginsWindow Step count old new =
+    ((new.begin ≡ count) × BeginsAnew Step old.front new.front true)
+    ⊎ ((new.begin ≡ old.begin) × BeginsAnew Step old.front new.front false)

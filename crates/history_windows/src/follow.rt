@@ -1,0 +1,50 @@
+//! Following a history event by event.
+ghost use Rattle.std.specs.Prelude.{◌<◌, IfErr, IfOk, OnOk, length};
+ghost use Rattle.histories.specs.Histories.{IsExplained, IsHistory};
+ghost use Rattle.history_windows.specs.Windows.{BeginsWindow, IsStop, IsWindowOf};
+
+use super::window::{Stop, Window};
+use histories::{Advance, Event, Machine, advance, begin_anew, start};
+use std::alloc::{AllocError, Global};
+
+/// Begins a new window after so many events, where no call is open.
+fn begin_window<M: Machine>(alloc: Global, machine: &M, window: &mut Window<M::State>, count: usize)
+    ensures { BeginsWindow (M.Step machine.now) count window.old window.new }
+{
+    if !begin_anew(alloc, machine, &mut window.front) {
+        return;
+    }
+    window.begin = count;
+}
+
+/// Follows the events. Returns the window that they end in, or the place of the event at which they
+/// are not followed further, and why.
+pub(super) fn follow<M: Machine>(
+    alloc: Global,
+    machine: &M,
+    states: &[M::State],
+    events: &[Event],
+) -> Result<Result<Window<M::State>, (usize, Stop)>, AllocError>
+    requires some { 0 < length states.now }
+    requires history { IsHistory events.now }
+    ensures all { IfOk result (λ end. IfOk end
+        (IsWindowOf (M.Step machine.now) states.now events.now)) }
+    ensures explained { IfOk result (λ end. OnOk end
+        (IsExplained (M.Step machine.now) events.now states.now)) }
+    ensures stop { IfOk result (λ end. IfErr end
+        (λ stop. IsStop (M.Step machine.now) states.now events.now stop.0 stop.1)) }
+{
+    let front = start(alloc, machine, states)?;
+    let mut window = Window { begin: 0, front };
+    for at in 0..events.len() {
+        match advance(alloc, machine, &mut window.front, events[at])? {
+            Advance::Done => (),
+            Advance::Refused => return Ok(Err((at, Stop::Refused))),
+            Advance::ManyConfigs => return Ok(Err((at, Stop::ManyConfigs))),
+            Advance::ManyOpen => return Ok(Err((at, Stop::ManyOpen))),
+            Advance::NoEvent => unreachable!(),
+        }
+        begin_window(alloc, machine, &mut window, at + 1);
+    }
+    Ok(Ok(window))
+}

@@ -1,0 +1,10 @@
+//! Histories that are judged window by window. A window begins where no call is open, and what
+//! comes in it is judged from the states that were left there.
+#![tactic(auto)]
+
+mod follow;
+mod judge;
+mod window;
+
+pub use judge::judge_windows;
+pub use window::{Stop, Verdict, Window};

@@ -1,0 +1,37 @@
+//! Windows, and what is found of a history.
+use histories::Front;
+
+/// How far a history was followed since no call of it was open.
+#[derive(Debug, Drop)]
+pub struct Window<S> {
+    /// How many events come before the window: no call is open after them.
+    pub begin: usize,
+    /// The configurations that the window has led to.
+    pub front: Front<S>,
+}
+
+/// Whether orders explain a history.
+#[derive(Debug, Drop)]
+pub enum Verdict<S> {
+    /// Some order explains it.
+    Explained,
+    /// No order explains the events up to the one at this place, by which a call was answered, and
+    /// one explains those before it. The window is that of these.
+    Refused(usize, Window<S>),
+    /// At the event of this place more than `histories::MAX_CONFIGS` configurations were to be
+    /// followed: not decided.
+    ManyConfigs(usize),
+    /// From the event of this place on more than `histories::MAX_OPEN` calls are open: not decided.
+    ManyOpen(usize),
+}
+
+/// Why a history is not followed further.
+#[derive(Clone, Copy, Debug, PartialEq, Eq)]
+pub enum Stop {
+    /// No order explains the events up to this one.
+    Refused,
+    /// More configurations were to be followed than are.
+    ManyConfigs,
+    /// More calls are open than are followed.
+    ManyOpen,
+}

@@ -1,0 +1,4 @@
+pub mod Names
+pub mod Splits
+pub mod OneReading
+pub mod Parts

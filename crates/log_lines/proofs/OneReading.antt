@@ -1,0 +1,162 @@
+-- Lines are read in one way.
+use Rattle.std.proofs.Common.{◌≡◌, ◌≢◌, ℕ, ◌<◌, ◌^◌, List, [], ◌∷◌, ◌++◌, Some, None, codes, decimal, length, refl, sym, ◌∙◌, ap, subst, arith}
+use Rattle.std.specs.Prelude.{◌==◌, IsTrue}
+use Rattle.std.specs.Char.{is_ascii_alphanumeric}
+use Rattle.std.proofs.lemmas.Bool.Decides.{nat_tests}
+use Rattle.std.proofs.lemmas.Fmt.{decimal_injective, decimal_nonempty}
+use Rattle.std.proofs.lemmas.List.{append_cancel_left}
+use Rattle.line_streams.specs.Numerals.{cons_same}
+use Rattle.service_descriptions.specs.declared.replay.machine.command.Cleanup.TheVariants.{ByPort}
+use Rattle.service_descriptions.specs.declared.replay.machine.command.Command.{Command}
+use Rattle.service_descriptions.specs.declared.replay.machine.command.Command.TheVariants as command
+use Rattle.service_descriptions.specs.Lines.{HasLine, line_of}
+use Rattle.service_descriptions.proofs.OneReading.{one_service}
+use Rattle.log_lines.specs.Commands.{HasText, NamedCommand, command_text}
+use Rattle.log_lines.specs.Commands.NamedCommand.{numbered, deregister, release}
+use Rattle.log_lines.specs.Laws.{IsAlike, LinesAreReadOneWay, NotesAreNoLines}
+use Rattle.log_lines.specs.Lines.{IsCaller, IsLine, Line, begin_text, is_note, line_text, number_text}
+use Rattle.log_lines.specs.Lines.Line.{service, call, reply, begin, end, crash}
+use Rattle.log_lines.proofs.Names.{first_letter}
+use Rattle.log_lines.proofs.Splits.{Comes, Tells, begin_comes, comes_same, crash_comes, end_comes, kind, kind_begin, kind_call, number_comes, of_line, of_text, one_kind}
+
+-- the numbers before two texts that are the same are, and so is what follows them
+pub one_number : (m n : ℕ) (x y : List ℕ) → m < 2 ^ 64 → n < 2 ^ 64
+    → number_text m ++ x ≡ number_text n ++ y → (m ≡ n) × (x ≡ y)
+one_number m n x y p q e =
+    let same =
+    comes_same (number_text m ++ x) (decimal m) (58 ∷ 32 ∷ x) (decimal n) (58 ∷ 32 ∷ y)
+    (number_comes m x p)
+    (subst (λ (t : List ℕ). Comes t (decimal n) (58 ∷ 32 ∷ y)) (sym e) (number_comes n y q)) in
+    (decimal_injective m n p q same.0, (cons_same (cons_same same.1).1).1)
+
+-- no command is the begin of a call
+pub no_begin : (c d : NamedCommand) (caller : List ℕ) → HasText c → IsCaller caller
+    → command_text c ≢ begin_text caller d
+no_begin c d caller p q e =
+    let k = one_kind (command_text c) 1 3 (of_text c p) (record {
+      front = caller;
+      back = codes "> " ++ command_text d;
+      comes = subst (λ (t : List ℕ). Comes t caller (codes "> " ++ command_text d)) (sym e)
+          (begin_comes caller d q);
+      is = refl;
+    }) in
+    absurd (omega (arith, k))
+
+same_kind : (a b : Line) → IsLine a → IsLine b → line_text a ≡ line_text b → kind a ≡ kind b
+    → IsAlike a b
+same_kind (service l) (service m) p q e k = one_service l m p q e
+same_kind (call None c) (call None d) p q e k = refl
+same_kind (call (Some m) c) (call (Some n) d) p q e k =
+    ap (λ (i : ℕ). Some i) (one_number m n (command_text c) (command_text d) p.0 q.0 e).0
+same_kind (call (Some m) c) (begin (Some n) caller d) p q e k =
+    absurd (no_begin c d caller p.1 q.1
+    (one_number m n (command_text c) (begin_text caller d) p.0 q.0 e).1)
+same_kind (begin (Some m) caller c) (call (Some n) d) p q e k =
+    absurd (no_begin d c caller q.1 p.1
+    (sym (one_number m n (begin_text caller c) (command_text d) p.0 q.0 e).1))
+same_kind (reply v) (reply w) p q e k = append_cancel_left (codes "= ") v w e
+same_kind (begin None a c) (begin None b d) p q e k = (
+  refl,
+  (comes_same (begin_text a c) a (codes "> " ++ command_text c) b (codes "> " ++ command_text d)
+      (begin_comes a c p.1)
+      (subst (λ (t : List ℕ). Comes t b (codes "> " ++ command_text d)) (sym e)
+      (begin_comes b d q.1))).0,
+)
+same_kind (begin (Some m) a c) (begin (Some n) b d) p q e k =
+    let same = one_number m n (begin_text a c) (begin_text b d) p.0 q.0 e in (
+      ap (λ (i : ℕ). Some i) same.0,
+      (comes_same (begin_text a c) a (codes "> " ++ command_text c) b
+          (codes "> " ++ command_text d) (begin_comes a c p.1)
+          (subst (λ (t : List ℕ). Comes t b (codes "> " ++ command_text d)) (sym same.1)
+          (begin_comes b d q.1))).0,
+    )
+same_kind (end a v) (end b w) p q e k =
+    let same =
+    comes_same (line_text (end a v)) a (codes "< " ++ v) b (codes "< " ++ w) (end_comes a v p)
+    (subst (λ (t : List ℕ). Comes t b (codes "< " ++ w)) (sym e) (end_comes b w q)) in
+    (same.0, append_cancel_left (codes "< ") v w same.1)
+same_kind (crash a) (crash b) p q e k =
+    (comes_same (line_text (crash a)) a (codes "!") b (codes "!") (crash_comes a p)
+    (subst (λ (t : List ℕ). Comes t b (codes "!")) (sym e) (crash_comes b q))).0
+same_kind _ _ p q e k = absurd (omega (arith, k, kind_call, kind_begin))
+
+pub one_way : LinesAreReadOneWay
+one_way a b p q e =
+    same_kind a b p q e
+    (one_kind (line_text a) (kind a) (kind b) (of_line a p)
+    (subst (λ (t : List ℕ). Tells t (kind b)) (sym e) (of_line b q)))
+
+-- after a number only a call follows, alone or begun
+pub numbered_none : (line rest : List ℕ) (n : ℕ) → n < 2 ^ 64 → line ≡ number_text n ++ rest
+    → ((c : NamedCommand) → HasText c → rest ≢ command_text c)
+    → ((caller : List ℕ) (c : NamedCommand) → IsCaller caller → HasText c
+    → rest ≢ begin_text caller c)
+    → (l : Line) → IsLine l → line ≢ line_text l
+numbered_none line rest n h is alone begun l p e =
+    cases l p (sym is ∙ e)
+    (one_kind (line_text l) (kind l) 2 (of_line l p) (record {
+      front = decimal n;
+      back = 58 ∷ 32 ∷ rest;
+      comes = subst (λ (t : List ℕ). Comes t (decimal n) (58 ∷ 32 ∷ rest)) (sym is ∙ e)
+          (number_comes n rest h);
+      is = refl;
+    }))
+  where
+    cases : (m : Line) → IsLine m → number_text n ++ rest ≡ line_text m → kind m ≡ 2 → ⊥
+    cases (call (Some m) c) q f k = alone c q.1 (one_number n m rest (command_text c) h q.0 f).1
+    cases (begin (Some m) caller c) q f k =
+        begun caller c q.1 q.2 (one_number n m rest (begin_text caller c) h q.0 f).1
+    cases (service m) q f k = absurd (omega (arith, k))
+    cases (call None c) q f k = absurd (omega (arith, k))
+    cases (reply words) q f k = absurd (omega (arith, k))
+    cases (begin None caller c) q f k = absurd (omega (arith, k))
+    cases (end caller words) q f k = absurd (omega (arith, k))
+    cases (crash caller) q f k = absurd (omega (arith, k))
+
+-- what begins with a letter or a digit is no note
+letter_no_note : (text front back : List ℕ) → Comes text front back → 0 < length front
+    → ¬ (IsTrue (is_note text))
+letter_no_note text [] back c h note = absurd (omega (arith, h))
+letter_no_note text (f ∷ fs) back c h note =
+    let is : IsTrue (f == 35) = subst (λ (t : List ℕ). IsTrue (is_note t)) c.whole note in
+    let same : f ≡ 35 = grind (arith, nat_tests, is) in
+    let letter : IsTrue (is_ascii_alphanumeric 35) =
+    subst (λ b. IsTrue (is_ascii_alphanumeric b)) same (first_letter f fs c.letters) in
+    absurd (cc)
+
+command_no_note : (c : Command) → HasLine c → ¬ (IsTrue (is_note (line_of c)))
+command_no_note (command.Register id) p note = absurd (cc)
+command_no_note (command.Deregister k) p note = absurd (cc)
+command_no_note command.Nodes p note = absurd (cc)
+command_no_note (command.Add d) p note = absurd (cc)
+command_no_note (command.Release k) p note = absurd (cc)
+command_no_note (command.List r) p note = absurd (cc)
+command_no_note (command.Count r) p note = absurd (cc)
+command_no_note (command.Dead id (ByPort kept)) p note = absurd (cc)
+command_no_note _ p note = absurd p
+
+text_no_note : (c : NamedCommand) → HasText c → ¬ (IsTrue (is_note (command_text c)))
+text_no_note (numbered c) p note = command_no_note c p note
+text_no_note (deregister slot ticket) p note = absurd (cc)
+text_no_note (release r slot ticket) p note = absurd (cc)
+
+pub notes_are_none : NotesAreNoLines
+notes_are_none (service l) p note = absurd (cc)
+notes_are_none (call None c) p note = text_no_note c p.1 note
+notes_are_none (call (Some n) c) p note =
+    letter_no_note (line_text (call (Some n) c)) (decimal n) (58 ∷ 32 ∷ command_text c)
+    (number_comes n (command_text c) p.0)
+    (decimal_nonempty n p.0) note
+notes_are_none (reply words) p note = absurd (cc)
+notes_are_none (begin None caller c) p note =
+    letter_no_note (begin_text caller c) caller (codes "> " ++ command_text c)
+    (begin_comes caller c p.1) p.1.some note
+notes_are_none (begin (Some n) caller c) p note =
+    letter_no_note (line_text (begin (Some n) caller c)) (decimal n)
+    (58 ∷ 32 ∷ begin_text caller c) (number_comes n (begin_text caller c) p.0)
+    (decimal_nonempty n p.0) note
+notes_are_none (end caller words) p note =
+    letter_no_note (line_text (end caller words)) caller (codes "< " ++ words)
+    (end_comes caller words p) p.some note
+notes_are_none (crash caller) p note =
+    letter_no_note (line_text (crash caller)) caller (codes "!") (crash_comes caller p) p.some note

@@ -1,0 +1,185 @@
+-- What the parts of a line leave out.
+use Rattle.std.proofs.Common.{◌≡◌, ◌≢◌, ℕ, ◌<◌, ◌^◌, List, [], ◌++◌, Some, None, codes, refl, sym, ◌∙◌, subst, arith}
+use Rattle.std.proofs.lemmas.List.{append-nil, append_cancel_left}
+use Rattle.iox2_container.specs.declared.container.role.Role.{Role}
+use Rattle.iox2_container.specs.declared.container.role.Role.TheVariants as role
+use Rattle.line_streams.specs.declared.phrase.LineEnd.TheVariants.{Bytes}
+use Rattle.line_streams.specs.Numerals.{cons_same}
+use Rattle.service_descriptions.specs.declared.replay.lines.service_line.ServiceLine.{ServiceLine}
+use Rattle.service_descriptions.specs.declared.replay.machine.command.Command.{Command}
+use Rattle.service_descriptions.specs.Lines.{IsLine as IsCommand, line_of, line_text as command_line, role_word}
+use Rattle.service_descriptions.specs.OneWay.{role_one}
+use Rattle.service_descriptions.specs.Script.{IsServiceLine, service_line}
+use Rattle.log_lines.specs.Commands.{HasText, IsHandle, NamedCommand, command_text, handle_text}
+use Rattle.log_lines.specs.Commands.NamedCommand.{numbered, deregister, release}
+use Rattle.log_lines.specs.Lines.{IsCaller, IsLine, Line, begin_text, line_text, number_text}
+use Rattle.log_lines.specs.Lines.Line.{service, call, reply, begin, end, crash}
+use Rattle.log_lines.proofs.Splits.{Comes, Tells, begin_comes, comes_same, crash_comes, end_comes, of_text, one_kind}
+
+-- no text of a removal that names its handle
+abbrev pub NoDeregister : List ℕ → Type 0
+NoDeregister line =
+    (slot ticket : ℕ) → IsHandle (slot, ticket)
+    → line ≢ codes "deregister " ++ handle_text (slot, ticket)
+
+abbrev pub NoRelease : List ℕ → Type 0
+NoRelease line =
+    (r : Role) (slot ticket : ℕ) → r ≢ role.Node → IsHandle (slot, ticket)
+    → line ≢ codes "release " ++ (role_word r ++ (codes " " ++ handle_text (slot, ticket)))
+
+pub no_text : (line : List ℕ)
+    → ((a : Command × List ℕ) → IsCommand Bytes a → line ≢ command_line Bytes a)
+    → NoDeregister line → NoRelease line → (a : NamedCommand) → HasText a
+    → line ≢ command_text a
+no_text line none one other (numbered c) p e =
+    none (c, []) (p, refl) (e ∙ sym (append-nil (line_of c)))
+no_text line none one other (deregister slot ticket) p e = one slot ticket p e
+no_text line none one other (release r slot ticket) p e = other r slot ticket p.0 p.1 e
+
+-- what does not begin with the word
+pub no_deregister : (line : List ℕ) → ((rest : List ℕ) → line ≢ codes "deregister " ++ rest)
+    → NoDeregister line
+no_deregister line none slot ticket p e = none (handle_text (slot, ticket)) e
+
+pub no_release : (line : List ℕ) → ((rest : List ℕ) → line ≢ codes "release " ++ rest)
+    → NoRelease line
+no_release line none r slot ticket p q e =
+    none (role_word r ++ (codes " " ++ handle_text (slot, ticket))) e
+
+-- what begins with the word, and goes on otherwise
+pub no_handle : (line rest : List ℕ) → line ≡ codes "deregister " ++ rest
+    → ((h : ℕ × ℕ) → IsHandle h → rest ≢ handle_text h) → NoDeregister line
+no_handle line rest is none slot ticket p e =
+    none (slot, ticket) p
+    (append_cancel_left (codes "deregister ") rest (handle_text (slot, ticket)) (sym is ∙ e))
+
+pub other_word : (line rest : List ℕ) → line ≡ codes "deregister " ++ rest → NoRelease line
+other_word line rest is r slot ticket p q e =
+    let first : 100 ≡ 114 = (cons_same (sym is ∙ e)).0 in absurd (omega (arith, first))
+
+abbrev NoRole : List ℕ → Type 0
+NoRole rest = (a : Role × List ℕ) → a.0 ≢ role.Node → rest ≢ role_word a.0 ++ a.1
+
+pub no_role : (line rest : List ℕ) → line ≡ codes "release " ++ rest → NoRole rest
+    → NoRelease line
+no_role line rest is none r slot ticket p q e =
+    none (r, codes " " ++ handle_text (slot, ticket)) p
+    (append_cancel_left (codes "release ") rest _ (sym is ∙ e))
+
+pub no_space : (line rest after : List ℕ) (found : Role) → line ≡ codes "release " ++ rest
+    → found ≢ role.Node → rest ≡ role_word found ++ after
+    → ((x : List ℕ) → after ≢ codes " " ++ x) → NoRelease line
+no_space line rest after found is p spelled none r slot ticket q h e =
+    let more = codes " " ++ handle_text (slot, ticket) in
+    let whole : rest ≡ role_word r ++ more =
+    append_cancel_left (codes "release ") rest (role_word r ++ more) (sym is ∙ e) in
+    none (handle_text (slot, ticket))
+    (role_one.same (found, after) (r, more) p q (sym spelled ∙ whole)).1
+
+pub no_ticket : (line rest after last : List ℕ) (found : Role) → line ≡ codes "release " ++ rest
+    → found ≢ role.Node → rest ≡ role_word found ++ after → after ≡ codes " " ++ last
+    → ((h : ℕ × ℕ) → IsHandle h → last ≢ handle_text h) → NoRelease line
+no_ticket line rest after last found is p spelled space none r slot ticket q h e =
+    let more = codes " " ++ handle_text (slot, ticket) in
+    let whole : rest ≡ role_word r ++ more =
+    append_cancel_left (codes "release ") rest (role_word r ++ more) (sym is ∙ e) in
+    none (slot, ticket) h
+    (append_cancel_left (codes " ") last (handle_text (slot, ticket))
+    (sym space ∙ (role_one.same (found, after) (r, more) p q (sym spelled ∙ whole)).1))
+
+module _ (text front back : List ℕ) (c : Comes text front back) where
+  begin_same : (caller : List ℕ) (d : NamedCommand) → IsCaller caller → text ≡ begin_text caller d
+      → (front ≡ caller) × (back ≡ codes "> " ++ command_text d)
+  begin_same caller d p e =
+      comes_same text front back caller (codes "> " ++ command_text d) c
+      (subst (λ (t : List ℕ). Comes t caller (codes "> " ++ command_text d)) (sym e)
+      (begin_comes caller d p))
+
+  end_same : (caller words : List ℕ) → IsCaller caller
+      → text ≡ caller ++ (codes "< " ++ words)
+      → (front ≡ caller) × (back ≡ codes "< " ++ words)
+  end_same caller words p e =
+      comes_same text front back caller (codes "< " ++ words) c
+      (subst (λ (t : List ℕ). Comes t caller (codes "< " ++ words)) (sym e)
+      (end_comes caller words p))
+
+  crash_same : (caller : List ℕ) → IsCaller caller → text ≡ caller ++ codes "!"
+      → (front ≡ caller) × (back ≡ codes "!")
+  crash_same caller p e =
+      comes_same text front back caller (codes "!") c
+      (subst (λ (t : List ℕ). Comes t caller (codes "!")) (sym e) (crash_comes caller p))
+
+  -- after a name that is none, no call begins and none ends
+  pub no_caller_begin : (IsCaller front → ⊥) → (caller : List ℕ) (d : NamedCommand)
+      → IsCaller caller → HasText d → text ≢ begin_text caller d
+  no_caller_begin none caller d p q e =
+      none (subst (λ (n : List ℕ). IsCaller n) (sym (begin_same caller d p e).0) p)
+
+  pub no_caller_end : (IsCaller front → ⊥) → (caller words : List ℕ) → IsCaller caller
+      → text ≢ caller ++ (codes "< " ++ words)
+  no_caller_end none caller words p e =
+      none (subst (λ (n : List ℕ). IsCaller n) (sym (end_same caller words p e).0) p)
+
+  pub no_caller_crash : (IsCaller front → ⊥) → (caller : List ℕ) → IsCaller caller
+      → text ≢ caller ++ codes "!"
+  no_caller_crash none caller p e =
+      none (subst (λ (n : List ℕ). IsCaller n) (sym (crash_same caller p e).0) p)
+
+  -- nor where something else follows the name
+  pub no_begin_mark : ((x : List ℕ) → back ≢ codes "> " ++ x) → (caller : List ℕ)
+      (d : NamedCommand) → IsCaller caller → HasText d → text ≢ begin_text caller d
+  no_begin_mark none caller d p q e = none (command_text d) (begin_same caller d p e).1
+
+  pub no_end_mark : ((x : List ℕ) → back ≢ codes "< " ++ x) → (caller words : List ℕ)
+      → IsCaller caller → text ≢ caller ++ (codes "< " ++ words)
+  no_end_mark none caller words p e = none words (end_same caller words p e).1
+
+  pub no_crash_mark : ((x : List ℕ) → back ≢ codes "!" ++ x) → (caller : List ℕ)
+      → IsCaller caller → text ≢ caller ++ codes "!"
+  no_crash_mark none caller p e = none [] (crash_same caller p e).1
+
+  -- nor where more follows the mark
+  pub no_crash_more : (rest : List ℕ) → back ≡ codes "!" ++ rest → rest ≢ []
+      → (caller : List ℕ) → IsCaller caller → text ≢ caller ++ codes "!"
+  no_crash_more rest is some caller p e =
+      some (append_cancel_left (codes "!") rest [] (sym is ∙ (crash_same caller p e).1))
+
+  -- the begin of a call is no command
+  pub no_command : (rest : List ℕ) → back ≡ codes "> " ++ rest → (d : NamedCommand) → HasText d
+      → text ≢ command_text d
+  no_command rest is d p e =
+      let k =
+      one_kind text 3 1 (record {
+        front = front;
+        back = codes "> " ++ rest;
+        comes = subst (λ (b : List ℕ). Comes text front b) is c;
+        is = refl;
+      }) (subst (λ (t : List ℕ). Tells t 1) (sym e) (of_text d p)) in
+      absurd (omega (arith, k))
+
+  pub no_begun : (rest : List ℕ) → back ≡ codes "> " ++ rest
+      → ((d : NamedCommand) → HasText d → rest ≢ command_text d) → (caller : List ℕ)
+      (d : NamedCommand) → IsCaller caller → HasText d → text ≢ begin_text caller d
+  no_begun rest is none caller d p q e =
+      none d q
+      (append_cancel_left (codes "> ") rest (command_text d)
+      (sym is ∙ (begin_same caller d p e).1))
+
+-- no line, where none of its kinds is there
+pub plain_none : (text : List ℕ) → ((words : List ℕ) → text ≢ codes "= " ++ words)
+    → ((l : ServiceLine) → IsServiceLine l → text ≢ service_line l)
+    → ((number : ℕ) (rest : List ℕ) → number < 2 ^ 64 → text ≢ number_text number ++ rest)
+    → ((caller words : List ℕ) → IsCaller caller → text ≢ caller ++ (codes "< " ++ words))
+    → ((caller : List ℕ) → IsCaller caller → text ≢ caller ++ codes "!")
+    → ((c : NamedCommand) → HasText c → text ≢ command_text c)
+    → ((caller : List ℕ) (c : NamedCommand) → IsCaller caller → HasText c
+    → text ≢ begin_text caller c)
+    → (l : Line) → IsLine l → text ≢ line_text l
+plain_none text a b c d f g h (service l) p e = b l p e
+plain_none text a b c d f g h (call None x) p e = g x p.1 e
+plain_none text a b c d f g h (call (Some n) x) p e = c n (command_text x) p.0 e
+plain_none text a b c d f g h (reply words) p e = a words e
+plain_none text a b c d f g h (begin None caller x) p e = h caller x p.1 p.2 e
+plain_none text a b c d f g h (begin (Some n) caller x) p e = c n (begin_text caller x) p.0 e
+plain_none text a b c d f g h (end caller words) p e = d caller words p e
+plain_none text a b c d f g h (crash caller) p e = f caller p e

@@ -1,0 +1,210 @@
+-- Each line begins with letters and digits, and what follows them says which line it is.
+use Rattle.std.proofs.Common.{◌≡◌, ℕ, ◌<◌, ◌≤◌, ◌^◌, List, [], ◌∷◌, ◌++◌, Option, Some, None, codes, get_or, decimal, refl, sym, ◌∙◌, ap, arith, append_assoc}
+use Rattle.std.specs.Prelude.{◌==◌, if◌then◌else◌, IsTrue}
+use Rattle.service_descriptions.specs.declared.replay.machine.command.Cleanup.TheVariants.{ByPort}
+use Rattle.service_descriptions.specs.declared.replay.machine.command.Command.{Command}
+use Rattle.service_descriptions.specs.declared.replay.machine.command.Command.TheVariants as command
+use Rattle.service_descriptions.specs.Lines.{HasLine, line_of}
+use Rattle.log_lines.specs.Commands.{HasText, NamedCommand, command_text}
+use Rattle.log_lines.specs.Commands.NamedCommand.{numbered, deregister, release}
+use Rattle.log_lines.specs.Lines.{IsCaller, IsLine, IsNameByte, Line, are_letters, begin_text, line_text, number_text}
+use Rattle.log_lines.specs.Lines.Line.{service, call, reply, begin, end, crash}
+use Rattle.log_lines.proofs.Names.{name_same, number_letters}
+
+-- the text begins with these letters and digits, and this follows them
+pub record Comes (text front back : List ℕ) : Type 0 where
+  pub whole : text ≡ front ++ back
+  pub letters : IsTrue (are_letters front)
+  pub ends : ¬ (IsNameByte (get_or back 0 0))
+
+pub comes_same : (text a x b y : List ℕ) → Comes text a x → Comes text b y
+    → (a ≡ b) × (x ≡ y)
+comes_same text a x b y p q =
+    name_same a b x y p.letters q.letters p.ends q.ends (sym p.whole ∙ q.whole)
+
+-- the byte with which it begins
+abbrev pub mark : List ℕ → ℕ
+mark bytes = get_or bytes 0 0
+
+-- which line the letters and digits at its front and what follows them tell: a service (0), a call
+-- without a number (1) or with one (2), alone or begun, the begin of a call without a number (3), a
+-- reply (4), the end of a call (6), or that the caller died (7)
+abbrev pub class : List ℕ → List ℕ → ℕ
+class front back =
+    if mark back == 62 then 3
+    else if mark back == 60 then 6
+    else if mark back == 33 then 7
+    else if mark back == 61 then 4
+    else if mark back == 58 then 2
+    else if mark front == 115 then 0
+    else 1
+
+-- the text begins so, and tells this line
+pub record Tells (text : List ℕ) (kind : ℕ) : Type 0 where
+  pub front : List ℕ
+  pub back : List ℕ
+  pub comes : Comes text front back
+  pub is : class front back ≡ kind
+
+pub one_kind : (text : List ℕ) (k m : ℕ) → Tells text k → Tells text m → k ≡ m
+one_kind text k m p q =
+    let same = comes_same text p.front p.back q.front q.back p.comes q.comes in
+    sym p.is ∙ (ap (λ (f : List ℕ). class f p.back) same.0
+    ∙ ap (λ (b : List ℕ). class q.front b) same.1) ∙ q.is
+
+of_command : (c : Command) → HasLine c → Tells (line_of c) 1
+of_command (command.Register id) p = record {
+  front = codes "register";
+  back = _;
+  comes = record { whole = refl; letters = refl; ends = λ e. absurd (cc) };
+  is = refl;
+}
+of_command (command.Deregister k) p = record {
+  front = codes "deregister";
+  back = _;
+  comes = record { whole = refl; letters = refl; ends = λ e. absurd (cc) };
+  is = refl;
+}
+of_command command.Nodes p = record {
+  front = codes "nodes";
+  back = [];
+  comes = record { whole = refl; letters = refl; ends = λ e. absurd (cc) };
+  is = refl;
+}
+of_command (command.Add d) p = record {
+  front = codes "add";
+  back = _;
+  comes = record { whole = refl; letters = refl; ends = λ e. absurd (cc) };
+  is = refl;
+}
+of_command (command.Release k) p = record {
+  front = codes "release";
+  back = _;
+  comes = record { whole = refl; letters = refl; ends = λ e. absurd (cc) };
+  is = refl;
+}
+of_command (command.List r) p = record {
+  front = codes "list";
+  back = _;
+  comes = record { whole = refl; letters = refl; ends = λ e. absurd (cc) };
+  is = refl;
+}
+of_command (command.Count r) p = record {
+  front = codes "count";
+  back = _;
+  comes = record { whole = refl; letters = refl; ends = λ e. absurd (cc) };
+  is = refl;
+}
+of_command (command.Dead id (ByPort kept)) p = record {
+  front = codes "dead";
+  back = _;
+  comes = record { whole = refl; letters = refl; ends = λ e. absurd (cc) };
+  is = refl;
+}
+of_command _ p = absurd p
+
+-- a command tells that it is one
+pub of_text : (c : NamedCommand) → HasText c → Tells (command_text c) 1
+of_text (numbered c) p = of_command c p
+of_text (deregister slot ticket) p = record {
+  front = codes "deregister";
+  back = _;
+  comes = record { whole = refl; letters = refl; ends = λ e. absurd (cc) };
+  is = refl;
+}
+of_text (release r slot ticket) p = record {
+  front = codes "release";
+  back = _;
+  comes = record { whole = refl; letters = refl; ends = λ e. absurd (cc) };
+  is = refl;
+}
+
+-- a number, a colon and a space
+pub number_comes : (n : ℕ) (rest : List ℕ) → n < 2 ^ 64
+    → Comes (number_text n ++ rest) (decimal n) (58 ∷ 32 ∷ rest)
+number_comes n rest h = record {
+  whole = append_assoc (decimal n) (codes ": ") rest;
+  letters = number_letters n h;
+  ends = λ e. absurd (cc);
+}
+
+-- the name of a caller, and what follows it
+pub begin_comes : (caller : List ℕ) (c : NamedCommand) → IsCaller caller
+    → Comes (begin_text caller c) caller (codes "> " ++ command_text c)
+begin_comes caller c p =
+    record { whole = refl; letters = p.letters; ends = λ e. absurd (cc) }
+
+pub end_comes : (caller words : List ℕ) → IsCaller caller
+    → Comes (caller ++ (codes "< " ++ words)) caller (codes "< " ++ words)
+end_comes caller words p =
+    record { whole = refl; letters = p.letters; ends = λ e. absurd (cc) }
+
+pub crash_comes : (caller : List ℕ) → IsCaller caller
+    → Comes (caller ++ codes "!") caller (codes "!")
+crash_comes caller p =
+    record { whole = refl; letters = p.letters; ends = λ e. absurd (cc) }
+
+-- which line it is
+abbrev pub kind : Line → ℕ
+kind (service l) = 0
+kind (call None c) = 1
+kind (call (Some n) c) = 2
+kind (reply words) = 4
+kind (begin None caller c) = 3
+kind (begin (Some n) caller c) = 2
+kind (end caller words) = 6
+kind (crash caller) = 7
+
+pub of_line : (l : Line) → IsLine l → Tells (line_text l) (kind l)
+of_line (service l) p = record {
+  front = codes "service";
+  back = _;
+  comes = record { whole = refl; letters = refl; ends = λ e. absurd (cc) };
+  is = refl;
+}
+of_line (call None c) p = of_text c p.1
+of_line (call (Some n) c) p = record {
+  front = decimal n;
+  back = 58 ∷ 32 ∷ command_text c;
+  comes = number_comes n (command_text c) p.0;
+  is = refl;
+}
+of_line (reply words) p = record {
+  front = [];
+  back = codes "= " ++ words;
+  comes = record { whole = refl; letters = refl; ends = λ e. absurd (cc) };
+  is = refl;
+}
+of_line (begin None caller c) p = record {
+  front = caller;
+  back = codes "> " ++ command_text c;
+  comes = begin_comes caller c p.1;
+  is = refl;
+}
+of_line (begin (Some n) caller c) p = record {
+  front = decimal n;
+  back = 58 ∷ 32 ∷ begin_text caller c;
+  comes = number_comes n (begin_text caller c) p.0;
+  is = refl;
+}
+of_line (end caller words) p = record {
+  front = caller;
+  back = codes "< " ++ words;
+  comes = end_comes caller words p;
+  is = refl;
+}
+of_line (crash caller) p = record {
+  front = caller;
+  back = codes "!";
+  comes = crash_comes caller p;
+  is = refl;
+}
+
+pub kind_call : (n : Option ℕ) (c : NamedCommand) → (1 ≤ kind (call n c)) × (kind (call n c) ≤ 2)
+kind_call None c = (omega arith, omega arith)
+kind_call (Some n) c = (omega arith, omega arith)
+
+pub kind_begin : (n : Option ℕ) (caller : List ℕ) (c : NamedCommand)
+    → (2 ≤ kind (begin n caller c)) × (kind (begin n caller c) ≤ 3)
+kind_begin None caller c = (omega arith, omega arith)
+kind_begin (Some n) caller c = (omega arith, omega arith)

@@ -1,0 +1,89 @@
+-- The lines of logs.
+use Rattle.std.specs.Prelude.{◌≡◌, ◌==◌, ◌&&◌, ℕ, ◌<◌, ◌≤◌, ◌^◌, Bool, true, IsTrue, List, [], ◌∷◌, ◌++◌, Option, Some, None, codes, length}
+use Rattle.std.specs.Char.{is_ascii_alphanumeric}
+use Rattle.std.specs.Fmt.{decimal}
+use Rattle.service_descriptions.specs.declared.replay.lines.service_line.ServiceLine.{ServiceLine}
+use Rattle.service_descriptions.specs.Script.{IsServiceLine, service_line}
+use Rattle.log_lines.specs.declared.line.LogLine.{LogLine}
+use Rattle.log_lines.specs.declared.line.LogLine.TheVariants as spelled
+use Rattle.log_lines.specs.Commands.{HasText, NamedCommand, command_text, named}
+
+-- whether a line is a note: it is empty, or begins with a number sign
+abbrev pub is_note : List ℕ → Bool
+is_note [] = true
+is_note (first ∷ others) = first == 35
+
+-- a letter or a digit
+abbrev pub IsNameByte : ℕ → Type 0
+IsNameByte byte = IsTrue (is_ascii_alphanumeric byte)
+
+-- whether all are letters and digits
+abbrev pub are_letters : List ℕ → Bool
+are_letters [] = true
+are_letters (byte ∷ bytes) = is_ascii_alphanumeric byte && are_letters bytes
+
+-- the name of a caller: one to sixteen letters and digits
+pub record IsCaller (name : List ℕ) : Type 0 where
+  pub letters : IsTrue (are_letters name)
+  pub some : 0 < length name
+  pub few : length name ≤ 16
+
+-- the number of a service before a call on it
+abbrev pub number_text : ℕ → List ℕ
+number_text number = decimal number ++ codes ": "
+
+-- what stands before a call: nothing, or the number of its service
+abbrev pub name_text : Option ℕ → List ℕ
+name_text None = []
+name_text (Some number) = number_text number
+
+-- there is none, or it is a number of 64 bits
+abbrev pub HasNumber : Option ℕ → Type 0
+HasNumber None = Unit {0}
+HasNumber (Some number) = number < 2 ^ 64
+
+-- the begin of a call of this caller
+abbrev pub begin_text : List ℕ → NamedCommand → List ℕ
+begin_text caller command = caller ++ (codes "> " ++ command_text command)
+
+-- A line that says something: a service; a call alone, on the service of a number or on the only
+-- one; the words of its reply; the begin of a caller's call; its end, with the words of the reply;
+-- or that the caller died.
+pub data Line : Type 0 where
+  service : ServiceLine → Line
+  call : Option ℕ → NamedCommand → Line
+  reply : (words : List ℕ) → Line
+  begin : Option ℕ → (caller : List ℕ) → NamedCommand → Line
+  end : (caller words : List ℕ) → Line
+  crash : (caller : List ℕ) → Line
+
+-- its text
+abbrev pub line_text : Line → List ℕ
+line_text (service line) = service_line line
+line_text (call number command) = name_text number ++ command_text command
+line_text (reply words) = codes "= " ++ words
+line_text (begin number caller command) = name_text number ++ begin_text caller command
+line_text (end caller words) = caller ++ (codes "< " ++ words)
+line_text (crash caller) = caller ++ codes "!"
+
+-- its parts have texts
+abbrev pub IsLine : Line → Type 0
+IsLine (service line) = IsServiceLine line
+IsLine (call number command) = HasNumber number × HasText command
+IsLine (reply words) = Unit {0}
+IsLine (begin number caller command) = HasNumber number × IsCaller caller × HasText command
+IsLine (end caller words) = IsCaller caller
+IsLine (crash caller) = IsCaller caller
+
+-- the line that was read
+abbrev pub line_seen : LogLine → Line
+line_seen (spelled.Service line) = service line
+line_seen (spelled.Call number command) = call number (named command)
+line_seen (spelled.Reply words) = reply words.now
+line_seen (spelled.Begin number caller command) = begin number caller.now (named command)
+line_seen (spelled.End caller words) = end caller.now words.now
+line_seen (spelled.Crash caller) = crash caller.now
+
+-- the line is a call, alone or the begin of one, with this number, and this text after it
+abbrev pub IsCallOf : Option ℕ → List ℕ → Line → Type 0
+IsCallOf number rest line = IsLine line × (line_text line ≡ name_text number ++ rest)

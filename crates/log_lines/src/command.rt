@@ -1,0 +1,91 @@
+//! Commands as the lines of a log have them.
+ghost use Rattle.std.specs.Prelude.{IfOk};
+ghost use Rattle.std.specs.Option.{option_map};
+ghost use Rattle.line_streams.specs.Spelling.{Reads};
+ghost use Rattle.service_descriptions.specs.Phrases.{role_phrase};
+ghost use Rattle.log_lines.specs.Commands.{HasText, IsHandle, command_text, handle_text, named};
+
+use iox2_container::container::Role;
+use line_streams::{After, LineEnd, Number, Phrase, Then, after_word};
+use service_descriptions::replay::{LineCommand, command_before};
+use std::alloc::{AllocError, Global};
+
+/// A command as a line of a log has it.
+#[derive(Drop)]
+pub enum LogCommand {
+    /// A command as scripts have it: a removal names an earlier command by its number.
+    Numbered(LineCommand),
+    /// Removes the node's entry with this slot and ticket.
+    Deregister(usize, u64),
+    /// Releases the port with this role, slot and ticket.
+    Release(Role, usize, u64),
+}
+
+/// A slot, or a ticket.
+const NUMBER: Number = Number(u64::MAX);
+
+/// The role of ports whose name begins the bytes, and what follows it.
+fn role_before(bytes: &[u8]) -> Option<(Role, &[u8])>
+    ensures { Reads role_phrase.Fits role_phrase.text
+        (option_map (λ found. (found.0, found.1.now)) result) bytes.now }
+{
+    if let Some(rest) = after_word(bytes, b"publisher") {
+        Some((Role::Publisher, rest))
+    } else if let Some(rest) = after_word(bytes, b"subscriber") {
+        Some((Role::Subscriber, rest))
+    } else if let Some(rest) = after_word(bytes, b"listener") {
+        Some((Role::Listener, rest))
+    } else if let Some(rest) = after_word(bytes, b"notifier") {
+        Some((Role::Notifier, rest))
+    } else if let Some(rest) = after_word(bytes, b"server") {
+        Some((Role::Server, rest))
+    } else if let Some(rest) = after_word(bytes, b"client") {
+        Some((Role::Client, rest))
+    } else if let Some(rest) = after_word(bytes, b"reader") {
+        Some((Role::Reader, rest))
+    } else if let Some(rest) = after_word(bytes, b"writer") {
+        Some((Role::Writer, rest))
+    } else {
+        None
+    }
+}
+
+/// The slot and the ticket that the bytes are.
+fn handle_of(bytes: &[u8]) -> Option<(usize, u64)>
+    ensures { Reads IsHandle handle_text (option_map (λ found. (found.0, found.1)) result)
+        bytes.now }
+{
+    let two = Then(NUMBER, After(b" ", Then(NUMBER, LineEnd::Bytes)));
+    let Some(((slot, (ticket, ())), _)) = two.read(bytes) else {
+        return None;
+    };
+    Some((slot as usize, ticket))
+}
+
+/// The command whose text this is.
+pub(crate) fn read_command(alloc: Global, line: &[u8]) -> Result<Option<LogCommand>, AllocError>
+    ensures { IfOk result (λ found. Reads HasText command_text (option_map named found) line.now) }
+{
+    if let Some((command, _)) = command_before(alloc, line, LineEnd::Bytes)? {
+        return Ok(Some(LogCommand::Numbered(command)));
+    }
+    if let Some(rest) = after_word(line, b"deregister ") {
+        let Some((slot, ticket)) = handle_of(rest) else {
+            return Ok(None);
+        };
+        return Ok(Some(LogCommand::Deregister(slot, ticket)));
+    }
+    let Some(rest) = after_word(line, b"release ") else {
+        return Ok(None);
+    };
+    let Some((role, rest)) = role_before(rest) else {
+        return Ok(None);
+    };
+    let Some(rest) = after_word(rest, b" ") else {
+        return Ok(None);
+    };
+    let Some((slot, ticket)) = handle_of(rest) else {
+        return Ok(None);
+    };
+    Ok(Some(LogCommand::Release(role, slot, ticket)))
+}

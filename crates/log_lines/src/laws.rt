@@ -1,0 +1,14 @@
+//! What holds of all lines.
+ghost use Rattle.log_lines.specs.Laws.{LinesAreReadOneWay, NotesAreNoLines};
+
+/// No two lines have one text, but for the command of a call.
+#[tactic(auto, using(crate::proofs::OneReading::one_way))]
+pub fn lines_are_read_one_way()
+    ensures { LinesAreReadOneWay }
+{}
+
+/// A note is no line that says something.
+#[tactic(auto, using(crate::proofs::OneReading::notes_are_none))]
+pub fn notes_are_no_lines()
+    ensures { NotesAreNoLines }
+{}

@@ -1,0 +1,11 @@
+//! The lines of logs: what was called on services, and what was answered.
+#![tactic(auto)]
+
+mod command;
+pub mod laws;
+mod line;
+mod name;
+mod service;
+
+pub use command::LogCommand;
+pub use line::{LogLine, is_note, read_log_line};

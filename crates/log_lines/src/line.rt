@@ -1,0 +1,128 @@
+//! Lines of a log.
+ghost use Rattle.std.specs.Prelude.{◌≡◌, ◌≢◌, ◌++◌, ℕ, List, Option, IfNone, IfOk, IfSome, codes};
+ghost use Rattle.std.specs.Option.{option_map};
+ghost use Rattle.line_streams.specs.Spelling.{Reads};
+ghost use Rattle.log_lines.specs.Commands.{HasText, NamedCommand, command_text};
+ghost use Rattle.log_lines.specs.Lines.{HasNumber, IsCaller, IsLine, IsCallOf, begin_text, is_note, line_seen, line_text};
+
+use super::command::{LogCommand, read_command};
+use super::name::{is_caller, number_front, split_name};
+use super::service::service_of;
+use line_streams::after_word;
+use service_descriptions::replay::ServiceLine;
+use std::alloc::{AllocError, Global};
+
+/// A line of a log that says something.
+#[derive(Drop)]
+pub enum LogLine<'a> {
+    /// A service.
+    Service(ServiceLine),
+    /// A call that overlaps none of its caller's, with the number of its service or without. Its
+    /// reply follows.
+    Call(Option<u64>, LogCommand),
+    /// The words of the reply to the call above.
+    Reply(&'a [u8]),
+    /// The begin of a call: the number of its service or none, its caller, and its command.
+    Begin(Option<u64>, &'a [u8], LogCommand),
+    /// The end of a caller's call, with the words of its reply.
+    End(&'a [u8], &'a [u8]),
+    /// The caller died.
+    Crash(&'a [u8]),
+}
+
+/// Whether a line says nothing: it is empty, or begins with `#`.
+pub fn is_note(line: &[u8]) -> bool
+    ensures { result ≡ is_note line.now }
+{
+    match line {
+        [] => true,
+        [first, ..] => *first == b'#',
+    }
+}
+
+/// The call whose text this is, alone or the begin of one, after the number of its service.
+fn call_of<'a>(
+    alloc: Global,
+    number: Option<u64>,
+    rest: &'a [u8],
+) -> Result<Option<LogLine<'a>>, AllocError>
+    requires { HasNumber number }
+    ensures some { IfOk result (λ found. IfSome found (λ line. IsCallOf number rest.now
+        (line_seen line))) }
+    ensures alone { IfOk result (λ found. IfNone found ((command : NamedCommand)
+        → HasText command → rest.now ≢ command_text command)) }
+    ensures begun { IfOk result (λ found. IfNone found ((caller : List ℕ)
+        (command : NamedCommand) → IsCaller caller → HasText command
+        → rest.now ≢ begin_text caller command)) }
+{
+    let (caller, after) = split_name(rest);
+    let Some(text) = after_word(after, b"> ") else {
+        return match read_command(alloc, rest)? {
+            Some(command) => Ok(Some(LogLine::Call(number, command))),
+            None => Ok(None),
+        };
+    };
+    if !is_caller(caller) {
+        return Ok(None);
+    }
+    match read_command(alloc, text)? {
+        Some(command) => Ok(Some(LogLine::Begin(number, caller, command))),
+        None => Ok(None),
+    }
+}
+
+/// The line of a caller whose call ends, or who died.
+fn end_of(line: &[u8]) -> Option<LogLine<'_>>
+    ensures some { IfSome result (λ found. IsLine (line_seen found)
+        × (line.now ≡ line_text (line_seen found))) }
+    ensures ended { IfNone result ((caller words : List ℕ) → IsCaller caller
+        → line.now ≢ caller ++ (codes "< " ++ words)) }
+    ensures died { IfNone result ((caller : List ℕ) → IsCaller caller
+        → line.now ≢ caller ++ codes "!") }
+{
+    let (caller, after) = split_name(line);
+    if !is_caller(caller) {
+        return None;
+    }
+    if let Some(words) = after_word(after, b"< ") {
+        return Some(LogLine::End(caller, words));
+    }
+    let Some(rest) = after_word(after, b"!") else {
+        return None;
+    };
+    if !rest.is_empty() {
+        return None;
+    }
+    Some(LogLine::Crash(caller))
+}
+
+/// Parses a line without its newline, or returns `None` where it is not the text of one.
+///
+/// The lines are those of services, the commands of scripts, `= WORDS`, `CALLER> COMMAND`,
+/// `CALLER< WORDS` and `CALLER!`. A caller's name is one to sixteen ASCII letters and digits.
+/// Before a command or a caller that begins one, `7: ` says that it is on the service with this
+/// number. Removals may also be `deregister SLOT TICKET` and `release ROLE SLOT TICKET`. No line
+/// has two readings.
+pub fn read_log_line(alloc: Global, line: &[u8]) -> Result<Option<LogLine<'_>>, AllocError>
+    ensures { IfOk result (λ found. Reads IsLine line_text (option_map line_seen found) line.now) }
+{
+    if let Some(words) = after_word(line, b"= ") {
+        return Ok(Some(LogLine::Reply(words)));
+    }
+    if let Some(service) = service_of(alloc, line)? {
+        return Ok(Some(LogLine::Service(service)));
+    }
+    if let Some((number, rest)) = number_front(line) {
+        return match call_of(alloc, Some(number), rest)? {
+            Some(found) => Ok(Some(found)),
+            None => Ok(None),
+        };
+    }
+    if let Some(found) = end_of(line) {
+        return Ok(Some(found));
+    }
+    match call_of(alloc, None, line)? {
+        Some(found) => Ok(Some(found)),
+        None => Ok(None),
+    }
+}
