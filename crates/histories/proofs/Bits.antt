@@ -34,7 +34,8 @@ put_apart one other slot h none gone same =
     elim (cases_eq i slot) as (λ _. bit_at one i ≡ bit_at other i) [
       | inl e ↦ ap (bit_at one) e ∙ (none ∙ sym (ap (bit_at other) e ∙ gone))
       | inr ne ↦
-          sym (put_other one slot i h ne) ∙ (ap (λ w. bit_at w i) same ∙ put_other other slot i h ne)
+          sym (put_other one slot i h ne)
+          ∙ (ap (λ w. bit_at w i) same ∙ put_other other slot i h ne)
     ])
 
 -- the order in which slots go is free

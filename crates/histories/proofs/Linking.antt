@@ -236,7 +236,8 @@ module _ {S : Type 0} where
         | inr past ↦
             let at : from + (place - from) ≡ place = omega (arith, past) in
             subst (λ i. ¬ (IsSame (get_or configs i d) config)) at
-            (subst (λ (k : Config S). ¬ (IsSame k config)) (get_or-drop from configs (place - from) d)
+            (subst (λ (k : Config S). ¬ (IsSame k config))
+            (get_or-drop from configs (place - from) d)
             (rest (place - from) d
             (omega (arith, length-drop from configs, below, past))))
       ]

@@ -1,7 +1,7 @@
 //! Chains of configurations, by the calls that wait.
 //!
-//! A chain goes from its last configuration to the one before it. Links name how many configurations
-//! there are up to the one that they lead to, or 0 at the end.
+//! A chain goes from its last configuration to the one before it. Links name how many
+//! configurations there are up to the one that they lead to, or 0 at the end.
 ghost use Rattle.std.specs.Prelude.{◌≡◌, ◌+◌, ◌<◌, ◌≤◌, ◌↔◌, IfOk, IsFalse, IsTrue, OnOk, get_or, length};
 ghost use Rattle.histories.specs.Chained.{AreChained, AreOther, chain_of};
 ghost use Rattle.histories.specs.Frontier.{IsSame};

@@ -17,7 +17,7 @@ fn begin_window<M: Machine>(alloc: Global, machine: &M, window: &mut Window<M::S
     window.begin = count;
 }
 
-/// Follows the events. Returns the window that they end in, or the place of the event at which they
+/// Follows the events. Returns the window that they end in, or the index of the event at which they
 /// are not followed further, and why.
 pub(super) fn follow<M: Machine>(
     alloc: Global,

@@ -30,8 +30,8 @@ fn refused<M: Machine>(
 }
 
 /// Judges a history that begins in one of these states: whether some order of its calls explains
-/// it. What is kept grows with what lies between two places at which no call is open, and not with
-/// the history.
+/// it. What is kept grows with what lies between two events after which no call is open, and not
+/// with the history.
 ///
 /// Where an event is refused, the events before it are followed once more.
 pub fn judge_windows<M: Machine>(

@@ -15,13 +15,13 @@ pub struct Window<S> {
 pub enum Verdict<S> {
     /// Some order explains it.
     Explained,
-    /// No order explains the events up to the one at this place, by which a call was answered, and
+    /// No order explains the events up to the one at this index, by which a call was answered, and
     /// one explains those before it. The window is that of these.
     Refused(usize, Window<S>),
-    /// At the event of this place more than `histories::MAX_CONFIGS` configurations were to be
+    /// At the event of this index more than `histories::MAX_CONFIGS` configurations were to be
     /// followed: not decided.
     ManyConfigs(usize),
-    /// From the event of this place on more than `histories::MAX_OPEN` calls are open: not decided.
+    /// From the event of this index on more than `histories::MAX_OPEN` calls are open: not decided.
     ManyOpen(usize),
 }
 

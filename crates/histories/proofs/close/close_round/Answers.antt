@@ -29,8 +29,11 @@ returns g c =
     let Step = g.M.Machine.Step c.args.machine.now in
     let layer = c.args.layer in
     let end = YieldsList-end
-    (YieldsList-from_vec {s = c.into_iter-config-iterator.result} layer.items c.into_iter-config-iterator.ensures.into_iter_gives.0 (c.into_iter-config-iterator.ensures.into_iter_gives.1 ∙ layer.ok.0))
-    c.loop-config.yielded _ c.loop-config.yielded_by _ c.next.new.self c.in-None.is c.next.ensures.steps in
+    (YieldsList-from_vec {s = c.into_iter-config-iterator.result} layer.items
+    c.into_iter-config-iterator.ensures.into_iter_gives.0
+    (c.into_iter-config-iterator.ensures.into_iter_gives.1 ∙ layer.ok.0))
+    c.loop-config.yielded _ c.loop-config.yielded_by _ c.next.new.self
+    c.in-None.is c.next.ensures.steps in
     let all : c.loop-config.yielded ≡ layer.items = sym (map-id c.loop-config.yielded) ∙ end.0 in (
       subst (λ (l : List (Config _)). Gathers (FromOne (IsDone c.args.slot) l) c.args.done.now
           c.loop-config.done) all c.loop-config.invariant.0,

@@ -24,8 +24,11 @@ pub returns : goal.returns
 returns g c =
     let found = c.in_ok-found.found in
     let end = YieldsList-end
-    (YieldsList-from_vec {s = c.into_iter-state-iterator.result} found.items c.into_iter-state-iterator.ensures.into_iter_gives.0 (c.into_iter-state-iterator.ensures.into_iter_gives.1 ∙ found.ok.0))
-    c.loop-state.yielded _ c.loop-state.yielded_by _ c.next.new.self c.in-None.is c.next.ensures.steps in
+    (YieldsList-from_vec {s = c.into_iter-state-iterator.result} found.items
+    c.into_iter-state-iterator.ensures.into_iter_gives.0
+    (c.into_iter-state-iterator.ensures.into_iter_gives.1 ∙ found.ok.0))
+    c.loop-state.yielded _ c.loop-state.yielded_by _ c.next.new.self
+    c.in-None.is c.next.ensures.steps in
     let all : c.loop-state.yielded ≡ found.items = sym (map-id c.loop-state.yielded) ∙ end.0 in
     gathers_call (g.M.Machine.Step c.args.machine.now) c.args.slots.now c.args.config.now
     c.args.slot c.args.call found.items _ _ c.requires.waits c.in_ok-found.ensures

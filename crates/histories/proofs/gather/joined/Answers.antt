@@ -19,10 +19,13 @@ pub returns : goal.returns
 returns g c =
     let others = c.args.others in
     let end = YieldsList-end
-    (YieldsList-from_vec {s = c.into_iter-config-iterator.result} others.items c.into_iter-config-iterator.ensures.into_iter_gives.0
-    (c.into_iter-config-iterator.ensures.into_iter_gives.1 ∙ others.ok.0)) c.loop-config.yielded _ c.loop-config.yielded_by _ c.next.new.self
+    (YieldsList-from_vec {s = c.into_iter-config-iterator.result} others.items
+    c.into_iter-config-iterator.ensures.into_iter_gives.0
+    (c.into_iter-config-iterator.ensures.into_iter_gives.1 ∙ others.ok.0))
+    c.loop-config.yielded _ c.loop-config.yielded_by _ c.next.new.self
     c.in-None.is c.next.ensures.steps in
     let all : c.loop-config.yielded ≡ others.items = sym (map-id c.loop-config.yielded) ∙ end.0 in
     rw c.into_configs.ensures
-    (subst (λ (l : List (Config _)). Gathers (FromOne IsCopy l) c.args.configs.items c.loop-config.all)
+    (subst (λ (l : List (Config _)). Gathers (FromOne IsCopy l) c.args.configs.items
+    c.loop-config.all)
     all c.loop-config.invariant)
