@@ -186,8 +186,8 @@ class UnknownKey(Value):
     key: str
     """Its path, as `defaults.event.max-node`."""
     meant: Optional[str]
-    """The path of the known key of the same table that was probably meant: the nearest, where at
-    most two characters must be inserted, removed or changed."""
+    """The path of the known key that was probably meant: the same key but for `-`, `_` and case, or
+    else the same key of another table, the one whose path stands in quotes, or the nearest one."""
 
     def __str__(self) -> str:
         return f"{self.key}: {self.meant} may be meant" if self.meant else self.key

@@ -49,8 +49,8 @@ pub struct ConfigFile {
 pub struct UnknownKey {
     /// The path of the key.
     pub key: String,
-    /// The path of the known key of the same table that was probably meant: the nearest, where at
-    /// most two characters must be inserted, removed or changed.
+    /// The path of the known key that was probably meant: the same key but for `-`, `_` and case, or
+    /// else the same key of another table, the one whose path stands in quotes, or the nearest one.
     pub meant: Option<String>,
 }
 
@@ -94,7 +94,7 @@ pub enum Fault {
     UnknownVariant(SettingKind),
     /// It is not a table of the integers `secs` and `nanos` alone.
     NoDuration,
-    /// Its `nanos` are a second or more.
+    /// Its `nanos` are 2^32 or more.
     NanosTooLarge,
 }
 
