@@ -13,7 +13,7 @@ use Rattle.histories.specs.Frontier.{HasManyOpen, IsFrontOf, IsSound}
 use Rattle.histories.specs.Splitting.{BeginsAnew, IsQuiet}
 use Rattle.histories.proofs.Events.{begins_none, sound_none}
 use Rattle.histories.proofs.Explaining.{explains_begin, explains_end}
-use Rattle.histories.proofs.Splitting.{begins-append}
+use Rattle.histories.proofs.Cutting.{begins-append}
 use Rattle.histories.proofs.Verdicts.{AreNumbered, agrees_same, ends_of, explained_take, frontier_explained, frontier_refused, frontier_some, next_fresh, next_of, numbered_more, numbered_none, one_more, sound_more}
 use Rattle.history_windows.specs.declared.window.Stop.TheVariants as stop
 use Rattle.history_windows.specs.declared.window.Window.{Window}

@@ -6,7 +6,7 @@ use Rattle.histories.specs.declared.event.Event.TheVariants.{End, Crash}
 use Rattle.histories.specs.Histories.{begins, HasEnded, IsOpen, StandsAt}
 use Rattle.histories.specs.Frontier.{IsSound}
 use Rattle.histories.specs.Splitting.{IsQuiet}
-use Rattle.histories.proofs.Splitting.{begins-append}
+use Rattle.histories.proofs.Cutting.{begins-append}
 
 stands_left : (es fs : List Event) (k : ℕ) (x : Event) → StandsAt es k x
     → StandsAt (es ++ fs) k x
