@@ -5,7 +5,7 @@
 #[cfg(test)]
 mod groups;
 #[cfg(test)]
-mod histories;
+mod overlapping;
 #[cfg(test)]
 mod rows;
 #[cfg(test)]

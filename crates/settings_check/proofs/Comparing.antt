@@ -7,7 +7,8 @@ use Rattle.std.specs.declared.alloc.Global.{Global}
 use Rattle.std.specs.declared.io.Error.{Error}
 use Rattle.std.specs.declared.vec.IntoIter.{IntoIter}
 use Rattle.iox2_config.specs.declared.config.Config.{Config}
-use Rattle.settings_check.specs.Answer.{AreCompared}
+use Rattle.config_report.specs.Text.{IsReportText}
+use Rattle.settings_check.specs.Answer.{AreCompared, IsTextOf}
 use Rattle.settings_check.specs.Compare.{AreAllDifferences}
 use Rattle.settings_check.specs.Found.{Said}
 use Rattle.settings_check.specs.Streams.{input_is_read, output_text, error_text, code_of, AnswersArguments, Reported, Ends}
@@ -16,6 +17,11 @@ use Rattle.settings_check.specs.declared.answer.Answer.{Answer}
 use Rattle.settings_check.specs.declared.arguments.Request.{Request}
 use Rattle.settings_check.specs.declared.arguments.RequestError.{RequestError}
 use Rattle.settings_check.specs.declared.files.FileError.{FileError}
+
+-- a configuration is shown
+pub text_is : (first : Option Config) (config : Config) (text : List ℕ) → first ≡ Some config
+    → IsReportText config text → IsTextOf first text
+text_is first config text p report = rw p report
 
 -- two configurations are compared
 pub compared_is : (file : Option (String Global)) (first second : Option Config)

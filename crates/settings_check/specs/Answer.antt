@@ -52,14 +52,14 @@ pub record IsChecked (way : Style) (strict : Bool) (seen : Seen) (answer : Answe
   pub errors : string_bytes answer.errors ≡ unread_text seen
   pub status : answer.status ≡ status_of strict seen
 
--- all settings of the first configuration and what follows from them, or nothing
-abbrev pub IsTextOf : List Config → List ℕ → Type 0
-IsTextOf [] text = text ≡ []
-IsTextOf (config ∷ others) text = IsReportText config text
+-- all settings of a configuration and what follows from them, or nothing where there is none
+abbrev pub IsTextOf : Option Config → List ℕ → Type 0
+IsTextOf None text = text ≡ []
+IsTextOf (Some config) text = IsReportText config text
 
 -- the settings are shown, and all else is reported to the errors
 pub record IsShown (strict : Bool) (seen : Seen) (answer : Answer) : Type 0 where
-  pub output : IsTextOf seen.configs (string_bytes answer.output)
+  pub output : IsTextOf (slice_get seen.configs 0) (string_bytes answer.output)
   pub errors : string_bytes answer.errors ≡ lines_in style.Plain seen.said ++ unread_text seen
   pub status : answer.status ≡ status_of strict seen
 

@@ -8,7 +8,6 @@ use Rattle.iox2_config_file.specs.Rows.{prefix_of}
 use Rattle.iox2_config_file.specs.Settings.{Setting, settings_in}
 use Rattle.iox2_config_file.specs.Values.{SettingValue}
 use Rattle.iox2_config_file.specs.Write.{value_text}
-use Rattle.config_report.specs.Notes.{note}
 use Rattle.config_report.specs.declared.finding.Severity.{Severity}
 use Rattle.config_report.specs.declared.finding.Severity.TheVariants.{Error, Warning}
 use Rattle.settings_check.specs.Found.{Said}
@@ -33,9 +32,13 @@ sharing_text s =
 abbrev pub difference : List ℕ → Section → List ℕ → SettingValue → SettingValue → Said
 difference file s key value other = (
   file,
-  note None (difference_severity s) (Some (prefix_of s ++ key))
-      (codes "is " ++ (value_text value ++ (codes " here and " ++ (value_text other
-      ++ (codes " in the other file" ++ sharing_text s))))),
+  record {
+    position = None;
+    severity = difference_severity s;
+    key = Some (prefix_of s ++ key);
+    message = codes "is " ++ (value_text value ++ (codes " here and " ++ (value_text other
+        ++ (codes " in the other file" ++ sharing_text s))));
+  },
 )
 
 -- what is said of two values of a setting: something exactly where they differ

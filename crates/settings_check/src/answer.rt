@@ -116,11 +116,11 @@ fn checked(
     })
 }
 
-/// The text of the first settings, or none.
-fn text_of(alloc: Global, configs: &[Config]) -> Result<String, AllocError>
-    ensures { IfOk result (λ text. IsTextOf configs.now (string_bytes text)) }
+/// The text of the settings, or none.
+fn text_of(alloc: Global, config: Option<&Config>) -> Result<String, AllocError>
+    ensures { IfOk result (λ text. IsTextOf (option_copied config.entry) (string_bytes text)) }
 {
-    match configs.first() {
+    match config {
         Some(config) => settings_text(alloc, config),
         None => Ok(String::new(alloc)),
     }
@@ -130,7 +130,7 @@ fn text_of(alloc: Global, configs: &[Config]) -> Result<String, AllocError>
 fn shown(alloc: Global, strict: bool, found: &Found<'_>) -> Result<Answer, AllocError>
     ensures { IfOk result (IsShown strict (found_view found.now)) }
 {
-    let output = text_of(alloc, found.configs.as_slice())?;
+    let output = text_of(alloc, found.configs.first())?;
     let mut errors = String::new(alloc);
     write_lines(alloc, &mut errors, Style::Plain, found.reports.as_slice())?;
     write_unread(alloc, &mut errors, found.unread.as_slice())?;
