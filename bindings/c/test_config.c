@@ -240,7 +240,7 @@ static void each_fault(void) {
     CHECK(fault->wanted == IOX2SD_KIND_ALLOCATION);
     fault = first("global.creation-timeout = {secs = 1}", IOX2SD_STATUS_NO_DURATION);
     CHECK(fault->wanted == IOX2SD_KIND_DURATION);
-    fault = first("global.creation-timeout = {secs = 1, nanos = 1000000000}",
+    fault = first("global.creation-timeout = {secs = 1, nanos = 4294967296}",
                   IOX2SD_STATUS_BAD_DURATION);
     CHECK(fault->wanted == IOX2SD_KIND_DURATION && has_key(fault, "global.creation-timeout"));
     fault = first("global = {}\nprefix", IOX2SD_STATUS_NOT_TOML);

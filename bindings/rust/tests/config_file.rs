@@ -198,7 +198,7 @@ fn each_fault_is_told_with_its_key() {
             Fault::NoDuration,
         ),
         (
-            "defaults.event.deadline = {secs = 1, nanos = 1_000_000_000}",
+            "defaults.event.deadline = {secs = 1, nanos = 4_294_967_296}",
             "defaults.event.deadline",
             Fault::NanosTooLarge,
         ),
