@@ -1,6 +1,7 @@
 //! What is written of files.
 
 use super::running::{Known, run};
+use std::alloc::{AllocError, Global};
 use std::test::Fail;
 
 /// A file with a fault, a key that no setting has, and a key with a command to a terminal.
@@ -129,14 +130,27 @@ const RUNS: [Run<'_>; 10] = [
     (&["--version"], 0, "iox2-check 0.1.0 (iceoryx2 0.9.3)\n", ""),
 ];
 
+/// Whether a run with some words ends with the status, and writes these texts.
+fn reports(
+    alloc: Global,
+    words: &[&str],
+    status: u8,
+    output: &str,
+    errors: &str,
+) -> Result<bool, AllocError> {
+    let found = run(alloc, false, words, FILES, b"")?;
+    Ok(
+        found.0 == status
+            && found.1.as_slice() == output.as_bytes()
+            && found.2.as_slice() == errors.as_bytes(),
+    )
+}
+
 #[test]
 fn files_are_reported(rt: HostRuntime) -> Result<(), Fail> {
     for (words, status, output, errors) in &RUNS {
-        let found = run(rt.alloc(), false, words, FILES, b"")?;
-        assert_eq!(rt;
-            (found.0, found.1.as_slice(), found.2.as_slice()),
-            (*status, output.as_bytes(), errors.as_bytes())
-        );
+        let is_reported = reports(rt.alloc(), words, *status, output, errors)?;
+        assert_eq!(rt; is_reported, true);
     }
     Ok(())
 }
