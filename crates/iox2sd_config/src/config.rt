@@ -114,6 +114,7 @@ fn texts_of(global: &Global) -> PlainTexts
 }
 
 /// All settings of a configuration.
+#[inline(never)]
 pub(crate) fn config_of(config: &Config) -> PlainConfig
     ensures { result ≡ told_config config.now }
 {
