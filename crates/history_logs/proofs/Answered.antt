@@ -1,0 +1,372 @@
+-- Where replies stand in what was read.
+use Rattle.std.proofs.Common.{◌≡◌, ◌≢◌, ◌⊎◌, ℕ, zero, suc, ◌+◌, ◌<◌, ◌≤◌, All, AllPairs, List, [], ◌∷◌, ◌++◌, Option, Some, None, get_or, length, slice_get, refl, sym, ◌∙◌, ap, subst, arith, inl, inr, append_assoc}
+use Rattle.std.specs.List.{slice_set}
+use Rattle.std.proofs.lemmas.Bool.{cases_eq}
+use Rattle.std.proofs.lemmas.List.Elements.{All-head, All-nil, All-push, All-set, All-tail, All-weaker}
+use Rattle.std.proofs.lemmas.List.Quantifiers.{all_pairs_push}
+use Rattle.histories.specs.declared.event.Event.{Event}
+use Rattle.histories.specs.declared.event.Event.TheVariants.{Begin, End, Crash}
+use Rattle.histories.specs.Histories.{IsOpen, StandsAt}
+use Rattle.histories.proofs.Events.{stands_cases, stands_within}
+use Rattle.line_streams.specs.Spelling.{HasNo}
+use Rattle.log_lines.specs.Lines.{IsLine, Line, line_text}
+use Rattle.log_lines.specs.Lines.Line.{service, call, reply, begin, end, crash}
+use Rattle.service_conformance.specs.declared.conformance.seen_reply.SeenReply.{SeenReply}
+use Rattle.service_conformance.specs.Calls.{Call, answered}
+use Rattle.service_conformance.specs.Seen.{seen_text}
+use Rattle.service_descriptions.specs.declared.replay.lines.service_line.ServiceLine.{ServiceLine}
+use Rattle.history_logs.specs.declared.logs.service.LogCall.{LogCall}
+use Rattle.history_logs.specs.declared.logs.verdict.Expected.{Expected}
+use Rattle.history_logs.specs.Good.{IsKept, IsOrderly, IsReadTo}
+use Rattle.history_logs.specs.Placed.{Answers, IsAnsweredIn, IsLineAt, IsPlaced}
+use Rattle.history_logs.specs.Reading.{Dies, GoesOn, HasRead, Log, Says}
+use Rattle.history_logs.specs.Reading.HasRead.{nothing as none_read, note as note_read, line as line_read}
+use Rattle.history_logs.specs.declared.logs.callers.CallerState.{CallerState}
+use Rattle.history_logs.specs.declared.logs.callers.CallerState.TheVariants as caller
+use Rattle.history_logs.proofs.Kept.{kept_new, kept_step}
+use Rattle.history_logs.proofs.Orderly.{open_new}
+use Rattle.history_logs.specs.Seen.{Service, calls_answered, unseen, with_begin, with_crash, with_end}
+
+-- so it is above a line: the events stand in these lines, and replies where their calls end,
+-- whatever follows
+pub record PlacedTo (text : List ℕ) (count : ℕ) (s : Service) : Type 0 where
+  pub long : length s.places ≡ length s.events
+  pub rising : AllPairs (λ (one other : ℕ). one ≤ other) s.places
+  pub upto : All (λ p. p ≤ count) s.places
+  pub answers : (place number k : ℕ) → StandsAt s.events place (End number)
+      → slice_get s.places place ≡ Some k → (rest : List ℕ)
+      → IsAnsweredIn (text ++ rest) s number k
+
+get_back : {X : Type 0} (xs : List X) (y : X) (i : ℕ) (x : X) → i < length xs
+    → slice_get (xs ++ y ∷ []) i ≡ Some x → slice_get xs i ≡ Some x
+get_back [] y i x h e = absurd (omega (arith, h))
+get_back (z ∷ xs) y zero x h e = e
+get_back (z ∷ xs) y (suc i) x h e = get_back xs y i x (omega (arith, h)) e
+
+get_on : {X : Type 0} (xs : List X) (y : X) (i : ℕ) (x : X) → slice_get xs i ≡ Some x
+    → slice_get (xs ++ y ∷ []) i ≡ Some x
+get_on [] y i x e = absurd (cc)
+get_on (z ∷ xs) y zero x e = e
+get_on (z ∷ xs) y (suc i) x e = get_on xs y i x e
+
+get_last : (xs : List ℕ) (y i x : ℕ) → i ≡ length xs → slice_get (xs ++ y ∷ []) i ≡ Some x
+    → y ≡ x
+get_last [] y zero x h e = cc
+get_last [] y (suc i) x h e = absurd (omega (arith, h))
+get_last (z ∷ xs) y zero x h e = absurd (omega (arith, h))
+get_last (z ∷ xs) y (suc i) x h e = get_last xs y i x (omega (arith, h)) e
+
+get_answered : (calls : List Call) (number : ℕ) (r : SeenReply) (c : Call)
+    → slice_get calls number ≡ Some c
+    → slice_get (calls_answered calls number r) number ≡ Some (answered c (seen_text r))
+get_answered [] number r c e = absurd (cc)
+get_answered (x ∷ calls) zero r c e = ap (λ o. Some (answered o (seen_text r))) (some_is x c e)
+  where
+    some_is : (a b : Call) → Some a ≡ Some b → a ≡ b
+    some_is a b e = cc
+get_answered (x ∷ calls) (suc number) r c e = get_answered calls number r c e
+
+get_unanswered : (calls : List Call) (number other : ℕ) (r : SeenReply) → other ≢ number
+    → slice_get (calls_answered calls number r) other ≡ slice_get calls other
+get_unanswered [] number other r n = refl
+get_unanswered (x ∷ calls) zero zero r n = absurd (n refl)
+get_unanswered (x ∷ calls) zero (suc other) r n = refl
+get_unanswered (x ∷ calls) (suc number) zero r n = refl
+get_unanswered (x ∷ calls) (suc number) (suc other) r n =
+    get_unanswered calls number other r (λ e. n (ap suc e))
+
+push_rising : (ps : List ℕ) (count k : ℕ) → AllPairs (λ (one other : ℕ). one ≤ other) ps
+    → All (λ p. p ≤ count) ps → count ≤ k
+    → AllPairs (λ (one other : ℕ). one ≤ other) (ps ++ k ∷ [])
+push_rising ps count k rising upto h =
+    all_pairs_push (λ (one other : ℕ). one ≤ other) ps k rising
+    (λ i d lt. omega (arith, h, upto i d lt))
+
+push_upto : (ps : List ℕ) (count k : ℕ) → All (λ p. p ≤ count) ps → count ≤ k
+    → All (λ p. p ≤ k) (ps ++ k ∷ [])
+push_upto ps count k upto h =
+    All-push (λ p. p ≤ k) ps k (λ i d lt. omega (arith, h, upto i d lt)) (omega arith)
+
+both_long : (ps : List ℕ) (k : ℕ) (es : List Event) (e : Event) → length ps ≡ length es
+    → length (ps ++ k ∷ []) ≡ length (es ++ e ∷ [])
+both_long [] k [] e h = refl
+both_long [] k (x ∷ es) e h = absurd (omega (arith, h))
+both_long (p ∷ ps) k [] e h = absurd (omega (arith, h))
+both_long (p ∷ ps) k (x ∷ es) e h = ap suc (both_long ps k es e (omega (arith, h)))
+
+pub placed_new : (text : List ℕ) (count : ℕ) (line : ServiceLine)
+    → PlacedTo text count (unseen line)
+placed_new text count line = record {
+  long = refl;
+  rising = λ i j d h lt. absurd (omega (arith, lt));
+  upto = All-nil (λ p. p ≤ count);
+  answers = λ place number k at is rest. absurd (cc);
+}
+
+module _ (text : List ℕ) (count : ℕ) (s : Service) (p : PlacedTo text count s) where
+  -- more lines follow
+  pub placed_on : (more : List ℕ) (k : ℕ) → count ≤ k → PlacedTo (text ++ more) k s
+  placed_on more k h = record {
+    long = p.long;
+    rising = p.rising;
+    upto = λ i d lt. omega (arith, h, p.upto i d lt);
+    answers = λ place number line at is rest.
+        subst (λ (l : List ℕ). IsAnsweredIn l s number line) (sym (append_assoc text more rest))
+        (p.answers place number line at is (more ++ rest));
+  }
+
+  module _ (k : ℕ) (h : count ≤ k) where
+    -- a call begins in this line
+    pub placed_begin : (c : LogCall) → PlacedTo text k (with_begin s c k)
+    placed_begin c = record {
+      long = both_long s.places k s.events (Begin (length s.calls)) p.long;
+      rising = push_rising s.places count k p.rising p.upto h;
+      upto = push_upto s.places count k p.upto h;
+      answers = λ place number line at is rest.
+          elim (stands_cases s.events (Begin (length s.calls)) place (End number) at)
+          as (λ _. IsAnsweredIn (text ++ rest) (with_begin s c k) number line) [
+            | inl before ↦
+                let lt : place < length s.places =
+                omega (arith, p.long, stands_within s.events place (End number) before) in
+                let a = p.answers place number line before
+                (get_back s.places k place line lt is) rest in
+                (a.0, a.1, get_on s.calls c.seen number a.0 a.2, a.3, a.4)
+            | inr last ↦ let no_end = last.1 in absurd (cc)
+          ];
+    }
+
+    -- the caller of a call died
+    pub placed_crash : (dead : ℕ) → PlacedTo text k (with_crash s dead k)
+    placed_crash dead = record {
+      long = both_long s.places k s.events (Crash dead) p.long;
+      rising = push_rising s.places count k p.rising p.upto h;
+      upto = push_upto s.places count k p.upto h;
+      answers = λ place number line at is rest.
+          elim (stands_cases s.events (Crash dead) place (End number) at)
+          as (λ _. IsAnsweredIn (text ++ rest) (with_crash s dead k) number line) [
+            | inl before ↦
+                let lt : place < length s.places =
+                omega (arith, p.long, stands_within s.events place (End number) before) in
+                p.answers place number line before (get_back s.places k place line lt is) rest
+            | inr last ↦ let no_end = last.1 in absurd (cc)
+          ];
+    }
+
+    -- a call that is open was answered in this line
+    pub placed_end : (ended : ℕ) (r : SeenReply) (c : Call) (l : Line) (words : List ℕ)
+        → IsOpen s.events ended → slice_get s.calls ended ≡ Some c → Says words r → IsLine l
+        → Answers l words → ((rest : List ℕ) → IsLineAt (text ++ rest) k (line_text l))
+        → PlacedTo text k (with_end s ended r k)
+    placed_end ended r c l words live called says is_line answer there = record {
+      long = both_long s.places k s.events (End ended) p.long;
+      rising = push_rising s.places count k p.rising p.upto h;
+      upto = push_upto s.places count k p.upto h;
+      answers = λ place number line at is rest.
+          elim (stands_cases s.events (End ended) place (End number) at)
+          as (λ _. IsAnsweredIn (text ++ rest) (with_end s ended r k) number line) [
+            | inl before ↦
+                let lt : place < length s.places =
+                omega (arith, p.long, stands_within s.events place (End number) before) in
+                let other : number ≢ ended =
+                λ same. live.1
+                (place, inl (subst (λ n. StandsAt s.events place (End n)) same before)) in
+                let a = p.answers place number line before
+                (get_back s.places k place line lt is) rest in
+                (a.0, a.1, get_unanswered s.calls ended number r other ∙ a.2, a.3, a.4)
+            | inr last ↦
+                let same : ended ≡ number = end_is ended number last.1 in
+                let here : k ≡ line =
+                get_last s.places k place line (last.0 ∙ sym p.long) is in (
+                  answered c (seen_text r),
+                  words,
+                  subst
+                      (λ n. slice_get (calls_answered s.calls ended r) n
+                      ≡ Some (answered c (seen_text r)))
+                      same (get_answered s.calls ended r c called),
+                  ap (λ (w : List ℕ). Some w) says.text,
+                  (
+                    l,
+                    is_line,
+                    answer,
+                    subst (λ n. IsLineAt (text ++ rest) n (line_text l)) here (there rest),
+                  ),
+                )
+          ];
+    }
+      where
+        end_is : (a b : ℕ) → End a ≡ End b → a ≡ b
+        end_is a b e = cc
+
+get_within : {X : Type 0} (xs : List X) (i : ℕ) → i < length xs
+    → (x : X) × (slice_get xs i ≡ Some x)
+get_within [] i h = absurd (omega (arith, h))
+get_within (x ∷ xs) zero h = (x, refl)
+get_within (x ∷ xs) (suc i) h = get_within xs i (omega (arith, h))
+
+get_end : {X : Type 0} (xs : List X) (y : X) → slice_get (xs ++ y ∷ []) (length xs) ≡ Some y
+get_end [] y = refl
+get_end (x ∷ xs) y = get_end xs y
+
+all_at : {X : Type 0} (P : X → Type 0) (xs : List X) (i : ℕ) (x : X) → All P xs
+    → slice_get xs i ≡ Some x → P x
+all_at P [] i x all e = absurd (cc)
+all_at P (y ∷ xs) zero x all e = subst P (some_is y x e) (All-head P y xs all)
+  where
+    some_is : {X : Type 0} (a b : X) → Some a ≡ Some b → a ≡ b
+    some_is a b e = cc
+all_at P (y ∷ xs) (suc i) x all e = all_at P xs i x (All-tail P y xs all) e
+
+-- the lines that follow the text have their numbers after those of the text
+abbrev FollowsOn : List ℕ → ℕ → Type 0
+FollowsOn text count =
+    (rest line : List ℕ) (k : ℕ) → IsLineAt rest (suc k) line
+    → IsLineAt (text ++ rest) (count + suc k) line
+
+follows_on : (text : List ℕ) (count : ℕ) (first : List ℕ) → HasNo 10 first → FollowsOn text count
+    → FollowsOn (text ++ (first ++ 10 ∷ [])) (count + 1)
+follows_on text count first none cut rest line k at =
+    let same : count + suc (suc k) ≡ count + 1 + suc k = omega arith in
+    subst (λ n. IsLineAt ((text ++ (first ++ 10 ∷ [])) ++ rest) n line) same
+    (subst (λ (l : List ℕ). IsLineAt l (count + suc (suc k)) line)
+    (sym (append_assoc text (first ++ 10 ∷ []) rest))
+    (cut ((first ++ 10 ∷ []) ++ rest) line (suc k)
+    (first, rest, none, append_assoc first (10 ∷ []) rest, at)))
+
+line_there : (text : List ℕ) (count : ℕ) (first : List ℕ) → HasNo 10 first → FollowsOn text count
+    → (rest : List ℕ) → IsLineAt ((text ++ (first ++ 10 ∷ [])) ++ rest) (count + 1) first
+line_there text count first none cut rest =
+    subst (λ (l : List ℕ). IsLineAt l (count + 1) first)
+    (sym (append_assoc text (first ++ 10 ∷ []) rest))
+    (cut ((first ++ 10 ∷ []) ++ rest) first zero
+    (rest, none, append_assoc first (10 ∷ []) rest))
+
+module _ (text : List ℕ) (count : ℕ) where
+  abbrev Now : Service → Type 0
+  Now = PlacedTo text count
+
+  abbrev Next : Service → Type 0
+  Next = PlacedTo text (count + 1)
+
+  later : (s : Service) → Now s → Next s
+  later s p = record {
+    long = p.long;
+    rising = p.rising;
+    upto = λ i d lt. omega (arith, p.upto i d lt);
+    answers = p.answers;
+  }
+
+  all_later : (ss : List Service) → All Now ss → All Next ss
+  all_later ss all = All-weaker Now Next later ss all
+
+  set_next : (ss new : List Service) (at : ℕ) (t : Service) → All Now ss → Next t
+      → new ≡ slice_set ss at t → All Next new
+  set_next ss new at t all p is =
+      subst (λ (l : List Service). All Next l) (sym is)
+      (All-set Next ss at t p (all_later ss all))
+
+  placed_dies : (ss new : List Service) (state : Option CallerState) → All Now ss
+      → Dies ss (count + 1) state new → All Next new
+  placed_dies ss new None all d = absurd d
+  placed_dies ss new (Some caller.Dead) all d = absurd d
+  placed_dies ss new (Some caller.Idle) all d =
+      subst (λ (l : List Service). All Next l) (sym d) (all_later ss all)
+  placed_dies ss new (Some (caller.Calls at number)) all d =
+      set_next ss new at (with_crash d.0 number (count + 1)) all
+      (placed_crash text count d.0 (all_at Now ss at d.0 all d.1) (count + 1) (omega arith) number)
+      d.2
+
+  placed_step : (old new : Log) (l : Line) → IsKept old → All Now old.services
+      → GoesOn old (count + 1) l new → IsLine l
+      → ((rest : List ℕ) → IsLineAt (text ++ rest) (count + 1) (line_text l))
+      → All Next new.services
+  placed_step old new (service line) kept all g is there =
+      subst (λ (x : Log). All Next x.services) (sym g.2)
+      (All-push Next old.services (unseen line) (all_later old.services all)
+      (placed_new text (count + 1) line))
+  placed_step old new (call number command) kept all g is there =
+      subst (λ (x : Log). All Next x.services) (sym g.4) (all_later old.services all)
+  placed_step old new (reply words) kept all g is there =
+      let s = g.2 in
+      let k = count + 1 in
+      let orderly = all_at IsOrderly old.services g.0 s kept.orderly g.5 in
+      let begun : PlacedTo text k (with_begin s g.1 k) =
+      placed_begin text count s (all_at Now old.services g.0 s all g.5) k (omega arith) g.1 in
+      let ended : PlacedTo text k (with_end (with_begin s g.1 k) (length s.calls) g.3 k) =
+      placed_end text k (with_begin s g.1 k) begun k (omega arith) (length s.calls) g.3 g.1.seen
+      (reply words) words (open_new s g.1 k orderly) (get_end s.calls g.1.seen) g.6 tt refl there in
+      set_next old.services new.services g.0 _ all ended
+      (ap (λ (x : Log). x.services) g.7)
+  placed_step old new (begin number name command) kept all g is there =
+      let s = g.1 in
+      set_next old.services new.services g.0 (with_begin s _ (count + 1)) all
+      (placed_begin text count s (all_at Now old.services g.0 s all g.3.there) (count + 1)
+      (omega arith) _) g.5
+  placed_step old new (end name words) kept all g is there =
+      let s = g.2 in
+      let k = count + 1 in
+      let orderly = all_at IsOrderly old.services g.0 s kept.orderly g.6 in
+      let o = kept.opened name g.0 g.1 g.5 in
+      let same : o.0 ≡ s = same_service o.0 s (sym o.1 ∙ g.6) in
+      let live : IsOpen s.events g.1 =
+      subst (λ (x : Service). IsOpen x.events g.1) same o.2 in
+      let within : g.1 < length s.calls =
+      omega (arith, orderly.numbered g.1 live.0, orderly.counts) in
+      let c = get_within s.calls g.1 within in
+      set_next old.services new.services g.0 (with_end s g.1 g.3 k) all
+      (placed_end text count s (all_at Now old.services g.0 s all g.6) k (omega arith) g.1 g.3 c.0
+      (end name words) words live c.1 g.7 is refl there) g.8
+    where
+      same_service : (a b : Service) → Some a ≡ Some b → a ≡ b
+      same_service a b e = cc
+  placed_step old new (crash name) kept all g is there =
+      placed_dies old.services new.services (old.callers name) all g.1
+
+-- what is kept from line to line
+record ReadOn (text : List ℕ) (count : ℕ) (log : Log) : Type 0 where
+  kept : IsKept log
+  cut : FollowsOn text count
+  placed : All (PlacedTo text count) log.services
+
+read_on : (text : List ℕ) (count : ℕ) (log : Log) → HasRead text count log → ReadOn text count log
+read_on text count log (none_read l services callers waits) = record {
+  kept = kept_new log services callers waits;
+  cut = λ rest line k at.
+      let same : suc k ≡ 0 + suc k = omega arith in
+      subst (λ n. IsLineAt rest n line) same at;
+  placed = subst (λ (ss : List Service). All (PlacedTo [] 0) ss) (sym services)
+      (All-nil (PlacedTo [] 0));
+}
+read_on text count log (note_read before n l read first none is) =
+    let r = read_on before n l read in
+    record {
+      kept = r.kept;
+      cut = follows_on before n first none r.cut;
+      placed = All-weaker (PlacedTo before n) (PlacedTo (before ++ (first ++ 10 ∷ [])) (n + 1))
+          (λ s p. placed_on before n s p (first ++ 10 ∷ []) (n + 1) (omega arith)) log.services
+          r.placed;
+    }
+read_on text count log (line_read before n old read l is none new g) =
+    let r = read_on before n old read in
+    let more = line_text l ++ 10 ∷ [] in
+    record {
+      kept = kept_step old log (n + 1) l r.kept g;
+      cut = follows_on before n (line_text l) none r.cut;
+      placed = placed_step (before ++ more) n old log l r.kept
+          (All-weaker (PlacedTo before n) (PlacedTo (before ++ more) n)
+          (λ s p. placed_on before n s p more n (omega arith)) old.services r.placed)
+          g is (line_there before n (line_text l) none r.cut);
+    }
+
+pub placed_of : (bytes : List ℕ) (services : List Service) (bad : Option (ℕ × Expected))
+    → IsReadTo bytes services bad → All (IsPlaced bytes) services
+placed_of bytes services bad r =
+    let g = r.good in
+    let on = read_on g.text r.count r.log g.read in
+    subst (λ (ss : List Service). All (IsPlaced bytes) ss) r.same
+    (All-weaker (PlacedTo g.text r.count) (IsPlaced bytes)
+    (λ s p. record {
+      rising = p.rising;
+      answers = λ place number k at is.
+          subst (λ (b : List ℕ). IsAnsweredIn b s number k) (sym g.spelled)
+          (p.answers place number k at is r.rest);
+    }) r.log.services on.placed)

@@ -1,0 +1,178 @@
+-- What callers do.
+use Rattle.std.proofs.Common.{◌≡◌, ◌≢◌, ℕ, zero, suc, ◌+◌, ◌<◌, List, [], ◌∷◌, ◌++◌, All, Bool, bytes_eq, true, false, Option, Some, None, length, get_or, set, take, refl, sym, ◌∙◌, ap, subst, arith, if◌then◌else◌}
+use Rattle.std.specs.Prelude.{◌==◌, ◌&&◌}
+use Rattle.std.specs.List.{slice_get}
+use Rattle.std.proofs.lemmas.Bool.Decides.{nat_tests}
+use Rattle.std.proofs.lemmas.List.{take_more}
+use Rattle.std.proofs.lemmas.Slice.Eq.{bytes_eq-Decides}
+use Rattle.std.proofs.lemmas.List.Elements.{All-head, All-push, All-tail}
+use Rattle.history_logs.specs.declared.logs.callers.Caller.{Caller}
+use Rattle.history_logs.specs.declared.logs.callers.CallerState.{CallerState}
+use Rattle.history_logs.specs.Fields.{HasName, IsUnknown, is_name, state_in}
+use Rattle.history_logs.specs.Reading.{Sets}
+
+same_name : (a : List ℕ) → is_name a a ≡ true
+same_name [] = refl
+same_name (x ∷ a) =
+    let rest = same_name a in
+    let here : (x == x) ≡ true = grind (arith, nat_tests) in
+    rw (here, rest) refl
+
+and_parts : (p q : Bool) → (p && q) ≡ true → (p ≡ true) × (q ≡ true)
+and_parts true true h = (refl, refl)
+and_parts true false h = absurd (cc)
+and_parts false true h = absurd (cc)
+and_parts false false h = absurd (cc)
+
+is_same : (a b : List ℕ) → is_name a b ≡ true → a ≡ b
+is_same [] [] e = refl
+is_same [] (y ∷ b) e = absurd (cc)
+is_same (x ∷ a) [] e = absurd (cc)
+is_same (x ∷ a) (y ∷ b) e =
+    let parts = and_parts (x == y) (is_name a b) e in
+    let first : x ≡ y = grind (arith, nat_tests, parts.0) in
+    let rest = is_same a b parts.1 in
+    rw (first, rest) refl
+
+other_name : (a b : List ℕ) → a ≢ b → is_name a b ≡ false
+other_name a b ne = cases (is_name a b) refl
+  where
+    cases : (t : Bool) → is_name a b ≡ t → is_name a b ≡ false
+    cases true e = absurd (ne (is_same a b e))
+    cases false e = e
+
+-- a caller that is none of these does nothing
+pub unknown_state : (known : List Caller) (name : List ℕ) → IsUnknown known name
+    → state_in known name ≡ None
+unknown_state [] name none = refl
+unknown_state (c ∷ known) name none =
+    let not : is_name c.name.items name ≡ false =
+    other_name c.name.items name (All-head (λ (d : Caller). d.name.items ≢ name) c known none) in
+    rw not (unknown_state known name (All-tail (λ (d : Caller). d.name.items ≢ name) c known none))
+
+some_is : (c d : Caller) → Some c ≡ Some d → c ≡ d
+some_is c d e = cc
+
+-- what the caller does that stands at the index
+pub known_state : (known : List Caller) (name : List ℕ) (at : ℕ) (h : HasName known name at)
+    → state_in known name ≡ Some h.c.state
+known_state known name at h = go known at h.c h.there h.named h.first
+  where
+    go : (known : List Caller) (at : ℕ) (c : Caller) → slice_get known at ≡ Some c
+        → c.name.items ≡ name → IsUnknown (take at known) name
+        → state_in known name ≡ Some c.state
+    go [] at c there named first = absurd (cc)
+    go (d ∷ known) zero c there named first =
+        let same : d ≡ c = some_is d c there in
+        let is : is_name d.name.items name ≡ true =
+        subst (λ (n : List ℕ). is_name d.name.items n ≡ true)
+        (ap (λ (x : Caller). x.name.items) same ∙ named) (same_name d.name.items) in
+        rw is (ap (λ (x : Caller). Some x.state) same)
+    go (d ∷ known) (suc at) c there named first =
+        let not : is_name d.name.items name ≡ false =
+        other_name d.name.items name
+        (All-head (λ (x : Caller). x.name.items ≢ name) d (take at known) first) in
+        rw not (go known at c there named
+        (All-tail (λ (x : Caller). x.name.items ≢ name) d (take at known) first))
+
+pub same_bytes : (a b : List ℕ) → bytes_eq a b ≡ true → a ≡ b
+same_bytes a b e = (bytes_eq-Decides a b).0 e
+
+pub other_bytes : (a b : List ℕ) → bytes_eq a b ≡ false → a ≢ b
+other_bytes a b e same = let yes = (bytes_eq-Decides a b).1 same in absurd (cc)
+
+-- what stands at an index
+pub known_at : (known : List Caller) (at : ℕ) (c d : Caller) → slice_get known at ≡ Some c
+    → d ≡ get_or known at d → d ≡ c
+known_at [] at c d there is = absurd (cc)
+known_at (x ∷ known) zero c d there is = is ∙ some_is x c there
+known_at (x ∷ known) (suc at) c d there is = known_at known at c d there is
+
+pub state_at : (known : List Caller) (name : List ℕ) (at : ℕ) (d : Caller)
+    → HasName known name at → d ≡ get_or known at d → Some d.state ≡ state_in known name
+state_at known name at d h is =
+    ap (λ (x : Caller). Some x.state) (known_at known at h.c d h.there is)
+    ∙ sym (known_state known name at h)
+
+-- the first caller of the name does something else from now on
+module _ (name : List ℕ) (state : CallerState) where
+  own_set : (known : List Caller) (at : ℕ) (c n : Caller) → slice_get known at ≡ Some c
+      → n.name.items ≡ name → n.state ≡ state → IsUnknown (take at known) name
+      → state_in (set known at n) name ≡ Some state
+  own_set [] at c n there named does first = absurd (cc)
+  own_set (d ∷ known) zero c n there named does first =
+      let is : is_name n.name.items name ≡ true =
+      subst (λ (m : List ℕ). is_name n.name.items m ≡ true) named (same_name n.name.items) in
+      rw is (ap (λ (s : CallerState). Some s) does)
+  own_set (d ∷ known) (suc at) c n there named does first =
+      let not : is_name d.name.items name ≡ false =
+      other_name d.name.items name
+      (All-head (λ (x : Caller). x.name.items ≢ name) d (take at known) first) in
+      rw not (own_set known at c n there named does
+      (All-tail (λ (x : Caller). x.name.items ≢ name) d (take at known) first))
+
+  others_set : (known : List Caller) (at : ℕ) (c n : Caller) (other : List ℕ)
+      → slice_get known at ≡ Some c → c.name.items ≡ name → n.name.items ≡ name → other ≢ name
+      → state_in (set known at n) other ≡ state_in known other
+  others_set [] at c n other there was named ne = absurd (cc)
+  others_set (d ∷ known) zero c n other there was named ne =
+      let new : is_name n.name.items other ≡ false =
+      other_name n.name.items other (λ e. ne (sym e ∙ named)) in
+      let old : is_name d.name.items other ≡ false =
+      other_name d.name.items other
+      (λ e. ne (sym e ∙ (ap (λ (x : Caller). x.name.items) (some_is d c there) ∙ was))) in
+      rw (new, old) refl
+  others_set (d ∷ known) (suc at) c n other there was named ne =
+      ap (λ (s : Option CallerState). if is_name d.name.items other then Some d.state else s)
+      (others_set known at c n other there was named ne)
+
+  pub set_known : (known : List Caller) (at : ℕ) (d n : Caller) → HasName known name at
+      → d ≡ get_or known at d → n.name.items ≡ d.name.items → n.state ≡ state
+      → Sets (state_in known) name state (state_in (set known at n))
+  set_known known at d n h is same does =
+      let named : n.name.items ≡ name =
+      same ∙ (ap (λ (x : Caller). x.name.items) (known_at known at h.c d h.there is) ∙ h.named) in
+      record {
+        own = own_set known at h.c n h.there named does h.first;
+        others = λ other ne. others_set known at h.c n other h.there h.named named ne;
+      }
+
+  own_push : (known : List Caller) (n : Caller) → n.name.items ≡ name → n.state ≡ state
+      → IsUnknown known name → state_in (known ++ n ∷ []) name ≡ Some state
+  own_push [] n named does none =
+      let is : is_name n.name.items name ≡ true =
+      subst (λ (m : List ℕ). is_name n.name.items m ≡ true) named (same_name n.name.items) in
+      rw is (ap (λ (s : CallerState). Some s) does)
+  own_push (d ∷ known) n named does none =
+      let not : is_name d.name.items name ≡ false =
+      other_name d.name.items name
+      (All-head (λ (x : Caller). x.name.items ≢ name) d known none) in
+      rw not (own_push known n named does
+      (All-tail (λ (x : Caller). x.name.items ≢ name) d known none))
+
+  others_push : (known : List Caller) (n : Caller) (other : List ℕ) → n.name.items ≡ name
+      → other ≢ name → state_in (known ++ n ∷ []) other ≡ state_in known other
+  others_push [] n other named ne =
+      let not : is_name n.name.items other ≡ false =
+      other_name n.name.items other (λ e. ne (sym e ∙ named)) in
+      rw not refl
+  others_push (d ∷ known) n other named ne =
+      ap (λ (s : Option CallerState). if is_name d.name.items other then Some d.state else s)
+      (others_push known n other named ne)
+
+  pub push_known : (known : List Caller) (n : Caller) → IsUnknown known name
+      → n.name.items ≡ name → n.state ≡ state
+      → Sets (state_in known) name state (state_in (known ++ n ∷ []))
+  push_known known n none named does = record {
+    own = own_push known n named does none;
+    others = λ other ne. others_push known n other named ne;
+  }
+
+-- one caller more that has another name
+pub unknown_more : (known : List Caller) (name : List ℕ) (at : ℕ) (d : Caller)
+    → at < length known → IsUnknown (take at known) name → d ≡ get_or known at d
+    → d.name.items ≢ name → IsUnknown (take (at + 1) known) name
+unknown_more known name at d h none is ne =
+    subst (λ (l : List Caller). IsUnknown l name) (sym (take_more known at d h))
+    (All-push (λ (c : Caller). c.name.items ≢ name) (take at known) (get_or known at d) none
+    (λ e. ne (ap (λ (x : Caller). x.name.items) is ∙ e)))

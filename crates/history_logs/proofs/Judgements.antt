@@ -1,0 +1,144 @@
+-- What logs are judged to be.
+use Rattle.std.proofs.Common.{◌≡◌, ℕ, ◌+◌, ◌<◌, ◌≤◌, All, Contains, List, [], ◌∷◌, Option, Some, None, length, slice_get, get_or, sum_by, take, refl, sym, ◌∙◌, ap, subst}
+use Rattle.std.proofs.lemmas.List.Sums.{sum_by_more, sum_by_more_le}
+use Rattle.history_windows.specs.declared.window.Stop.{Stop}
+use Rattle.history_windows.specs.declared.window.Stop.TheVariants as stop
+use Rattle.history_logs.specs.declared.logs.verdict.Expected.{Expected}
+use Rattle.history_logs.specs.declared.logs.verdict.Refusal.{Refusal}
+use Rattle.history_logs.specs.declared.logs.verdict.Verdict.{Verdict}
+use Rattle.history_logs.specs.declared.logs.verdict.Verdict.TheVariants.{Conforms, Refused, ManyConfigs, ManyOpen, BadLine}
+use Rattle.history_logs.specs.Good.{IsReadTo}
+use Rattle.history_logs.specs.Judging.{AreJudged, IsRefusedIn, StopsIn, end_verdict}
+use Rattle.history_logs.specs.Logs.{HasGood, IsRefusal, IsRightAbove, IsSeenRightly, Judged, StopsAt}
+use Rattle.history_logs.specs.Seen.{Service}
+
+some_is : (a b : ℕ) → Some a ≡ Some b → a ≡ b
+some_is a b e = cc
+
+stops_at : (services : List Service) (k line : ℕ) (s : Service) (place : ℕ) (why : Stop)
+    → Contains services s → StopsIn s k place why → line ≡ k → All (IsRightAbove k) services
+    → StopsAt services line s place why
+stops_at services k line s place why has stops same above = record {
+  is = has;
+  stops = stops.stops;
+  there = stops.there ∙ ap Some (sym same);
+  above = subst (λ n. All (IsRightAbove n) services) (sym same) above;
+}
+
+refusal_of : (services : List Service) (k : ℕ) (s : Service) (told : Refusal)
+    → Contains services s → IsRefusedIn s k told → All (IsRightAbove k) services
+    → IsRefusal services told
+refusal_of services k s told has r above = record {
+  s = s;
+  place = r.place;
+  stops = stops_at services k told.line s r.place stop.Refused has r.stops
+      (some_is told.line k (sym r.is_told.ended ∙ r.stops.there)) above;
+  number = r.number;
+  ended = r.ended;
+  call = r.call;
+  called = r.called;
+  words = r.words;
+  window = r.window;
+  is_window = r.is_window;
+  begins = r.is_told.opened;
+  configurations = r.is_told.configurations;
+}
+
+-- something was found
+pub judged_found : (bytes : List ℕ) (services : List Service) (bad : Option (ℕ × Expected))
+    (v : Verdict) → IsReadTo bytes services bad → AreJudged services (Some v) → Judged bytes v
+unfolding Judged
+judged_found bytes services bad (Conforms n m) r f = absurd f.1.2
+judged_found bytes services bad (Refused told) r f = (
+  r.count,
+  r.log,
+  r.rest,
+  r.good,
+  subst (λ (ss : List Service). IsRefusal ss told) (sym r.same)
+      (refusal_of services f.0 f.1.0 told f.1.1 f.1.2 f.1.3),
+)
+judged_found bytes services bad (ManyConfigs line) r f = (
+  r.count,
+  r.log,
+  r.rest,
+  r.good,
+  (
+    f.1.0,
+    f.1.2.1.0,
+    subst (λ (ss : List Service). StopsAt ss line f.1.0 f.1.2.1.0 stop.ManyConfigs) (sym r.same)
+        (stops_at services f.0 line f.1.0 f.1.2.1.0 stop.ManyConfigs f.1.1 f.1.2.1.1 f.1.2.0 f.1.3),
+  ),
+)
+judged_found bytes services bad (ManyOpen line) r f = (
+  r.count,
+  r.log,
+  r.rest,
+  r.good,
+  (
+    f.1.0,
+    f.1.2.1.0,
+    subst (λ (ss : List Service). StopsAt ss line f.1.0 f.1.2.1.0 stop.ManyOpen) (sym r.same)
+        (stops_at services f.0 line f.1.0 f.1.2.1.0 stop.ManyOpen f.1.1 f.1.2.1.1 f.1.2.0 f.1.3),
+  ),
+)
+judged_found bytes services bad (BadLine line e) r f = absurd f.1.2
+
+-- nothing was found, and no line is bad
+pub judged_conforms : (bytes : List ℕ) (services : List Service) (n m : ℕ)
+    → IsReadTo bytes services None → AreJudged services None
+    → n ≡ sum_by (λ (s : Service). length s.calls) services → m ≡ length services
+    → Judged bytes (Conforms n m)
+unfolding Judged
+judged_conforms bytes services n m r all calls count = (
+  r.count,
+  r.log,
+  subst (λ (l : List ℕ). HasGood bytes r.count r.log l) r.ends.0 r.good,
+  r.ends.1,
+  subst (λ (ss : List Service). All IsSeenRightly ss) (sym r.same) all,
+  calls ∙ ap (λ (ss : List Service). sum_by (λ (s : Service). length s.calls) ss) (sym r.same),
+  count ∙ ap (λ (ss : List Service). length ss) (sym r.same),
+  subst (λ x. 0 < x) (ap (λ (ss : List Service). length ss) r.same ∙ sym count) r.ends.2,
+)
+
+-- nothing was found above a line that is bad
+pub judged_bad : (bytes : List ℕ) (services : List Service) (line : ℕ) (e : Expected)
+    → IsReadTo bytes services (Some (line, e)) → AreJudged services None
+    → Judged bytes (BadLine line e)
+unfolding Judged
+judged_bad bytes services line e r all = (
+  r.count,
+  r.log,
+  r.rest,
+  r.good,
+  subst (λ (ss : List Service). All IsSeenRightly ss) (sym r.same) all,
+  r.ends.0,
+  r.ends.1,
+)
+
+-- nothing was found
+pub judged_end : (bytes : List ℕ) (services : List Service) (bad : Option (ℕ × Expected))
+    → IsReadTo bytes services bad → AreJudged services None
+    → Judged bytes (end_verdict services bad)
+judged_end bytes services None r all =
+    judged_conforms bytes services (sum_by (λ (s : Service). length s.calls) services)
+    (length services) r all refl refl
+judged_end bytes services (Some bad) r all = judged_bad bytes services bad.0 bad.1 r all
+
+-- no more calls were read than the log has bytes
+pub few_calls : (bytes : List ℕ) (services : List Service) (bad : Option (ℕ × Expected))
+    → IsReadTo bytes services bad
+    → sum_by (λ (s : Service). length s.calls) services ≤ length bytes
+few_calls bytes services bad r =
+    subst (λ (ss : List Service). sum_by (λ (s : Service). length s.calls) ss ≤ length bytes)
+    r.same r.few
+
+-- one service more
+pub sum_next : (f : Service → ℕ) (xs : List Service) (i : ℕ) (d : Service) → i < length xs
+    → d ≡ get_or xs i d
+    → (sum_by f (take (i + 1) xs) ≡ sum_by f (take i xs) + f d)
+    × (sum_by f (take i xs) + f d ≤ sum_by f xs)
+sum_next f xs i d h is = (
+  sum_by_more f xs i d h ∙ ap (λ (e : Service). sum_by f (take i xs) + f e) (sym is),
+  subst (λ (e : Service). sum_by f (take i xs) + f e ≤ sum_by f xs) (sym is)
+      (sum_by_more_le f xs i d h),
+)

@@ -1,0 +1,392 @@
+-- What holds of all that is read holds after one line more.
+use Rattle.std.proofs.Common.{◌≡◌, ◌≢◌, ◌⊎◌, ℕ, zero, suc, ◌+◌, ◌<◌, ◌≤◌, List, [], ◌∷◌, ◌++◌, All, Bool, bytes_eq, true, false, Option, Some, None, length, refl, sym, ◌∙◌, ap, subst, arith, inl, inr}
+use Rattle.std.specs.Prelude.{slice_get, sum_by}
+use Rattle.std.specs.List.{slice_set}
+use Rattle.std.proofs.lemmas.Bool.{cases_eq}
+use Rattle.std.proofs.lemmas.List.{length-append, length-set}
+use Rattle.std.proofs.lemmas.List.Elements.{All-head, All-nil, All-push, All-set, All-tail, All-weaker}
+use Rattle.std.proofs.lemmas.List.Sums.{sum_by-cons, sum_by_push}
+use Rattle.std.proofs.lemmas.Option.{slice_get_within}
+use Rattle.histories.specs.Histories.{IsOpen}
+use Rattle.log_lines.specs.Lines.{Line}
+use Rattle.log_lines.specs.Lines.Line.{service, call, reply, begin, end, crash}
+use Rattle.service_conformance.specs.Calls.{Call}
+use Rattle.service_descriptions.specs.declared.replay.lines.service_line.ServiceLine.{ServiceLine}
+use Rattle.history_logs.specs.declared.logs.callers.CallerState.{CallerState}
+use Rattle.history_logs.specs.declared.logs.callers.CallerState.TheVariants as caller
+use Rattle.history_logs.specs.declared.logs.service.LogCall.{LogCall}
+use Rattle.history_logs.specs.Good.{IsKept, IsOpenOn, IsOrderly}
+use Rattle.history_logs.specs.Logs.{calls_in}
+use Rattle.history_logs.specs.Reading.{Dies, GoesOn, IsSane, Log, Sets}
+use Rattle.history_logs.specs.Seen.{HasAll, Service, called, unseen, with_begin, with_crash, with_end}
+use Rattle.history_logs.proofs.Callers.{other_bytes, same_bytes}
+use Rattle.history_logs.proofs.Orderly.{length_answered, not_open, open_alone, open_begun, open_crashed, open_ended, open_new, orderly_alone, orderly_begin, orderly_crash, orderly_end, orderly_new}
+
+cases_name : (a b : List ℕ) → (a ≡ b) ⊎ (a ≢ b)
+cases_name a b = cases (bytes_eq a b) refl
+  where
+    cases : (t : Bool) → bytes_eq a b ≡ t → (a ≡ b) ⊎ (a ≢ b)
+    cases true e = inl (same_bytes a b e)
+    cases false e = inr (other_bytes a b e)
+
+same_some : {X : Type 0} (a b : X) → Some a ≡ Some b → a ≡ b
+same_some a b e = cc
+
+get_other : {X : Type 0} (xs : List X) (i j : ℕ) (a : X) → j ≢ i
+    → slice_get (slice_set xs i a) j ≡ slice_get xs j
+get_other [] i j a n = refl
+get_other (x ∷ xs) zero zero a n = absurd (n refl)
+get_other (x ∷ xs) zero (suc j) a n = refl
+get_other (x ∷ xs) (suc i) zero a n = refl
+get_other (x ∷ xs) (suc i) (suc j) a n = get_other xs i j a (λ e. n (ap suc e))
+
+get_same : {X : Type 0} (xs : List X) (i : ℕ) (a b : X) → slice_get xs i ≡ Some b
+    → slice_get (slice_set xs i a) i ≡ Some a
+get_same [] i a b e = absurd (cc)
+get_same (x ∷ xs) zero a b e = refl
+get_same (x ∷ xs) (suc i) a b e = get_same xs i a b e
+
+get_push : {X : Type 0} (xs : List X) (y : X) (i : ℕ) (x : X) → slice_get xs i ≡ Some x
+    → slice_get (xs ++ y ∷ []) i ≡ Some x
+get_push [] y i x e = absurd (cc)
+get_push (z ∷ xs) y zero x e = e
+get_push (z ∷ xs) y (suc i) x e = get_push xs y i x e
+
+all_get : {X : Type 0} (P : X → Type 0) (xs : List X) (i : ℕ) (x : X) → All P xs
+    → slice_get xs i ≡ Some x → P x
+all_get P [] i x all e = absurd (cc)
+all_get P (y ∷ xs) zero x all e = subst P (same_some y x e) (All-head P y xs all)
+all_get P (y ∷ xs) (suc i) x all e = all_get P xs i x (All-tail P y xs all) e
+
+-- where what was open on a service stays open, it does on all
+opened_set : (ss : List Service) (at : ℕ) (s t : Service) → slice_get ss at ≡ Some s → (b m : ℕ)
+    → ((b ≡ at) → IsOpen s.events m → IsOpen t.events m) → IsOpenOn ss b m
+    → IsOpenOn (slice_set ss at t) b m
+opened_set ss at s t there b m keeps o =
+    elim (cases_eq b at) as (λ _. IsOpenOn (slice_set ss at t) b m) [
+      | inl e ↦
+          let same : o.0 ≡ s =
+          same_some o.0 s (sym o.1 ∙ (ap (λ i. slice_get ss i) e ∙ there)) in (
+            t,
+            subst (λ i. slice_get (slice_set ss at t) i ≡ Some t) (sym e)
+                (get_same ss at t s there),
+            keeps e (subst (λ (x : Service). IsOpen x.events m) same o.2),
+          )
+      | inr ne ↦ (o.0, get_other ss at b t ne ∙ o.1, o.2)
+    ]
+
+set_some : (ss : List Service) (at : ℕ) (s t : Service) → slice_get ss at ≡ Some s
+    → slice_set ss at t ≢ []
+set_some [] at s t there e = absurd (cc)
+set_some (x ∷ ss) zero s t there e = absurd (cc)
+set_some (x ∷ ss) (suc at) s t there e = absurd (cc)
+
+push_some : {X : Type 0} (xs : List X) (y : X) → xs ++ y ∷ [] ≢ []
+push_some [] y e = absurd (cc)
+push_some (x ∷ xs) y e = absurd (cc)
+
+none_waits : (log : Log) → log.waits ≡ None → (at : ℕ) (c : LogCall)
+    → log.waits ≡ Some (at, c) → at < length log.services
+none_waits log none at c e = absurd (cc)
+
+kept_service : (old : Log) (line : ServiceLine) → IsKept old → old.waits ≡ None
+    → IsKept (record old { services = old.services ++ unseen line ∷ [] })
+kept_service old line k none = record {
+  orderly = All-push IsOrderly old.services (unseen line) k.orderly (orderly_new line);
+  opened = λ name at number e.
+      let o = k.opened name at number e in
+      (o.0, get_push old.services (unseen line) at o.0 o.1, o.2);
+  apart = k.apart;
+  waits = λ at c e. absurd (cc);
+  none = λ e name. absurd (push_some old.services (unseen line) e);
+}
+
+kept_call : (old : Log) (at : ℕ) (s : Service) (c : LogCall) → IsKept old
+    → slice_get old.services at ≡ Some s → IsKept (record old { waits = Some (at, c) })
+kept_call old at s c k there = record {
+  orderly = k.orderly;
+  opened = k.opened;
+  apart = k.apart;
+  waits = λ b d e.
+      let same : at ≡ b = ap (λ (p : ℕ × LogCall). p.0) (same_some (at, c) (b, d) e) in
+      subst (λ i. i < length old.services) same (slice_get_within old.services at s there);
+  none = k.none;
+}
+
+kept_alone : (old : Log) (at : ℕ) (s t : Service) → IsKept old
+    → slice_get old.services at ≡ Some s → IsOrderly t
+    → ((m : ℕ) → IsOpen s.events m → IsOpen t.events m)
+    → IsKept (record old { services = slice_set old.services at t; waits = None })
+kept_alone old at s t k there orderly keeps = record {
+  orderly = All-set IsOrderly old.services at t orderly k.orderly;
+  opened = λ name b m e.
+      opened_set old.services at s t there b m (λ _ o. keeps m o) (k.opened name b m e);
+  apart = k.apart;
+  waits = λ b c e. absurd (cc);
+  none = λ e name. absurd (set_some old.services at s t there e);
+}
+
+-- the caller does something else, and its service changes
+module _ (old new : Log) (at : ℕ) (s t : Service) (name : List ℕ) (st : CallerState)
+    (k : IsKept old)
+    (there : slice_get old.services at ≡ Some s) (orderly : IsOrderly t)
+    (services : new.services ≡ slice_set old.services at t)
+    (sets : Sets old.callers name st new.callers) (waits : new.waits ≡ None)
+    (own : (b m : ℕ) → st ≡ caller.Calls b m
+    → (b ≡ at) × IsOpen t.events m × (¬ (IsOpen s.events m)))
+    (keeps : (other : List ℕ) (m : ℕ) → other ≢ name
+    → old.callers other ≡ Some (caller.Calls at m) → IsOpen s.events m → IsOpen t.events m)
+  where
+    does : (one : List ℕ) (b m : ℕ) → one ≡ name → new.callers one ≡ Some (caller.Calls b m)
+        → st ≡ caller.Calls b m
+    does one b m same e =
+        same_some st (caller.Calls b m)
+        (sym sets.own ∙ (ap (λ n. new.callers n) (sym same) ∙ e))
+
+    did : (one : List ℕ) (b m : ℕ) → one ≢ name → new.callers one ≡ Some (caller.Calls b m)
+        → old.callers one ≡ Some (caller.Calls b m)
+    did one b m ne e = sym (sets.others one ne) ∙ e
+
+    opened : (one : List ℕ) (b m : ℕ) → new.callers one ≡ Some (caller.Calls b m)
+        → IsOpenOn new.services b m
+    opened one b m e =
+        subst (λ (l : List Service). IsOpenOn l b m) (sym services)
+        (elim (cases_name one name) as (λ _. IsOpenOn (slice_set old.services at t) b m) [
+          | inl same ↦
+              let o = own b m (does one b m same e) in (
+                t,
+                subst (λ i. slice_get (slice_set old.services at t) i ≡ Some t) (sym o.0)
+                    (get_same old.services at t s there),
+                o.1,
+              )
+          | inr ne ↦
+              let was = did one b m ne e in
+              opened_set old.services at s t there b m
+              (λ eb o. keeps one m ne
+              (subst (λ i. old.callers one ≡ Some (caller.Calls i m)) eb was) o)
+              (k.opened one b m was)
+        ])
+
+    clash : (one other : List ℕ) (b m : ℕ) → one ≡ name → other ≢ name
+        → new.callers one ≡ Some (caller.Calls b m) → new.callers other ≡ Some (caller.Calls b m)
+        → ⊥
+    clash one other b m same ne e f =
+        let o = own b m (does one b m same e) in
+        let was = k.opened other b m (did other b m ne f) in
+        let is : was.0 ≡ s =
+        same_some was.0 s (sym was.1 ∙ (ap (λ i. slice_get old.services i) o.0 ∙ there)) in
+        o.2 (subst (λ (x : Service). IsOpen x.events m) is was.2)
+
+    apart : (one other : List ℕ) (b m : ℕ) → new.callers one ≡ Some (caller.Calls b m)
+        → new.callers other ≡ Some (caller.Calls b m) → one ≡ other
+    apart one other b m e f =
+        elim (cases_name one name) as (λ _. one ≡ other) [
+          | inl p ↦ elim (cases_name other name) as (λ _. one ≡ other) [
+            | inl q ↦ p ∙ sym q
+            | inr nq ↦ absurd (clash one other b m p nq e f)
+          ]
+          | inr np ↦ elim (cases_name other name) as (λ _. one ≡ other) [
+            | inl q ↦ absurd (clash other one b m q np f e)
+            | inr nq ↦ k.apart one other b m (did one b m np e) (did other b m nq f)
+          ]
+        ]
+
+    kept_sets : IsKept new
+    kept_sets = record {
+      orderly = subst (λ (l : List Service). All IsOrderly l) (sym services)
+          (All-set IsOrderly old.services at t orderly k.orderly);
+      opened = opened;
+      apart = apart;
+      waits = none_waits new waits;
+      none = λ e one. absurd (set_some old.services at s t there (sym services ∙ e));
+    }
+
+-- a caller that had no call open died
+kept_idle : (old new : Log) (name : List ℕ) → IsKept old → new.services ≡ old.services
+    → Sets old.callers name caller.Dead new.callers → new.waits ≡ None
+    → old.callers name ≡ Some caller.Idle → IsKept new
+kept_idle old new name k services sets waits was =
+    let did : (one : List ℕ) (b m : ℕ) → new.callers one ≡ Some (caller.Calls b m)
+    → old.callers one ≡ Some (caller.Calls b m) =
+    λ one b m e. elim (cases_name one name)
+    as (λ _. old.callers one ≡ Some (caller.Calls b m)) [
+      | inl same ↦
+          let is : new.callers name ≡ Some (caller.Calls b m) =
+          ap (λ n. new.callers n) (sym same) ∙ e in
+          let bars = sets.own in
+          absurd (cc)
+      | inr ne ↦ sym (sets.others one ne) ∙ e
+    ] in
+    record {
+      orderly = subst (λ (l : List Service). All IsOrderly l) (sym services) k.orderly;
+      opened = λ one b m e.
+          subst (λ (l : List Service). IsOpenOn l b m) (sym services)
+          (k.opened one b m (did one b m e));
+      apart = λ one other b m e f. k.apart one other b m (did one b m e) (did other b m f);
+      waits = none_waits new waits;
+      none = λ e one.
+          let bars = k.none (sym services ∙ e) name in absurd (cc);
+    }
+
+-- the death of a caller
+kept_dies : (old new : Log) (k : ℕ) (name : List ℕ) (state : Option CallerState) → IsKept old
+    → old.callers name ≡ state → Dies old.services k state new.services
+    → Sets old.callers name caller.Dead new.callers → new.waits ≡ None → IsKept new
+kept_dies old new k name None kept is dies sets waits = absurd dies
+kept_dies old new k name (Some caller.Dead) kept is dies sets waits = absurd dies
+kept_dies old new k name (Some caller.Idle) kept is dies sets waits =
+    kept_idle old new name kept dies sets waits is
+kept_dies old new k name (Some (caller.Calls at number)) kept is dies sets waits =
+    let s = dies.0 in
+    let o = kept.opened name at number is in
+    let same : o.0 ≡ s = same_some o.0 s (sym o.1 ∙ dies.1) in
+    let live = subst (λ (x : Service). IsOpen x.events number) same o.2 in
+    let orderly = all_get IsOrderly old.services at s kept.orderly dies.1 in
+    kept_sets old new at s (with_crash s number k) name caller.Dead kept dies.1
+    (orderly_crash s number k orderly live) dies.2 sets waits
+    (λ b m e. absurd (cc))
+    (λ other m ne does here. open_crashed s number k m here
+    (λ e. ne (kept.apart other name at m does
+    (subst (λ i. old.callers name ≡ Some (caller.Calls at i)) (sym e) is))))
+
+pub kept_step : (old new : Log) (k : ℕ) (l : Line) → IsKept old → GoesOn old k l new → IsKept new
+kept_step old new k (service line) kept g =
+    subst IsKept (sym g.2) (kept_service old line kept g.0)
+kept_step old new k (call number command) kept g =
+    subst IsKept (sym g.4) (kept_call old g.0 g.1 _ kept g.3.there)
+kept_step old new k (reply words) kept g =
+    let s = g.2 in
+    let orderly = all_get IsOrderly old.services g.0 s kept.orderly g.5 in
+    subst IsKept (sym g.7)
+    (kept_alone old g.0 s (with_end (with_begin s g.1 k) (length s.calls) g.3 k) kept g.5
+    (orderly_alone s g.1 g.3 k orderly) (λ m o. open_alone s g.1 g.3 k m orderly o))
+kept_step old new k (begin number name command) kept g =
+    let s = g.1 in
+    let c = called s command in
+    let orderly = all_get IsOrderly old.services g.0 s kept.orderly g.3.there in
+    kept_sets old new g.0 s (with_begin s c k) name (caller.Calls g.0 (length s.calls)) kept
+    g.3.there (orderly_begin s c k orderly) g.5 g.6 g.7
+    (λ b m e.
+    let at : g.0 ≡ b = cc in
+    let is : length s.calls ≡ m = cc in (
+      sym at,
+      subst (λ n. IsOpen (with_begin s c k).events n) is (open_new s c k orderly),
+      λ o. not_open s orderly (subst (λ n. IsOpen s.events n) (sym is) o),
+    ))
+    (λ other m ne does here. open_begun s c k m here)
+kept_step old new k (end name words) kept g =
+    let s = g.2 in
+    let number = g.1 in
+    let o = kept.opened name g.0 number g.5 in
+    let same : o.0 ≡ s = same_some o.0 s (sym o.1 ∙ g.6) in
+    let live = subst (λ (x : Service). IsOpen x.events number) same o.2 in
+    let orderly = all_get IsOrderly old.services g.0 s kept.orderly g.6 in
+    kept_sets old new g.0 s (with_end s number g.3 k) name caller.Idle kept g.6
+    (orderly_end s number g.3 k orderly live) g.8 g.9 g.10
+    (λ b m e. absurd (cc))
+    (λ other m ne does here. open_ended s number g.3 k m here
+    (λ e. ne (kept.apart other name g.0 m does
+    (subst (λ i. old.callers name ≡ Some (caller.Calls g.0 i)) (sym e) g.5))))
+kept_step old new k (crash name) kept g =
+    kept_dies old new k name (old.callers name) kept refl g.1 g.2 g.3
+
+-- how many calls were read after one line more
+abbrev calls_of : Service → ℕ
+calls_of s = length s.calls
+
+sum_set : (ss : List Service) (at : ℕ) (s t : Service) → slice_get ss at ≡ Some s
+    → calls_of t ≤ calls_of s + 1 → sum_by calls_of (slice_set ss at t) ≤ sum_by calls_of ss + 1
+sum_set [] at s t there less = absurd (cc)
+sum_set (x ∷ ss) zero s t there less =
+    let same : x ≡ s = same_some x s there in
+    let is : calls_of x ≡ calls_of s = ap calls_of same in
+    omega (arith, less, is, sum_by-cons calls_of t ss, sum_by-cons calls_of x ss)
+sum_set (x ∷ ss) (suc at) s t there less =
+    omega (
+      arith,
+      sum_set ss at s t there less,
+      sum_by-cons calls_of x (slice_set ss at t),
+      sum_by-cons calls_of x ss,
+    )
+
+sum_push : (ss : List Service) (line : ServiceLine)
+    → sum_by calls_of (ss ++ unseen line ∷ []) ≡ sum_by calls_of ss
+sum_push ss line =
+    let none : calls_of (unseen line) ≡ 0 = refl in
+    omega (arith, none, sum_by_push calls_of ss (unseen line))
+
+sum_dies : (ss new : List Service) (k : ℕ) (state : Option CallerState) → Dies ss k state new
+    → sum_by calls_of new ≤ sum_by calls_of ss + 1
+sum_dies ss new k None dies = absurd dies
+sum_dies ss new k (Some caller.Dead) dies = absurd dies
+sum_dies ss new k (Some caller.Idle) dies =
+    omega (arith, ap (λ (l : List Service). sum_by calls_of l) dies)
+sum_dies ss new k (Some (caller.Calls at number)) dies =
+    omega (
+      arith,
+      ap (λ (l : List Service). sum_by calls_of l) dies.2,
+      sum_set ss at dies.0 (with_crash dies.0 number k) dies.1 (omega arith),
+    )
+
+sum_step : (old new : Log) (k : ℕ) (l : Line) → GoesOn old k l new
+    → sum_by calls_of new.services ≤ sum_by calls_of old.services + 1
+sum_step old new k (service line) g =
+    omega (arith, ap (λ (x : Log). sum_by calls_of x.services) g.2, sum_push old.services line)
+sum_step old new k (call number command) g =
+    omega (arith, ap (λ (x : Log). sum_by calls_of x.services) g.4)
+sum_step old new k (reply words) g =
+    let s = g.2 in
+    let t = with_end (with_begin s g.1 k) (length s.calls) g.3 k in
+    omega (
+      arith,
+      ap (λ (x : Log). sum_by calls_of x.services) g.7,
+      sum_set old.services g.0 s t g.5
+          (omega (
+            arith,
+            length_answered (s.calls ++ g.1.seen ∷ []) (length s.calls) g.3,
+            length-append s.calls (g.1.seen ∷ []),
+          )),
+    )
+sum_step old new k (begin number name command) g =
+    let s = g.1 in
+    omega (
+      arith,
+      ap (λ (l : List Service). sum_by calls_of l) g.5,
+      sum_set old.services g.0 s (with_begin s (called s command) k) g.3.there
+          (omega (arith, length-append s.calls ((called s command).seen ∷ []))),
+    )
+sum_step old new k (end name words) g =
+    let s = g.2 in
+    omega (
+      arith,
+      ap (λ (l : List Service). sum_by calls_of l) g.8,
+      sum_set old.services g.0 s (with_end s g.1 g.3 k) g.6
+          (omega (arith, length_answered s.calls g.1 g.3)),
+    )
+sum_step old new k (crash name) g = sum_dies old.services new.services k (old.callers name) g.1
+
+pub few_step : (old new : Log) (k : ℕ) (l : Line) → GoesOn old k l new
+    → calls_in new ≤ calls_in old + 1
+few_step old new k l g = sum_step old new k l g
+
+-- nothing was read yet
+pub kept_new : (log : Log) → log.services ≡ [] → ((name : List ℕ) → log.callers name ≡ None)
+    → log.waits ≡ None → IsKept log
+kept_new log services callers waits = record {
+  orderly = subst (λ (l : List Service). All IsOrderly l) (sym services) (All-nil IsOrderly);
+  opened = λ name at number e. let bars = callers name in absurd (cc);
+  apart = λ one other at number e f. let bars = callers one in absurd (cc);
+  waits = none_waits log waits;
+  none = λ e name. callers name;
+}
+
+-- what holds of all that is read is what the parts need
+pub sane_of : (log : Log) → IsKept log → IsSane log
+sane_of log k = record {
+  all = All-weaker IsOrderly HasAll (λ s o. o.all) log.services k.orderly;
+  opened = λ name at number e.
+      let o = k.opened name at number e in
+      let orderly = all_get IsOrderly log.services at o.0 k.orderly o.1 in
+      (o.0, o.1, omega (arith, orderly.numbered number o.2.0, orderly.counts));
+  waits = k.waits;
+}

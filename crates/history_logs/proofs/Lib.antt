@@ -1,0 +1,15 @@
+pub mod Above
+pub mod Answered
+pub mod Answering
+pub mod Callers
+pub mod Found
+pub mod Kept
+pub mod Orderly
+pub mod Judgements
+pub mod LinesAt
+pub mod MadeLines
+pub mod Named
+pub mod Refused
+pub mod Refusing
+pub mod Reports
+pub mod Telling

@@ -1,0 +1,293 @@
+-- Lines that may not come next.
+use Rattle.std.proofs.Common.{◌≡◌, ◌≢◌, ◌⊎◌, ℕ, List, [], ◌∷◌, All, true, false, Option, Some, None, Result, Ok, Err, IfOk, length, refl, sym, ◌∙◌, ap, subst, arith, inl, inr}
+use Rattle.std.specs.Prelude.{IsTrue, slice_get}
+use Rattle.std.proofs.lemmas.List.Elements.{All-nil}
+use Rattle.log_lines.specs.Laws.{IsAlike}
+use Rattle.log_lines.specs.Lines.{IsLine, Line, is_note, line_text}
+use Rattle.log_lines.specs.Lines.Line.{service, call, reply, begin, end, crash}
+use Rattle.log_lines.proofs.OneReading.{one_way}
+use Rattle.service_conformance.specs.declared.conformance.seen_reply.SeenReply.{SeenReply}
+use Rattle.service_descriptions.specs.declared.replay.lines.service_line.ServiceLine.{ServiceLine}
+use Rattle.history_logs.specs.declared.logs.callers.CallerState.{CallerState}
+use Rattle.history_logs.specs.declared.logs.callers.CallerState.TheVariants as caller
+use Rattle.history_logs.specs.declared.logs.service.LogCall.{LogCall}
+use Rattle.history_logs.specs.declared.logs.verdict.Expected.{Expected}
+use Rattle.history_logs.specs.declared.logs.verdict.Expected.TheVariants as expected
+use Rattle.history_logs.specs.Good.{HasNoNext, IsBadLine, IsKept, Takes, TakesLine, TakesNext, TakesReply, is_service, waiting}
+use Rattle.history_logs.specs.Logs.{EndsInReturn, IsBadText, IsWrong}
+use Rattle.history_logs.specs.Reading.{Dies, Does, GoesOn, IsNamed, IsNew, IsRefused, Log, MayBegin, RefusesBegin, RefusesDeath, RefusesEnd, Says}
+use Rattle.history_logs.specs.Seen.{Service}
+
+-- what was read, where no call waits any more
+pub kept_taken : (log : Log) → IsKept log → IsKept (record log { waits = None })
+kept_taken log k = record {
+  orderly = k.orderly;
+  opened = k.opened;
+  apart = k.apart;
+  waits = λ at c e. absurd (cc);
+  none = k.none;
+}
+
+-- a line below a call that waits
+pub reply_line : (old new : Log) (at : ℕ) (c : LogCall) (k : ℕ) (text : List ℕ)
+    (found : Option Expected) (w : Option (ℕ × LogCall)) → old.waits ≡ Some (at, c)
+    → TakesReply (record old { waits = w }) at c k text found new
+    → TakesLine old k text found new
+reply_line old new at c k text None w is t =
+    let same : waiting (record old { waits = w }) at c ≡ old =
+    ap (λ (w : Option (ℕ × LogCall)). record {
+      services = old.services;
+      callers = old.callers;
+      waits = w;
+    }) (sym is) in
+    (reply t.0, _, t.1, subst (λ (x : Log). GoesOn x k (reply t.0) new) same t.2)
+reply_line old new at c k text (Some e) w is t =
+    (inl ((λ none. absurd (cc)), t.0, t.1), t.2)
+
+-- a line where none waits
+pub next_line : (old new : Log) (k : ℕ) (text : List ℕ) (found : Option Expected)
+    (w : Option (ℕ × LogCall)) → w ≡ None → old.waits ≡ None
+    → TakesNext (record old { waits = w }) k text found new → TakesLine old k text found new
+next_line old new k text None w none is t =
+    let same : record old { waits = w } ≡ old =
+    ap (λ (x : Option (ℕ × LogCall)). record {
+      services = old.services;
+      callers = old.callers;
+      waits = x;
+    }) (none ∙ sym is) in
+    (t.0, t.1, t.2, subst (λ (x : Log). GoesOn x k t.0 new) same t.3)
+next_line old new k text (Some e) w none is t =
+    let same : record old { waits = w } ≡ old =
+    ap (λ (x : Option (ℕ × LogCall)). record {
+      services = old.services;
+      callers = old.callers;
+      waits = x;
+    }) (none ∙ sym is) in
+    (inr (is, subst (λ (x : Log). IsWrong x text e) same t.0), t.1)
+
+empty_get : {X : Type 0} (xs : List X) (i : ℕ) (x : X) → xs ≡ [] → slice_get xs i ≢ Some x
+empty_get [] i x e h = absurd (cc)
+empty_get (y ∷ xs) i x e h = absurd (cc)
+
+begins_not : (state : Option CallerState) (e : Expected) → MayBegin state → ¬ (RefusesBegin state e)
+begins_not None e may bars = bars
+begins_not (Some caller.Idle) e may bars = bars
+begins_not (Some caller.Dead) e may bars = elim may as (λ _. ⊥) [
+  | inl h ↦ absurd (cc)
+  | inr h ↦ absurd (cc)
+]
+begins_not (Some (caller.Calls at number)) e may bars = elim may as (λ _. ⊥) [
+  | inl h ↦ absurd (cc)
+  | inr h ↦ absurd (cc)
+]
+
+ends_not : (words : List ℕ) (state : Option CallerState) (e : Expected) (at number : ℕ)
+    (r : SeenReply) → RefusesEnd words state e → state ≡ Some (caller.Calls at number)
+    → ¬ (Says words r)
+ends_not words None e at number r bars is says = absurd (cc)
+ends_not words (Some caller.Idle) e at number r bars is says = absurd (cc)
+ends_not words (Some caller.Dead) e at number r bars is says = absurd (cc)
+ends_not words (Some (caller.Calls b m)) e at number r bars is says = bars.1 r says
+
+dies_not : (old new : List Service) (k : ℕ) (state : Option CallerState) (e : Expected)
+    → RefusesDeath state e → ¬ (Dies old k state new)
+dies_not old new k None e bars dies = dies
+dies_not old new k (Some caller.Idle) e bars dies = bars
+dies_not old new k (Some caller.Dead) e bars dies = dies
+dies_not old new k (Some (caller.Calls b m)) e bars dies = bars
+
+-- a line that is refused does not go on, and no line of its text does
+refused_not : (log : Log) (k : ℕ) (l m : Line) (new : Log) (e : Expected) → log.waits ≡ None
+    → IsRefused log l e → IsAlike l m → ¬ (GoesOn log k m new)
+refused_not log k (service a) (service b) new e none bars same g =
+    bars.1 (subst (λ (x : ServiceLine). IsNew x.number log.services) (sym same) g.1)
+refused_not log k (call a c) (call b d) new e none bars same g =
+    bars.1 g.0 g.1 (subst (λ (x : Option ℕ). IsNamed x log.services g.0 g.1) (sym same) g.3)
+refused_not log k (reply v) (reply w) new e none bars same g =
+    let waits = g.4 in absurd (cc)
+refused_not log k (begin a n c) (begin b o d) new e none bars same g =
+    elim bars as (λ _. ⊥) [
+      | inl h ↦ h.1 g.0 g.1
+          (subst (λ (x : Option ℕ). IsNamed x log.services g.0 g.1) (sym same.0) g.3)
+      | inr h ↦ begins_not (log.callers n) e
+          (subst (λ (x : List ℕ). MayBegin (log.callers x)) (sym same.1) g.4) h.1
+    ]
+refused_not log k (end a v) (end b w) new e none bars same g =
+    ends_not v (log.callers a) e g.0 g.1 g.3 bars
+    (ap (λ (x : List ℕ). log.callers x) same.0 ∙ g.5)
+    (subst (λ (x : List ℕ). Says x g.3) (sym same.1) g.7)
+refused_not log k (crash a) (crash b) new e none bars same g =
+    dies_not log.services new.services k (log.callers a) e bars
+    (subst (λ (x : List ℕ). Dies log.services k (log.callers x) new.services) (sym same) g.1)
+refused_not _ _ _ _ _ _ none bars same g = absurd same
+
+-- below a call that waits only a reply goes on
+below_not : (log : Log) (k : ℕ) (text : List ℕ) (l : Line) (new : Log) → log.waits ≢ None
+    → ((words : List ℕ) (r : SeenReply) → Says words r → text ≢ line_text (reply words))
+    → line_text l ≡ text → ¬ (GoesOn log k l new)
+below_not log k text (service line) new some lacks is g = some g.0
+below_not log k text (call number c) new some lacks is g = some g.2
+below_not log k text (reply words) new some lacks is g = lacks words g.3 g.6 (sym is)
+below_not log k text (begin number name c) new some lacks is g = some g.2
+below_not log k text (end name words) new some lacks is g = some g.4
+below_not log k text (crash name) new some lacks is g = some g.0
+
+-- without a service only one goes on
+first_not : (log : Log) (k : ℕ) (l : Line) (new : Log) → IsKept log → log.waits ≡ None
+    → log.services ≡ [] → is_service l ≡ false → ¬ (GoesOn log k l new)
+first_not log k (service line) new kept none empty not g = absurd (cc)
+first_not log k (call number c) new kept none empty not g =
+    empty_get log.services g.0 g.1 empty g.3.there
+first_not log k (reply words) new kept none empty not g =
+    let waits = g.4 in absurd (cc)
+first_not log k (begin number name c) new kept none empty not g =
+    empty_get log.services g.0 g.1 empty g.3.there
+first_not log k (end name words) new kept none empty not g =
+    empty_get log.services g.0 g.2 empty g.6
+first_not log k (crash name) new kept none empty not g =
+    subst (λ (state : Option CallerState). Dies log.services k state new.services)
+    (kept.none empty name) g.1
+
+service_not : (log : Log) (k : ℕ) (text : List ℕ) (l : Line) (new : Log) → IsKept log
+    → log.waits ≡ None → log.services ≡ []
+    → ((line : ServiceLine) → IsLine (service line) → line_text (service line) ≢ text)
+    → IsLine l → line_text l ≡ text → ¬ (GoesOn log k l new)
+service_not log k text (service line) new kept none empty bars p is g = bars line p is
+service_not log k text (call n c) new kept none empty bars p is g =
+    first_not log k (call n c) new kept none empty refl g
+service_not log k text (reply w) new kept none empty bars p is g =
+    first_not log k (reply w) new kept none empty refl g
+service_not log k text (begin n a c) new kept none empty bars p is g =
+    first_not log k (begin n a c) new kept none empty refl g
+service_not log k text (end a w) new kept none empty bars p is g =
+    first_not log k (end a w) new kept none empty refl g
+service_not log k text (crash a) new kept none empty bars p is g =
+    first_not log k (crash a) new kept none empty refl g
+
+pub bad_not : (log : Log) (k : ℕ) (text : List ℕ) (e : Expected) → IsKept log
+    → IsBadLine log text e → HasNoNext log k text
+bad_not log k text e kept bad l new p is g =
+    elim bad as (λ _. ⊥) [
+      | inl b ↦ below_not log k text l new b.0 b.1 is g
+      | inr b ↦ elim b.1 as (λ _. ⊥) [
+        | inl c ↦ service_not log k text l new kept b.0 c.0 c.2 p is g
+        | inr (inl c) ↦ c.2 l p is
+        | inr (inr c) ↦
+            let d = c.1 in
+            refused_not log k d.0 l new e b.0 d.3 (one_way d.0 l d.1 p (d.2 ∙ sym is)) g
+      ]
+    ]
+
+-- a line that may not come next
+pub bad_line : (old new : Log) (k : ℕ) (text : List ℕ) (e : Expected)
+    → (¬ (IsTrue (is_note text))) → IsKept old → (¬ (EndsInReturn text))
+    → TakesLine old k text (Some e) new → Takes old k text (Some e) new
+bad_line old new k text e note kept bars t = (
+  note,
+  bad_not old k text e kept t.0,
+  elim t.0 as (λ _. IsBadText old text e) [
+    | inl b ↦ inr (inl (bars, b.0, b.1, b.2))
+    | inr b ↦ inr (inr (bars, b.0, b.1))
+  ],
+  t.1,
+)
+
+pub bad_return : (old new : Log) (k : ℕ) (text : List ℕ) (e : Expected)
+    → (¬ (IsTrue (is_note text))) → IsKept old → EndsInReturn text
+    → TakesLine old k text (Some e) new → Takes old k text (Some expected.NoCarriageReturn) new
+bad_return old new k text e note kept ends t =
+    (note, bad_not old k text e kept t.0, inl (ends, refl), t.1)
+
+-- a list without elements
+pub nil_of : {X : Type 0} (xs : List X) → length xs ≡ 0 → xs ≡ []
+nil_of [] e = refl
+nil_of (x ∷ xs) e = absurd (omega (arith, e))
+
+cases_empty : {X : Type 0} (xs : List X) → (xs ≡ []) ⊎ (xs ≢ [])
+cases_empty [] = inl refl
+cases_empty (x ∷ xs) = inr (λ e. absurd (cc))
+
+first_new : (log : Log) (l : Line) (e : Expected) → log.services ≡ [] → is_service l ≡ true
+    → ¬ (IsRefused log l e)
+first_new log (service line) e empty is bars =
+    bars.1 (subst (λ (ss : List Service). IsNew line.number ss) (sym empty)
+    (All-nil (λ (s : Service). s.line.number ≢ line.number)))
+first_new log (call n c) e empty is bars = absurd (cc)
+first_new log (reply w) e empty is bars = absurd (cc)
+first_new log (begin n a c) e empty is bars = absurd (cc)
+first_new log (end a w) e empty is bars = absurd (cc)
+first_new log (crash a) e empty is bars = absurd (cc)
+
+-- a line of a log, where it is that of a service or one is above
+pub taken : (old new : Log) (k : ℕ) (text : List ℕ) (l : Line) (found : Option Expected)
+    → IsLine l → text ≡ line_text l → (old.services ≡ [] → is_service l ≡ true)
+    → Does old k l found new → TakesNext old k text found new
+taken old new k text l None p is first does = (l, p, sym is, does)
+taken old new k text l (Some e) p is first does = (
+  elim (cases_empty old.services) as (λ _. IsWrong old text e) [
+    | inl empty ↦ absurd (first_new old l e empty (first empty) does.0)
+    | inr some ↦ inr (inr (some, (l, p, sym is, does.0)))
+  ],
+  does.1,
+)
+
+not_service : (l : Line) (line : ServiceLine) → is_service l ≡ false → ¬ (IsAlike l (service line))
+not_service (service a) line bars same = absurd (cc)
+not_service (call n c) line bars same = same
+not_service (reply w) line bars same = same
+not_service (begin n a c) line bars same = same
+not_service (end a w) line bars same = same
+not_service (crash a) line bars same = same
+
+-- another line where no service is above
+pub wrong_first : (old : Log) (text : List ℕ) (l : Line) → IsLine l → text ≡ line_text l
+    → old.services ≡ [] → is_service l ≡ false → IsWrong old text expected.Service
+wrong_first old text l p is empty bars =
+    inl (
+      empty,
+      refl,
+      λ line q same.
+          not_service l line bars (one_way l (service line) p q (sym is ∙ sym same)),
+    )
+
+-- no line at all
+pub wrong_none : (old : Log) (text : List ℕ) → old.services ≡ []
+    → ((l : Line) → IsLine l → line_text l ≢ text) → IsWrong old text expected.Service
+wrong_none old text empty bars = inl (empty, refl, λ line p is. bars (service line) p is)
+
+-- the same, where memory may have been refused
+pub ok_is : {E : Type 0} (result : Result (Option Expected) E) (old new : Log) (l m : Line) (k : ℕ)
+    → l ≡ m → IfOk result (λ found. Does old k m found new)
+    → IfOk result (λ found. Does old k l found new)
+ok_is (Ok found) old new l m k is h =
+    subst (λ (x : Line). Does old k x found new) (sym is) h
+ok_is (Err e) old new l m k is h = h
+
+pub ok_at : {E : Type 0} (result : Result (Option Expected) E) (old new : Log) (l m : Line) (k : ℕ)
+    → l ≡ m → IfOk result (λ found. (j : ℕ) → Does old j m found new)
+    → IfOk result (λ found. Does old k l found new)
+ok_at (Ok found) old new l m k is h =
+    subst (λ (x : Line). Does old k x found new) (sym is) (h k)
+ok_at (Err e) old new l m k is h = h
+
+pub ok_taken : {E : Type 0} (result : Result (Option Expected) E) (old new : Log) (k : ℕ)
+    (text : List ℕ) (l : Line) → IsLine l → text ≡ line_text l
+    → (old.services ≡ [] → is_service l ≡ true)
+    → IfOk result (λ found. Does old k l found new)
+    → IfOk result (λ found. TakesNext old k text found new)
+ok_taken (Ok found) old new k text l p is first h = taken old new k text l found p is first h
+ok_taken (Err e) old new k text l p is first h = h
+
+pub ok_reply : {E : Type 0} (result : Result (Option Expected) E) (old new : Log) (at : ℕ)
+    (c : LogCall) (k : ℕ) (text : List ℕ) (w : Option (ℕ × LogCall)) → old.waits ≡ Some (at, c)
+    → IfOk result (λ found. TakesReply (record old { waits = w }) at c k text found new)
+    → IfOk result (λ found. TakesLine old k text found new)
+ok_reply (Ok found) old new at c k text w is h = reply_line old new at c k text found w is h
+ok_reply (Err e) old new at c k text w is h = h
+
+pub ok_next : {E : Type 0} (result : Result (Option Expected) E) (old new : Log) (k : ℕ)
+    (text : List ℕ) (w : Option (ℕ × LogCall)) → w ≡ None → old.waits ≡ None
+    → IfOk result (λ found. TakesNext (record old { waits = w }) k text found new)
+    → IfOk result (λ found. TakesLine old k text found new)
+ok_next (Ok found) old new k text w none is h = next_line old new k text found w none is h
+ok_next (Err e) old new k text w none is h = h

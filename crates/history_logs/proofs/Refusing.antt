@@ -1,0 +1,115 @@
+-- What is told of a reply that is refused.
+use Rattle.std.proofs.Common.{◌≡◌, ◌⊎◌, inl, inr, ℕ, ◌+◌, ◌<◌, ◌≤◌, List, [], ◌∷◌, ◌++◌, Option, Some, None, length, get_or, slice_get, take, drop, refl, sym, ◌∙◌, ap, subst, arith, length-append, take_all, Vec}
+use Rattle.std.proofs.lemmas.List.{length-take-le, take-append-drop}
+use Rattle.std.proofs.lemmas.Option.{get_or_from_slice_get, slice_get-get_or, slice_get_within}
+use Rattle.histories.specs.declared.event.Event.{Event}
+use Rattle.histories.specs.declared.event.Event.TheVariants.{Begin, Crash, End}
+use Rattle.histories.specs.Histories.{StandsAt, begins, begun}
+use Rattle.histories.specs.Frontier.{HasSlot}
+use Rattle.histories.proofs.Splitting.{begins-append}
+use Rattle.history_windows.specs.declared.window.Stop.TheVariants as stop
+use Rattle.history_windows.specs.declared.window.Window.{Window}
+use Rattle.history_windows.specs.Windows.{IsStop, IsWindowOf}
+use Rattle.iox2_dynamic.specs.Service as dynamic
+use Rattle.log_lines.specs.Lines.{IsLine, Line, line_text}
+use Rattle.service_conformance.specs.Calls.{Call}
+use Rattle.history_logs.specs.declared.logs.verdict.Refusal.{Refusal}
+use Rattle.history_logs.specs.Good.{IsOrderly}
+use Rattle.history_logs.specs.Placed.{Answers, HasAnswers, IsLineAt}
+use Rattle.history_logs.specs.Judging.{AreBelow, IsRefusedIn, IsToldAt}
+use Rattle.history_logs.specs.Logs.{StepOf, news}
+use Rattle.history_logs.specs.Seen.{Service}
+
+module _ (s : Service) (o : IsOrderly s) where
+  -- the calls that begin are those of the service
+  begin_within : (number : ℕ) → 0 < begins number s.events → number < length s.calls
+  begin_within number h = omega (arith, o.numbered number h, o.counts)
+
+  module _ (place : ℕ) (w : Window dynamic.Service) (within : place < length s.events)
+      (is : IsWindowOf (StepOf s) (news s) (take place s.events) w) where
+    pub window_below : AreBelow w.front.slots.items (length s.begins)
+    window_below slot number has =
+        let live : 0 < begins number is.inside = (is.front.table.each slot number has).0 in
+        let whole = begins-append number is.past is.inside in
+        let split = ap (begins number) is.split in
+        let all = begins-append number (take place s.events) (drop place s.events) in
+        let same = ap (begins number) (take-append-drop place s.events) in
+        omega (
+          arith,
+          begin_within number (omega (arith, live, whole, split, all, same)),
+          o.all.begins,
+        )
+
+    pub window_few : length w.front.slots.items ≤ 64
+    window_few = is.front.table.few
+
+    pub place_within : place < length s.places
+    place_within = omega (arith, within, o.all.places)
+
+    pub window_within : w.begin < length s.places
+    window_within =
+        omega (
+          arith,
+          is.begins,
+          length-append is.past is.inside,
+          ap length is.split,
+          length-take-le place s.events (omega (arith, within)),
+          within,
+          o.all.places,
+        )
+
+    module _ (bytes : List ℕ) (answers : HasAnswers bytes s) (call line : ℕ)
+        (ended : StandsAt s.events place (End call)) (at : slice_get s.places place ≡ Some line)
+      where
+        pub call_within : call < length s.calls
+        call_within =
+            let a = answers place call line ended at in
+            slice_get_within s.calls call a.0 a.2
+
+        pub refused_in : (words : List ℕ)
+            → ((seen : Line) (said : List ℕ) → IsLine seen → Answers seen said
+            → IsLineAt bytes line (line_text seen) → words ≡ said)
+            → IsStop (StepOf s) (news s) s.events place stop.Refused
+            → (told : Refusal) → told.words.items ≡ words
+            → ((c : Call) → slice_get s.calls call ≡ Some c → IsToldAt s place c w told)
+            → IsRefusedIn s told.line told
+        refused_in words said stops told its tells =
+            let a = answers place call line ended at in
+            let t = tells a.0 a.2 in
+            record {
+              place = place;
+              stops = record { stops = stops; there = t.ended };
+              number = call;
+              ended = ended;
+              call = a.0;
+              called = a.2;
+              words = a.3 ∙ ap Some (sym (its ∙ said a.4.0 a.1 a.4.1 a.4.2 a.4.3));
+              window = w;
+              is_window = is;
+              is_told = t;
+            }
+
+-- an event that ends a call is no other
+pub no_other : (es events : List Event) (place : ℕ) (d : Event) → es ≡ events
+    → (call : ℕ) × StandsAt events place (End call)
+    → ((x : ℕ) × (get_or es place d ≡ Begin x)) ⊎ ((x : ℕ) × (get_or es place d ≡ Crash x)) → ⊥
+no_other es events place d same ended other =
+    let is : get_or es place d ≡ End ended.0 =
+    ap (λ (l : List Event). get_or l place d) same
+    ∙ get_or_from_slice_get events place (End ended.0) d ended.1 in
+    elim other as (λ _. ⊥) [
+      | inl b ↦ begin_not b.0 ended.0 (sym b.1 ∙ is)
+      | inr b ↦ crash_not b.0 ended.0 (sym b.1 ∙ is)
+    ]
+  where
+    begin_not : (x y : ℕ) → Begin x ≡ End y → ⊥
+    begin_not x y e = absurd (cc)
+
+    crash_not : (x y : ℕ) → Crash x ≡ End y → ⊥
+    crash_not x y e = absurd (cc)
+
+-- what stands at a place
+pub read_place : (ps qs : List ℕ) (i : ℕ) → qs ≡ ps → i < length ps
+    → slice_get ps i ≡ Some (get_or qs i 0)
+read_place ps qs i same h =
+    slice_get-get_or ps i 0 h ∙ ap (λ (l : List ℕ). Some (get_or l i 0)) (sym same)

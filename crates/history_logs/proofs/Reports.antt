@@ -1,0 +1,24 @@
+-- Texts that are appended in parts.
+use Rattle.std.proofs.Common.{◌≡◌, ℕ, ◌+◌, ◌<◌, List, [], ◌∷◌, ◌++◌, get_or, length, take, ap, sym, ◌∙◌, append_assoc}
+use Rattle.std.specs.List.{flat_map}
+use Rattle.std.proofs.lemmas.Grind.{flat_map-append}
+use Rattle.std.proofs.lemmas.List.{append-nil, take_more}
+
+pub two_parts : (old a b p q : List ℕ) → a ≡ old ++ p → b ≡ a ++ q → b ≡ old ++ (p ++ q)
+two_parts old a b p q e f =
+    f ∙ rw e (append_assoc old p q)
+
+pub four_parts : (old a b c d p q r s : List ℕ) → a ≡ old ++ p → b ≡ a ++ q → c ≡ b ++ r
+    → d ≡ c ++ s → d ≡ old ++ (p ++ (q ++ (r ++ s)))
+four_parts old a b c d p q r s e f g h =
+    two_parts old a d p (q ++ (r ++ s)) e
+    (two_parts a b d q (r ++ s) f (two_parts b c d r s g h))
+
+-- one item more
+pub flat_more : {A : Type 0} (f : A → List ℕ) (xs : List A) (i : ℕ) (d : A) → i < length xs
+    → d ≡ get_or xs i d → flat_map f (take (i + 1) xs) ≡ flat_map f (take i xs) ++ f d
+flat_more f xs i d h is =
+    ap (λ l. flat_map f l) (take_more xs i d h)
+    ∙ (flat_map-append f (take i xs) (get_or xs i d ∷ [])
+    ∙ ap (λ (l : List ℕ). flat_map f (take i xs) ++ l)
+    (append-nil (f (get_or xs i d)) ∙ ap f (sym is)))

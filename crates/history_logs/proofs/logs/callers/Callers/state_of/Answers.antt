@@ -1,0 +1,15 @@
+use Rattle.std.proofs.Common.{List, sym}
+use Rattle.history_logs.specs.declared.logs.callers.Caller.{Caller}
+use Rattle.history_logs.specs.Fields.{HasName, IsUnknown}
+use Rattle.history_logs.proofs.Callers.{state_at, unknown_state}
+use Rattle.history_logs.proofs.logs.callers.Callers.state_of.Goals as goal
+
+pub returns-in-Some : goal.returns-in-Some
+returns-in-Some c =
+    state_at c.args.self.now.known.items c.args.name.now c.in-Some.at c.index.result.now
+    (rw c.deref.ensures.value at c.in-Some.ensures.some) c.index.ensures
+
+pub returns-in-None : goal.returns-in-None
+returns-in-None c =
+    sym (unknown_state c.args.self.now.known.items c.args.name.now
+    (rw c.deref.ensures.value at c.in-None.ensures.none))

@@ -1,0 +1,7 @@
+use Rattle.std.proofs.Common.{ℕ, suc, ◌+◌, ◌≡◌, List}
+use Rattle.history_logs.specs.Placed.{IsLineAt}
+use Rattle.history_logs.proofs.LinesAt.{LeftIn}
+use Rattle.history_logs.proofs.logs.judging.after_lines.Given as goal
+
+abbrev pub invariant-loop : goal.invariant-loop
+invariant-loop l = LeftIn l.fn.log l.fn.count l.counter l.rest

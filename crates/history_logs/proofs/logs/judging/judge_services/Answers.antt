@@ -1,0 +1,38 @@
+use Rattle.std.proofs.Common.{take}
+use Rattle.history_logs.specs.Good.{IsOrderly}
+use Rattle.history_logs.specs.Placed.{IsPlaced}
+use Rattle.history_logs.proofs.Found.{first_next, first_none, first_whole, item_of}
+use Rattle.history_logs.proofs.logs.judging.judge_services.Goals as goal
+
+pub loop-service-init : goal.loop-service-init
+loop-service-init c = first_none
+
+pub judge_service-requires-clause-orderly : goal.judge_service-requires-clause-orderly
+judge_service-requires-clause-orderly c =
+    item_of IsOrderly c.args.services.now c.loop-service.service-index c.service-item.result
+    c.requires.orderly c.loop-service-test.true c.service-item.is
+
+pub judge_service-requires-clause-placed : goal.judge_service-requires-clause-placed
+judge_service-requires-clause-placed c =
+    item_of (IsPlaced c.args.log.now) c.args.services.now c.loop-service.service-index
+    c.service-item.result c.requires.placed c.loop-service-test.true c.service-item.is
+
+pub loop-service-preserved : goal.loop-service-preserved
+loop-service-preserved c =
+    first_next c.args.log.now c.args.services.now c.loop-service.service-index c.service-item.result
+    c.loop-service.first c.in_ok-judge_service.field-0 c.earlier-first.result c.requires.orderly
+    c.requires.placed
+    c.loop-service-test.true c.service-item.is c.loop-service.invariant
+    c.in_ok-judge_service.ensures c.earlier-first.ensures
+
+pub returns-in-Some : goal.returns-in-Some
+returns-in-Some c = (
+  c.in-Some.field-0-0,
+  first_whole c.args.services.now c.loop-service.service-index c.loop-service.first _
+      c.loop-service-test.false c.loop-service.invariant c.in-Some.is,
+)
+
+pub returns-in-None : goal.returns-in-None
+returns-in-None c =
+    first_whole c.args.services.now c.loop-service.service-index c.loop-service.first _
+    c.loop-service-test.false c.loop-service.invariant c.in-None.is

@@ -1,0 +1,6 @@
+use Rattle.std.proofs.Common.{take}
+use Rattle.history_logs.specs.Judging.{IsFirstFound}
+use Rattle.history_logs.proofs.logs.judging.judge_services.Given as goal
+
+abbrev pub invariant-loop-service : goal.invariant-loop-service
+invariant-loop-service l = IsFirstFound (take l.service-index l.services) l.first

@@ -1,0 +1,43 @@
+use Rattle.std.proofs.Common.{ap}
+use Rattle.history_logs.proofs.LinesAt.{if_both}
+use Rattle.history_logs.proofs.Refusing.{call_within, place_within, refused_in, window_below, window_few, window_within}
+use Rattle.history_logs.proofs.logs.judging.refused.Goals as goal
+
+pub call_ended-call-requires : goal.call_ended-call-requires
+call_ended-call-requires c = record {
+  within = c.requires.stops.within;
+  ended = c.requires.stops.at.0;
+}
+
+pub line_at-line-requires : goal.line_at-line-requires
+line_at-line-requires c =
+    place_within c.args.service.now c.requires.orderly c.args.place c.args.window.now
+    c.requires.stops.within c.requires.window
+
+pub refusal-requires : goal.refusal-requires
+refusal-requires c =
+    let s = c.args.service.now in
+    let o = c.requires.orderly in
+    let w = c.args.window.now in
+    let within = c.requires.stops.within in
+    let is = c.requires.window in
+    record {
+      few = window_few s o c.args.place w within is;
+      below = window_below s o c.args.place w within is;
+      within = call_within s o c.args.place w within is c.args.log.now c.requires.placed.answers
+          c.call_ended-call.result c.line_at-line.result c.call_ended-call.ensures
+          c.line_at-line.ensures;
+      place = place_within s o c.args.place w within is;
+      begin = window_within s o c.args.place w within is;
+    }
+
+pub returns : goal.returns
+returns c =
+    let s = c.args.service.now in
+    if_both _ _ _ c.refusal.result c.refusal.ensures.words c.refusal.ensures.told
+    (λ told its tells.
+    refused_in s c.requires.orderly c.args.place c.args.window.now c.requires.stops.within
+    c.requires.window c.args.log.now c.requires.placed.answers c.call_ended-call.result
+    c.line_at-line.result
+    c.call_ended-call.ensures c.line_at-line.ensures c.in_ok-words.words.items c.in_ok-words.ensures
+    c.requires.stops told (ap (λ v. v.items) its) tells)

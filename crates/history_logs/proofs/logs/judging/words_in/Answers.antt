@@ -1,0 +1,27 @@
+use Rattle.std.proofs.Common.{◌≡◌, ◌-◌, suc, zero, subst, arith}
+use Rattle.log_lines.specs.Lines.{line_text}
+use Rattle.history_logs.specs.Placed.{IsLineAt}
+use Rattle.history_logs.proofs.LinesAt.{cut_to, if_ok, line_first, no_line}
+use Rattle.history_logs.proofs.logs.judging.words_in.Goals as goal
+
+pub returns-then-line-eq0 : goal.returns-then-line-eq0
+returns-then-line-eq0 c = λ seen words is a at.
+    absurd (subst (λ k. IsLineAt c.args.log.now k (line_text seen)) c.if-line-eq0.true at)
+
+pub returns-in-Some : goal.returns-in-Some
+returns-in-Some c =
+    let rest = c.after_lines-rest.result.now in
+    let e : suc (c.args.line - 1) ≡ c.args.line = omega arith in
+    let none = c.in-Some.ensures.read.0 in
+    let split = c.in-Some.ensures.read.1 in
+    if_ok _ _ c.words_read.result c.words_read.ensures (λ v says. λ seen words is a at.
+    says seen words is a
+    (line_first rest c.in-Some.text.now c.in-Some.field-0-1.now (line_text seen) none split
+    (cut_to c.args.log.now rest c.args.line (line_text seen) e c.after_lines-rest.ensures at)))
+
+pub returns-in-None : goal.returns-in-None
+returns-in-None c = λ seen words is a at.
+    let rest = c.after_lines-rest.result.now in
+    let e : suc (c.args.line - 1) ≡ c.args.line = omega arith in
+    absurd (no_line rest (suc zero) (line_text seen) c.in-None.ensures.none
+    (cut_to c.args.log.now rest c.args.line (line_text seen) e c.after_lines-rest.ensures at))

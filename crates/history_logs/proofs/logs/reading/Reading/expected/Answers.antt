@@ -1,0 +1,10 @@
+use Rattle.std.proofs.Common.{rules, ◌≡◌, length}
+use Rattle.history_logs.specs.Fields.{log_of}
+use Rattle.history_logs.proofs.Refused.{nil_of, wrong_none}
+use Rattle.history_logs.proofs.logs.reading.Reading.expected.Goals as goal
+
+pub returns-then-is_empty : goal.returns-then-is_empty
+returns-then-is_empty c =
+    let none : length c.args.self.now.services.items ≡ 0 = search rules in
+    let empty = nil_of c.args.self.now.services.items none in
+    λ text not. wrong_none (log_of c.args.self.now) text empty not

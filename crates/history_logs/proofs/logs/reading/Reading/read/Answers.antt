@@ -1,0 +1,16 @@
+use Rattle.std.proofs.Common.{rules}
+use Rattle.history_logs.specs.Fields.{log_of}
+use Rattle.history_logs.proofs.Refused.{bad_line, bad_return}
+use Rattle.history_logs.proofs.logs.reading.Reading.read.Goals as goal
+
+pub returns-then-ends_in_return : goal.returns-then-ends_in_return
+returns-then-ends_in_return c =
+    bad_return (log_of c.args.self.now) (log_of c.go.new.self) c.args.line c.args.text.now
+    c.in-Some.expected (search rules) c.requires (search rules)
+    (rw c.in-Some.is at c.in_ok-expected.ensures)
+
+pub returns : goal.returns
+returns c =
+    bad_line (log_of c.args.self.now) (log_of c.go.new.self) c.args.line c.args.text.now
+    c.in-Some.expected (search rules) c.requires (search rules)
+    (rw c.in-Some.is at c.in_ok-expected.ensures)

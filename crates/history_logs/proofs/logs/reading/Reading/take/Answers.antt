@@ -1,0 +1,30 @@
+use Rattle.std.proofs.Common.{ap}
+use Rattle.log_lines.specs.Commands.{named}
+use Rattle.log_lines.specs.Lines.{line_seen}
+use Rattle.log_lines.specs.Lines.Line.{service, begin, end, crash}
+use Rattle.history_logs.proofs.Refused.{ok_at, ok_is}
+use Rattle.history_logs.proofs.logs.reading.Reading.take.Goals as goal
+
+pub returns-in-Service : goal.returns-in-Service
+returns-in-Service c =
+    ok_at c.service.result _ _ (line_seen c.args.read) (service c.in-Service.service) c.args.line
+    (ap line_seen c.in-Service.is) c.service.ensures
+
+pub returns-in-Begin : goal.returns-in-Begin
+returns-in-Begin c =
+    let arm = c.in-Begin in
+    ok_is c.begin.result _ _ (line_seen c.args.read)
+    (begin arm.number arm.caller.now (named arm.command)) c.args.line (ap line_seen arm.is)
+    c.begin.ensures
+
+pub returns-in-End : goal.returns-in-End
+returns-in-End c =
+    let arm = c.in-End in
+    ok_is c.end.result _ _ (line_seen c.args.read) (end arm.caller.now arm.words.now) c.args.line
+    (ap line_seen arm.is) c.end.ensures
+
+pub returns-in-Crash : goal.returns-in-Crash
+returns-in-Crash c =
+    let arm = c.in-Crash in
+    ok_is c.crash.result _ _ (line_seen c.args.read) (crash arm.caller.now) c.args.line
+    (ap line_seen arm.is) c.crash.ensures

@@ -1,0 +1,8 @@
+use Rattle.std.proofs.Common.{◌≡◌, ◌++◌, take}
+use Rattle.std.specs.List.{flat_map}
+use Rattle.history_logs.specs.Reports.{config_text}
+use Rattle.history_logs.proofs.logs.report.append_configurations.Given as goal
+
+abbrev pub invariant-loop-one : goal.invariant-loop-one
+invariant-loop-one l = l.out.items ≡ l.fn.out.items
+    ++ flat_map config_text (take l.one-index l.told)

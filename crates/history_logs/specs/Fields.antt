@@ -1,0 +1,43 @@
+-- What the fields of what is read tell.
+use Rattle.std.specs.Prelude.{◌≡◌, ◌≢◌, ◌==◌, ◌&&◌, ℕ, All, Bool, true, false, List, [], ◌∷◌, Option, Some, None, if◌then◌else◌, length, slice_get, take}
+use Rattle.history_logs.specs.declared.logs.callers.Caller.{Caller}
+use Rattle.history_logs.specs.declared.logs.callers.CallerState.{CallerState}
+use Rattle.history_logs.specs.declared.logs.callers.Callers.{Callers}
+use Rattle.history_logs.specs.declared.logs.reading.Reading.{Reading}
+use Rattle.history_logs.specs.Reading.{Log}
+
+-- whether two names are the same
+abbrev pub is_name : List ℕ → List ℕ → Bool
+is_name [] [] = true
+is_name [] (b ∷ other) = false
+is_name (a ∷ one) [] = false
+is_name (a ∷ one) (b ∷ other) = (a == b) && is_name one other
+
+-- what the first caller of this name does
+abbrev pub state_in : List Caller → List ℕ → Option CallerState
+state_in [] name = None
+state_in (c ∷ known) name =
+    if is_name c.name.items name then Some c.state else state_in known name
+
+-- what the callers do that they tell
+abbrev pub callers_of : Callers → List ℕ → Option CallerState
+callers_of c = state_in c.known.items
+
+-- none of them has the name
+abbrev pub IsUnknown : List Caller → List ℕ → Type 0
+IsUnknown known name = All (λ (c : Caller). c.name.items ≢ name) known
+
+-- the first of them that has the name stands at the index
+pub record HasName (known : List Caller) (name : List ℕ) (at : ℕ) : Type 0 where
+  pub c : Caller
+  pub there : slice_get known at ≡ Some c
+  pub named : c.name.items ≡ name
+  pub first : IsUnknown (take at known) name
+
+-- what was read, as its fields tell it
+abbrev pub log_of : Reading → Log
+log_of r = record {
+  services = r.services.items;
+  callers = callers_of r.callers;
+  waits = r.waits;
+}

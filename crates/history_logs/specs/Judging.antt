@@ -1,0 +1,111 @@
+-- What is found of a service of a log, and what is told of it.
+use Rattle.std.specs.Prelude.{◌≡◌, ℕ, ◌<◌, ◌≤◌, List, All, Contains, Option, Some, None, if◌then◌else◌, length, ltb, slice_get, sum_by, take}
+use Rattle.std.specs.List.{AllZip}
+use Rattle.std.specs.Int.{bit_at}
+use Rattle.histories.specs.declared.event.Event.TheVariants.{End}
+use Rattle.histories.specs.Frontier.{HasSlot}
+use Rattle.histories.specs.Histories.{StandsAt}
+use Rattle.history_windows.specs.declared.window.Stop.{Stop}
+use Rattle.history_windows.specs.declared.window.Stop.TheVariants as stop
+use Rattle.history_windows.specs.declared.window.Window.{Window}
+use Rattle.history_windows.specs.Windows.{IsStop, IsWindowOf}
+use Rattle.iox2_dynamic.specs.Service as dynamic
+use Rattle.service_conformance.specs.Calls.{Call}
+use Rattle.history_logs.specs.declared.logs.verdict.Expected.{Expected}
+use Rattle.history_logs.specs.declared.logs.verdict.Refusal.{Refusal}
+use Rattle.history_logs.specs.declared.logs.verdict.Verdict.{Verdict}
+use Rattle.history_logs.specs.declared.logs.verdict.Verdict.TheVariants as verdict
+use Rattle.history_logs.specs.Logs.{IsRightAbove, IsSeenRightly, IsTold, StepOf, news}
+use Rattle.history_logs.specs.Seen.{Service}
+
+-- the call has this slot, and was made where these slots wait
+abbrev pub IsMadeIn : List (Option ℕ) → ℕ → ℕ → Type 0
+IsMadeIn slots waiting number =
+    (slot : ℕ) × HasSlot slots slot number × (bit_at waiting slot ≡ 0)
+
+-- the calls that have the slots are some of the first ones, so many
+abbrev pub AreBelow : List (Option ℕ) → ℕ → Type 0
+AreBelow slots count = (slot number : ℕ) → HasSlot slots slot number → number < count
+
+-- the call was made, and begins in this line
+abbrev pub IsLineMade : List ℕ → List (Option ℕ) → ℕ → ℕ → Type 0
+IsLineMade begins slots waiting k =
+    (number : ℕ) × IsMadeIn slots waiting number × (slice_get begins number ≡ Some k)
+
+-- the lines in which the calls of the slots below this one begin that were made
+pub record AreLinesTo (begins : List ℕ) (slots : List (Option ℕ)) (waiting limit : ℕ)
+    (lines : List ℕ) : Type 0 where
+  pub made : All (IsLineMade begins slots waiting) lines
+  pub each : (slot number k : ℕ) → slot < limit → HasSlot slots slot number
+      → bit_at waiting slot ≡ 0 → slice_get begins number ≡ Some k → Contains lines k
+
+-- the lines in which all calls begin that were made
+pub record AreLines (begins : List ℕ) (slots : List (Option ℕ)) (waiting : ℕ) (lines : List ℕ)
+    : Type 0 where
+  pub made : All (IsLineMade begins slots waiting) lines
+  pub each : (number k : ℕ) → IsMadeIn slots waiting number → slice_get begins number ≡ Some k
+      → Contains lines k
+
+-- what is told of the reply in the event of this place, but for its words
+pub record IsToldAt (s : Service) (place : ℕ) (call : Call) (window : Window dynamic.Service)
+    (told : Refusal) : Type 0 where
+  pub ended : slice_get s.places place ≡ Some told.line
+  pub opened : slice_get s.places window.begin ≡ Some told.window
+  pub configurations : AllZip (IsTold s call window.front.slots.items)
+      window.front.configs.items told.configurations.items
+
+-- what is seen of the service stops in this line
+pub record StopsIn (s : Service) (k place : ℕ) (why : Stop) : Type 0 where
+  pub stops : IsStop (StepOf s) (news s) s.events place why
+  pub there : slice_get s.places place ≡ Some k
+
+-- a reply in this line is refused, and this is told of it
+pub record IsRefusedIn (s : Service) (k : ℕ) (told : Refusal) : Type 0 where
+  pub place : ℕ
+  pub stops : StopsIn s k place stop.Refused
+  pub number : ℕ
+  pub ended : StandsAt s.events place (End number)
+  pub call : Call
+  pub called : slice_get s.calls number ≡ Some call
+  pub words : call.words ≡ Some told.words.items
+  pub window : Window dynamic.Service
+  pub is_window : IsWindowOf (StepOf s) (news s) (take place s.events) window
+  pub is_told : IsToldAt s place call window told
+
+-- this is found of the service in this line
+abbrev pub IsFound : Service → ℕ → Verdict → Type 0
+IsFound s k (verdict.Refused told) = IsRefusedIn s k told
+IsFound s k (verdict.ManyConfigs line) =
+    (line ≡ k) × ((place : ℕ) × StopsIn s k place stop.ManyConfigs)
+IsFound s k (verdict.ManyOpen line) =
+    (line ≡ k) × ((place : ℕ) × StopsIn s k place stop.ManyOpen)
+IsFound s k _ = ⊥
+
+-- what is found of the service, and its line; none where an order explains all
+abbrev pub IsFoundOf : Service → Option (ℕ × Verdict) → Type 0
+IsFoundOf s None = IsSeenRightly s
+IsFoundOf s (Some found) = IsFound s found.0 found.1
+
+-- what is found of one of the services in the first line; none where orders explain all
+abbrev pub IsFirstFound : List Service → Option (ℕ × Verdict) → Type 0
+IsFirstFound services None = All IsSeenRightly services
+IsFirstFound services (Some found) =
+    (s : Service) × Contains services s × IsFound s found.0 found.1
+    × All (IsRightAbove found.0) services
+
+-- what is found in the first of two lines
+abbrev pub earlier : Option (ℕ × Verdict) → Option (ℕ × Verdict) → Option (ℕ × Verdict)
+earlier None other = other
+earlier (Some one) None = Some one
+earlier (Some one) (Some other) = if ltb other.0 one.0 then Some other else Some one
+
+-- this is found of the services, in the first line in which something is
+abbrev pub AreJudged : List Service → Option Verdict → Type 0
+AreJudged services None = All IsSeenRightly services
+AreJudged services (Some v) = (k : ℕ) × IsFirstFound services (Some (k, v))
+
+-- the verdict where orders explain all that was seen of the services
+abbrev pub end_verdict : List Service → Option (ℕ × Expected) → Verdict
+end_verdict services None =
+    verdict.Conforms (sum_by (λ (s : Service). length s.calls) services) (length services)
+end_verdict services (Some bad) = verdict.BadLine bad.0 bad.1

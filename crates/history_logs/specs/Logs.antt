@@ -1,0 +1,181 @@
+-- What a log is judged to be.
+use Rattle.std.specs.Prelude.{◌≡◌, ◌≢◌, ◌⊎◌, ℕ, ◌+◌, ◌<◌, List, [], ◌∷◌, ◌++◌, All, Contains, Option, Some, None, IsTrue, codes, filter, get_or, length, ltb, slice_get, sum_by, take}
+use Rattle.std.specs.List.{AllZip}
+use Rattle.std.specs.Int.{bit_at}
+use Rattle.histories.specs.declared.event.Event.TheVariants.{End}
+use Rattle.histories.specs.declared.front.Config.{Config}
+use Rattle.histories.specs.Frontier.{HasSlot}
+use Rattle.histories.specs.Histories.{IsExplained, StandsAt}
+use Rattle.history_windows.specs.declared.window.Stop.{Stop}
+use Rattle.history_windows.specs.declared.window.Stop.TheVariants as stop
+use Rattle.history_windows.specs.declared.window.Window.{Window}
+use Rattle.history_windows.specs.Windows.{IsStop, IsWindowOf}
+use Rattle.iox2_container.specs.Steps.{listed}
+use Rattle.iox2_dynamic.specs.Service as dynamic
+use Rattle.line_streams.specs.Spelling.{HasNo}
+use Rattle.log_lines.specs.Lines.{IsLine, Line, is_note, line_text}
+use Rattle.service_conformance.specs.Calls.{Call, AreRepliesOf, WindowStep}
+use Rattle.service_conformance.specs.declared.conformance.seen_reply.SeenReply.{SeenReply}
+use Rattle.service_descriptions.specs.declared.replay.lines.service_line.ServiceLine.{ServiceLine}
+use Rattle.service_descriptions.specs.Script.{IsServiceLine, first_state, service_line}
+use Rattle.history_logs.specs.declared.logs.verdict.Configuration.{Configuration}
+use Rattle.history_logs.specs.declared.logs.verdict.Expected.{Expected}
+use Rattle.history_logs.specs.declared.logs.verdict.Expected.TheVariants as expected
+use Rattle.history_logs.specs.declared.logs.verdict.Refusal.{Refusal}
+use Rattle.history_logs.specs.declared.logs.verdict.Verdict.{Verdict}
+use Rattle.history_logs.specs.declared.logs.verdict.Verdict.TheVariants as verdict
+use Rattle.history_logs.specs.Reading.{GoesOn, HasRead, IsRefused, Log, Says}
+use Rattle.history_logs.specs.Seen.{Service}
+
+-- no line that may come next begins the bytes
+abbrev pub EndsThere : Log → ℕ → List ℕ → Type 0
+EndsThere log count rest =
+    (first after : List ℕ) → HasNo 10 first → rest ≡ first ++ 10 ∷ after
+    → (¬ (IsTrue (is_note first)))
+    × ((l : Line) (new : Log) → IsLine l → line_text l ≡ first → ¬ (GoesOn log (count + 1) l new))
+
+-- The good lines of the log, from its top to its end or to the first line that may not come next:
+-- so many are there, this was read of them, and the rest follows them.
+pub record HasGood (bytes : List ℕ) (count : ℕ) (log : Log) (rest : List ℕ) : Type 0 where
+  pub text : List ℕ
+  pub read : HasRead text count log
+  pub spelled : bytes ≡ text ++ rest
+  pub ends : EndsThere log count rest
+
+-- the calls on the service lead from one state to another; each with the reply that is seen in the
+-- good lines, or with any reply where none is
+abbrev pub StepOf : Service → dynamic.Service → ℕ → dynamic.Service → Type 0
+StepOf s = WindowStep 0 s.calls
+
+-- the new service of its line
+abbrev pub news : Service → List dynamic.Service
+news s = (first_state s.line).service ∷ []
+
+-- an order of the calls on it explains all that was seen of the service
+abbrev pub IsSeenRightly : Service → Type 0
+IsSeenRightly s = IsExplained (StepOf s) s.events (news s)
+
+-- how many of its events stand above a line
+abbrev pub count_above : ℕ → Service → ℕ
+count_above k s = length (filter (λ place. ltb place k) s.places)
+
+-- the same of what was seen of it above a line
+abbrev pub IsRightAbove : ℕ → Service → Type 0
+IsRightAbove k s = IsExplained (StepOf s) (take (count_above k s) s.events) (news s)
+
+-- what is seen of one of the services stops at this line, and that of each is explained above it
+pub record StopsAt (services : List Service) (k : ℕ) (s : Service) (place : ℕ) (why : Stop)
+    : Type 0 where
+  pub is : Contains services s
+  pub stops : IsStop (StepOf s) (news s) s.events place why
+  pub there : slice_get s.places place ≡ Some k
+  pub above : All (IsRightAbove k) services
+
+-- the call has this number, and begins in this line
+abbrev pub BeginsIn : Service → ℕ → ℕ → Type 0
+BeginsIn s number k = slice_get s.begins number ≡ Some k
+
+-- the call has this slot, and was made
+abbrev pub IsMade : List (Option ℕ) → Config dynamic.Service → ℕ → Type 0
+IsMade slots config number =
+    (slot : ℕ) × HasSlot slots slot number × (bit_at config.waiting slot ≡ 0)
+
+-- What is told of a configuration in which the call was refused: the lines in which the open calls
+-- begin that were made, the replies that it could have had, and who is there.
+pub record IsTold (s : Service) (call : Call) (slots : List (Option ℕ))
+    (config : Config dynamic.Service) (told : Configuration) : Type 0 where
+  pub made : All (λ k. (number : ℕ) × IsMade slots config number × BeginsIn s number k)
+      told.made.items
+  pub each : (number k : ℕ) → IsMade slots config number → BeginsIn s number k
+      → Contains told.made.items k
+  pub possible : AreRepliesOf config.state call told.possible
+  pub nodes : told.nodes.items ≡ listed config.state.nodes.registry
+  pub ports : told.ports.items
+      ≡ listed config.state.ports.first.registry ++ listed config.state.ports.second.registry
+
+-- What is told of a reply that no order explains: its line and its words, the line in which the
+-- window begins, and each configuration that what is above it leads to.
+pub record IsRefusal (services : List Service) (told : Refusal) : Type 0 where
+  pub s : Service
+  pub place : ℕ
+  pub stops : StopsAt services told.line s place stop.Refused
+  pub number : ℕ
+  pub ended : StandsAt s.events place (End number)
+  pub call : Call
+  pub called : slice_get s.calls number ≡ Some call
+  pub words : call.words ≡ Some told.words.items
+  pub window : Window dynamic.Service
+  pub is_window : IsWindowOf (StepOf s) (news s) (take place s.events) window
+  pub begins : slice_get s.places window.begin ≡ Some told.window
+  pub configurations : AllZip (IsTold s call window.front.slots.items)
+      window.front.configs.items told.configurations.items
+
+-- where the log ends after its good lines, something is missing
+abbrev pub IsMissing : Log → Expected → Type 0
+IsMissing log expected.Service = log.services ≡ []
+IsMissing log expected.Reply = log.waits ≢ None
+IsMissing log _ = ⊥
+
+-- What is wrong with the text of a line where no call waits for its reply: there is no service, and
+-- it is the line of none; or it is no line; or it is a line that may not come next.
+abbrev pub IsWrong : Log → List ℕ → Expected → Type 0
+IsWrong log text e =
+    ((log.services ≡ []) × (e ≡ expected.Service)
+    × ((l : ServiceLine) → IsServiceLine l → service_line l ≢ text))
+    ⊎ (((log.services ≢ []) × (e ≡ expected.Call)
+    × ((l : Line) → IsLine l → line_text l ≢ text))
+    ⊎ ((log.services ≢ []) × ((l : Line) × IsLine l × (line_text l ≡ text) × IsRefused log l e)))
+
+-- below a call alone no reply stands
+abbrev pub LacksReply : List ℕ → Type 0
+LacksReply text =
+    (words : List ℕ) (r : SeenReply) → Says words r → text ≢ codes "= " ++ words
+
+-- a carriage return stands at its end
+abbrev pub EndsInReturn : List ℕ → Type 0
+EndsInReturn text = (front : List ℕ) × (text ≡ front ++ 13 ∷ [])
+
+-- what is wrong with the text of a line that is no note
+abbrev pub IsBadText : Log → List ℕ → Expected → Type 0
+IsBadText log text e =
+    (EndsInReturn text × (e ≡ expected.NoCarriageReturn))
+    ⊎ (((¬ (EndsInReturn text)) × (log.waits ≢ None) × LacksReply text × (e ≡ expected.Reply))
+    ⊎ ((¬ (EndsInReturn text)) × (log.waits ≡ None) × IsWrong log text e))
+
+-- What is wrong where the good lines end: the log ends and something is missing, or its last line
+-- has no newline, or the next line is not what is expected.
+abbrev pub IsBad : Log → List ℕ → Expected → Type 0
+IsBad log rest e =
+    ((rest ≡ []) × IsMissing log e)
+    ⊎ (((rest ≢ []) × HasNo 10 rest × (e ≡ expected.Newline))
+    ⊎ ((text : List ℕ) × (after : List ℕ) × HasNo 10 text × (rest ≡ text ++ 10 ∷ after)
+    × (¬ (IsTrue (is_note text))) × IsBadText log text e))
+
+-- how many calls were read
+abbrev pub calls_in : Log → ℕ
+calls_in log = sum_by (λ (s : Service). length s.calls) log.services
+
+-- The log may be judged so.
+-- Conforms: all its lines are good, no call waits for its reply, there is a service, and of each an
+-- order of the calls explains what was seen.
+-- Refused: of the good lines, what is seen of a service is explained above this line, and not with
+-- it; that of the others is explained above it.
+-- ManyConfigs, ManyOpen: so it is above this line, with which a bound is passed.
+-- BadLine: what is seen of all services in the good lines is explained, and the line after them is
+-- not what is expected there.
+unfoldable pub Judged : List ℕ → Verdict → Type 0
+Judged bytes (verdict.Conforms n m) =
+    (count : ℕ) × (log : Log) × HasGood bytes count log [] × (log.waits ≡ None)
+    × All IsSeenRightly log.services × (n ≡ calls_in log) × (m ≡ length log.services) × (0 < m)
+Judged bytes (verdict.Refused told) =
+    (count : ℕ) × (log : Log) × (rest : List ℕ) × HasGood bytes count log rest
+    × IsRefusal log.services told
+Judged bytes (verdict.ManyConfigs k) =
+    (count : ℕ) × (log : Log) × (rest : List ℕ) × HasGood bytes count log rest
+    × ((s : Service) × (place : ℕ) × StopsAt log.services k s place stop.ManyConfigs)
+Judged bytes (verdict.ManyOpen k) =
+    (count : ℕ) × (log : Log) × (rest : List ℕ) × HasGood bytes count log rest
+    × ((s : Service) × (place : ℕ) × StopsAt log.services k s place stop.ManyOpen)
+Judged bytes (verdict.BadLine k e) =
+    (count : ℕ) × (log : Log) × (rest : List ℕ) × HasGood bytes count log rest
+    × All IsSeenRightly log.services × IsBad log rest e × (k ≡ count + 1)

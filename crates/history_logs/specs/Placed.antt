@@ -1,0 +1,42 @@
+-- Where the events of a service stand in a log.
+use Rattle.std.specs.Prelude.{◌≡◌, ◌≤◌, ℕ, zero, suc, List, ◌∷◌, ◌++◌, AllPairs, Some, slice_get}
+use Rattle.histories.specs.declared.event.Event.TheVariants.{End}
+use Rattle.histories.specs.Histories.{StandsAt}
+use Rattle.line_streams.specs.Spelling.{HasNo}
+use Rattle.log_lines.specs.Lines.{IsLine, Line, line_text}
+use Rattle.log_lines.specs.Lines.Line.{service, call, reply, begin, end, crash}
+use Rattle.service_conformance.specs.Calls.{Call}
+use Rattle.history_logs.specs.Seen.{Service}
+
+-- the line ends a call with these words
+abbrev pub Answers : Line → List ℕ → Type 0
+Answers (reply words) other = words ≡ other
+Answers (end name words) other = words ≡ other
+Answers _ other = ⊥
+
+-- the line of this number, from 1, of the bytes
+abbrev pub IsLineAt : List ℕ → ℕ → List ℕ → Type 0
+IsLineAt bytes zero line = ⊥
+IsLineAt bytes (suc zero) line =
+    (after : List ℕ) × HasNo 10 line × (bytes ≡ line ++ 10 ∷ after)
+IsLineAt bytes (suc (suc k)) line =
+    (first : List ℕ) × (after : List ℕ) × HasNo 10 first × (bytes ≡ first ++ 10 ∷ after)
+    × IsLineAt after (suc k) line
+
+-- the call of this number has the words of its reply, and they stand in this line
+abbrev pub IsAnsweredIn : List ℕ → Service → ℕ → ℕ → Type 0
+IsAnsweredIn bytes s number k =
+    (c : Call) × (words : List ℕ) × (slice_get s.calls number ≡ Some c)
+    × (c.words ≡ Some words)
+    × ((l : Line) × IsLine l × Answers l words × IsLineAt bytes k (line_text l))
+
+-- where a call was answered, its words are seen, and they stand in the line of the answer
+abbrev pub HasAnswers : List ℕ → Service → Type 0
+HasAnswers bytes s =
+    (place number k : ℕ) → StandsAt s.events place (End number)
+    → slice_get s.places place ≡ Some k → IsAnsweredIn bytes s number k
+
+-- the lines of the events rise, and replies stand in those of their calls' ends
+pub record IsPlaced (bytes : List ℕ) (s : Service) : Type 0 where
+  pub rising : AllPairs (λ (one other : ℕ). one ≤ other) s.places
+  pub answers : HasAnswers bytes s

@@ -1,0 +1,154 @@
+-- What the lines of a log are.
+use Rattle.std.specs.Prelude.{◌≡◌, ◌≢◌, ◌⊎◌, ℕ, ◌+◌, ◌<◌, List, [], ◌∷◌, ◌++◌, All, Option, Some, None, IsTrue, length, slice_get}
+use Rattle.std.specs.List.{slice_set}
+use Rattle.line_streams.specs.Spelling.{HasNo}
+use Rattle.log_lines.specs.Lines.{IsLine, Line, is_note, line_text}
+use Rattle.log_lines.specs.Lines.Line.{service, call, reply, begin, end, crash}
+use Rattle.service_conformance.specs.declared.conformance.seen_reply.SeenReply.{SeenReply}
+use Rattle.service_conformance.specs.Seen.{IsSeen, seen_text}
+use Rattle.history_logs.specs.declared.logs.callers.CallerState.{CallerState}
+use Rattle.history_logs.specs.declared.logs.callers.CallerState.TheVariants as caller
+use Rattle.history_logs.specs.declared.logs.service.LogCall.{LogCall}
+use Rattle.history_logs.specs.declared.logs.verdict.Expected.{Expected}
+use Rattle.history_logs.specs.declared.logs.verdict.Expected.TheVariants as expected
+use Rattle.history_logs.specs.Seen.{HasAll, Service, called, unseen, with_begin, with_crash, with_end}
+
+-- What was read: the services, what each caller does (`None` where it has begun no call), and the
+-- call alone that waits for its reply, with the index of its service.
+pub record Log : Type 0 where
+  pub services : List Service
+  pub callers : List ℕ → Option CallerState
+  pub waits : Option (ℕ × LogCall)
+
+-- no service has this number
+abbrev pub IsNew : ℕ → List Service → Type 0
+IsNew number services = All (λ (s : Service). s.line.number ≢ number) services
+
+-- with this before a call, it is one on the service at the index: its number, or nothing where
+-- there is no other service
+pub record IsNamed (number : Option ℕ) (services : List Service) (at : ℕ) (s : Service) : Type 0
+  where
+    pub there : slice_get services at ≡ Some s
+    pub named : (number ≡ Some s.line.number) ⊎ ((number ≡ None) × (length services ≡ 1))
+
+-- the caller does this from now on, and the others what they did
+pub record Sets (old : List ℕ → Option CallerState) (name : List ℕ) (state : CallerState)
+    (new : List ℕ → Option CallerState) : Type 0 where
+  pub own : new name ≡ Some state
+  pub others : (other : List ℕ) → other ≢ name → new other ≡ old other
+
+-- the caller has no call open, and has not died
+abbrev pub MayBegin : Option CallerState → Type 0
+MayBegin state = (state ≡ None) ⊎ (state ≡ Some caller.Idle)
+
+-- what is expected in place of the begin of a call of a caller that does this
+abbrev pub RefusesBegin : Option CallerState → Expected → Type 0
+RefusesBegin (Some (caller.Calls at number)) e = e ≡ expected.IdleCaller
+RefusesBegin (Some caller.Dead) e = e ≡ expected.LiveCaller
+RefusesBegin _ e = ⊥
+
+-- the reply has these words
+pub record Says (words : List ℕ) (r : SeenReply) : Type 0 where
+  pub is : IsSeen r
+  pub text : seen_text r ≡ words
+
+-- what the death of a caller that did this adds to the services
+abbrev pub Dies : List Service → ℕ → Option CallerState → List Service → Type 0
+Dies old line None new = ⊥
+Dies old line (Some caller.Dead) new = ⊥
+Dies old line (Some caller.Idle) new = new ≡ old
+Dies old line (Some (caller.Calls at number)) new =
+    (s : Service) × (slice_get old at ≡ Some s)
+    × (new ≡ slice_set old at (with_crash s number line))
+
+-- A line, which has this number, may come next, and leads to what was read then. Below a call alone
+-- its reply comes. A caller begins a call where it has none open, and ends the one that is.
+abbrev pub GoesOn : Log → ℕ → Line → Log → Type 0
+GoesOn old k (service line) new =
+    (old.waits ≡ None) × IsNew line.number old.services
+    × (new ≡ record old { services = old.services ++ unseen line ∷ [] })
+GoesOn old k (call number command) new =
+    (at : ℕ) × (s : Service) × (old.waits ≡ None) × IsNamed number old.services at s
+    × (new ≡ record old { waits = Some (at, called s command) })
+GoesOn old k (reply words) new =
+    (at : ℕ) × (c : LogCall) × (s : Service) × (r : SeenReply) × (old.waits ≡ Some (at, c))
+    × (slice_get old.services at ≡ Some s) × Says words r
+    × (new ≡ record old {
+      services = slice_set old.services at (with_end (with_begin s c k) (length s.calls) r k);
+      waits = None;
+    })
+GoesOn old k (begin number name command) new =
+    (at : ℕ) × (s : Service) × (old.waits ≡ None) × IsNamed number old.services at s
+    × MayBegin (old.callers name)
+    × (new.services ≡ slice_set old.services at (with_begin s (called s command) k))
+    × Sets old.callers name (caller.Calls at (length s.calls)) new.callers × (new.waits ≡ None)
+GoesOn old k (end name words) new =
+    (at : ℕ) × (number : ℕ) × (s : Service) × (r : SeenReply) × (old.waits ≡ None)
+    × (old.callers name ≡ Some (caller.Calls at number))
+    × (slice_get old.services at ≡ Some s) × Says words r
+    × (new.services ≡ slice_set old.services at (with_end s number r k))
+    × Sets old.callers name caller.Idle new.callers × (new.waits ≡ None)
+GoesOn old k (crash name) new =
+    (old.waits ≡ None) × Dies old.services k (old.callers name) new.services
+    × Sets old.callers name caller.Dead new.callers × (new.waits ≡ None)
+
+-- the first lines of a log, so many, are this text, and this was read of them
+pub data HasRead : List ℕ → ℕ → Log → Type 0 where
+  nothing : (log : Log) → log.services ≡ [] → ((name : List ℕ) → log.callers name ≡ None)
+      → log.waits ≡ None → HasRead [] 0 log
+  note : (text : List ℕ) (count : ℕ) (log : Log) → HasRead text count log
+      → (line : List ℕ) → HasNo 10 line → IsTrue (is_note line)
+      → HasRead (text ++ (line ++ 10 ∷ [])) (count + 1) log
+  line : (text : List ℕ) (count : ℕ) (old : Log) → HasRead text count old
+      → (l : Line) → IsLine l → HasNo 10 (line_text l)
+      → (new : Log) → GoesOn old (count + 1) l new
+      → HasRead (text ++ (line_text l ++ 10 ∷ [])) (count + 1) new
+
+-- with this before a call, it is on none of the services
+abbrev pub IsNameless : Option ℕ → List Service → Type 0
+IsNameless number services = (at : ℕ) (s : Service) → ¬ (IsNamed number services at s)
+
+-- it is on one of them
+abbrev pub HasNamed : Option ℕ → List Service → Type 0
+HasNamed number services = (at : ℕ) × (s : Service) × IsNamed number services at s
+
+-- what is expected in place of the end, with these words, of a call of a caller that does this
+abbrev pub RefusesEnd : List ℕ → Option CallerState → Expected → Type 0
+RefusesEnd words None e = e ≡ expected.OpenCall
+RefusesEnd words (Some caller.Idle) e = e ≡ expected.OpenCall
+RefusesEnd words (Some caller.Dead) e = e ≡ expected.LiveCaller
+RefusesEnd words (Some (caller.Calls at number)) e =
+    (e ≡ expected.Reply) × ((r : SeenReply) → ¬ (Says words r))
+
+-- what is expected in place of the death of a caller that does this
+abbrev pub RefusesDeath : Option CallerState → Expected → Type 0
+RefusesDeath None e = e ≡ expected.KnownCaller
+RefusesDeath (Some caller.Dead) e = e ≡ expected.LiveCaller
+RefusesDeath _ e = ⊥
+
+-- The line may not come next, and this is expected in its place: where it is a service with the
+-- number of another, or a call on none of the services, a line of these; else what its caller is to
+-- do, or the words of a reply.
+abbrev pub IsRefused : Log → Line → Expected → Type 0
+IsRefused log (service l) e = (e ≡ expected.Call) × (¬ (IsNew l.number log.services))
+IsRefused log (call number c) e = (e ≡ expected.Call) × IsNameless number log.services
+IsRefused log (reply words) e = e ≡ expected.Call
+IsRefused log (begin number name c) e =
+    ((e ≡ expected.Call) × IsNameless number log.services)
+    ⊎ (HasNamed number log.services × RefusesBegin (log.callers name) e)
+IsRefused log (end name words) e = RefusesEnd words (log.callers name) e
+IsRefused log (crash name) e = RefusesDeath (log.callers name) e
+
+-- None: the line comes next. Some: it may not, and what was seen of the services stays.
+abbrev pub Does : Log → ℕ → Line → Option Expected → Log → Type 0
+Does old k l None new = GoesOn old k l new
+Does old k l (Some e) new = IsRefused old l e × (new.services ≡ old.services)
+
+-- Each service has all of its calls and events, and a call that a caller has open, or that waits
+-- for its reply, is on one of them.
+pub record IsSane (log : Log) : Type 0 where
+  pub all : All HasAll log.services
+  pub opened : (name : List ℕ) (at number : ℕ)
+      → log.callers name ≡ Some (caller.Calls at number)
+      → (s : Service) × (slice_get log.services at ≡ Some s) × (number < length s.calls)
+  pub waits : (at : ℕ) (c : LogCall) → log.waits ≡ Some (at, c) → at < length log.services

@@ -1,0 +1,134 @@
+-- What is written of a verdict.
+use Rattle.std.specs.Prelude.{◌≡◌, ◌==◌, ℕ, if◌then◌else◌, List, [], ◌∷◌, ◌++◌, codes, Option}
+use Rattle.std.specs.Fmt.{decimal}
+use Rattle.std.specs.Io.KnownBytes.{Appends}
+use Rattle.std.specs.List.{flat_map}
+use Rattle.iox2_dynamic.specs.declared.dynamic_config.port_details.PortDetails.{PortDetails}
+use Rattle.service_descriptions.specs.Replies.{id_word, port_word, text_of}
+use Rattle.history_logs.specs.declared.logs.verdict.Expected.{Expected}
+use Rattle.history_logs.specs.declared.logs.verdict.Expected.TheVariants as expected
+use Rattle.history_logs.specs.declared.logs.verdict.Configuration.{Configuration}
+use Rattle.history_logs.specs.declared.logs.verdict.Refusal.{Refusal}
+use Rattle.history_logs.specs.declared.logs.verdict.Verdict.{Verdict}
+use Rattle.history_logs.specs.declared.logs.verdict.Verdict.TheVariants as verdict
+use Rattle.service_conformance.specs.declared.conformance.possible.NextHandle.{NextHandle}
+use Rattle.service_conformance.specs.declared.conformance.possible.PossibleReplies.{PossibleReplies}
+use Rattle.service_conformance.specs.declared.conformance.possible.PossibleReplies.TheVariants as replies
+use Rattle.history_logs.specs.Logs.{Judged}
+
+-- a space and a number
+abbrev pub number_word : ℕ → List ℕ
+number_word number = 32 ∷ decimal number
+
+-- the handles that an add may give
+abbrev pub next_text : NextHandle → List ℕ
+next_text next =
+    (codes "handle SLOT " ++ decimal next.ticket)
+    ++ ((codes ", SLOT below " ++ decimal next.capacity)
+    ++ (codes " and none of:" ++ flat_map number_word next.taken.items))
+
+-- the replies that a run gives
+abbrev pub possible_text : PossibleReplies → List ℕ
+possible_text (replies.One r) = text_of r
+possible_text (replies.Handle next) = next_text next
+
+-- the lines in which calls begin that were made
+abbrev pub made_text : List ℕ → List ℕ
+made_text [] = codes "made: none"
+made_text (line ∷ lines) = codes "made: lines" ++ flat_map number_word (line ∷ lines)
+
+-- the lines of what was made, and of the replies that a call may have
+abbrev pub choice_text : List ℕ → PossibleReplies → List ℕ
+choice_text made possible =
+    made_text made
+    ++ ((10 ∷ codes "possible: ") ++ (possible_text possible ++ 10 ∷ []))
+
+-- the lines of who is there
+abbrev pub attached_text : List ℕ → List PortDetails → List ℕ
+attached_text nodes ports =
+    (codes "nodes:" ++ flat_map id_word nodes)
+    ++ (10 ∷ codes "ports:") ++ flat_map port_word ports ++ 10 ∷ []
+
+-- the lines of a configuration
+abbrev pub config_text : Configuration → List ℕ
+config_text told =
+    choice_text told.made.items told.possible ++ attached_text told.nodes.items told.ports.items
+
+-- the lines of a reply that no order explains, and of what the calls before it can have led to
+abbrev pub refusal_text : Refusal → List ℕ
+refusal_text told =
+    (codes "line " ++ decimal told.line)
+    ++ (codes ": no order of the calls explains this reply" ++ 10 ∷ codes "seen: ")
+    ++ told.words.items
+    ++ ((10 ∷ codes "window: from line ") ++ decimal told.window)
+    ++ (10 ∷ flat_map config_text told.configurations.items)
+
+-- what a line should have been
+abbrev pub expected_text : Expected → List ℕ
+expected_text expected.Service = codes ": the line of a service is expected" ++ 10 ∷ []
+expected_text expected.Call =
+    codes ": the line of a service, a call or an event is expected" ++ 10 ∷ []
+expected_text expected.Reply = codes ": a reply is expected" ++ 10 ∷ []
+expected_text expected.IdleCaller =
+    codes ": a caller without an open call is expected" ++ 10 ∷ []
+expected_text expected.OpenCall = codes ": a caller with an open call is expected" ++ 10 ∷ []
+expected_text expected.LiveCaller = codes ": a caller that has not died is expected" ++ 10 ∷ []
+expected_text expected.KnownCaller =
+    codes ": a caller that has begun a call is expected" ++ 10 ∷ []
+expected_text expected.Newline =
+    codes ": a newline is expected at the end of the line" ++ 10 ∷ []
+expected_text expected.NoCarriageReturn =
+    codes ": no carriage return is expected before the newline" ++ 10 ∷ []
+
+-- the last word of the line of calls that conform, on so many services
+abbrev pub services_text : ℕ → List ℕ
+services_text n = if n == 1 then codes " service" else codes " services"
+
+-- the line of so many calls that conform, on so many services
+abbrev pub conforms_text : ℕ → ℕ → List ℕ
+conforms_text n m =
+    (codes "conforms, " ++ decimal n)
+    ++ ((codes " calls on " ++ decimal m) ++ (services_text m ++ 10 ∷ []))
+
+-- a line with what is told of it
+abbrev pub line_told : ℕ → List ℕ → List ℕ
+line_told line text = (codes "line " ++ decimal line) ++ text
+
+-- the text of a verdict
+abbrev pub report_text : Verdict → List ℕ
+report_text (verdict.Conforms n m) = conforms_text n m
+report_text (verdict.Refused told) = refusal_text told
+report_text (verdict.ManyConfigs k) =
+    line_told k (codes ": orders of the calls lead to more than 4096 configurations" ++ 10 ∷ [])
+report_text (verdict.ManyOpen k) =
+    line_told k (codes ": more than 64 calls are open" ++ 10 ∷ [])
+report_text (verdict.BadLine k e) = line_told k (expected_text e)
+
+-- what the output gets: the report on the replies
+abbrev pub output_text : Verdict → List ℕ
+output_text (verdict.Conforms n m) = conforms_text n m
+output_text (verdict.Refused told) = refusal_text told
+output_text _ = []
+
+-- what the errors get: the report on what cannot be judged
+abbrev pub errors_text : Verdict → List ℕ
+errors_text (verdict.Conforms n m) = []
+errors_text (verdict.Refused told) = []
+errors_text v = report_text v
+
+-- the status of the program
+abbrev pub status_of : Verdict → ℕ
+status_of (verdict.Conforms n m) = 0
+status_of (verdict.Refused told) = 1
+status_of (verdict.ManyConfigs k) = 2
+status_of (verdict.ManyOpen k) = 2
+status_of (verdict.BadLine k e) = 2
+
+-- the log was judged in one way: that is the status, and the writers got what fits it
+pub record Reported (log : List ℕ) (status : ℕ)
+    (out_old out_new err_old err_new : Option (List ℕ)) : Type 0 where
+  pub end : Verdict
+  pub judged : Judged log end
+  pub told : status ≡ status_of end
+  pub output : Appends out_old out_new (output_text end)
+  pub errors : Appends err_old err_new (errors_text end)

@@ -1,0 +1,96 @@
+//! Checks of logs.
+ghost use Rattle.std.specs.Prelude.{◌≡◌, ◌<◌, ◌^◌, IfOk, length, sum_by};
+ghost use Rattle.history_logs.specs.Good.{IsReadTo};
+ghost use Rattle.history_logs.specs.Judging.{end_verdict};
+ghost use Rattle.history_logs.specs.Logs.{Judged};
+ghost use Rattle.history_logs.specs.Reports.{report_text};
+ghost use Rattle.history_logs.specs.Seen.{Service};
+
+mod callers;
+mod judging;
+mod reading;
+mod report;
+mod service;
+mod streams;
+mod verdict;
+
+use judging::judge_services;
+use reading::read_log;
+use report::append_report;
+use service::LogService;
+use std::alloc::{AllocError, Global};
+pub use streams::check_streams;
+pub use verdict::{Configuration, Expected, Refusal, Verdict};
+
+/// How many calls were read.
+fn count_calls(services: &[LogService]) -> usize
+    requires { sum_by (λ (s : Service). length s.calls) services.now < 2 ^ 64 }
+    ensures { result ≡ sum_by (λ (s : Service). length s.calls) services.now }
+{
+    let mut count = 0usize;
+    for service in services {
+        count += service.calls().len();
+    }
+    count
+}
+
+/// The verdict where orders explain all that was seen of the services.
+fn end_verdict(services: &[LogService], bad: Option<(usize, Expected)>) -> Verdict
+    requires { sum_by (λ (s : Service). length s.calls) services.now < 2 ^ 64 }
+    ensures { result ≡ end_verdict services.now bad }
+{
+    match bad {
+        Some((line, expected)) => Verdict::BadLine(line, expected),
+        None => Verdict::Conforms(count_calls(services), services.len()),
+    }
+}
+
+/// Judges what was read of a log.
+fn judge(
+    alloc: Global,
+    log: &[u8],
+    services: &[LogService],
+    bad: Option<(usize, Expected)>,
+) -> Result<Verdict, AllocError>
+    requires { IsReadTo log.now services.now bad }
+    ensures { IfOk result (Judged log.now) }
+{
+    // For the proof: no more calls were read than the log has bytes.
+    let _fits = log.len();
+    match judge_services(alloc, log, services)? {
+        Some(verdict) => Ok(verdict),
+        None => Ok(end_verdict(services, bad)),
+    }
+}
+
+/// Judges a log of services.
+///
+/// A log has lines of services, as `service_before` reads them, each with a number of its own, and
+/// what was seen of them, as `read_log_line` reads it. The line of a command is a call that
+/// overlaps none of its caller's; below it stands `= ` and the words of its reply, and notes may be
+/// between. `A> COMMAND` begins a call of the caller `A`, and `A< WORDS` ends it with the reply
+/// that was seen. A caller has one call open at a time. `A!` says that it died: its open call took
+/// effect above it or never, and no line of it follows. A call that is open at the end took effect
+/// or not. `7: ` before a command or a begin says that it is on the service with that number; it
+/// may be left out where no other service is above. Lines that are empty or begin with `#` may
+/// stand anywhere. Every line ends with a newline.
+///
+/// The calls on a service are numbered by their begins, from 0. A number stands for the handle that
+/// the call's reply gave, where that reply stands above the line of the begin, else for none.
+pub fn check_log(alloc: Global, log: &[u8]) -> Result<Verdict, AllocError>
+    ensures { IfOk result (Judged log.now) }
+{
+    let (reading, bad) = read_log(alloc, log)?;
+    judge(alloc, log, &reading.services, bad)
+}
+
+/// Judges a log, as `check_log` does: the verdict, and the text that reports it.
+pub fn report_log(alloc: Global, log: &[u8]) -> Result<(Verdict, Vec<u8>), AllocError>
+    ensures judged { IfOk result (λ found. Judged log.now found.0) }
+    ensures text { IfOk result (λ found. found.1.items ≡ report_text found.0) }
+{
+    let verdict = check_log(alloc, log)?;
+    let mut text = Vec::new(alloc);
+    append_report(&verdict, &mut text)?;
+    Ok((verdict, text))
+}

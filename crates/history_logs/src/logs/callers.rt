@@ -1,0 +1,96 @@
+//! The callers of a log.
+ghost use Rattle.std.specs.Prelude.{◌≡◌, ℕ, List, None, IfNone, IfSome, OnOk};
+ghost use Rattle.history_logs.specs.Fields.{HasName, IsUnknown, callers_of};
+ghost use Rattle.history_logs.specs.Reading.{MayBegin, RefusesBegin, Sets};
+
+use super::verdict::Expected;
+use std::alloc::{AllocError, Global};
+
+/// What a caller does.
+#[derive(Clone, Copy, Debug, PartialEq, Eq)]
+pub(super) enum CallerState {
+    /// It has no call open.
+    Idle,
+    /// The call of this number on the service at this index is open.
+    Calls(usize, usize),
+    /// It has died.
+    Dead,
+}
+
+/// A caller that has begun a call.
+#[derive(Drop)]
+pub(super) struct Caller {
+    pub(super) name: Vec<u8>,
+    pub(super) state: CallerState,
+}
+
+/// The index of the caller of this name.
+fn position_of(known: &[Caller], name: &[u8]) -> Option<usize>
+    ensures some { IfSome result (HasName known.now name.now) }
+    ensures none { IfNone result (IsUnknown known.now name.now) }
+{
+    for at in 0..known.len() {
+        if known[at].name.as_slice() == name {
+            return Some(at);
+        }
+    }
+    None
+}
+
+/// The callers that have begun calls.
+#[derive(Drop)]
+pub(super) struct Callers {
+    pub(super) known: Vec<Caller>,
+}
+
+impl Callers {
+    /// None yet.
+    pub(super) fn new(alloc: Global) -> Self
+        ensures { (name : List ℕ) → callers_of result name ≡ None }
+    {
+        Callers {
+            known: Vec::new(alloc),
+        }
+    }
+
+    /// What the caller does; `None` where it has begun no call.
+    pub(super) fn state_of(&self, name: &[u8]) -> Option<CallerState>
+        ensures { result ≡ callers_of self.now name.now }
+    {
+        match position_of(&self.known, name) {
+            Some(at) => Some(self.known[at].state),
+            None => None,
+        }
+    }
+
+    /// The caller does this from now on.
+    pub(super) fn set(
+        &mut self,
+        alloc: Global,
+        name: &[u8],
+        state: CallerState,
+    ) -> Result<(), AllocError>
+        ensures { OnOk result
+            (Sets (callers_of self.old) name.now state (callers_of self.new)) }
+    {
+        if let Some(at) = position_of(&self.known, name) {
+            self.known[at].state = state;
+            return Ok(());
+        }
+        let name = Vec::from_slice(alloc, name)?;
+        self.known.push(Caller { name, state })?;
+        Ok(())
+    }
+}
+
+/// What is expected in place of the begin of a call of a caller that does this, if anything is.
+pub(super) fn refuses_begin(state: Option<CallerState>) -> Option<Expected>
+    ensures none { IfNone result (MayBegin state) }
+    ensures some { IfSome result (RefusesBegin state) }
+{
+    match state {
+        None | Some(CallerState::Idle) => None,
+        Some(CallerState::Calls(_, _)) => Some(Expected::IdleCaller),
+        Some(CallerState::Dead) => Some(Expected::LiveCaller),
+    }
+}

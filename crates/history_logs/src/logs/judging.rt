@@ -1,0 +1,353 @@
+//! Judging what was seen of a service.
+ghost use Rattle.std.specs.Prelude.{◌≡◌, ◌+◌, ◌<◌, ◌≤◌, ◌↔◌, ℕ, zero, suc, IfOk, IsTrue, List, [], ◌∷◌, OnOk};
+ghost use Rattle.std.specs.Prelude.{All, Some, length, slice_get, take};
+ghost use Rattle.std.specs.Int.{bit_at};
+ghost use Rattle.std.specs.List.{AllZip};
+ghost use Rattle.history_windows.specs.declared.window.Stop.TheVariants as stop;
+ghost use Rattle.histories.specs.declared.event.Event.TheVariants as event;
+ghost use Rattle.histories.specs.Histories.{StandsAt};
+ghost use Rattle.history_windows.specs.Windows.{IsStop, IsVerdict, IsWindowOf};
+ghost use Rattle.log_lines.specs.Lines.{IsLine, Line, line_seen, line_text};
+ghost use Rattle.service_conformance.specs.Calls.{Call};
+ghost use Rattle.service_descriptions.specs.Script.{first_state};
+ghost use Rattle.history_logs.specs.Good.{IsOrderly};
+ghost use Rattle.history_logs.specs.Judging.{AreBelow, AreJudged, AreLines, AreLinesTo, IsFoundOf};
+ghost use Rattle.history_logs.specs.Judging.{IsRefusedIn, IsToldAt, earlier};
+ghost use Rattle.history_logs.specs.Logs.{IsTold, StepOf, news};
+ghost use Rattle.history_logs.specs.Placed.{Answers, IsLineAt, IsPlaced};
+
+use super::service::LogService;
+use super::verdict::{Configuration, Refusal, Verdict};
+use histories::{Config, Event};
+use history_windows::{Verdict as Found, Window, judge_windows};
+use iox2_dynamic::dynamic_config::MessagingPatternSettings;
+use line_streams::before_byte;
+use log_lines::{LogLine, read_log_line};
+use service_conformance::conformance::{Calls, ServiceCheck, possible_replies};
+use service_descriptions::replay::ServiceLine;
+use std::alloc::{AllocError, Global};
+
+/// Whether the call of the slot waits.
+fn is_waiting(waiting: u64, slot: usize) -> bool
+    requires { slot < 64 }
+    ensures { IsTrue result ↔ (bit_at waiting slot ≡ 1) }
+{
+    waiting >> slot & 1 == 1
+}
+
+/// Adds the line in which the call of the slot begins, if it was made.
+fn add_line(
+    begins: &[usize],
+    slots: &[Option<usize>],
+    waiting: u64,
+    slot: usize,
+    lines: &mut Vec<usize>,
+) -> Result<(), AllocError>
+    requires within { slot < length slots.now }
+    requires few { length slots.now ≤ 64 }
+    requires below { AreBelow slots.now (length begins.now) }
+    ensures { OnOk result (AreLinesTo begins.now slots.now waiting slot lines.old.items
+        → AreLinesTo begins.now slots.now waiting (slot + 1) lines.new.items) }
+{
+    let Some(call) = slots[slot] else {
+        return Ok(());
+    };
+    if is_waiting(waiting, slot) {
+        return Ok(());
+    }
+    lines.push(begins[call])?;
+    Ok(())
+}
+
+/// The lines in which the open calls begin that were made in the configuration.
+fn lines_made(
+    alloc: Global,
+    begins: &[usize],
+    slots: &[Option<usize>],
+    waiting: u64,
+) -> Result<Vec<usize>, AllocError>
+    requires few { length slots.now ≤ 64 }
+    requires below { AreBelow slots.now (length begins.now) }
+    ensures { IfOk result (λ lines. AreLines begins.now slots.now waiting lines.items) }
+{
+    let mut lines = Vec::new(alloc);
+    for slot in 0..slots.len() {
+        add_line(begins, slots, waiting, slot, &mut lines)?;
+    }
+    lines.sort_unstable();
+    Ok(lines)
+}
+
+/// What is reported of a configuration in which the call is refused.
+fn configuration(
+    alloc: Global,
+    service: &LogService,
+    slots: &[Option<usize>],
+    config: &Config<ServiceCheck>,
+    call: usize,
+) -> Result<Configuration, AllocError>
+    requires few { length slots.now ≤ 64 }
+    requires below { AreBelow slots.now (length service.now.begins) }
+    requires within { call < length service.now.calls }
+    ensures { IfOk result (λ told. (c : Call) × (slice_get service.now.calls call ≡ Some c)
+        × IsTold service.now c slots.now config.now told) }
+{
+    Ok(Configuration {
+        made: lines_made(alloc, service.begins(), slots, config.waiting)?,
+        possible: possible_replies(alloc, &config.state, &service.calls()[call])?,
+        nodes: config.state.nodes_listed(alloc)?,
+        ports: config.state.ports_listed(alloc)?,
+    })
+}
+
+/// What is reported of each configuration.
+fn configurations(
+    alloc: Global,
+    service: &LogService,
+    slots: &[Option<usize>],
+    configs: &[Config<ServiceCheck>],
+    call: usize,
+) -> Result<Vec<Configuration>, AllocError>
+    requires few { length slots.now ≤ 64 }
+    requires below { AreBelow slots.now (length service.now.begins) }
+    requires within { call < length service.now.calls }
+    ensures { IfOk result (λ told. (c : Call) → slice_get service.now.calls call ≡ Some c
+        → AllZip (IsTold service.now c slots.now) configs.now told.items) }
+{
+    let mut told = Vec::new(alloc);
+    for config in configs {
+        told.push(configuration(alloc, service, slots, config, call)?)?;
+    }
+    Ok(told)
+}
+
+/// What follows so many lines.
+fn after_lines(log: &[u8], count: usize) -> &[u8]
+    ensures { (line : List ℕ) → IsLineAt log.now (suc count) line
+        → IsLineAt result.now (suc zero) line }
+{
+    let mut rest = log;
+    for _ in 0..count {
+        let Some((_, after)) = before_byte(rest, b'\n') else {
+            return rest;
+        };
+        rest = after;
+    }
+    rest
+}
+
+/// The words of the reply in a line, or none.
+fn words_of<'a>(line: &LogLine<'a>) -> &'a [u8]
+    ensures { (words : List ℕ) → Answers (line_seen line.now) words → result.now ≡ words }
+{
+    match line {
+        LogLine::Reply(words) => words,
+        LogLine::End(_, words) => words,
+        LogLine::Service(_) | LogLine::Call(_, _) => b"",
+        LogLine::Begin(_, _, _) | LogLine::Crash(_) => b"",
+    }
+}
+
+/// The words of the reply that is the text of a line, or none.
+fn words_read(alloc: Global, text: &[u8]) -> Result<Vec<u8>, AllocError>
+    ensures { IfOk result (λ found. (seen : Line) (words : List ℕ) → IsLine seen
+        → Answers seen words → line_text seen ≡ text.now → found.items ≡ words) }
+{
+    match read_log_line(alloc, text)? {
+        Some(line) => Vec::from_slice(alloc, words_of(&line)),
+        None => Ok(Vec::new(alloc)),
+    }
+}
+
+/// The words of the reply in the line of this number.
+fn words_in(alloc: Global, log: &[u8], line: usize) -> Result<Vec<u8>, AllocError>
+    ensures { IfOk result (λ found. (seen : Line) (words : List ℕ) → IsLine seen
+        → Answers seen words → IsLineAt log.now line (line_text seen) → found.items ≡ words) }
+{
+    if line == 0 {
+        return Ok(Vec::new(alloc));
+    }
+    let rest = after_lines(log, line - 1);
+    match before_byte(rest, b'\n') {
+        Some((text, _)) => words_read(alloc, text),
+        None => Ok(Vec::new(alloc)),
+    }
+}
+
+/// The report on the event of this index, by which a call was answered.
+fn refusal(
+    alloc: Global,
+    service: &LogService,
+    place: usize,
+    call: usize,
+    words: Vec<u8>,
+    window: &Window<ServiceCheck>,
+) -> Result<Refusal, AllocError>
+    requires few { length window.now.front.slots.items ≤ 64 }
+    requires below { AreBelow window.now.front.slots.items (length service.now.begins) }
+    requires within { call < length service.now.calls }
+    requires place { place < length service.now.places }
+    requires begin { window.now.begin < length service.now.places }
+    ensures words { IfOk result (λ told. told.words ≡ words) }
+    ensures told { IfOk result (λ told. (c : Call) → slice_get service.now.calls call ≡ Some c
+        → IsToldAt service.now place c window.now told) }
+{
+    let front = &window.front;
+    let configurations = configurations(alloc, service, &front.slots, &front.configs, call)?;
+    Ok(Refusal {
+        line: service.places()[place],
+        words,
+        window: service.places()[window.begin],
+        configurations,
+    })
+}
+
+/// The line of the event of this index.
+fn line_at(service: &LogService, place: usize) -> usize
+    requires { place < length service.now.places }
+    ensures { slice_get service.now.places place ≡ Some result }
+{
+    service.places()[place]
+}
+
+/// The call that the event of this index ends.
+fn call_ended(service: &LogService, place: usize) -> usize
+    requires within { place < length service.now.events }
+    requires ended { (call : ℕ) × StandsAt service.now.events place (event.End call) }
+    ensures { StandsAt service.now.events place (event.End result) }
+{
+    match service.events()[place] {
+        Event::End(call) => call,
+        Event::Begin(_) | Event::Crash(_) => unreachable!(),
+    }
+}
+
+/// The report on the event of this index, by which a call was answered that no order explains.
+fn refused(
+    alloc: Global,
+    log: &[u8],
+    service: &LogService,
+    place: usize,
+    window: &Window<ServiceCheck>,
+) -> Result<Refusal, AllocError>
+    requires orderly { IsOrderly service.now }
+    requires placed { IsPlaced log.now service.now }
+    requires stops { IsStop (StepOf service.now) (news service.now) service.now.events place
+        stop.Refused }
+    requires window { IsWindowOf (StepOf service.now) (news service.now)
+        (take place service.now.events) window.now }
+    ensures { IfOk result (λ told. IsRefusedIn service.now told.line told) }
+{
+    let call = call_ended(service, place);
+    let line = line_at(service, place);
+    let words = words_in(alloc, log, line)?;
+    refusal(alloc, service, place, call, words, window)
+}
+
+/// The verdict by what was found of the service, with its line, unless orders explain all.
+fn told_of(
+    alloc: Global,
+    log: &[u8],
+    service: &LogService,
+    found: Found<ServiceCheck>,
+) -> Result<Option<(usize, Verdict)>, AllocError>
+    requires orderly { IsOrderly service.now }
+    requires placed { IsPlaced log.now service.now }
+    requires found { IsVerdict (StepOf service.now) (news service.now) service.now.events found }
+    ensures { IfOk result (IsFoundOf service.now) }
+{
+    match found {
+        Found::Explained => Ok(None),
+        Found::Refused(place, window) => {
+            let told = refused(alloc, log, service, place, &window)?;
+            Ok(Some((told.line, Verdict::Refused(told))))
+        }
+        Found::ManyConfigs(place) => {
+            let line = line_at(service, place);
+            Ok(Some((line, Verdict::ManyConfigs(line))))
+        }
+        Found::ManyOpen(place) => {
+            let line = line_at(service, place);
+            Ok(Some((line, Verdict::ManyOpen(line))))
+        }
+    }
+}
+
+/// A new service of its line.
+fn new_service(alloc: Global, line: &ServiceLine) -> ServiceCheck
+    ensures { result ≡ (first_state line.now).service }
+{
+    let settings = MessagingPatternSettings::new(line.pattern, line.first, line.second);
+    ServiceCheck::new(alloc, &settings, line.max_nodes, line.number)
+}
+
+/// The new service of its line alone.
+fn first_states(alloc: Global, line: &ServiceLine) -> Result<Vec<ServiceCheck>, AllocError>
+    ensures { IfOk result (λ states. states.items ≡ (first_state line.now).service ∷ []) }
+{
+    let mut states = Vec::new(alloc);
+    states.push(new_service(alloc, line))?;
+    Ok(states)
+}
+
+/// Judges what was seen of a service. Returns what was found, with its line, unless orders of the
+/// calls explain all.
+fn judge_service(
+    alloc: Global,
+    log: &[u8],
+    service: &LogService,
+) -> Result<Option<(usize, Verdict)>, AllocError>
+    requires orderly { IsOrderly service.now }
+    requires placed { IsPlaced log.now service.now }
+    ensures { IfOk result (IsFoundOf service.now) }
+{
+    let machine = Calls {
+        alloc,
+        first: 0,
+        calls: service.calls(),
+    };
+    let states = first_states(alloc, service.line())?;
+    let found = judge_windows(alloc, &machine, &states, service.events())?;
+    told_of(alloc, log, service, found)
+}
+
+/// What was found in the first of two lines.
+fn earlier(
+    one: Option<(usize, Verdict)>,
+    other: Option<(usize, Verdict)>,
+) -> Option<(usize, Verdict)>
+    ensures { result ≡ earlier one other }
+{
+    match (one, other) {
+        (None, other) => other,
+        (Some(one), None) => Some(one),
+        (Some(one), Some(other)) => {
+            if other.0 < one.0 {
+                Some(other)
+            } else {
+                Some(one)
+            }
+        }
+    }
+}
+
+/// Judges what was seen of each service: what was found in the first line, unless orders explain
+/// all.
+pub(super) fn judge_services(
+    alloc: Global,
+    log: &[u8],
+    services: &[LogService],
+) -> Result<Option<Verdict>, AllocError>
+    requires orderly { All IsOrderly services.now }
+    requires placed { All (IsPlaced log.now) services.now }
+    ensures { IfOk result (AreJudged services.now) }
+{
+    let mut first: Option<(usize, Verdict)> = None;
+    for service in services {
+        first = earlier(first, judge_service(alloc, log, service)?);
+    }
+    match first {
+        Some((_, verdict)) => Ok(Some(verdict)),
+        None => Ok(None),
+    }
+}

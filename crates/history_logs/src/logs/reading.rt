@@ -1,0 +1,382 @@
+//! Reading a log line by line.
+ghost use Rattle.std.specs.Prelude.{◌≡◌, ◌≢◌, ◌<◌, ℕ, List, [], None, Some, IfNone, IfOk, IfSome, IsTrue, length, slice_get};
+ghost use Rattle.log_lines.specs.Commands.{HasText, named as named_command};
+ghost use Rattle.log_lines.specs.Lines.Line.{service as service_line, call as call_line};
+ghost use Rattle.log_lines.specs.Lines.Line.{begin as begin_line, end as end_line, crash as crash_line};
+ghost use Rattle.history_logs.specs.Fields.{callers_of, log_of};
+ghost use Rattle.log_lines.specs.Lines.{IsLine, Line, line_seen, line_text};
+ghost use Rattle.history_logs.specs.Good.{IsKept, IsReadTo, SaysIn, Takes, TakesLine};
+ghost use Rattle.history_logs.specs.Good.{TakesNext, TakesReply, is_service};
+ghost use Rattle.history_logs.specs.Logs.{EndsInReturn, IsMissing, IsWrong, LacksReply};
+ghost use Rattle.history_logs.specs.Reading.{Does, IsNameless, IsNew, IsNamed, IsSane};
+ghost use Rattle.history_logs.specs.Seen.{Service};
+
+use super::callers::{CallerState, Callers, refuses_begin};
+use super::service::{LogCall, LogService};
+use super::verdict::Expected;
+use line_streams::{after_word, before_byte};
+use log_lines::{LogCommand, LogLine, is_note, read_log_line};
+use service_conformance::conformance::{SeenReply, read_reply};
+use service_descriptions::replay::ServiceLine;
+use std::alloc::{AllocError, Global};
+
+/// What was read of a log.
+#[derive(Drop)]
+pub(super) struct Reading {
+    /// The services, and what was seen of each.
+    pub(super) services: Vec<LogService>,
+    /// The callers.
+    pub(super) callers: Callers,
+    /// The index of the service of the call alone that waits for its reply, and the call.
+    pub(super) waits: Option<(usize, LogCall)>,
+}
+
+/// The index of the service with this number.
+fn position_of(services: &[LogService], number: u64) -> Option<usize>
+    ensures some { IfSome result (λ at. (s : Service)
+        × (slice_get services.now at ≡ Some s) × (s.line.number ≡ number)) }
+    ensures none { IfNone result (IsNew number services.now) }
+{
+    for at in 0..services.len() {
+        if services[at].line().number == number {
+            return Some(at);
+        }
+    }
+    None
+}
+
+/// Whether a carriage return stands at the end of the line.
+fn ends_in_return(text: &[u8]) -> bool
+    ensures yes { IsTrue result → EndsInReturn text.now }
+    ensures no { EndsInReturn text.now → IsTrue result }
+{
+    !text.is_empty() && text[text.len() - 1] == b'\r'
+}
+
+/// The reply whose words stand in the line of a reply.
+fn reply_in(alloc: Global, text: &[u8]) -> Result<Option<SeenReply>, AllocError>
+    ensures some { IfOk result (λ found. IfSome found (λ r. SaysIn text.now r)) }
+    ensures none { IfOk result (λ found. IfNone found (LacksReply text.now)) }
+{
+    let Some(words) = after_word(text, b"= ") else {
+        return Ok(None);
+    };
+    read_reply(alloc, words)
+}
+
+/// Whether the line is that of a service.
+fn is_service(read: &LogLine<'_>) -> bool
+    ensures { result ≡ is_service (line_seen read.now) }
+{
+    matches!(read, LogLine::Service(_))
+}
+
+/// The index of the service that a call is on, before which this number stands, or none.
+fn service_named(services: &[LogService], number: Option<u64>) -> Option<usize>
+    ensures some { IfSome result (λ at. (s : Service) × IsNamed number services.now at s) }
+    ensures none { IfNone result (IsNameless number services.now) }
+{
+    match number {
+        Some(number) => position_of(services, number),
+        None if services.len() == 1 => Some(0),
+        None => None,
+    }
+}
+
+impl Reading {
+    /// Nothing yet.
+    pub(super) fn new(alloc: Global) -> Self
+        ensures services { result.services.items ≡ [] }
+        ensures callers { (name : List ℕ) → callers_of result.callers name ≡ None }
+        ensures waits { result.waits ≡ None }
+    {
+        Reading {
+            services: Vec::new(alloc),
+            callers: Callers::new(alloc),
+            waits: None,
+        }
+    }
+
+    /// A service. Returns what is expected instead, if it may not come.
+    fn service(&mut self, alloc: Global, line: ServiceLine) -> Result<Option<Expected>, AllocError>
+        requires { self.old.waits ≡ None }
+        ensures { IfOk result (λ found. (k : ℕ)
+            → Does (log_of self.old) k (service_line line) found (log_of self.new)) }
+    {
+        if position_of(&self.services, line.number).is_some() {
+            return Ok(Some(Expected::Call));
+        }
+        self.services.push(LogService::new(alloc, line))?;
+        Ok(None)
+    }
+
+    /// A call alone. Returns what is expected instead, if it may not come.
+    fn call(&mut self, number: Option<u64>, command: LogCommand) -> Option<Expected>
+        requires waits { self.old.waits ≡ None }
+        requires text { HasText (named_command command) }
+        ensures { (k : ℕ) → Does (log_of self.old) k
+            (call_line number (named_command command)) result (log_of self.new) }
+    {
+        let Some(at) = service_named(&self.services, number) else {
+            return Some(Expected::Call);
+        };
+        let call = self.services[at].call(command);
+        self.waits = Some((at, call));
+        None
+    }
+
+    /// The begin of a call in this line. Returns what is expected instead, if it may not come.
+    fn begin(
+        &mut self,
+        alloc: Global,
+        number: Option<u64>,
+        caller: &[u8],
+        command: LogCommand,
+        line: usize,
+    ) -> Result<Option<Expected>, AllocError>
+        requires waits { self.old.waits ≡ None }
+        requires text { HasText (named_command command) }
+        ensures { IfOk result (λ found. Does (log_of self.old) line
+            (begin_line number caller.now (named_command command)) found (log_of self.new)) }
+    {
+        let Some(at) = service_named(&self.services, number) else {
+            return Ok(Some(Expected::Call));
+        };
+        if let Some(expected) = refuses_begin(self.callers.state_of(caller)) {
+            return Ok(Some(expected));
+        }
+        let service = &mut self.services[at];
+        let call = service.call(command);
+        let number = service.begin(call, line)?;
+        self.callers
+            .set(alloc, caller, CallerState::Calls(at, number))?;
+        Ok(None)
+    }
+
+    /// The end of a caller's call in this line. Returns what is expected instead, if it may
+    /// not come.
+    fn end(
+        &mut self,
+        alloc: Global,
+        caller: &[u8],
+        words: &[u8],
+        line: usize,
+    ) -> Result<Option<Expected>, AllocError>
+        requires waits { self.old.waits ≡ None }
+        requires sane { IsSane (log_of self.old) }
+        ensures { IfOk result (λ found. Does (log_of self.old) line
+            (end_line caller.now words.now) found (log_of self.new)) }
+    {
+        match self.callers.state_of(caller) {
+            None => Ok(Some(Expected::OpenCall)),
+            Some(CallerState::Idle) => Ok(Some(Expected::OpenCall)),
+            Some(CallerState::Dead) => Ok(Some(Expected::LiveCaller)),
+            Some(CallerState::Calls(at, number)) => {
+                let Some(reply) = read_reply(alloc, words)? else {
+                    return Ok(Some(Expected::Reply));
+                };
+                self.services[at].end(number, reply, line)?;
+                self.callers.set(alloc, caller, CallerState::Idle)?;
+                Ok(None)
+            }
+        }
+    }
+
+    /// A caller died above this line. Returns what is expected instead, if it may not come.
+    fn crash(
+        &mut self,
+        alloc: Global,
+        caller: &[u8],
+        line: usize,
+    ) -> Result<Option<Expected>, AllocError>
+        requires waits { self.old.waits ≡ None }
+        requires sane { IsSane (log_of self.old) }
+        ensures { IfOk result (λ found. Does (log_of self.old) line
+            (crash_line caller.now) found (log_of self.new)) }
+    {
+        match self.callers.state_of(caller) {
+            None => Ok(Some(Expected::KnownCaller)),
+            Some(CallerState::Dead) => Ok(Some(Expected::LiveCaller)),
+            Some(CallerState::Idle) => {
+                self.callers.set(alloc, caller, CallerState::Dead)?;
+                Ok(None)
+            }
+            Some(CallerState::Calls(at, number)) => {
+                self.services[at].crash(number, line)?;
+                self.callers.set(alloc, caller, CallerState::Dead)?;
+                Ok(None)
+            }
+        }
+    }
+
+    /// The reply to the call that waits, in this line. Returns whether it is one.
+    fn reply(
+        &mut self,
+        alloc: Global,
+        at: usize,
+        call: LogCall,
+        text: &[u8],
+        line: usize,
+    ) -> Result<Option<Expected>, AllocError>
+        requires waits { self.old.waits ≡ None }
+        requires within { at < length self.old.services.items }
+        requires kept { IsKept (log_of self.old) }
+        ensures { IfOk result (λ found.
+            TakesReply (log_of self.old) at call line text.now found (log_of self.new)) }
+    {
+        let Some(reply) = reply_in(alloc, text)? else {
+            return Ok(Some(Expected::Reply));
+        };
+        let service = &mut self.services[at];
+        let number = service.begin(call, line)?;
+        service.end(number, reply, line)?;
+        Ok(None)
+    }
+
+    /// A line of a log, where no call waits. Returns what is expected instead, if it may not
+    /// come.
+    #[tactic(auto, using(crate::proofs::Kept::sane_of))]
+    fn take(
+        &mut self,
+        alloc: Global,
+        read: LogLine<'_>,
+        line: usize,
+    ) -> Result<Option<Expected>, AllocError>
+        requires waits { self.old.waits ≡ None }
+        requires sane { IsSane (log_of self.old) }
+        requires is { IsLine (line_seen read) }
+        ensures { IfOk result (λ found.
+            Does (log_of self.old) line (line_seen read.entry) found (log_of self.new)) }
+    {
+        match read {
+            LogLine::Service(service) => self.service(alloc, service),
+            LogLine::Call(number, command) => Ok(self.call(number, command)),
+            LogLine::Reply(_) => Ok(Some(Expected::Call)),
+            LogLine::Begin(number, caller, command) => {
+                self.begin(alloc, number, caller, command, line)
+            }
+            LogLine::End(caller, words) => self.end(alloc, caller, words, line),
+            LogLine::Crash(caller) => self.crash(alloc, caller, line),
+        }
+    }
+
+    /// What is expected in place of what is no line of a log.
+    #[tactic(auto, using(crate::proofs::Refused::wrong_none))]
+    fn expected(&self) -> Expected
+        ensures { (text : List ℕ) → ((l : Line) → IsLine l → line_text l ≢ text)
+            → IsWrong (log_of self.now) text result }
+    {
+        if self.services.is_empty() {
+            Expected::Service
+        } else {
+            Expected::Call
+        }
+    }
+
+    /// A line that is no note, where no call waits. Returns what is expected instead, if it
+    /// may not come.
+    fn next(
+        &mut self,
+        alloc: Global,
+        text: &[u8],
+        line: usize,
+    ) -> Result<Option<Expected>, AllocError>
+        requires waits { self.old.waits ≡ None }
+        requires kept { IsKept (log_of self.old) }
+        ensures { IfOk result (λ found.
+            TakesNext (log_of self.old) line text.now found (log_of self.new)) }
+    {
+        let Some(read) = read_log_line(alloc, text)? else {
+            return Ok(Some(self.expected()));
+        };
+        if self.services.is_empty() && !is_service(&read) {
+            return Ok(Some(Expected::Service));
+        }
+        self.take(alloc, read, line)
+    }
+
+    /// Goes on with a line that is no note. Returns what is expected instead, but for its
+    /// carriage return, if it may not come.
+    #[tactic(auto, using(crate::proofs::Refused::kept_taken))]
+    fn go(
+        &mut self,
+        alloc: Global,
+        text: &[u8],
+        line: usize,
+    ) -> Result<Option<Expected>, AllocError>
+        requires { IsKept (log_of self.old) }
+        ensures { IfOk result (λ found.
+            TakesLine (log_of self.old) line text.now found (log_of self.new)) }
+    {
+        match self.waits.take() {
+            Some((at, call)) => self.reply(alloc, at, call, text, line),
+            None => self.next(alloc, text, line),
+        }
+    }
+
+    /// Goes on with a line. Returns what is expected instead, if it may not come.
+    fn read(
+        &mut self,
+        alloc: Global,
+        text: &[u8],
+        line: usize,
+    ) -> Result<Option<Expected>, AllocError>
+        requires { IsKept (log_of self.old) }
+        ensures { IfOk result (λ found.
+            Takes (log_of self.old) line text.now found (log_of self.new)) }
+    {
+        if is_note(text) {
+            return Ok(None);
+        }
+        let Some(expected) = self.go(alloc, text, line)? else {
+            return Ok(None);
+        };
+        if ends_in_return(text) {
+            return Ok(Some(Expected::NoCarriageReturn));
+        }
+        Ok(Some(expected))
+    }
+
+    /// What is expected where the log ends after good lines, if anything is.
+    fn at_end(&self) -> Option<Expected>
+        ensures none { IfNone result
+            ((self.now.waits ≡ None) × (0 < length self.now.services.items)) }
+        ensures some { IfSome result (IsMissing (log_of self.now)) }
+    {
+        if self.waits.is_some() {
+            return Some(Expected::Reply);
+        }
+        if self.services.is_empty() {
+            return Some(Expected::Service);
+        }
+        None
+    }
+}
+
+/// Reads the good lines of a log. Returns what was read, and the first line that is not what is
+/// expected, if there is one.
+#[tactic(auto, using(crate::proofs::Above::read_missing, crate::proofs::Above::read_whole, crate::proofs::Above::above_room))]
+pub(super) fn read_log(
+    alloc: Global,
+    log: &[u8],
+) -> Result<(Reading, Option<(usize, Expected)>), AllocError>
+    ensures { IfOk result (λ found. IsReadTo log.now found.0.services.items found.1) }
+{
+    let mut reading = Reading::new(alloc);
+    let mut rest = log;
+    let mut line = 1;
+    while let Some((text, after)) = before_byte(rest, b'\n') {
+        if let Some(expected) = reading.read(alloc, text, line)? {
+            return Ok((reading, Some((line, expected))));
+        }
+        rest = after;
+        line += 1;
+    }
+    if !rest.is_empty() {
+        return Ok((reading, Some((line, Expected::Newline))));
+    }
+    match reading.at_end() {
+        Some(expected) => Ok((reading, Some((line, expected)))),
+        None => Ok((reading, None)),
+    }
+}

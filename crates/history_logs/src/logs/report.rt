@@ -1,0 +1,246 @@
+//! The texts of verdicts.
+ghost use Rattle.std.specs.Prelude.{◌≡◌, ◌++◌, OnOk, codes, decimal};
+ghost use Rattle.std.specs.List.{flat_map};
+ghost use Rattle.history_logs.specs.Reports.{attached_text, choice_text, config_text, conforms_text};
+ghost use Rattle.history_logs.specs.Reports.{expected_text, number_word};
+ghost use Rattle.history_logs.specs.Reports.{made_text, next_text};
+ghost use Rattle.history_logs.specs.Reports.{possible_text, refusal_text, report_text, services_text};
+ghost use Rattle.service_descriptions.specs.Replies.{id_word, port_word, text_of};
+
+use super::verdict::{Configuration, Expected, Refusal, Verdict};
+use iox2_dynamic::dynamic_config::PortDetails;
+use iox2_ids::identifiers::{Hexadecimal, UniqueNodeId};
+use itoa::Buffer;
+use service_conformance::conformance::{NextHandle, PossibleReplies};
+use service_descriptions::replay::{Reply, write_reply};
+use std::alloc::AllocError;
+
+/// Appends a number.
+fn append_decimal(n: u64, out: &mut Vec<u8>) -> Result<(), AllocError>
+    ensures { OnOk result (out.new.items ≡ out.old.items ++ decimal n) }
+{
+    let mut digits = Buffer::new();
+    out.extend_from_slice(digits.format(n).as_bytes())
+}
+
+/// Appends a space and an id.
+fn append_id(id: u128, out: &mut Vec<u8>) -> Result<(), AllocError>
+    ensures { OnOk result (out.new.items ≡ out.old.items ++ id_word id) }
+{
+    let text = Hexadecimal::new(id);
+    out.push(b' ')?;
+    out.extend_from_slice(text.as_bytes())
+}
+
+/// Appends nodes.
+fn append_nodes(nodes: &[UniqueNodeId], out: &mut Vec<u8>) -> Result<(), AllocError>
+    ensures { OnOk result (out.new.items ≡ out.old.items ++ flat_map id_word nodes.now) }
+{
+    for id in nodes {
+        append_id(id.value(), out)?;
+    }
+    Ok(())
+}
+
+/// Appends ports.
+fn append_ports(ports: &[PortDetails], out: &mut Vec<u8>) -> Result<(), AllocError>
+    ensures { OnOk result (out.new.items ≡ out.old.items ++ flat_map port_word ports.now) }
+{
+    for details in ports {
+        append_id(details.port_id().value(), out)?;
+    }
+    Ok(())
+}
+
+/// Appends slots, or lines.
+fn append_numbers(numbers: &[usize], out: &mut Vec<u8>) -> Result<(), AllocError>
+    ensures { OnOk result (out.new.items ≡ out.old.items ++ flat_map number_word numbers.now) }
+{
+    for number in numbers {
+        out.push(b' ')?;
+        append_decimal(*number as u64, out)?;
+    }
+    Ok(())
+}
+
+/// Appends a name and a number.
+fn append_number(name: &[u8], n: u64, out: &mut Vec<u8>) -> Result<(), AllocError>
+    ensures { OnOk result (out.new.items ≡ out.old.items ++ (name.now ++ decimal n)) }
+{
+    out.extend_from_slice(name)?;
+    append_decimal(n, out)?;
+    Ok(())
+}
+
+/// Appends the words of a reply.
+fn append_words(reply: &Reply, out: &mut Vec<u8>) -> Result<(), AllocError>
+    ensures { OnOk result (out.new.items ≡ out.old.items ++ text_of reply.now) }
+{
+    write_reply(reply, out)?;
+    let _newline = out.pop();
+    Ok(())
+}
+
+/// Appends the handles that an add may give.
+fn append_next(next: &NextHandle, out: &mut Vec<u8>) -> Result<(), AllocError>
+    ensures { OnOk result (out.new.items ≡ out.old.items ++ next_text next.now) }
+{
+    append_number(b"handle SLOT ", next.ticket, out)?;
+    append_number(b", SLOT below ", next.capacity as u64, out)?;
+    out.extend_from_slice(b" and none of:")?;
+    append_numbers(&next.taken, out)?;
+    Ok(())
+}
+
+/// Appends the replies that a run gives.
+fn append_possible(possible: &PossibleReplies, out: &mut Vec<u8>) -> Result<(), AllocError>
+    ensures { OnOk result (out.new.items ≡ out.old.items ++ possible_text possible.now) }
+{
+    match possible {
+        PossibleReplies::One(reply) => append_words(reply, out),
+        PossibleReplies::Handle(next) => append_next(next, out),
+    }
+}
+
+/// Appends the lines in which the calls begin that were made.
+fn append_made(lines: &[usize], out: &mut Vec<u8>) -> Result<(), AllocError>
+    ensures { OnOk result (out.new.items ≡ out.old.items ++ made_text lines.now) }
+{
+    if lines.is_empty() {
+        return out.extend_from_slice(b"made: none");
+    }
+    out.extend_from_slice(b"made: lines")?;
+    append_numbers(lines, out)?;
+    Ok(())
+}
+
+/// Appends the lines of who is there.
+fn append_attached(
+    nodes: &[UniqueNodeId],
+    ports: &[PortDetails],
+    out: &mut Vec<u8>,
+) -> Result<(), AllocError>
+    ensures { OnOk result (out.new.items ≡ out.old.items ++ attached_text nodes.now ports.now) }
+{
+    out.extend_from_slice(b"nodes:")?;
+    append_nodes(nodes, out)?;
+    out.extend_from_slice(b"\nports:")?;
+    append_ports(ports, out)?;
+    out.extend_from_slice(b"\n")?;
+    Ok(())
+}
+
+/// Appends the lines of what was made, and of the replies that a call may have.
+fn append_choice(
+    made: &[usize],
+    possible: &PossibleReplies,
+    out: &mut Vec<u8>,
+) -> Result<(), AllocError>
+    ensures { OnOk result (out.new.items ≡ out.old.items ++ choice_text made.now possible.now) }
+{
+    append_made(made, out)?;
+    out.extend_from_slice(b"\npossible: ")?;
+    append_possible(possible, out)?;
+    out.push(b'\n')?;
+    Ok(())
+}
+
+/// Appends the lines of a configuration.
+fn append_configuration(told: &Configuration, out: &mut Vec<u8>) -> Result<(), AllocError>
+    ensures { OnOk result (out.new.items ≡ out.old.items ++ config_text told.now) }
+{
+    append_choice(&told.made, &told.possible, out)?;
+    append_attached(&told.nodes, &told.ports, out)?;
+    Ok(())
+}
+
+/// Appends the lines of configurations.
+fn append_configurations(told: &[Configuration], out: &mut Vec<u8>) -> Result<(), AllocError>
+    ensures { OnOk result (out.new.items ≡ out.old.items ++ flat_map config_text told.now) }
+{
+    for one in told {
+        append_configuration(one, out)?;
+    }
+    Ok(())
+}
+
+/// Appends the report on a reply that no order explains.
+fn append_refusal(told: &Refusal, out: &mut Vec<u8>) -> Result<(), AllocError>
+    ensures { OnOk result (out.new.items ≡ out.old.items ++ refusal_text told.now) }
+{
+    append_number(b"line ", told.line as u64, out)?;
+    out.extend_from_slice(b": no order of the calls explains this reply\nseen: ")?;
+    out.extend_from_slice(&told.words)?;
+    append_number(b"\nwindow: from line ", told.window as u64, out)?;
+    out.push(b'\n')?;
+    append_configurations(&told.configurations, out)?;
+    Ok(())
+}
+
+/// Appends a line that a text follows.
+fn append_line(line: usize, text: &[u8], out: &mut Vec<u8>) -> Result<(), AllocError>
+    ensures { OnOk result (out.new.items ≡ out.old.items
+        ++ ((codes "line " ++ decimal line) ++ text.now)) }
+{
+    append_number(b"line ", line as u64, out)?;
+    out.extend_from_slice(text)?;
+    Ok(())
+}
+
+/// What a line should have been.
+fn expected_text(expected: Expected) -> &'static [u8]
+    ensures { result.now ≡ expected_text expected }
+{
+    match expected {
+        Expected::Service => b": the line of a service is expected\n",
+        Expected::Call => b": the line of a service, a call or an event is expected\n",
+        Expected::Reply => b": a reply is expected\n",
+        Expected::IdleCaller => b": a caller without an open call is expected\n",
+        Expected::OpenCall => b": a caller with an open call is expected\n",
+        Expected::LiveCaller => b": a caller that has not died is expected\n",
+        Expected::KnownCaller => b": a caller that has begun a call is expected\n",
+        Expected::Newline => b": a newline is expected at the end of the line\n",
+        Expected::NoCarriageReturn => b": no carriage return is expected before the newline\n",
+    }
+}
+
+/// The last word of the report on calls that conform.
+fn services_text(services: usize) -> &'static [u8]
+    ensures { result.now ≡ services_text services }
+{
+    if services == 1 {
+        b" service"
+    } else {
+        b" services"
+    }
+}
+
+/// Appends that so many calls conform, on so many services.
+fn append_conforms(calls: usize, services: usize, out: &mut Vec<u8>) -> Result<(), AllocError>
+    ensures { OnOk result (out.new.items ≡ out.old.items ++ conforms_text calls services) }
+{
+    append_number(b"conforms, ", calls as u64, out)?;
+    append_number(b" calls on ", services as u64, out)?;
+    out.extend_from_slice(services_text(services))?;
+    out.push(b'\n')?;
+    Ok(())
+}
+
+/// What is reported of a line from which orders lead to too many configurations.
+const MANY_CONFIGS: &[u8] = b": orders of the calls lead to more than 4096 configurations\n";
+
+/// What is reported of a line from which too many calls are open.
+const MANY_OPEN: &[u8] = b": more than 64 calls are open\n";
+
+/// Appends the text of a verdict.
+pub(super) fn append_report(verdict: &Verdict, out: &mut Vec<u8>) -> Result<(), AllocError>
+    ensures { OnOk result (out.new.items ≡ out.old.items ++ report_text verdict.now) }
+{
+    match verdict {
+        Verdict::Conforms(calls, services) => append_conforms(*calls, *services, out),
+        Verdict::Refused(told) => append_refusal(told, out),
+        Verdict::ManyConfigs(line) => append_line(*line, MANY_CONFIGS, out),
+        Verdict::ManyOpen(line) => append_line(*line, MANY_OPEN, out),
+        Verdict::BadLine(line, expected) => append_line(*line, expected_text(*expected), out),
+    }
+}

@@ -1,0 +1,117 @@
+//! Logs that come from a stream.
+ghost use Rattle.std.specs.Prelude.{◌≡◌, ◌<◌, IfOk, IfSome, OnOk};
+ghost use Rattle.std.specs.Io.KnownBytes.{Appends, IsAtEnd};
+ghost use Rattle.line_streams.specs.Streams.{IsFlushed};
+ghost use Rattle.history_logs.specs.Reports.{Reported, errors_text, output_text, report_text, status_of};
+
+use super::report_log;
+use super::verdict::Verdict;
+use line_streams::{Sink, Source, read_all, write_whole};
+use std::alloc::Global;
+use std::io;
+
+/// The status of a verdict.
+fn status(verdict: &Verdict) -> u8
+    ensures { result ≡ status_of verdict.now }
+{
+    match verdict {
+        Verdict::Conforms(_, _) => 0,
+        Verdict::Refused(_) => 1,
+        Verdict::ManyConfigs(_) | Verdict::ManyOpen(_) | Verdict::BadLine(_, _) => 2,
+    }
+}
+
+/// Writes the text of a verdict where it belongs, and flushes both writers.
+fn report<W: Sink, E: Sink>(
+    output: &mut W,
+    errors: &mut E,
+    verdict: &Verdict,
+    text: &[u8],
+) -> io::Result<()>
+    requires { text.now ≡ report_text verdict.now }
+    ensures output { OnOk result
+        (Appends (W.contents output.old) (W.contents output.new) (output_text verdict.now)) }
+    ensures errors { OnOk result
+        (Appends (E.contents errors.old) (E.contents errors.new) (errors_text verdict.now)) }
+    ensures flushed { OnOk result
+        (IsFlushed W.Flushes output.new × IsFlushed E.Flushes errors.new) }
+{
+    match verdict {
+        Verdict::ManyConfigs(_) | Verdict::ManyOpen(_) | Verdict::BadLine(_, _) => {
+            write_whole(errors, text)?;
+        }
+        Verdict::Conforms(_, _) | Verdict::Refused(_) => write_whole(output, text)?,
+    }
+    output.flush_pieces()?;
+    errors.flush_pieces()
+}
+
+/// Judges the log that the reader gives, and answers the status unless a stream fails.
+fn run<R: Source, W: Sink, E: Sink>(
+    alloc: Global,
+    input: &mut R,
+    output: &mut W,
+    errors: &mut E,
+) -> io::Result<u8>
+    ensures range { IfOk result (λ status. status < 4) }
+    ensures reported { IfOk result (λ status. status < 3 → IfSome (R.remaining input.old)
+        (λ log. Reported log status (W.contents output.old) (W.contents output.new)
+        (E.contents errors.old) (E.contents errors.new))) }
+    ensures flushed { IfOk result (λ status. status < 3
+        → IsFlushed W.Flushes output.new × IsFlushed E.Flushes errors.new) }
+    ensures read { IfOk result (λ status. status < 3 → IsAtEnd (R.remaining input.new)) }
+{
+    let end = match read_all(alloc, input)? {
+        Ok(log) => report_log(alloc, &log),
+        Err(why) => Err(why),
+    };
+    match end {
+        Ok((verdict, text)) => {
+            report(output, errors, &verdict, &text)?;
+            Ok(status(&verdict))
+        }
+        Err(_) => {
+            write_whole(errors, b"no memory\n")?;
+            errors.flush_pieces()?;
+            Ok(3)
+        }
+    }
+}
+
+/// Judges the log that the reader gives, and answers the status of the program.
+///
+/// - 0: orders of the calls explain the replies. `conforms, N calls on M services` was written to
+///   `output`.
+/// - 1: none do. The first reply that none explains was written to `output`: its line, its words,
+///   the line from which the window is open, and for each configuration which open calls were made,
+///   every reply that the call could have had, and the nodes and ports that are there.
+/// - 2: a line is not what it should be. Which one, and what is expected, was written to `errors`;
+///   or the line of a call or an event with which a bound would be passed.
+/// - 3: memory was refused, and `no memory` was written to `errors`; or a read, a write or a flush
+///   failed, for any cause, and it was tried to write `a stream failed` to `errors`.
+pub fn check_streams<R: Source, W: Sink, E: Sink>(
+    alloc: Global,
+    input: &mut R,
+    output: &mut W,
+    errors: &mut E,
+) -> u8
+    ensures range { result < 4 }
+    // A status below 3 is that of a verdict on the log, and the writers got what fits it.
+    ensures reported { result < 3 → IfSome (R.remaining input.old) (λ log. Reported log result
+        (W.contents output.old) (W.contents output.new)
+        (E.contents errors.old) (E.contents errors.new)) }
+    // Both writers were flushed last.
+    ensures flushed { result < 3
+        → IsFlushed W.Flushes output.new × IsFlushed E.Flushes errors.new }
+    // All input was read.
+    ensures read { result < 3 → IsAtEnd (R.remaining input.new) }
+{
+    match run(alloc, input, output, errors) {
+        Ok(status) => status,
+        Err(_) => {
+            // Where this fails too, the status alone tells it.
+            let _told = write_whole(errors, b"a stream failed\n");
+            3
+        }
+    }
+}

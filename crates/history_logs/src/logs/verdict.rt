@@ -1,0 +1,72 @@
+//! What logs are judged to be.
+use iox2_dynamic::dynamic_config::PortDetails;
+use iox2_ids::identifiers::UniqueNodeId;
+use service_conformance::conformance::PossibleReplies;
+
+/// What a line of a log should have been.
+#[derive(Clone, Copy, Debug, PartialEq, Eq)]
+pub enum Expected {
+    /// The line of a service: none is above.
+    Service,
+    /// The line of a service with a number of its own, or of a call or an event on a service above.
+    Call,
+    /// The words of a reply: behind `= ` below a call alone, or of a call that ends.
+    Reply,
+    /// A caller without an open call.
+    IdleCaller,
+    /// A caller with an open call.
+    OpenCall,
+    /// A caller that has not died.
+    LiveCaller,
+    /// A caller that has begun a call.
+    KnownCaller,
+    /// A newline at the end of the line.
+    Newline,
+    /// No carriage return before the newline.
+    NoCarriageReturn,
+}
+
+/// What the calls before a refused reply can have led to.
+#[derive(Debug, Drop)]
+pub struct Configuration {
+    /// The lines in which the open calls begin that were made.
+    pub made: Vec<usize>,
+    /// The replies that the refused call could have had then.
+    pub possible: PossibleReplies,
+    /// The nodes that are registered, by rising slot.
+    pub nodes: Vec<UniqueNodeId>,
+    /// The ports that are attached: those of the pattern's first kind by rising slot, and then the
+    /// others.
+    pub ports: Vec<PortDetails>,
+}
+
+/// A reply that no order of the calls explains.
+#[derive(Debug, Drop)]
+pub struct Refusal {
+    /// The number of its line.
+    pub line: usize,
+    /// Its words.
+    pub words: Vec<u8>,
+    /// The line from which the window is open: that of the first event of the service since no call
+    /// of it was open.
+    pub window: usize,
+    /// What the calls before it can have led to, each once.
+    pub configurations: Vec<Configuration>,
+}
+
+/// What a log is judged to be. Lines are numbered from 1.
+#[derive(Debug, Drop)]
+pub enum Verdict {
+    /// Orders of the calls explain all replies: so many calls, on so many services.
+    Conforms(usize, usize),
+    /// Orders explain what is above this reply, and none explains it.
+    Refused(Refusal),
+    /// At this line more than `histories::MAX_CONFIGS` configurations were to be followed: not
+    /// decided.
+    ManyConfigs(usize),
+    /// From this line on more than `histories::MAX_OPEN` calls of a service are open: not decided.
+    ManyOpen(usize),
+    /// Orders explain what is above the line of this number, and it is not what it should be, or
+    /// the log ends before it.
+    BadLine(usize, Expected),
+}
