@@ -6,7 +6,7 @@ use Rattle.histories.specs.declared.event.Event.{Event}
 use Rattle.histories.specs.declared.event.Event.TheVariants.{Begin, Crash, End}
 use Rattle.histories.specs.Histories.{StandsAt, begins, begun}
 use Rattle.histories.specs.Frontier.{HasSlot}
-use Rattle.histories.proofs.Splitting.{begins-append}
+use Rattle.histories.proofs.Cutting.{begins-append}
 use Rattle.history_windows.specs.declared.window.Stop.TheVariants as stop
 use Rattle.history_windows.specs.declared.window.Window.{Window}
 use Rattle.history_windows.specs.Windows.{IsStop, IsWindowOf}
