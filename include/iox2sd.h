@@ -551,7 +551,7 @@ IOX2SD_CHECKED iox2sd_id_answer iox2sd_node(const iox2sd_service *service, iox2s
 /* The port that was attached with this handle and is still there.
  * Errors: IOX2SD_STATUS_NULL; IOX2SD_STATUS_NO_SERVICE; IOX2SD_STATUS_UNKNOWN_ROLE;
  * IOX2SD_STATUS_FOREIGN_HANDLE, also for a node's handle. */
-iox2sd_port_answer iox2sd_port(const iox2sd_service *service, iox2sd_handle handle);
+IOX2SD_CHECKED iox2sd_port_answer iox2sd_port(const iox2sd_service *service, iox2sd_handle handle);
 
 /* Writes the ids of the nodes to the front of `out`, by rising slot, one for each handle. The other
  * elements of `out` stay as they were.

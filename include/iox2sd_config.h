@@ -190,8 +190,8 @@ IOX2SD_CHECKED iox2sd_unknown_answer iox2sd_config_unknown_str(const char *text,
  * IOX2SD_STATUS_NO_TOML_INTEGER, of a number, or of the seconds of a duration, above 2^63 - 1, with
  * its key; IOX2SD_STATUS_BUFFER_TOO_SHORT. At any point after the fields: IOX2SD_STATUS_NO_MEMORY.
  */
-iox2sd_config_write_answer iox2sd_config_write(const iox2sd_config *settings, uint8_t *out,
-                                               size_t capacity);
+IOX2SD_CHECKED iox2sd_config_write_answer iox2sd_config_write(const iox2sd_config *settings,
+                                                              uint8_t *out, size_t capacity);
 
 #ifdef __cplusplus
 }
