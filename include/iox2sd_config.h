@@ -2,9 +2,9 @@
  * out, and back. The rules of iox2sd.h for every call, and what it says of what is proved, hold
  * here too. docs/CONFIG.md shows a file.
  *
- * A call takes memory by malloc and realloc, and frees all of it before it returns; where it is
- * refused, the status is IOX2SD_STATUS_NO_MEMORY. It takes at most IOX2SD_CONFIG_STACK_BYTES of the
- * stack.
+ * A call takes memory by malloc and realloc, and frees all of it before it returns. Where a request
+ * is refused, the status is IOX2SD_STATUS_NO_MEMORY, or the answer is the whole one: a smaller
+ * request was made in its place. A call takes at most IOX2SD_CONFIG_STACK_BYTES of the stack.
  * */
 #ifndef IOX2SD_CONFIG_H
 #define IOX2SD_CONFIG_H
