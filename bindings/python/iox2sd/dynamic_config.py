@@ -133,8 +133,7 @@ class DynamicConfig:
 
     It may be used by several threads, by finalizers and in the child of a fork: each call of the
     library keeps the interpreter's global lock, and is carried out whole before or after any other.
-    No lock is taken beside that one. Where the interpreter runs without it, use a service by one
-    thread at a time.
+    No lock is taken beside that one. An interpreter that runs without it cannot import the package.
 
     A call on a service that was closed raises `NoServiceError`. Use it in a `with` statement, or
     close it. It cannot be copied.
