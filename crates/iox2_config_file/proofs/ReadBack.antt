@@ -196,8 +196,8 @@ wrote_back default config (Err e) is whole services nodes h = tt
 pub none_is_unknown : (config : Config) (bytes : List ℕ)
     (r : Result FileSettings ConfigFileError) → ReadsBack config bytes
     → IfOk r (ReadsOverDefaults bytes) → IfOk r (λ read. read.unknown.items ≡ [])
-none_is_unknown config bytes (Ok read) (file, parsed, _, _, known) (_, _, reads) =
-    let (other, shown, _, _, unknown) = reads in
+none_is_unknown config bytes (Ok read) (file, parsed, _, _, known)
+    (_, _, other, shown, _, _, unknown) =
     let same : other ≡ file = cc in
     no_items unknown_view read.unknown.items (rw (same, known config) at (unknown config))
 none_is_unknown config bytes (Err e) back h = tt

@@ -21,12 +21,6 @@ HasNoFault file = (c : Config) → faults_in c file ≡ []
 abbrev pub ReportsUnknown : Members → List UnknownKey → Type 0
 ReportsUnknown file unknown = (c : Config) → map unknown_view unknown ≡ unknown_in c file
 
--- the text is a file without faults, and these are its settings and its unknown keys
-abbrev pub Reads : Config → List ℕ → FileSettings → Type 0
-Reads default bytes settings =
-    (file : Members) × (parse_document bytes ≡ Some file) × HasNoFault file
-    × IsSettingsOf default file settings.config × ReportsUnknown file settings.unknown.items
-
 -- the text is a file, and this is all that it says: its settings, its faults and its unknown keys
 abbrev pub ReadsAll : Config → List ℕ → FileContents → Type 0
 ReadsAll default bytes contents =
@@ -34,10 +28,13 @@ ReadsAll default bytes contents =
     × ((c : Config) → map fault_view contents.faults.items ≡ faults_in c file)
     × IsSettingsOf default file contents.config × ReportsUnknown file contents.unknown.items
 
--- the same, where an absent key has the default of the middleware
+-- the text is a file without faults, and these are its settings, where an absent key has the
+-- default of the middleware, and its unknown keys
 abbrev pub ReadsOverDefaults : List ℕ → FileSettings → Type 0
 ReadsOverDefaults bytes settings =
-    (default : Config) × IsDefaultConfig default × Reads default bytes settings
+    (default : Config) × IsDefaultConfig default × (file : Members)
+    × (parse_document bytes ≡ Some file) × HasNoFault file
+    × IsSettingsOf default file settings.config × ReportsUnknown file settings.unknown.items
 
 -- the first fault of a file
 abbrev pub IsFirstFault : Members → Located → Type 0

@@ -25,7 +25,7 @@ pub use fault::SettingFault;
 pub use kind::{Fault, Kind, TomlType};
 pub use proposal::{Likeness, Proposal};
 pub use read::{
-    FileContents, FileSettings, read_all, read_config, read_config_over, report_all, report_unknown,
+    FileContents, FileSettings, read_all, read_config, report_all, report_unknown,
 };
 pub use section::{Row, SECTIONS, Section, rows};
 pub use setting::{SettingValue, value_at};

@@ -1,6 +1,6 @@
 //! How the text of a file is read.
 ghost use Rattle.std.specs.Prelude.{◌≡◌, Some, IfOk, IfErr, slice_get};
-ghost use Rattle.iox2_config_file.specs.Answers.{Reads, ReadsAll, ReadsOverDefaults, Refuses};
+ghost use Rattle.iox2_config_file.specs.Answers.{ReadsAll, ReadsOverDefaults, Refuses};
 ghost use Rattle.iox2_config_file.specs.Answers.{ReportsAll, ReportsAllUnknown, IsUnparsed};
 ghost use Rattle.toml.specs.View.{table_view};
 ghost use Rattle.toml.specs.Parse.{parse_document};
@@ -42,20 +42,7 @@ pub fn read_config(alloc: Global, text: &str) -> Result<FileSettings, ConfigFile
     ensures ok { IfOk result (ReadsOverDefaults text.now) }
     ensures err { IfErr result (Refuses text.now) }
 {
-    read_config_over(alloc, text, &Config::default())
-}
-
-/// As `read_config`, with the settings of another configuration in place of the defaults: a user's
-/// file over the system's.
-pub fn read_config_over(
-    alloc: Global,
-    text: &str,
-    default: &Config,
-) -> Result<FileSettings, ConfigFileError>
-    ensures ok { IfOk result (Reads default.now text.now) }
-    ensures err { IfErr result (Refuses text.now) }
-{
-    match read_all(alloc, text, default) {
+    match read_all(alloc, text, &Config::default()) {
         Ok(contents) => match first_of(contents.faults.as_slice()) {
             Some(fault) => Err(ConfigFileError::Setting(fault)),
             None => Ok(FileSettings {

@@ -1,5 +1,5 @@
 use iox2_config::config::{AllocationStrategy, BackpressureStrategy, Config};
-use iox2_config_file::{FileSettings, read_config, read_config_over};
+use iox2_config_file::{FileSettings, read_config};
 use iox2_texts::paths::{FileName, Path};
 use std::process::Abort;
 use std::time::Duration;
@@ -151,21 +151,6 @@ fn each_kind_of_value_is_read(rt: HostRuntime) {
     want.defaults.blackboard.max_nodes = 1000;
     let read = settings(&rt, OTHERS);
     assert_eq!(rt; (read.config == want, read.unknown.len()), (true, 0));
-}
-
-#[test]
-fn a_file_lies_over_another(rt: HostRuntime) {
-    let system = settings(
-        &rt,
-        "defaults.blackboard = { max-nodes = 5, max-readers = 6 }",
-    )
-    .config;
-    let both = match read_config_over(rt.alloc(), "defaults.blackboard.max-nodes = 7", &system) {
-        Ok(both) => both.config,
-        Err(_) => panic!(rt; "the file is refused"),
-    };
-    let board = &both.defaults.blackboard;
-    assert_eq!(rt; (board.max_nodes, board.max_readers), (7, 6));
 }
 
 /// Nanoseconds of a second or more are carried over, up to 32 bits of them.
