@@ -7,20 +7,32 @@ ghost use Rattle.toml.specs.Data.{no_members};
 ghost use Rattle.iox2_config_file.specs.Settings as table_of;
 
 use crate::section::Section;
+use crate::table::{node_settings, service_settings};
 use crate::tables::section_table;
 use crate::value::read;
+use crate::{
+    blackboard_settings, event_settings, publish_subscribe_settings, request_response_settings,
+};
 use iox2_config::config::{
     Blackboard, Config, Defaults, Event, Global, Node, PublishSubscribe, RequestResonse, Service,
 };
 use toml::Table;
 
-/// The settings of a table, each read by its key, or else the default's, of which a text is copied.
-macro_rules! settings {
-    ($table:ident, $default:ident, $settings:ident {
-        $($field:ident: $key:literal $(, $copied:ident)?;)*
-    }) => {
-        $settings { $($field: read($table, $key, $default.$field$(.$copied())?)),* }
+/// The settings of a table, each read by its key, or else the default's.
+macro_rules! settings_of {
+    ($table:ident, $default:ident, $settings:ident, $(
+        $number:literal => $field:ident: $key:literal, $kind:ident $($optional:ident)?,
+            $about:literal;
+    )*) => {
+        $settings { $($field: read($table, $key, copy_of!($kind, $default.$field))),* }
     };
+}
+
+/// A copy of a setting of this kind.
+macro_rules! copy_of {
+    (Path, $setting:expr) => { $setting.copied() };
+    (FileName, $setting:expr) => { $setting.copied() };
+    ($kind:ident, $setting:expr) => { $setting };
 }
 
 /// The settings of services' files.
@@ -28,17 +40,7 @@ pub(crate) fn service(table: &Table, default: &Service) -> Service
     ensures { table_of.service_settings result
         ≡ map (read_setting (table_view table.now)) (table_of.service_settings default.now) }
 {
-    settings! {table, default, Service {
-        directory: "directory", copied;
-        data_segment_suffix: "data-segment-suffix", copied;
-        static_config_storage_suffix: "static-config-storage-suffix", copied;
-        dynamic_config_storage_suffix: "dynamic-config-storage-suffix", copied;
-        connection_suffix: "connection-suffix", copied;
-        event_connection_suffix: "event-connection-suffix", copied;
-        blackboard_mgmt_suffix: "blackboard-mgmt-suffix", copied;
-        blackboard_data_suffix: "blackboard-data-suffix", copied;
-        cleanup_dead_nodes_on_open: "cleanup-dead-nodes-on-open";
-    }}
+    service_settings!(settings_of table, default, Service,)
 }
 
 /// The settings of nodes' files.
@@ -46,16 +48,7 @@ pub(crate) fn node(table: &Table, default: &Node) -> Node
     ensures { table_of.node_settings result
         ≡ map (read_setting (table_view table.now)) (table_of.node_settings default.now) }
 {
-    settings! {table, default, Node {
-        directory: "directory", copied;
-        monitor_suffix: "monitor-suffix", copied;
-        static_config_suffix: "static-config-suffix", copied;
-        service_tag_suffix: "service-tag-suffix", copied;
-        port_tag_suffix: "port-tag-suffix", copied;
-        global_mgmt_suffix: "global-mgmt-suffix", copied;
-        cleanup_dead_nodes_on_creation: "cleanup-dead-nodes-on-creation";
-        cleanup_dead_nodes_on_destruction: "cleanup-dead-nodes-on-destruction";
-    }}
+    node_settings!(settings_of table, default, Node,)
 }
 
 /// The settings of publish-subscribe services.
@@ -64,19 +57,7 @@ pub(crate) fn publish_subscribe(table: &Table, default: &PublishSubscribe) -> Pu
         ≡ map (read_setting (table_view table.now))
         (table_of.publish_subscribe_settings default.now) }
 {
-    settings! {table, default, PublishSubscribe {
-        max_subscribers: "max-subscribers";
-        max_publishers: "max-publishers";
-        max_nodes: "max-nodes";
-        subscriber_max_buffer_size: "subscriber-max-buffer-size";
-        subscriber_max_borrowed_samples: "subscriber-max-borrowed-samples";
-        publisher_max_loaned_samples: "publisher-max-loaned-samples";
-        publisher_history_size: "publisher-history-size";
-        enable_safe_overflow: "enable-safe-overflow";
-        backpressure_strategy: "backpressure-strategy";
-        subscriber_expired_connection_buffer: "subscriber-expired-connection-buffer";
-        publisher_allocation_strategy: "publisher-allocation-strategy";
-    }}
+    publish_subscribe_settings!(settings_of table, default, PublishSubscribe,)
 }
 
 /// The settings of event services.
@@ -84,16 +65,7 @@ pub(crate) fn event(table: &Table, default: &Event) -> Event
     ensures { table_of.event_settings result
         ≡ map (read_setting (table_view table.now)) (table_of.event_settings default.now) }
 {
-    settings! {table, default, Event {
-        max_listeners: "max-listeners";
-        max_notifiers: "max-notifiers";
-        max_nodes: "max-nodes";
-        event_id_max_value: "event-id-max-value";
-        deadline: "deadline";
-        notifier_created_event: "notifier-created-event";
-        notifier_dropped_event: "notifier-dropped-event";
-        notifier_dead_event: "notifier-dead-event";
-    }}
+    event_settings!(settings_of table, default, Event,)
 }
 
 /// The settings of request-response services.
@@ -102,25 +74,7 @@ pub(crate) fn request_response(table: &Table, default: &RequestResonse) -> Reque
         ≡ map (read_setting (table_view table.now))
         (table_of.request_response_settings default.now) }
 {
-    settings! {table, default, RequestResonse {
-        enable_safe_overflow_for_requests: "enable-safe-overflow-for-requests";
-        enable_safe_overflow_for_responses: "enable-safe-overflow-for-responses";
-        max_active_requests_per_client: "max-active-requests-per-client";
-        max_response_buffer_size: "max-response-buffer-size";
-        max_servers: "max-servers";
-        max_clients: "max-clients";
-        max_nodes: "max-nodes";
-        max_borrowed_responses_per_pending_response: "max-borrowed-responses-per-pending-response";
-        max_loaned_requests: "max-loaned-requests";
-        server_max_loaned_responses_per_request: "server-max-loaned-responses-per-request";
-        client_backpressure_strategy: "client-backpressure-strategy";
-        server_backpressure_strategy: "server-backpressure-strategy";
-        client_expired_connection_buffer: "client-expired-connection-buffer";
-        server_expired_connection_buffer: "server-expired-connection-buffer";
-        enable_fire_and_forget_requests: "enable-fire-and-forget-requests";
-        client_allocation_strategy: "client-allocation-strategy";
-        server_allocation_strategy: "server-allocation-strategy";
-    }}
+    request_response_settings!(settings_of table, default, RequestResonse,)
 }
 
 /// The settings of blackboard services.
@@ -128,10 +82,7 @@ pub(crate) fn blackboard(table: &Table, default: &Blackboard) -> Blackboard
     ensures { table_of.blackboard_settings result
         ≡ map (read_setting (table_view table.now)) (table_of.blackboard_settings default.now) }
 {
-    settings! {table, default, Blackboard {
-        max_readers: "max-readers";
-        max_nodes: "max-nodes";
-    }}
+    blackboard_settings!(settings_of table, default, Blackboard,)
 }
 
 /// The settings of a whole system.

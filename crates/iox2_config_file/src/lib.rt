@@ -13,6 +13,7 @@ mod search;
 mod section;
 mod setting;
 mod spelling;
+mod table;
 mod tables;
 mod texts;
 mod unknown;
@@ -24,9 +25,7 @@ pub use error::ConfigFileError;
 pub use fault::SettingFault;
 pub use kind::{Fault, Kind, TomlType};
 pub use proposal::{Likeness, Proposal};
-pub use read::{
-    FileContents, FileSettings, read_all, read_config, report_all, report_unknown,
-};
+pub use read::{FileContents, FileSettings, read_all, read_config, report_all, report_unknown};
 pub use section::{Row, SECTIONS, Section, rows};
 pub use setting::{SettingValue, value_at};
 pub use unknown::UnknownKey;

@@ -4,7 +4,11 @@ ghost use Rattle.iox2_config_file.specs.Settings as table_of;
 ghost use Rattle.iox2_config_file.specs.Write.{value_view, value_text, value_is_set, value_fits};
 
 use crate::section::Section;
+use crate::table::{node_settings, service_settings};
 use crate::value::FromToml;
+use crate::{
+    blackboard_settings, event_settings, publish_subscribe_settings, request_response_settings,
+};
 use iox2_config::config::{
     AllocationStrategy, BackpressureStrategy, Blackboard, Config, Event, Global, Node,
     PublishSubscribe, RequestResonse, Service,
@@ -82,6 +86,19 @@ impl SettingValue<'_> {
     }
 }
 
+/// What the field of this number holds, among some settings.
+macro_rules! value_in {
+    ($settings:ident, $index:ident, $(
+        $number:literal => $field:ident: $key:literal, $kind:ident $($optional:ident)?,
+            $about:literal;
+    )*) => {
+        match $index {
+            $($number => Some($settings.$field.to_value()),)*
+            _ => None,
+        }
+    };
+}
+
 /// What the setting of a row holds: of the row of this number among those of the table, from 0 on.
 pub fn value_at(config: &Config, section: Section, index: usize) -> Option<SettingValue<'_>>
     ensures { option_map value_view result
@@ -117,18 +134,7 @@ fn service(settings: &Service, index: usize) -> Option<SettingValue<'_>>
     ensures { option_map value_view result
         ≡ table_of.held_at (table_of.service_settings settings.now) index }
 {
-    match index {
-        0 => Some(settings.directory.to_value()),
-        1 => Some(settings.data_segment_suffix.to_value()),
-        2 => Some(settings.static_config_storage_suffix.to_value()),
-        3 => Some(settings.dynamic_config_storage_suffix.to_value()),
-        4 => Some(settings.connection_suffix.to_value()),
-        5 => Some(settings.event_connection_suffix.to_value()),
-        6 => Some(settings.blackboard_mgmt_suffix.to_value()),
-        7 => Some(settings.blackboard_data_suffix.to_value()),
-        8 => Some(settings.cleanup_dead_nodes_on_open.to_value()),
-        _ => None,
-    }
+    service_settings!(value_in settings, index,)
 }
 
 /// The settings of nodes' files.
@@ -136,17 +142,7 @@ fn node(settings: &Node, index: usize) -> Option<SettingValue<'_>>
     ensures { option_map value_view result
         ≡ table_of.held_at (table_of.node_settings settings.now) index }
 {
-    match index {
-        0 => Some(settings.directory.to_value()),
-        1 => Some(settings.monitor_suffix.to_value()),
-        2 => Some(settings.static_config_suffix.to_value()),
-        3 => Some(settings.service_tag_suffix.to_value()),
-        4 => Some(settings.port_tag_suffix.to_value()),
-        5 => Some(settings.global_mgmt_suffix.to_value()),
-        6 => Some(settings.cleanup_dead_nodes_on_creation.to_value()),
-        7 => Some(settings.cleanup_dead_nodes_on_destruction.to_value()),
-        _ => None,
-    }
+    node_settings!(value_in settings, index,)
 }
 
 /// The settings of publish-subscribe services.
@@ -154,20 +150,7 @@ fn publish_subscribe(settings: &PublishSubscribe, index: usize) -> Option<Settin
     ensures { option_map value_view result
         ≡ table_of.held_at (table_of.publish_subscribe_settings settings.now) index }
 {
-    match index {
-        0 => Some(settings.max_subscribers.to_value()),
-        1 => Some(settings.max_publishers.to_value()),
-        2 => Some(settings.max_nodes.to_value()),
-        3 => Some(settings.subscriber_max_buffer_size.to_value()),
-        4 => Some(settings.subscriber_max_borrowed_samples.to_value()),
-        5 => Some(settings.publisher_max_loaned_samples.to_value()),
-        6 => Some(settings.publisher_history_size.to_value()),
-        7 => Some(settings.enable_safe_overflow.to_value()),
-        8 => Some(settings.backpressure_strategy.to_value()),
-        9 => Some(settings.subscriber_expired_connection_buffer.to_value()),
-        10 => Some(settings.publisher_allocation_strategy.to_value()),
-        _ => None,
-    }
+    publish_subscribe_settings!(value_in settings, index,)
 }
 
 /// The settings of event services.
@@ -175,17 +158,7 @@ fn event(settings: &Event, index: usize) -> Option<SettingValue<'_>>
     ensures { option_map value_view result
         ≡ table_of.held_at (table_of.event_settings settings.now) index }
 {
-    match index {
-        0 => Some(settings.max_listeners.to_value()),
-        1 => Some(settings.max_notifiers.to_value()),
-        2 => Some(settings.max_nodes.to_value()),
-        3 => Some(settings.event_id_max_value.to_value()),
-        4 => Some(settings.deadline.to_value()),
-        5 => Some(settings.notifier_created_event.to_value()),
-        6 => Some(settings.notifier_dropped_event.to_value()),
-        7 => Some(settings.notifier_dead_event.to_value()),
-        _ => None,
-    }
+    event_settings!(value_in settings, index,)
 }
 
 /// The settings of request-response services.
@@ -193,30 +166,7 @@ fn request_response(settings: &RequestResonse, index: usize) -> Option<SettingVa
     ensures { option_map value_view result
         ≡ table_of.held_at (table_of.request_response_settings settings.now) index }
 {
-    match index {
-        0 => Some(settings.enable_safe_overflow_for_requests.to_value()),
-        1 => Some(settings.enable_safe_overflow_for_responses.to_value()),
-        2 => Some(settings.max_active_requests_per_client.to_value()),
-        3 => Some(settings.max_response_buffer_size.to_value()),
-        4 => Some(settings.max_servers.to_value()),
-        5 => Some(settings.max_clients.to_value()),
-        6 => Some(settings.max_nodes.to_value()),
-        7 => Some(
-            settings
-                .max_borrowed_responses_per_pending_response
-                .to_value(),
-        ),
-        8 => Some(settings.max_loaned_requests.to_value()),
-        9 => Some(settings.server_max_loaned_responses_per_request.to_value()),
-        10 => Some(settings.client_backpressure_strategy.to_value()),
-        11 => Some(settings.server_backpressure_strategy.to_value()),
-        12 => Some(settings.client_expired_connection_buffer.to_value()),
-        13 => Some(settings.server_expired_connection_buffer.to_value()),
-        14 => Some(settings.enable_fire_and_forget_requests.to_value()),
-        15 => Some(settings.client_allocation_strategy.to_value()),
-        16 => Some(settings.server_allocation_strategy.to_value()),
-        _ => None,
-    }
+    request_response_settings!(value_in settings, index,)
 }
 
 /// The settings of blackboard services.
@@ -224,9 +174,5 @@ fn blackboard(settings: &Blackboard, index: usize) -> Option<SettingValue<'_>>
     ensures { option_map value_view result
         ≡ table_of.held_at (table_of.blackboard_settings settings.now) index }
 {
-    match index {
-        0 => Some(settings.max_readers.to_value()),
-        1 => Some(settings.max_nodes.to_value()),
-        _ => None,
-    }
+    blackboard_settings!(value_in settings, index,)
 }
