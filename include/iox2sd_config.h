@@ -3,9 +3,9 @@
  * here too. docs/CONFIG.md shows a file.
  *
  * A call takes memory by malloc and realloc, and frees all of it before it returns. Where a request
- * is refused, the status is IOX2SD_STATUS_NO_MEMORY, or the answer is the whole one: a smaller
- * request was made in its place. A call takes at most IOX2SD_CONFIG_STACK_BYTES of the stack.
- * */
+ * is refused, the status is IOX2SD_STATUS_NO_MEMORY, or the answer is the whole one: then a smaller
+ * request was enough. A call takes at most IOX2SD_CONFIG_STACK_BYTES of the stack.
+ */
 #ifndef IOX2SD_CONFIG_H
 #define IOX2SD_CONFIG_H
 
