@@ -8,7 +8,7 @@ use Rattle.line_streams.specs.declared.request.Request.TheVariants.{Help, Versio
 use Rattle.line_streams.specs.declared.request.RequestError.{RequestError}
 use Rattle.line_streams.specs.declared.request.RequestError.TheVariants.{BadArgument, NoMemory}
 use Rattle.line_streams.specs.Requests.{Printed, Requests}
-use Rattle.service_logs.specs.Reports.{Reported}
+use Rattle.history_logs.specs.Reports.{Reported}
 use Rattle.iox2_conform.specs.declared.TheConstants.{BAD_ARGUMENT, HELP, VERSION}
 
 -- a check is requested

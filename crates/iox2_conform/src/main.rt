@@ -6,8 +6,8 @@ ghost use Rattle.std.specs.Io.KnownBytes.{IsAtEnd};
 ghost use Rattle.line_streams.specs.Streams.{IsFlushed};
 ghost use Rattle.iox2_conform.specs.Program.{Ran, RequestsCheck};
 
+use history_logs::logs::check_streams;
 use line_streams::{Request, RequestError, Sink, Source, print, request_of};
-use service_logs::logs::check_streams;
 use std::alloc::Global;
 use std::env::Args;
 use std::process::ExitCode;
@@ -16,18 +16,21 @@ use std::{env, io};
 /// How the program is used.
 const HELP: &str = "usage: iox2-conform [--help | --version] < LOG
 
-Reads the log of services from standard input: the line of a service, and then commands of scripts,
-each followed by a line that begins with `= ` and has the reply that was seen. Where there are
-several services, `7: ` before a command names the one with the number 7. Writes whether the replies
-are those of runs of the proved machine. If not, it writes the first reply that no run gives, every
-reply that a run gives in its place, and who was attached then.
+Reads the log of services from standard input: the line of a service, and then what was seen of it,
+in the order of time. `A> COMMAND` begins a call of the caller A, `A< WORDS` ends it with the reply
+that was seen, and `A!` says that A died. A command with `= WORDS` below it is a call that overlaps
+nothing. Where there are several services, `7: ` before a command or a begin names the one with the
+number 7. Writes whether an order of the calls, each between its begin and its end, explains all
+replies by the proved machine. If not, it writes the first reply that none explains, the line from
+which calls overlap, every reply that the call could have had, and who was attached then.
 
   --help     write this text and read nothing
   --version  write the version and read nothing
 
 docs/CONFORM.md has the lines of logs, docs/SCRIPT.md has commands and replies. Lines that are empty
 or begin with # are comments. The status is 0 where the log conforms, 1 where it does not, 2 after a
-bad argument or line, 3 where memory was refused or reading or writing failed.
+bad argument or line, or where too many calls are open or orders of them are possible, 3 where
+memory was refused or reading or writing failed.
 ";
 
 /// The version of the program, and that of the iceoryx2 whose layer it checks.
@@ -41,7 +44,7 @@ const BAD_ARGUMENT: &str = "bad argument: iox2-conform --help says how it is use
 ///
 /// - 0: the log conforms, or the text was written.
 /// - 1: the log does not conform.
-/// - 2: an argument or a line is bad.
+/// - 2: an argument or a line is bad, or a bound on open calls or configurations was passed.
 /// - 3: memory was refused, or a read, a write or a flush failed.
 fn conform_streams<R: Source, W: Sink, E: Sink>(
     alloc: Global,
