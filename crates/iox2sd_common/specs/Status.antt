@@ -64,14 +64,18 @@ code status.NoDuration = 83
 code status.NoTomlInteger = 84
 code status.NoFile = 85
 code status.TooDeep = 86
-code status.NoRun = 90
+code status.NoOrder = 90
 code status.NoServiceLine = 91
-code status.NoCommandLine = 92
+code status.NoCallLine = 92
 code status.NoReplyLine = 93
-code status.NoOrder = 94
-code status.TooManyStates = 95
-code status.NoGroupLine = 96
-code status.NoGroupEnd = 97
+code status.TooManyConfigurations = 94
+code status.TooManyOpenCalls = 95
+code status.CallerIsBusy = 96
+code status.NoOpenCall = 97
+code status.CallerIsDead = 98
+code status.UnknownCaller = 99
+code status.NoNewline = 100
+code status.CarriageReturn = 101
 
 -- the status of a number
 abbrev pub ReadsStatus : ℕ → Option Status → Type 0
@@ -140,14 +144,19 @@ status_text status.NoDuration = codes "not a duration: the integers secs and nan
 status_text status.NoTomlInteger = codes "TOML has no integer above 2^63 - 1"
 status_text status.NoFile = codes "the file cannot be read"
 status_text status.TooDeep = codes "tables and arrays are nested too deeply"
-status_text status.NoRun = codes "no run gives the reply"
+status_text status.NoOrder = codes "no order of the calls explains the reply"
 status_text status.NoServiceLine = codes "the line of a service is expected"
-status_text status.NoCommandLine = codes "the line of a command is expected"
-status_text status.NoReplyLine = codes "the line of a reply is expected"
-status_text status.NoOrder = codes "no order of the group gives the replies"
-status_text status.TooManyStates = codes "orders of the group lead to more than 64 states"
-status_text status.NoGroupLine = codes "the line of a call of the group, or its end, is expected"
-status_text status.NoGroupEnd = codes "the end of the group is expected, which has 8 calls"
+status_text status.NoCallLine = codes "the line of a service, a call or an event is expected"
+status_text status.NoReplyLine = codes "a reply is expected"
+status_text status.TooManyConfigurations =
+    codes "orders of the calls lead to more than 4,096 configurations"
+status_text status.TooManyOpenCalls = codes "more than 64 calls are open"
+status_text status.CallerIsBusy = codes "a caller without an open call is expected"
+status_text status.NoOpenCall = codes "a caller with an open call is expected"
+status_text status.CallerIsDead = codes "a caller that has not died is expected"
+status_text status.UnknownCaller = codes "a caller that has begun a call is expected"
+status_text status.NoNewline = codes "a newline is expected at the end of the line"
+status_text status.CarriageReturn = codes "no carriage return is expected before the newline"
 
 -- the number at the end of a call that makes something or is refused
 abbrev pub end_code : {A : Type 0} → Result A Status → ℕ

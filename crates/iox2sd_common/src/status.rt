@@ -124,22 +124,30 @@ pub enum Status {
     NoFile = 85,
     /// Tables and arrays are nested too deeply.
     TooDeep = 86,
-    /// No run gives a reply of a log.
-    NoRun = 90,
+    /// No order of the calls explains a reply of a log.
+    NoOrder = 90,
     /// A line of a log is not that of a service, where one is expected.
     NoServiceLine = 91,
-    /// A line of a log is not that of a command, where one is expected.
-    NoCommandLine = 92,
-    /// A line of a log is not that of a reply, where one is expected, or the log ends there.
+    /// A line of a log is not that of a service, a call or an event, where one is expected.
+    NoCallLine = 92,
+    /// No reply stands in a line of a log, where one is expected, or the log ends there.
     NoReplyLine = 93,
-    /// No order of the calls of a group gives their replies.
-    NoOrder = 94,
-    /// The orders of a group lead to more states than a check keeps.
-    TooManyStates = 95,
-    /// A line of a log is neither that of a call of its group nor the group's end.
-    NoGroupLine = 96,
-    /// A line of a log is not the end of its group, which has as many calls as one may have.
-    NoGroupEnd = 97,
+    /// The orders of the calls lead to more configurations than a check keeps.
+    TooManyConfigurations = 94,
+    /// More calls of a service are open than a check follows.
+    TooManyOpenCalls = 95,
+    /// A caller of a log begins a call while it has one open.
+    CallerIsBusy = 96,
+    /// A call ends in a log whose caller has none open.
+    NoOpenCall = 97,
+    /// A line of a log is that of a caller that has died.
+    CallerIsDead = 98,
+    /// A caller of a log dies that has begun no call.
+    UnknownCaller = 99,
+    /// The last line of a log has no newline.
+    NoNewline = 100,
+    /// A carriage return stands before the newline of a line of a log.
+    CarriageReturn = 101,
 }
 
 impl Status {
@@ -215,14 +223,19 @@ impl Status {
             Status::NoTomlInteger => "TOML has no integer above 2^63 - 1",
             Status::NoFile => "the file cannot be read",
             Status::TooDeep => "tables and arrays are nested too deeply",
-            Status::NoRun => "no run gives the reply",
+            Status::NoOrder => "no order of the calls explains the reply",
             Status::NoServiceLine => "the line of a service is expected",
-            Status::NoCommandLine => "the line of a command is expected",
-            Status::NoReplyLine => "the line of a reply is expected",
-            Status::NoOrder => "no order of the group gives the replies",
-            Status::TooManyStates => "orders of the group lead to more than 64 states",
-            Status::NoGroupLine => "the line of a call of the group, or its end, is expected",
-            Status::NoGroupEnd => "the end of the group is expected, which has 8 calls",
+            Status::NoCallLine => "the line of a service, a call or an event is expected",
+            Status::NoReplyLine => "a reply is expected",
+            Status::TooManyConfigurations =>
+                "orders of the calls lead to more than 4,096 configurations",
+            Status::TooManyOpenCalls => "more than 64 calls are open",
+            Status::CallerIsBusy => "a caller without an open call is expected",
+            Status::NoOpenCall => "a caller with an open call is expected",
+            Status::CallerIsDead => "a caller that has not died is expected",
+            Status::UnknownCaller => "a caller that has begun a call is expected",
+            Status::NoNewline => "a newline is expected at the end of the line",
+            Status::CarriageReturn => "no carriage return is expected before the newline",
         }
     }
 }
@@ -291,14 +304,18 @@ pub fn status_of(number: u32) -> Option<Status>
         84 => Some(Status::NoTomlInteger),
         85 => Some(Status::NoFile),
         86 => Some(Status::TooDeep),
-        90 => Some(Status::NoRun),
+        90 => Some(Status::NoOrder),
         91 => Some(Status::NoServiceLine),
-        92 => Some(Status::NoCommandLine),
+        92 => Some(Status::NoCallLine),
         93 => Some(Status::NoReplyLine),
-        94 => Some(Status::NoOrder),
-        95 => Some(Status::TooManyStates),
-        96 => Some(Status::NoGroupLine),
-        97 => Some(Status::NoGroupEnd),
+        94 => Some(Status::TooManyConfigurations),
+        95 => Some(Status::TooManyOpenCalls),
+        96 => Some(Status::CallerIsBusy),
+        97 => Some(Status::NoOpenCall),
+        98 => Some(Status::CallerIsDead),
+        99 => Some(Status::UnknownCaller),
+        100 => Some(Status::NoNewline),
+        101 => Some(Status::CarriageReturn),
         _ => None,
     }
 }

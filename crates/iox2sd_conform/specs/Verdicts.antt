@@ -1,11 +1,11 @@
 -- What a check of a log answers.
 use Rattle.std.specs.Prelude.{◌≡◌, ℕ, Bool, if◌then◌else◌, List, length, ◌⊎◌}
-use Rattle.service_logs.specs.Logs.{Judged}
-use Rattle.service_logs.specs.Reports.{report_text}
-use Rattle.service_logs.specs.declared.logs.verdict.Expected.{Expected}
-use Rattle.service_logs.specs.declared.logs.verdict.Expected.TheVariants as expected
-use Rattle.service_logs.specs.declared.logs.verdict.Verdict.{Verdict}
-use Rattle.service_logs.specs.declared.logs.verdict.Verdict.TheVariants as verdict
+use Rattle.history_logs.specs.Logs.{Judged}
+use Rattle.history_logs.specs.Reports.{report_text}
+use Rattle.history_logs.specs.declared.logs.verdict.Expected.{Expected}
+use Rattle.history_logs.specs.declared.logs.verdict.Expected.TheVariants as expected
+use Rattle.history_logs.specs.declared.logs.verdict.Verdict.{Verdict}
+use Rattle.history_logs.specs.declared.logs.verdict.Verdict.TheVariants as verdict
 use Rattle.iox2sd_common.specs.Answers.{Writes}
 use Rattle.iox2sd_common.specs.Status.{code}
 use Rattle.iox2sd_common.specs.declared.status.Status.{Status}
@@ -15,33 +15,37 @@ use Rattle.iox2sd_conform.specs.declared.conform.ConformAnswer.{ConformAnswer}
 -- the status of a line that is not what is expected
 abbrev pub expected_status : Expected → Status
 expected_status expected.Service = status.NoServiceLine
-expected_status expected.Command = status.NoCommandLine
+expected_status expected.Call = status.NoCallLine
 expected_status expected.Reply = status.NoReplyLine
-expected_status expected.GroupLine = status.NoGroupLine
-expected_status expected.GroupEnd = status.NoGroupEnd
+expected_status expected.IdleCaller = status.CallerIsBusy
+expected_status expected.OpenCall = status.NoOpenCall
+expected_status expected.LiveCaller = status.CallerIsDead
+expected_status expected.KnownCaller = status.UnknownCaller
+expected_status expected.Newline = status.NoNewline
+expected_status expected.NoCarriageReturn = status.CarriageReturn
 
 -- the status of a verdict
 abbrev pub verdict_status : Verdict → Status
 verdict_status (verdict.Conforms n m) = status.Done
-verdict_status (verdict.NoRun told) = status.NoRun
-verdict_status (verdict.NoOrder told) = status.NoOrder
-verdict_status (verdict.TooManyStates k) = status.TooManyStates
+verdict_status (verdict.Refused told) = status.NoOrder
+verdict_status (verdict.ManyConfigs k) = status.TooManyConfigurations
+verdict_status (verdict.ManyOpen k) = status.TooManyOpenCalls
 verdict_status (verdict.BadLine k e) = expected_status e
 
 -- the number of the reported line, or 0
 abbrev pub reported_line : Verdict → ℕ
 reported_line (verdict.Conforms n m) = 0
-reported_line (verdict.NoRun told) = told.line
-reported_line (verdict.NoOrder told) = told.line
-reported_line (verdict.TooManyStates k) = k
+reported_line (verdict.Refused told) = told.line
+reported_line (verdict.ManyConfigs k) = k
+reported_line (verdict.ManyOpen k) = k
 reported_line (verdict.BadLine k e) = k
 
 -- how many calls conform, or 0 where the log does not
 abbrev pub conforming_calls : Verdict → ℕ
 conforming_calls (verdict.Conforms n m) = n
-conforming_calls (verdict.NoRun told) = 0
-conforming_calls (verdict.NoOrder told) = 0
-conforming_calls (verdict.TooManyStates k) = 0
+conforming_calls (verdict.Refused told) = 0
+conforming_calls (verdict.ManyConfigs k) = 0
+conforming_calls (verdict.ManyOpen k) = 0
 conforming_calls (verdict.BadLine k e) = 0
 
 -- the answer of a verdict whose report fits the buffer or does not

@@ -1,13 +1,13 @@
 //! Whole logs.
 ghost use Rattle.std.specs.Prelude.{◌≡◌};
 ghost use Rattle.iox2sd_conform.specs.Verdicts.{Answers, memory_answer, conforming_calls, reported_line};
-ghost use Rattle.iox2sd_conform.specs.Verdicts.{verdict_answer, verdict_status};
+ghost use Rattle.iox2sd_conform.specs.Verdicts.{expected_status, verdict_answer, verdict_status};
 ghost use Rattle.iox2sd_common.specs.Answers.{Writes};
-ghost use Rattle.service_logs.specs.Reports.{report_text};
+ghost use Rattle.history_logs.specs.Reports.{report_text};
 
+use history_logs::logs::{Expected, Verdict, report_log};
 use iox2sd_common::answers::put;
 use iox2sd_common::status::Status;
-use service_logs::logs::{Expected, Verdict, report_log};
 use std::alloc::Global;
 
 /// What a log was judged to be.
@@ -18,14 +18,31 @@ pub struct ConformAnswer {
     pub status: u32,
     /// The number of the [`Status`] that the call has with a longer buffer.
     pub verdict: u32,
-    /// The number of the first line that does not conform or is not what is expected, or of the end
-    /// of the first group that has no order or leads to too many states, from 1 on; 0 where the log
-    /// conforms or memory was refused.
+    /// The number of the first line that has a reply that no order explains, with which a bound is
+    /// passed, or that is not what is expected, from 1 on; 0 where the log conforms or memory was
+    /// refused.
     pub line: usize,
     /// How many calls the log has, where it conforms; else 0.
     pub calls: usize,
     /// How many bytes the report has, also where it does not fit; 0 where memory was refused.
     pub length: usize,
+}
+
+/// The status of a line that is not what is expected.
+fn expected_status(expected: Expected) -> Status
+    ensures { result ≡ expected_status expected }
+{
+    match expected {
+        Expected::Service => Status::NoServiceLine,
+        Expected::Call => Status::NoCallLine,
+        Expected::Reply => Status::NoReplyLine,
+        Expected::IdleCaller => Status::CallerIsBusy,
+        Expected::OpenCall => Status::NoOpenCall,
+        Expected::LiveCaller => Status::CallerIsDead,
+        Expected::KnownCaller => Status::UnknownCaller,
+        Expected::Newline => Status::NoNewline,
+        Expected::NoCarriageReturn => Status::CarriageReturn,
+    }
 }
 
 /// The status of a verdict.
@@ -34,14 +51,10 @@ fn verdict_status(verdict: &Verdict) -> Status
 {
     match verdict {
         Verdict::Conforms(_, _) => Status::Done,
-        Verdict::NoRun(_) => Status::NoRun,
-        Verdict::NoOrder(_) => Status::NoOrder,
-        Verdict::TooManyStates(_) => Status::TooManyStates,
-        Verdict::BadLine(_, Expected::Service) => Status::NoServiceLine,
-        Verdict::BadLine(_, Expected::Command) => Status::NoCommandLine,
-        Verdict::BadLine(_, Expected::Reply) => Status::NoReplyLine,
-        Verdict::BadLine(_, Expected::GroupLine) => Status::NoGroupLine,
-        Verdict::BadLine(_, Expected::GroupEnd) => Status::NoGroupEnd,
+        Verdict::Refused(_) => Status::NoOrder,
+        Verdict::ManyConfigs(_) => Status::TooManyConfigurations,
+        Verdict::ManyOpen(_) => Status::TooManyOpenCalls,
+        Verdict::BadLine(_, expected) => expected_status(*expected),
     }
 }
 
@@ -51,10 +64,8 @@ fn reported_line(verdict: &Verdict) -> usize
 {
     match verdict {
         Verdict::Conforms(_, _) => 0,
-        Verdict::NoRun(told) => told.line,
-        Verdict::NoOrder(told) => told.line,
-        Verdict::TooManyStates(line) => *line,
-        Verdict::BadLine(line, _) => *line,
+        Verdict::Refused(told) => told.line,
+        Verdict::ManyConfigs(line) | Verdict::ManyOpen(line) | Verdict::BadLine(line, _) => *line,
     }
 }
 
@@ -72,9 +83,11 @@ fn conforming_calls(verdict: &Verdict) -> usize
 /// stays as it was.
 ///
 /// Refused are, in this order, want of memory (`NoMemory`); too short a buffer (`BufferTooShort`),
-/// and a call with a longer one judges the log again from its start; and the first line of a log
-/// that does not conform (`NoRun`, `NoServiceLine`, `NoCommandLine`, `NoReplyLine`, `NoGroupLine`,
-/// `NoGroupEnd`, and at the end of a group `NoOrder`, `TooManyStates`).
+/// and a call with a longer one judges the log again from its start; and a log that does not
+/// conform: by the first line with a reply that no order explains (`NoOrder`) or with which a bound
+/// is passed (`TooManyConfigurations`, `TooManyOpenCalls`), or else by the first line that is not
+/// what is expected (`NoServiceLine`, `NoCallLine`, `NoReplyLine`, `CallerIsBusy`, `NoOpenCall`,
+/// `CallerIsDead`, `UnknownCaller`, `NoNewline`, `CarriageReturn`).
 #[unsafe(no_mangle)]
 pub extern "C" fn iox2sd_conform_run_at(alloc: Global, log: &[u8], out: &mut [u8]) -> ConformAnswer
     ensures { Answers log.now out.old result out.new }
