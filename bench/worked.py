@@ -55,12 +55,10 @@ def texts(source, names=()):
 def good():
     """The good scripts with their reply lines."""
     names = {
-        prefix + name: ast.literal_eval(text).encode()
-        for file, prefix in (("stored_run.rt", ""), ("deaths.rt", "deaths::"))
+        name: ast.literal_eval(text).encode()
+        for file in ("stored_run.rt", "worked.rt")
         for name, text in CONSTANT.findall((TESTS / file).read_text())
     }
-    # The longer names first: `LINES` stands in `deaths::LINES` too.
-    names = dict(sorted(names.items(), key=lambda item: -len(item[0])))
     found = texts(table("worked.rt", "static ROWS: "), names)
     return [example(), *zip(found[::2], found[1::2], strict=True)]
 

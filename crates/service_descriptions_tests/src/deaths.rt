@@ -19,10 +19,6 @@ static COMING: [&str; 5] = [
 
 static LISTINGS: [&str; 3] = ["list publisher", "list subscriber", "nodes"];
 
-/// The lines of the replies, on a service with room for them.
-pub(super) const LINES: &str =
-    "handle 0 0\nhandle 0 0\nhandle 1 1\nhandle 0 0\nhandle 1 1\nhas-owners\nlist 100000000000000000000000c\nlist 100000000000000000000000d\nlist 1000000000000000000000001\nno-owners\nlist\nlist\nlist\n";
-
 /// Appends the command of a dead node, with these answers in order.
 fn die(
     alloc: Global,
@@ -36,7 +32,8 @@ fn die(
     Ok(())
 }
 
-/// The commands, of which those of the death have no line.
+/// The commands, of which those of the death have no line. On a service with room for them their
+/// replies are `DIED_TWICE` of the worked scripts.
 pub(super) fn commands(alloc: Global, dead: UniqueNodeId) -> Result<Vec<Command>, AllocError> {
     let mut commands = Vec::new(alloc);
     spell(alloc, &COMING, &mut commands)?;

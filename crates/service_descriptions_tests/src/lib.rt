@@ -1,6 +1,7 @@
 //! Worked examples of commands on a service, of scripts and of streams.
 //! They are tests of what no contract says: worked rows, each public call
 //! once with ample memory and with memory refused, and streams that fail.
+//! The worked scripts and the streams serve other tests too.
 #![tactic(auto)]
 
 #[cfg(test)]
@@ -9,14 +10,11 @@ mod deaths;
 mod debugs;
 #[cfg(test)]
 mod descriptions;
+pub mod failing_streams;
 #[cfg(test)]
 mod line_runs;
 #[cfg(test)]
 mod lines;
-#[cfg(test)]
-mod log_streams;
-#[cfg(test)]
-mod logs;
 #[cfg(test)]
 mod memory;
 #[cfg(test)]
@@ -27,9 +25,7 @@ mod runs;
 mod scripts;
 #[cfg(test)]
 mod serving;
-#[cfg(test)]
-mod stored_run;
+pub mod stored_run;
 #[cfg(test)]
 mod streams;
-#[cfg(test)]
-mod worked;
+pub mod worked;

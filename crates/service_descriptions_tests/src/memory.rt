@@ -3,7 +3,7 @@
 //! they are called again.
 
 use super::serving::write_replies;
-use super::worked::SKIPPED;
+use super::worked::{DIED_TWICE, SKIPPED};
 use super::{deaths, stored_run};
 use service_descriptions::dynamic_config::{MessagingPatternSettings, publish_subscribe};
 use service_descriptions::identifiers::UniqueNodeId;
@@ -11,7 +11,6 @@ use service_descriptions::replay::{
     Command, Reply, ScriptError, ServiceState, read_line, replay, run_script, run_streams,
     write_reply,
 };
-use service_logs::logs::report_log;
 use std::alloc::{AllocError, Global};
 use std::env::Env;
 use std::process::Abort;
@@ -94,7 +93,7 @@ fn a_run_goes_on_where_it_was_refused(rt: HostRuntime) -> Result<(), Fail> {
     let node = UniqueNodeId::new(1, 0, 0, 1).ok_or("an id")?;
     let commands = commands_at_last(rt.alloc(), node)?;
     let text = run_lines(rt.alloc(), &commands)?;
-    assert_eq!(rt; text.as_slice(), deaths::LINES.as_bytes());
+    assert_eq!(rt; text.as_slice(), DIED_TWICE.as_bytes());
     Ok(())
 }
 
@@ -193,23 +192,4 @@ fn a_line_wants_memory_for_its_list_alone(rt: HostRuntime) {
 #[test]
 fn no_service_has_room_for_all_nodes(rt: HostRuntime) {
     assert!(rt; ServiceState::new(rt.alloc(), &SETTINGS, usize::MAX, 7).is_err());
-}
-
-/// A log with a group that leaves two states, of which none has the last reply.
-const LOG: &str =
-    "service event 7 3 2 2\nregister 1.0.0.1\n= handle 0 0\nregister 2.0.0.2\n= handle 1 1\noverlap\nA: dead 1.0.0.1\n= has-owners\nB: register 1.0.0.1\n= handle 2 2\nend\nnodes\n= list\n";
-
-const REPORT: &str =
-    "line 13: no run gives this reply\nseen: list\npossible: list 2000000000000000000000002 1000000000000000000000001\nnodes: 2000000000000000000000002 1000000000000000000000001\nports:\npossible: list 2000000000000000000000002\nnodes: 2000000000000000000000002\nports:\n";
-
-#[test]
-fn a_log_is_judged_whole_or_not_at_all(rt: HostRuntime) -> Result<(), Fail> {
-    let first = report_log(rt.alloc(), LOG.as_bytes());
-    assert!(rt; first.is_ok() || may_be_refused(&rt));
-    let (_verdict, text) = match first {
-        Ok(judged) => judged,
-        Err(_) => report_log(rt.alloc(), LOG.as_bytes())?,
-    };
-    assert!(rt; text.as_slice() == REPORT.as_bytes());
-    Ok(())
 }

@@ -2,6 +2,7 @@
 
 use super::deaths;
 use super::serving::{new_service, serve, spell};
+use super::worked::DIED_TWICE;
 use service_descriptions::identifiers::UniqueNodeId;
 use service_descriptions::replay::{Command, ServiceState};
 use std::alloc::{AllocError, Global};
@@ -68,11 +69,7 @@ fn a_dead_node_whose_ports_are_answered_in_order(rt: HostRuntime) -> Result<(), 
     for at_once in [1, 2, 5, commands.len()] {
         let mut out = Vec::new(rt.alloc());
         serve_some_at_once(rt.alloc(), &commands, at_once, &mut out)?;
-        assert_eq!(rt;
-            out.as_slice(),
-            deaths::LINES.as_bytes(),
-            "{at_once} at once"
-        );
+        assert_eq!(rt; out.as_slice(), DIED_TWICE.as_bytes(), "{at_once} at once");
     }
     Ok(())
 }

@@ -1,17 +1,21 @@
 //! Scripts that are bad at no line, and their reply lines.
 
-use super::deaths;
 use super::stored_run::{LINES, SCRIPT};
 
 /// Ports of two nodes of one process and one counter, one
 /// of which dies; one of its ports stays, and so does it.
-pub(super) const SKIPPED: (&str, &str) = (
+pub const SKIPPED: (&str, &str) = (
     "service publish-subscribe 9 4 4 4\nregister 1.1.0.5\nregister 1.2.0.5\nadd publisher 1.1.0.10 1.1.0.5\nadd subscriber 1.1.0.11 1.1.0.5\nadd publisher 1.2.0.12 1.2.0.5\ndead 1.1.0.5 skip 1.1.0.10\nlist publisher\nlist subscriber\nnodes\n",
     "handle 0 0\nhandle 1 1\nhandle 0 0\nhandle 0 0\nhandle 1 1\nhas-owners\nlist 100000001000000000000000a 100000002000000000000000c\nlist\nlist 1000000010000000000000005 1000000020000000000000005\n",
 );
 
+/// The reply lines of a node that dies twice: the first time two of its ports stay, the second time
+/// all go.
+pub const DIED_TWICE: &str =
+    "handle 0 0\nhandle 0 0\nhandle 1 1\nhandle 0 0\nhandle 1 1\nhas-owners\nlist 100000000000000000000000c\nlist 100000000000000000000000d\nlist 1000000000000000000000001\nno-owners\nlist\nlist\nlist\n";
+
 /// The scripts with their reply lines.
-pub(super) static ROWS: [(&str, &str); 16] = [
+pub static ROWS: [(&str, &str); 16] = [
     (SCRIPT, LINES),
     SKIPPED,
     // A place is taken again under another ticket.
@@ -52,7 +56,7 @@ pub(super) static ROWS: [(&str, &str); 16] = [
     // Two ports of a dead node stay, one of each kind, and go at its next death.
     (
         "service publish-subscribe 9 2 2 2\nregister 1.0.0.1\nadd publisher 1.0.0.11 1.0.0.1\nadd publisher 1.0.0.12 1.0.0.1\nadd subscriber 1.0.0.13 1.0.0.1\nadd subscriber 1.0.0.14 1.0.0.1\ndead 1.0.0.1 skip 1.0.0.12 1.0.0.13\nlist publisher\nlist subscriber\nnodes\ndead 1.0.0.1\nlist publisher\nlist subscriber\nnodes\n",
-        deaths::LINES,
+        DIED_TWICE,
     ),
     // There is room for no port.
     (

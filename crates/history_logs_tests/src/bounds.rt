@@ -1,0 +1,57 @@
+//! The bounds on open calls and on configurations.
+
+use super::rows::{Said, verdict_on};
+use std::alloc::{AllocError, Global};
+use std::process::Abort;
+use std::test::Fail;
+
+/// A log in which so many callers each begin a call, and then end it.
+fn open_calls(alloc: Global, count: usize) -> Result<String, AllocError> {
+    let mut log = String::from_str(alloc, "service event 7 3 2 2\n")?;
+    for caller in 0..count {
+        writeln!(log, "c{caller}> nodes")?;
+    }
+    for caller in 0..count {
+        writeln!(log, "c{caller}< list")?;
+    }
+    Ok(log)
+}
+
+#[test]
+fn at_most_64_calls_are_open(rt: HostRuntime) -> Result<(), Fail> {
+    for (count, wanted) in [(64, Said::Conforms(64, 1)), (65, Said::ManyOpen(66))] {
+        let log = open_calls(rt.alloc(), count)?;
+        assert_eq!(rt;
+            (count, verdict_on(rt.alloc(), log.as_bytes())?),
+            (count, wanted)
+        );
+    }
+    Ok(())
+}
+
+/// A log of 14 nodes, of which so many die while another one is registered: its reply does not say
+/// which had died before, so it leads to a configuration for each set of them.
+fn deaths(alloc: Global, count: usize) -> Result<String, AllocError> {
+    let mut log = String::from_str(alloc, "service event 7 20 0 0\n")?;
+    for node in 1..15usize {
+        let slot = node.saturating_sub(1);
+        writeln!(log, "register {node}.0.0.1\n= handle {slot} {slot}")?;
+    }
+    for node in 1..count.saturating_add(1) {
+        writeln!(log, "c{node}> dead {node}.0.0.1")?;
+    }
+    log.push_str("d> register 15.0.0.1\nd< handle 19 14\n")?;
+    Ok(log)
+}
+
+#[test]
+fn at_most_4096_configurations_are_followed(rt: HostRuntime) -> Result<(), Fail> {
+    for (count, wanted) in [(12, Said::Conforms(27, 1)), (13, Said::ManyConfigs(44))] {
+        let log = deaths(rt.alloc(), count)?;
+        assert_eq!(rt;
+            (count, verdict_on(rt.alloc(), log.as_bytes())?),
+            (count, wanted)
+        );
+    }
+    Ok(())
+}

@@ -1,0 +1,26 @@
+//! A log that is refused memory. With ample memory it is judged; where one request is refused
+//! (`bench/refuse_memory` does that), it is judged when that is tried again.
+
+use history_logs::logs::report_log;
+use std::process::Abort;
+use std::test::Fail;
+use test_support::memory::may_be_refused;
+
+/// A log in which a caller reads the old state after the new one.
+const LOG: &str =
+    "service event 7 3 2 2\nregister 1.0.0.1\n= handle 0 0\nregister 2.0.0.2\n= handle 1 1\nA> register 3.0.0.3\nB> nodes\nB< list 1000000000000000000000001 2000000000000000000000002 3000000000000000000000003\nB> nodes\nB< list 1000000000000000000000001 2000000000000000000000002\nA!\n";
+
+const REPORT: &str =
+    "line 10: no order of the calls explains this reply\nseen: list 1000000000000000000000001 2000000000000000000000002\nwindow: from line 6\nmade: lines 6\npossible: list 1000000000000000000000001 2000000000000000000000002 3000000000000000000000003\nnodes: 1000000000000000000000001 2000000000000000000000002 3000000000000000000000003\nports:\n";
+
+#[test]
+fn a_log_is_judged_whole_or_not_at_all(rt: HostRuntime) -> Result<(), Fail> {
+    let first = report_log(rt.alloc(), LOG.as_bytes());
+    assert!(rt; first.is_ok() || may_be_refused(&rt));
+    let (_verdict, text) = match first {
+        Ok(judged) => judged,
+        Err(_) => report_log(rt.alloc(), LOG.as_bytes())?,
+    };
+    assert!(rt; text.as_slice() == REPORT.as_bytes());
+    Ok(())
+}

@@ -1,0 +1,183 @@
+//! Logs that come from streams.
+
+use history_logs::logs::check_streams;
+use service_descriptions_tests::failing_streams::{Calls, Sink, Source};
+use std::alloc::Global;
+use std::io::ErrorKind;
+use std::process::Abort;
+
+/// The status of the program, and what it wrote.
+#[derive(Drop)]
+struct Ended {
+    status: u8,
+    output: Vec<u8>,
+    errors: Vec<u8>,
+}
+
+/// A writer whose call of this number fails.
+fn sink(alloc: Global, failing: Option<u64>) -> Sink {
+    Sink {
+        bytes: Vec::new(alloc),
+        piece: 20,
+        calls: Calls::failing_at(failing, ErrorKind::Other),
+    }
+}
+
+/// The program on a log, where a call of the input, of the output and of the errors fails.
+fn judge(alloc: Global, log: &str, failing: [Option<u64>; 3]) -> Ended {
+    let [of_input, of_output, of_errors] = failing;
+    let mut input = Source {
+        text: log.as_bytes(),
+        piece: 40,
+        greatest: 0,
+        calls: Calls::failing_at(of_input, ErrorKind::Other),
+    };
+    let mut output = sink(alloc, of_output);
+    let mut errors = sink(alloc, of_errors);
+    let status = check_streams(alloc, &mut input, &mut output, &mut errors);
+    Ended {
+        status,
+        output: output.bytes,
+        errors: errors.bytes,
+    }
+}
+
+/// On a log, with these failures, the program ends with this status, output and errors.
+fn ends(
+    rt: &(impl Abort + AllocGlobal),
+    log: &str,
+    failing: [Option<u64>; 3],
+    (status, output, errors): (u8, &str, &str),
+) {
+    let ended = judge(rt.alloc(), log, failing);
+    assert_eq!(rt;
+        (
+            log,
+            ended.status,
+            ended.output.as_slice(),
+            ended.errors.as_slice()
+        ),
+        (log, status, output.as_bytes(), errors.as_bytes())
+    );
+}
+
+/// A good log, whose verdict is written in two pieces.
+const GOOD: &str = "service event 7 2 0 1\nregister 1.0.0.1\n= handle 1 0\n";
+
+const CONFORMS: &str = "conforms, 1 calls on 1 service\n";
+
+/// Logs, with the status, the output and the errors of each.
+static VERDICTS: [(&str, u8, &str, &str); 16] = [
+    (GOOD, 0, CONFORMS, ""),
+    (
+        "service event 7 2 0 1\nservice event 8 2 0 1\n",
+        0,
+        "conforms, 0 calls on 2 services\n",
+        "",
+    ),
+    (
+        "service event 7 2 0 1\nregister 1.0.0.1\n= locked\n",
+        1,
+        "line 3: no order of the calls explains this reply\nseen: locked\nwindow: from line 3\nmade: none\npossible: handle SLOT 0, SLOT below 2 and none of:\nnodes:\nports:\n",
+        "",
+    ),
+    (
+        "service event 7 2 1 1\nregister 1.0.0.1\n= handle 1 0\nadd notifier 2.0.0.2 1.0.0.1\n= handle 0 0\nadd listener 2.0.0.1 1.0.0.1\n= handle 0 0\nderegister 0\n= no-owners\n",
+        1,
+        "line 9: no order of the calls explains this reply\nseen: no-owners\nwindow: from line 9\nmade: none\npossible: ports-attached\nnodes: 1000000000000000000000001\nports: 2000000000000000000000001 2000000000000000000000002\n",
+        "",
+    ),
+    (
+        "service event 7 2 0 1\nA> register 1.0.0.1\nB> register 1.0.0.2\nB< handle 1 1\nC> nodes\nC< list\n",
+        1,
+        "line 6: no order of the calls explains this reply\nseen: list\nwindow: from line 2\nmade: lines 2\npossible: list 1000000000000000000000001 1000000000000000000000002\nnodes: 1000000000000000000000001 1000000000000000000000002\nports:\n",
+        "",
+    ),
+    ("", 2, "", "line 1: the line of a service is expected\n"),
+    (
+        "service event 7 2 0 1\nnode\n",
+        2,
+        "",
+        "line 2: the line of a service, a call or an event is expected\n",
+    ),
+    (
+        "service event 7 2 0 1\nnodes\n",
+        2,
+        "",
+        "line 3: a reply is expected\n",
+    ),
+    (
+        "service event 7 2 0 1\nA> nodes\nA> nodes\n",
+        2,
+        "",
+        "line 3: a caller without an open call is expected\n",
+    ),
+    (
+        "service event 7 2 0 1\nA< list\n",
+        2,
+        "",
+        "line 2: a caller with an open call is expected\n",
+    ),
+    (
+        "service event 7 2 0 1\nA> nodes\nA!\nA!\n",
+        2,
+        "",
+        "line 4: a caller that has not died is expected\n",
+    ),
+    (
+        "service event 7 2 0 1\nA!\n",
+        2,
+        "",
+        "line 2: a caller that has begun a call is expected\n",
+    ),
+    (
+        "service event 7 2 0 1",
+        2,
+        "",
+        "line 1: a newline is expected at the end of the line\n",
+    ),
+    (
+        "service event 7 2 0 1\r\n",
+        2,
+        "",
+        "line 1: no carriage return is expected before the newline\n",
+    ),
+    (
+        "service event 7 2 0 1\n8: nodes\n",
+        2,
+        "",
+        "line 2: the line of a service, a call or an event is expected\n",
+    ),
+    (
+        "service event 7 2 0 1\nnodes\n= foo\n",
+        2,
+        "",
+        "line 3: a reply is expected\n",
+    ),
+];
+
+#[test]
+fn verdicts(rt: HostRuntime) {
+    for (log, status, output, errors) in &VERDICTS {
+        ends(&rt, log, [None; 3], (*status, output, errors));
+    }
+}
+
+#[test]
+fn streams_that_fail(rt: HostRuntime) {
+    let told = "a stream failed\n";
+    // The log is read in two pieces, and the last read finds its end.
+    for call in 0..3 {
+        ends(&rt, GOOD, [Some(call), None, None], (3, "", told));
+    }
+    ends(&rt, GOOD, [None, Some(0), None], (3, "", told));
+    ends(
+        &rt,
+        GOOD,
+        [None, Some(1), None],
+        (3, "conforms, 1 calls on", told),
+    );
+    ends(&rt, GOOD, [None, Some(2), None], (3, CONFORMS, told));
+    ends(&rt, GOOD, [None, None, Some(0)], (3, CONFORMS, told));
+    ends(&rt, "", [None, None, Some(0)], (3, "", told));
+}
