@@ -20,6 +20,8 @@ mod random;
 #[cfg(test)]
 mod rows;
 #[cfg(test)]
+mod runs;
+#[cfg(test)]
 mod scripts;
 #[cfg(test)]
 mod services;

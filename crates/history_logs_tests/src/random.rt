@@ -30,25 +30,29 @@ fn next_byte(seed: &mut u64) -> u8 {
 /// What random bytes behind so many lines are judged to be: notes may stand anywhere, and no other
 /// random line is one of a log.
 fn verdict_of(bytes: &[u8], above: usize, expected: Expected) -> Said {
-    let mut rest = bytes;
-    let mut line = above + 1;
-    while let Some(end) = rest.iter().position(|byte| *byte == b'\n') {
-        let text = &rest[..end];
-        if !text.is_empty() && text[0] != b'#' {
-            return match text.last() {
-                Some(b'\r') => Said::BadLine(line, Expected::NoCarriageReturn),
-                _ => Said::BadLine(line, expected),
-            };
+    let mut line = above.saturating_add(1);
+    // The first and the last byte of the line.
+    let mut first = None;
+    let mut last = None;
+    for byte in bytes {
+        if *byte != b'\n' {
+            first = first.or(Some(*byte));
+            last = Some(*byte);
+            continue;
         }
-        rest = &rest[end + 1..];
-        line += 1;
+        match (first, last) {
+            (None, _) | (Some(b'#'), _) => {}
+            (_, Some(b'\r')) => return Said::BadLine(line, Expected::NoCarriageReturn),
+            _ => return Said::BadLine(line, expected),
+        }
+        line = line.saturating_add(1);
+        first = None;
+        last = None;
     }
-    if !rest.is_empty() {
-        return Said::BadLine(line, Expected::Newline);
-    }
-    match expected {
-        Expected::Service => Said::BadLine(line, Expected::Service),
-        _ => Said::Conforms(0, 1),
+    match (first, expected) {
+        (Some(_), _) => Said::BadLine(line, Expected::Newline),
+        (None, Expected::Service) => Said::BadLine(line, Expected::Service),
+        (None, _) => Said::Conforms(0, 1),
     }
 }
 
@@ -75,7 +79,7 @@ fn random_bytes_are_judged(rt: HostRuntime) -> Result<(), Fail> {
             ("service event 7 3 2 2\n", 1, Expected::Call),
         ] {
             let log = random_log(rt.alloc(), front, turn % 40, &mut seed)?;
-            let wanted = verdict_of(&log[front.len()..], above, expected);
+            let wanted = verdict_of(log.get(front.len()..).unwrap_or(&[]), above, expected);
             assert_eq!(rt; (turn, verdict_on(rt.alloc(), &log)?), (turn, wanted));
         }
     }

@@ -85,19 +85,37 @@ fn worked_scripts_conform(rt: HostRuntime) -> Result<(), Fail> {
     Ok(())
 }
 
+/// What a changed reply is.
+#[derive(Clone, Copy)]
+enum Change {
+    /// Another reply.
+    Reply,
+    /// Words of no reply.
+    Words,
+}
+
+/// What a log is judged to be whose reply in this line was changed so.
+fn said_of(change: Change, line: usize) -> Said {
+    match change {
+        Change::Reply => Said::Refused(line, line, 1),
+        Change::Words => Said::BadLine(line, Expected::Reply),
+    }
+}
+
 /// With each reply of a worked script changed to each of these words, its log is judged so.
 fn finds_changes(
     rt: &(impl Abort + AllocGlobal),
     row: (&str, &str),
     words: &[&str],
-    wanted: fn(usize) -> Said,
+    change: Change,
 ) -> Result<(), Fail> {
     for (at, reply) in row.1.split_terminator('\n').enumerate() {
+        let line = at.saturating_add(at).saturating_add(3);
         for other in words {
             if *other != reply {
                 let log = log_of(rt.alloc(), Form::Alone, row, Some((at, other)))?;
                 let found = verdict_on(rt.alloc(), log.as_bytes())?;
-                assert_eq!(rt; (other, found), (other, wanted(at + at + 3)));
+                assert_eq!(rt; (other, found), (other, said_of(change, line)));
             }
         }
     }
@@ -107,7 +125,7 @@ fn finds_changes(
 #[test]
 fn a_changed_reply_is_refused_where_it_stands(rt: HostRuntime) -> Result<(), Fail> {
     for row in &ROWS {
-        finds_changes(&rt, *row, &REPLIES, |line| Said::Refused(line, line, 1))?;
+        finds_changes(&rt, *row, &REPLIES, Change::Reply)?;
     }
     Ok(())
 }
@@ -115,12 +133,7 @@ fn a_changed_reply_is_refused_where_it_stands(rt: HostRuntime) -> Result<(), Fai
 #[test]
 fn other_words_are_a_bad_line(rt: HostRuntime) -> Result<(), Fail> {
     for row in &ROWS {
-        finds_changes(
-            &rt,
-            *row,
-            &WORDS,
-            |line| Said::BadLine(line, Expected::Reply),
-        )?;
+        finds_changes(&rt, *row, &WORDS, Change::Words)?;
     }
     Ok(())
 }
