@@ -1,7 +1,0 @@
-use Rattle.std.proofs.Common.{◌≡◌, ◌++◌, take}
-use Rattle.std.specs.List.{flat_map}
-use Rattle.service_descriptions.specs.Replies.{id_word}
-use Rattle.service_logs.proofs.logs.report.append_nodes.Given as goal
-
-abbrev pub invariant-loop-id : goal.invariant-loop-id
-invariant-loop-id l = l.out.items ≡ l.fn.out.items ++ flat_map id_word (take l.id-index l.nodes)

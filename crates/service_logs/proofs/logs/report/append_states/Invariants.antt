@@ -1,8 +1,0 @@
-use Rattle.std.proofs.Common.{◌≡◌, ◌++◌, take}
-use Rattle.std.specs.List.{flat_map}
-use Rattle.service_logs.specs.Reports.{state_text}
-use Rattle.service_logs.proofs.logs.report.append_states.Given as goal
-
-abbrev pub invariant-loop-state : goal.invariant-loop-state
-invariant-loop-state l = l.out.items ≡ l.fn.out.items
-    ++ flat_map state_text (take l.state-index l.states)

@@ -1,5 +1,0 @@
-//! Logs of what was seen of a service, judged by the steps of services.
-#![tactic(auto)]
-
-pub mod laws;
-pub mod logs;
