@@ -1,5 +1,6 @@
 pub mod Appending
 pub mod Growing
+pub mod Keeping
 pub mod Lines
 pub mod Listings
 pub mod Services

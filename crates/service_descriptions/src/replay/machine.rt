@@ -3,6 +3,7 @@
 mod cleanup;
 mod command;
 mod description;
+mod kept;
 mod reply;
 mod session;
 mod state;

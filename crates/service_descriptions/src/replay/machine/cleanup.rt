@@ -7,14 +7,15 @@ ghost use Rattle.service_descriptions.specs.Cleanups.{first_action, other_action
 ghost use Rattle.service_descriptions.specs.declared.replay.machine.command.Cleanup.TheVariants as cleanups;
 
 use super::command::Cleanup;
+use super::kept::Kept;
 use iox2_dynamic::dynamic_config::{DeregisterNodeState, DynamicConfig, PortCleanupAction};
 use iox2_ids::identifiers::{UniqueNodeId, UniquePortId};
 
 /// The decision on a port, where ports of these values stay.
-fn answer_by_port(kept: &[u128], port: &UniquePortId) -> PortCleanupAction
+fn answer_by_port(kept: &Kept<'_>, port: &UniquePortId) -> PortCleanupAction
     ensures { result ≡ action_for kept.now (port_value port.now) }
 {
-    if kept.contains(&port.value()) {
+    if kept.has(port.value()) {
         PortCleanupAction::SkipPort
     } else {
         PortCleanupAction::RemovePort
@@ -58,7 +59,7 @@ fn by_port(
     ensures cleaned { CleanedUp service.old dead.now (cleanups.ByPort kept.now) result service.new }
     ensures kept { IsService service.new }
 {
-    let kept = kept.as_slice();
+    let kept = &Kept::of(kept.as_slice());
     let mut answer = move |port: UniquePortId| -> PortCleanupAction
         ensures first { result ≡ action_for kept.entry.now (port_value port) }
         ensures same { kept.exit.now ≡ kept.entry.now }

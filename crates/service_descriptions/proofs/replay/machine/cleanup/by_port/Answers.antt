@@ -1,4 +1,4 @@
-use Rattle.std.proofs.Common.{◌≡◌, rules, []}
+use Rattle.std.proofs.Common.{◌≡◌, ◌∙◌, rules, []}
 use Rattle.service_descriptions.specs.Cleanups.{Cleans}
 use Rattle.service_descriptions.specs.declared.replay.machine.command.Cleanup.TheVariants as cleanups
 use Rattle.iox2_dynamic.proofs.Recoveries.{DeadStep-called}
@@ -10,6 +10,6 @@ returns-clause-cleaned c = (
   (DeadStep-called _ (Cleans (cleanups.ByPort c.args.kept.now)) (λ _. [])
       (λ s. s.0.now ≡ c.args.kept.now.items) c.args.service.now _ c.args.dead.now
       c.remove_dead_node_id.result c.remove_dead_node_id.new.self c.remove_dead_node_id.new.f
-      c.remove_dead_node_id.ensures.step c.as_slice-kept.ensures.value
+      c.remove_dead_node_id.ensures.step (c.of.ensures ∙ c.as_slice.ensures.value)
       (λ f x r h i e. search rules)).0,
 )
