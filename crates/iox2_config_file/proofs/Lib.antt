@@ -1,5 +1,6 @@
 pub mod Building
 pub mod Counting
+pub mod Distances
 pub mod Filling
 pub mod First
 pub mod FoundKeys

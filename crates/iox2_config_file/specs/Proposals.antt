@@ -71,6 +71,11 @@ wanted_in c target = find (is_wanted target) (keys_in c sections)
 unfoldable pub edit_distance : List ℕ → List ℕ → ℕ
 edit_distance a b = levenshtein_row nat_eq (chars a) (chars b) (length (chars b))
 
+-- this distance, where it is below a limit
+abbrev pub distance_below : List ℕ → List ℕ → ℕ → Option ℕ
+distance_below a b limit =
+    if nat_lt (edit_distance a b) limit then Some (edit_distance a b) else None
+
 -- the first of the rows whose distance is the least of all and below a limit, or what was found
 abbrev pub nearest_below : List ℕ → ℕ → Option (List ℕ) → List (List ℕ × Kind) → Option (List ℕ)
 nearest_below key limit found [] = found

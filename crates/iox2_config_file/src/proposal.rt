@@ -1,8 +1,10 @@
 //! What was probably meant by a key that no setting has.
-ghost use Rattle.std.specs.Prelude.{◌≡◌, ◌==◌, ◌++◌, IfOk, map, option_map, string_bytes};
+ghost use Rattle.std.specs.Prelude.{◌≡◌, ◌==◌, ◌++◌, IfOk, length, map, option_map, string_bytes};
 ghost use Rattle.std.specs.List.{list_any};
+ghost use Rattle.std.specs.Str.{chars};
 ghost use Rattle.iox2_config.specs.declared.config.Config.{Config};
-ghost use Rattle.iox2_config_file.specs.Proposals.{edit_distance, elsewhere, nearest, of_any, of_table};
+ghost use Rattle.iox2_config_file.specs.Proposals.{distance_below, edit_distance, elsewhere};
+ghost use Rattle.iox2_config_file.specs.Proposals.{nearest, of_any, of_table};
 ghost use Rattle.iox2_config_file.specs.Proposals.{nearest_below, proposal_view, proposed, unquoted};
 ghost use Rattle.iox2_config_file.specs.Read.{row_view, rows_in};
 ghost use Rattle.iox2_config_file.specs.Rows.{prefix_of};
@@ -48,6 +50,32 @@ fn distance(alloc: Global, key: &str, known: &str) -> Result<usize, AllocError>
     levenshtein(alloc, key, known)
 }
 
+/// How many characters a text has.
+#[tactic(auto, using(std::proofs::lemmas::Str::chars_from_encodes))]
+fn char_count(text: &str) -> usize
+    ensures { result ≡ length (chars text.now) }
+{
+    text.chars().count()
+}
+
+/// The distance of two keys, where it is below a limit. It is not where one of them has so many
+/// characters more than the other, which is looked at first.
+#[tactic(auto, using(crate::proofs::Distances::is_far))]
+fn distance_below(
+    alloc: Global,
+    key: &str,
+    known: &str,
+    limit: usize,
+) -> Result<Option<usize>, AllocError>
+    ensures { IfOk result (λ found. found ≡ distance_below key.now known.now limit) }
+{
+    if limit <= char_count(key).abs_diff(char_count(known)) {
+        return Ok(None);
+    }
+    let n = distance(alloc, key, known)?;
+    if n < limit { Ok(Some(n)) } else { Ok(None) }
+}
+
 /// The first of the rows whose distance is the least, below a limit.
 fn nearest_below(
     alloc: Global,
@@ -61,8 +89,7 @@ fn nearest_below(
     let mut found = None;
     let mut limit = below;
     for row in rows {
-        let n = distance(alloc, key, row.key)?;
-        if n < limit {
+        if let Some(n) = distance_below(alloc, key, row.key, limit)? {
             found = Some(row.key);
             limit = n;
         }
