@@ -6,6 +6,7 @@
 #include <stdio.h>
 #include <stdlib.h>
 #include <string.h>
+#include <time.h>
 
 static int checks, failed;
 
@@ -143,6 +144,40 @@ static void no_memory_in_a_short_buffer(size_t capacity) {
           wrote("", 0));
 }
 
+enum { PORTS = 40000, LONGEST_LINE = 40 };
+
+/* The processor time of a script that attaches ports to a node and then removes this node, with the
+ * ids of all ports to be kept, and counts what is left. */
+static clock_t time_of_removal(const char *node, const char *count) {
+    char *text = malloc(2 * PORTS * LONGEST_LINE);
+    uint8_t *made = malloc(PORTS * LONGEST_LINE);
+    if (text == NULL || made == NULL) abort();
+    size_t length =
+        (size_t)sprintf(text, "service publish-subscribe 9 2 %d 0\nregister 1.0.0.1\n", PORTS);
+    for (int i = 0; i < PORTS; i++)
+        length += (size_t)sprintf(text + length, "add publisher 1.0.0.%d 1.0.0.1\n", i);
+    length += (size_t)sprintf(text + length, "dead %s skip", node);
+    for (int i = 0; i < PORTS; i++) length += (size_t)sprintf(text + length, " 1.0.0.%d", i);
+    length += (size_t)sprintf(text + length, "\ncount publisher\n");
+    const clock_t before = clock();
+    const iox2sd_script_answer answer =
+        iox2sd_script_run((const uint8_t *)text, length, made, PORTS * LONGEST_LINE);
+    const clock_t taken = clock() - before;
+    CHECK(answer.status == IOX2SD_STATUS_DONE && strlen(count) < answer.length);
+    CHECK(memcmp(made + answer.length - strlen(count), count, strlen(count)) == 0);
+    free(text);
+    free(made);
+    return taken;
+}
+
+/* Ids to be kept that are sorted are looked up by halves: where each port of the node is one of
+ * them, that takes not much longer than where the node has no port. */
+static void many_kept_ports(void) {
+    const clock_t none = time_of_removal("1.0.0.2", "count 40000\n");
+    const clock_t all = time_of_removal("1.0.0.1", "count 40000\n");
+    CHECK(all < 10 * none + CLOCKS_PER_SEC / 100);
+}
+
 int main(void) {
     CHECK(answers(iox2sd_script_run((const uint8_t *)"service event 7 1 1 18446744073709551615\n",
                                     41, out, MOST),
@@ -157,6 +192,7 @@ int main(void) {
     no_memory_in_a_short_buffer(0);
     no_memory_in_a_short_buffer(10);
     no_memory_in_a_short_buffer(11);
+    many_kept_ports();
     printf("%d checks, %d failed\n", checks, failed);
     return failed != 0;
 }
