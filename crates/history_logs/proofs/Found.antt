@@ -1,5 +1,5 @@
 -- What is found of services, in the first line in which something is.
-use Rattle.std.proofs.Common.{◌≡◌, ◌⊎◌, ℕ, zero, suc, ◌+◌, ◌-◌, ◌<◌, ◌≤◌, All, AllPairs, Bool, true, false, cond, Contains, List, [], ◌∷◌, ◌++◌, Option, Some, None, filter, get_or, if◌then◌else◌, length, ltb, slice_get, take, inl, inr, refl, sym, ◌∙◌, ap, subst, arith, take_all}
+use Rattle.std.proofs.Common.{◌≡◌, ◌⊎◌, ℕ, zero, suc, ◌+◌, ◌-◌, ◌<◌, ◌≤◌, All, AllPairs, Bool, true, false, cond, Contains, List, [], ◌∷◌, ◌++◌, Option, Some, None, Result, Ok, Err, filter, get_or, if◌then◌else◌, length, ltb, slice_get, take, inl, inr, refl, sym, ◌∙◌, ap, subst, arith, take_all}
 use Rattle.std.proofs.lemmas.Bool.{cases_lt, ltb-false, ltb-true, le-ltb}
 use Rattle.std.proofs.lemmas.List.Elements.{All-nil, All-push, All-take, Contains-append_left, Contains-push}
 use Rattle.std.proofs.lemmas.List.{take_more}
@@ -9,14 +9,17 @@ use Rattle.histories.specs.Histories.{IsExplained, IsHistory}
 use Rattle.histories.proofs.Verdicts.{explained_take}
 use Rattle.history_windows.specs.declared.window.Stop.{Stop}
 use Rattle.history_windows.specs.declared.window.Verdict.{Verdict as WindowVerdict}
-use Rattle.history_windows.specs.Windows.{IsStop, IsVerdict}
+use Rattle.history_windows.specs.declared.window.Cut.{Cut}
+use Rattle.history_windows.specs.declared.window.Cut.TheVariants as cut
+use Rattle.history_windows.specs.declared.window.Window.{Window}
+use Rattle.history_windows.specs.Windows.{IsStop, IsVerdict, IsWhole}
 use Rattle.iox2_dynamic.specs.Service as dynamic
 use Rattle.service_conformance.specs.Calls.{Call, WindowStep}
 use Rattle.history_logs.specs.declared.logs.verdict.Verdict.{Verdict}
 use Rattle.history_logs.specs.declared.logs.verdict.Verdict.TheVariants.{Conforms, Refused, ManyConfigs, ManyOpen, BadLine}
 use Rattle.history_logs.specs.Good.{IsOrderly}
 use Rattle.history_logs.specs.Placed.{IsPlaced}
-use Rattle.history_logs.specs.Judging.{IsFirstFound, IsFound, IsFoundOf, StopsIn, earlier}
+use Rattle.history_logs.specs.Judging.{Explores, IsFirstFound, IsFound, IsFoundOf, IsToldOf, StopsIn, earlier}
 use Rattle.history_logs.specs.Logs.{IsRightAbove, IsSeenRightly, StepOf, count_above, news}
 use Rattle.history_logs.specs.Seen.{Service}
 
@@ -211,6 +214,30 @@ verdict_of s calls states events v a b e x =
     subst (λ (l : List Call). IsVerdict (WindowStep 0 l) (news s) s.events v) a
     (subst (λ (l : List dynamic.Service). IsVerdict (WindowStep 0 calls) l s.events v) b
     (subst (λ (l : List Event). IsVerdict (WindowStep 0 calls) states l v) e x))
+
+-- the same of a verdict on all of what was seen
+pub whole_of : (s : Service) (calls : List Call) (states : List dynamic.Service)
+    (events : List Event) (v : WindowVerdict dynamic.Service) → calls ≡ s.calls → states ≡ news s
+    → events ≡ s.events → IsWhole (WindowStep 0 calls) states events v
+    → IsWhole (StepOf s) (news s) s.events v
+whole_of s calls states events v a b e x =
+    subst (λ (l : List Call). IsWhole (WindowStep 0 l) (news s) s.events v) a
+    (subst (λ (l : List dynamic.Service). IsWhole (WindowStep 0 calls) l s.events v) b
+    (subst (λ (l : List Event). IsWhole (WindowStep 0 calls) states l v) e x))
+
+-- what is told by what was found
+pub explored : (s : Service) (c : Cut) (found : WindowVerdict dynamic.Service)
+    (told : Result (Window dynamic.Service) (ℕ × Verdict))
+    → IsVerdict (StepOf s) (news s) s.events found
+    → (c ≡ cut.Never → IsWhole (StepOf s) (news s) s.events found) → IsToldOf s found told
+    → Explores s c told
+explored s c found (Err told) is whole f = f
+explored s c found (Ok window) is whole same =
+    let all = subst (λ v. IsVerdict (StepOf s) (news s) s.events v) same is in (
+      all.0,
+      all.1.some,
+      λ never. subst (λ v. IsWhole (StepOf s) (news s) s.events v) same (whole never),
+    )
 
 -- a place of an event is one of a line
 pub line_within : (s : Service) (place : ℕ) (why : Stop) → IsOrderly s

@@ -4,6 +4,7 @@ pub mod Answering
 pub mod Callers
 pub mod Found
 pub mod Kept
+pub mod Ordered
 pub mod Orderly
 pub mod Judgements
 pub mod LinesAt
@@ -12,4 +13,5 @@ pub mod Named
 pub mod Refused
 pub mod Refusing
 pub mod Reports
+pub mod Streams
 pub mod Telling

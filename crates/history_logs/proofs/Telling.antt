@@ -12,7 +12,7 @@ use Rattle.history_logs.specs.Judging.{AreLines}
 use Rattle.history_logs.specs.Logs.{IsTold}
 use Rattle.history_logs.specs.Seen.{Service}
 
-zip_push : {A B : Type 0} (R : A → B → Type 0) (xs : List A) (ys : List B) (x : A) (y : B)
+pub zip_push : {A B : Type 0} (R : A → B → Type 0) (xs : List A) (ys : List B) (x : A) (y : B)
     → AllZip R xs ys → R x y → AllZip R (xs ++ x ∷ []) (ys ++ y ∷ [])
 zip_push R [] [] x y h r = (r, tt)
 zip_push R [] (z ∷ ys) x y h r = absurd h

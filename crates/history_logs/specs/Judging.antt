@@ -1,10 +1,14 @@
 -- What is found of a service of a log, and what is told of it.
-use Rattle.std.specs.Prelude.{◌≡◌, ℕ, ◌<◌, ◌≤◌, List, All, Contains, Option, Some, None, if◌then◌else◌, length, ltb, slice_get, sum_by, take}
+use Rattle.std.specs.Prelude.{◌≡◌, ℕ, ◌<◌, ◌≤◌, List, All, Contains, Option, Some, None, Result, Ok, Err, if◌then◌else◌, length, ltb, slice_get, sum_by, take}
 use Rattle.std.specs.List.{AllZip}
 use Rattle.std.specs.Int.{bit_at}
 use Rattle.histories.specs.declared.event.Event.TheVariants.{End}
-use Rattle.histories.specs.Frontier.{HasSlot}
+use Rattle.histories.specs.Frontier.{HasSlot, IsFrontOf}
 use Rattle.histories.specs.Histories.{StandsAt}
+use Rattle.history_windows.specs.declared.window.Cut.{Cut}
+use Rattle.history_windows.specs.declared.window.Cut.TheVariants as cut
+use Rattle.history_windows.specs.declared.window.Verdict.{Verdict as FoundOf}
+use Rattle.history_windows.specs.declared.window.Verdict.TheVariants as found
 use Rattle.history_windows.specs.declared.window.Stop.{Stop}
 use Rattle.history_windows.specs.declared.window.Stop.TheVariants as stop
 use Rattle.history_windows.specs.declared.window.Window.{Window}
@@ -12,10 +16,12 @@ use Rattle.history_windows.specs.Windows.{IsStop, IsWindowOf}
 use Rattle.iox2_dynamic.specs.Service as dynamic
 use Rattle.service_conformance.specs.Calls.{Call}
 use Rattle.history_logs.specs.declared.logs.verdict.Expected.{Expected}
+use Rattle.history_logs.specs.declared.logs.verdict.Order.{Order}
 use Rattle.history_logs.specs.declared.logs.verdict.Refusal.{Refusal}
 use Rattle.history_logs.specs.declared.logs.verdict.Verdict.{Verdict}
 use Rattle.history_logs.specs.declared.logs.verdict.Verdict.TheVariants as verdict
 use Rattle.history_logs.specs.Logs.{IsRightAbove, IsSeenRightly, IsTold, StepOf, news}
+use Rattle.history_logs.specs.Orders.{IsOrderOf}
 use Rattle.history_logs.specs.Seen.{Service}
 
 -- the call has this slot, and was made where these slots wait
@@ -86,6 +92,21 @@ abbrev pub IsFoundOf : Service → Option (ℕ × Verdict) → Type 0
 IsFoundOf s None = IsSeenRightly s
 IsFoundOf s (Some found) = IsFound s found.0 found.1
 
+-- what is told by what was found of the service: the window that it ends in, where orders explain
+-- all
+abbrev pub IsToldOf : Service → FoundOf dynamic.Service → Result (Window dynamic.Service)
+    (ℕ × Verdict) → Type 0
+IsToldOf s what (Ok window) = what ≡ found.Explained window
+IsToldOf s what (Err told) = IsFound s told.0 told.1
+
+-- What was seen of the service is explained, and ends in the window. Where it was never cut, the
+-- configurations of the window are those of all orders that explain it. Else this is found of it.
+abbrev pub Explores : Service → Cut → Result (Window dynamic.Service) (ℕ × Verdict) → Type 0
+Explores s where_cut (Ok window) =
+    IsSeenRightly s × (0 < length window.front.configs.items)
+    × (where_cut ≡ cut.Never → IsFrontOf (StepOf s) window.front s.events (news s))
+Explores s where_cut (Err told) = IsFound s told.0 told.1
+
 -- what is found of one of the services in the first line; none where orders explain all
 abbrev pub IsFirstFound : List Service → Option (ℕ × Verdict) → Type 0
 IsFirstFound services None = All IsSeenRightly services
@@ -98,6 +119,10 @@ abbrev pub earlier : Option (ℕ × Verdict) → Option (ℕ × Verdict) → Opt
 earlier None other = other
 earlier (Some one) None = Some one
 earlier (Some one) (Some other) = if ltb other.0 one.0 then Some other else Some one
+
+-- for each service an order of the calls on it explains what was seen of it
+abbrev pub AreOrdered : List Service → List Order → Type 0
+AreOrdered services orders = AllZip IsOrderOf services orders
 
 -- this is found of the services, in the first line in which something is
 abbrev pub AreJudged : List Service → Option Verdict → Type 0

@@ -1,11 +1,12 @@
--- Promises: what was seen of services, what the lines of a log are, what it is judged to be, and
--- what is written of it.
+-- Promises: what was seen of services, what the lines of a log are, what it is judged to be, what
+-- is written of it, and in which order calls took effect.
 pub mod Seen
 pub mod Reading
 pub mod Logs
 pub mod Good
 pub mod Placed
 pub mod Reports
+pub mod Orders
 -- Inner facts: what the fields of what is read tell.
 pub mod ServiceFields
 pub mod Fields

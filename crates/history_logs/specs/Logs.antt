@@ -71,9 +71,13 @@ pub record StopsAt (services : List Service) (k : ℕ) (s : Service) (place : �
   pub there : slice_get s.places place ≡ Some k
   pub above : All (IsRightAbove k) services
 
+-- by the lines in which calls begin, the one of this number begins in this line
+abbrev pub BeginsAt : List ℕ → ℕ → ℕ → Type 0
+BeginsAt begins number k = slice_get begins number ≡ Some k
+
 -- the call has this number, and begins in this line
 abbrev pub BeginsIn : Service → ℕ → ℕ → Type 0
-BeginsIn s number k = slice_get s.begins number ≡ Some k
+BeginsIn s number k = BeginsAt s.begins number k
 
 -- the call has this slot, and was made
 abbrev pub IsMade : List (Option ℕ) → Config dynamic.Service → ℕ → Type 0

@@ -8,6 +8,7 @@ use Rattle.service_descriptions.specs.Replies.{id_word, port_word, text_of}
 use Rattle.history_logs.specs.declared.logs.verdict.Expected.{Expected}
 use Rattle.history_logs.specs.declared.logs.verdict.Expected.TheVariants as expected
 use Rattle.history_logs.specs.declared.logs.verdict.Configuration.{Configuration}
+use Rattle.history_logs.specs.declared.logs.verdict.Order.{Order}
 use Rattle.history_logs.specs.declared.logs.verdict.Refusal.{Refusal}
 use Rattle.history_logs.specs.declared.logs.verdict.Verdict.{Verdict}
 use Rattle.history_logs.specs.declared.logs.verdict.Verdict.TheVariants as verdict
@@ -103,6 +104,27 @@ report_text (verdict.ManyConfigs k) =
 report_text (verdict.ManyOpen k) =
     line_told k (codes ": more than 64 calls are open" ++ 10 ∷ [])
 report_text (verdict.BadLine k e) = line_told k (expected_text e)
+
+-- a number, in a line
+abbrev pub line_of : ℕ → List ℕ
+line_of number = decimal number ++ 10 ∷ []
+
+-- the lines of an order of the calls on a service
+abbrev pub order_text : Order → List ℕ
+order_text told =
+    (codes "service " ++ decimal told.service) ++ (10 ∷ flat_map line_of told.lines.items)
+
+-- what the output gets of the text that reports a verdict: all of it, where it is on the replies
+abbrev pub on_output : Verdict → List ℕ → List ℕ
+on_output (verdict.Conforms n m) text = text
+on_output (verdict.Refused told) text = text
+on_output _ text = []
+
+-- what the errors get of it: all of it, where it is on what cannot be judged
+abbrev pub on_errors : Verdict → List ℕ → List ℕ
+on_errors (verdict.Conforms n m) text = []
+on_errors (verdict.Refused told) text = []
+on_errors _ text = text
 
 -- what the output gets: the report on the replies
 abbrev pub output_text : Verdict → List ℕ

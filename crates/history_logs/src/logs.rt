@@ -3,11 +3,13 @@ ghost use Rattle.std.specs.Prelude.{◌≡◌, ◌<◌, ◌^◌, IfOk, length, s
 ghost use Rattle.history_logs.specs.Good.{IsReadTo};
 ghost use Rattle.history_logs.specs.Judging.{end_verdict};
 ghost use Rattle.history_logs.specs.Logs.{Judged};
+ghost use Rattle.history_logs.specs.Orders.{HasOrders, IsWitness};
 ghost use Rattle.history_logs.specs.Reports.{report_text};
 ghost use Rattle.history_logs.specs.Seen.{Service};
 
 mod callers;
 mod judging;
+mod ordering;
 mod reading;
 mod report;
 mod service;
@@ -15,12 +17,13 @@ mod streams;
 mod verdict;
 
 use judging::judge_services;
+use ordering::order_services;
 use reading::read_log;
-use report::append_report;
+use report::{append_orders, append_report};
 use service::LogService;
 use std::alloc::{AllocError, Global};
-pub use streams::check_streams;
-pub use verdict::{Configuration, Expected, Refusal, Verdict};
+pub use streams::{check_streams, check_witness_streams};
+pub use verdict::{Configuration, Expected, Order, Refusal, Verdict};
 
 /// How many calls were read.
 fn count_calls(services: &[LogService]) -> usize
@@ -92,5 +95,54 @@ pub fn report_log(alloc: Global, log: &[u8]) -> Result<(Verdict, Vec<u8>), Alloc
     let verdict = check_log(alloc, log)?;
     let mut text = Vec::new(alloc);
     append_report(&verdict, &mut text)?;
+    Ok((verdict, text))
+}
+
+/// Judges what was read of a log, with the orders where it conforms.
+fn order_read(
+    alloc: Global,
+    log: &[u8],
+    services: &[LogService],
+    bad: Option<(usize, Expected)>,
+) -> Result<(Verdict, Vec<Order>), AllocError>
+    requires { IsReadTo log.now services.now bad }
+    ensures judged { IfOk result (λ found. Judged log.now found.0) }
+    ensures orders { IfOk result (λ found. HasOrders log.now found.0 found.1.items) }
+{
+    // For the proof: no more calls were read than the log has bytes.
+    let _fits = log.len();
+    match order_services(alloc, log, services)? {
+        Ok(orders) => match bad {
+            Some((line, expected)) => Ok((Verdict::BadLine(line, expected), Vec::new(alloc))),
+            None => Ok((end_verdict(services, None), orders)),
+        },
+        Err(verdict) => Ok((verdict, Vec::new(alloc))),
+    }
+}
+
+/// Judges a log, as `check_log` does. Where it conforms, there is an order for each service, by
+/// their lines: one of those that explain what was seen of it. Else there is none.
+///
+/// Memory grows with the log, also where `check_log` keeps no more than the calls that are open:
+/// by one link for each call in each configuration in which it was made.
+pub fn order_log(alloc: Global, log: &[u8]) -> Result<(Verdict, Vec<Order>), AllocError>
+    ensures judged { IfOk result (λ found. Judged log.now found.0) }
+    ensures orders { IfOk result (λ found. HasOrders log.now found.0 found.1.items) }
+{
+    let (reading, bad) = read_log(alloc, log)?;
+    order_read(alloc, log, &reading.services, bad)
+}
+
+/// Judges a log, as `order_log` does: the verdict, and the text that reports it. Where the log
+/// conforms, the orders are below that: for each service its line, `service N`, and then the lines
+/// in which its calls begin, in the order in which they took effect, one a line.
+pub fn witness_log(alloc: Global, log: &[u8]) -> Result<(Verdict, Vec<u8>), AllocError>
+    ensures judged { IfOk result (λ found. Judged log.now found.0) }
+    ensures text { IfOk result (λ found. IsWitness log.now found.0 found.1.items) }
+{
+    let (verdict, orders) = order_log(alloc, log)?;
+    let mut text = Vec::new(alloc);
+    append_report(&verdict, &mut text)?;
+    append_orders(&orders, &mut text)?;
     Ok((verdict, text))
 }

@@ -15,9 +15,11 @@ use Rattle.histories.proofs.Events.{begins_none, sound_none}
 use Rattle.histories.proofs.Explaining.{explains_begin, explains_end}
 use Rattle.histories.proofs.Cutting.{begins-append}
 use Rattle.histories.proofs.Verdicts.{AreNumbered, agrees_same, ends_of, explained_take, frontier_explained, frontier_refused, frontier_some, next_fresh, next_of, numbered_more, numbered_none, one_more, sound_more}
+use Rattle.history_windows.specs.declared.window.Cut.{Cut}
+use Rattle.history_windows.specs.declared.window.Cut.TheVariants as cut
 use Rattle.history_windows.specs.declared.window.Stop.TheVariants as stop
 use Rattle.history_windows.specs.declared.window.Window.{Window}
-use Rattle.history_windows.specs.Windows.{BeginsWindow, IsStop, IsStopAt, IsWindowOf, LeadsTooFar}
+use Rattle.history_windows.specs.Windows.{BeginsWindow, CutsAt, IsStop, IsStopAt, IsWindowOf, LeadsTooFar}
 use Rattle.history_windows.proofs.Joins.{open_inside, open_whole, quiet_both, sound_back}
 
 module _ {S : Type 0} (Step : S → ℕ → S → Type 0) (olds : List S) where
@@ -398,3 +400,66 @@ module _ {S : Type 0} (Step : S → ℕ → S → Type 0) (olds : List S) (es : 
       (history_front es k history) (omega arith)
       (subst (λ (l : List Event). IsExplained Step l olds)
       (sym (take_all (at + 1 + (length front - (at + 1))) front (omega arith))) x))
+
+-- The events end in the window, and where they are never cut, all of them are in it.
+pub record FollowsTo {S : Type 0} (Step : S → ℕ → S → Type 0) (olds : List S) (c : Cut)
+    (es : List Event) (w : Window S) : Type 0 where
+  pub goes : GoesTo Step olds es w
+  pub whole : c ≡ cut.Never → IsFrontOf Step w.front es olds
+
+pub follows_begin : {S : Type 0} (Step : S → ℕ → S → Type 0) (olds : List S) (c : Cut)
+    (front : Front S) → 0 < length olds → IsFrontOf Step front [] olds
+    → FollowsTo Step olds c [] (record { begin = 0; front = front })
+follows_begin Step olds c front some f = record {
+  goes = goes_begin Step olds front some f;
+  whole = λ never. f;
+}
+
+-- one event more
+module _ {M S : Type 0} (StepOf : M → S → ℕ → S → Type 0) (machine : M) (olds : List S)
+    (es : List Event) (at : ℕ) (d : Event) (h : at < length es) (w : Window S) (new : Front S)
+    (history : IsHistory es) where
+  whole_done : (g : GoesTo (StepOf machine) olds (take at es) w)
+      → IsFrontOf (StepOf machine) w.front (take at es) olds
+      → IsAdvance StepOf machine w.front (get_or es at d) new advance.Done
+      → IsFrontOf (StepOf machine) new (take (at + 1) es) olds
+  whole_done g f advances =
+      let first : List Event = take at es in
+      let e = get_or es at d in
+      let may : MayFollow first e = may_at es at d history h in
+      subst (λ (l : List Event). IsFrontOf (StepOf machine) new l olds) (sym (one_more es at d h))
+      (advances machine first olds (agrees_same (StepOf machine) first)
+      (agrees_same (StepOf machine) (first ++ e ∷ [])) g.whole
+      (next_fresh first e g.numbered (next_of first e may)) f).0
+
+  pub follows_done : (c : Cut) (window : Window S)
+      → FollowsTo (StepOf machine) olds c (take at es) w
+      → IsAdvance StepOf machine w.front (get_or es at d) new advance.Done
+      → CutsAt (StepOf machine) c (at + 1) (record { begin = w.begin; front = new }) window
+      → FollowsTo (StepOf machine) olds c (take (at + 1) es) window
+  follows_done cut.WhereQuiet window f advances cuts = record {
+    goes = follow_done (StepOf machine) olds es at d h w f.goes new window history
+        (follow_advance StepOf machine olds es at d h w f.goes new advance.Done history advances)
+        cuts;
+    whole = λ never. absurd (cc);
+  }
+  follows_done cut.Never window f advances same =
+      subst (λ (x : Window S). FollowsTo (StepOf machine) olds cut.Never (take (at + 1) es) x)
+      (sym same) (record {
+        goes = subst
+            (λ (l : List Event).
+            GoesTo (StepOf machine) olds l (record { begin = w.begin; front = new }))
+            (sym (one_more es at d h))
+            (goes_done (StepOf machine) olds (take at es) w f.goes (get_or es at d)
+            (may_at es at d history h) new
+            (follow_advance StepOf machine olds es at d h w f.goes new advance.Done history
+            advances));
+        whole = λ never. whole_done f.goes (f.whole never) advances;
+      })
+
+-- all events were followed
+pub follows_end : {S : Type 0} (Step : S → ℕ → S → Type 0) (olds : List S) (c : Cut)
+    (es : List Event) (at : ℕ) (w : Window S) → length es ≤ at
+    → FollowsTo Step olds c (take at es) w → FollowsTo Step olds c es w
+follows_end Step olds c es at w h f =
+    subst (λ (l : List Event). FollowsTo Step olds c l w) (take_all at es h) f

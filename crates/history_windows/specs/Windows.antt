@@ -1,10 +1,15 @@
 -- Windows of histories, and what is found of a history.
-use Rattle.std.specs.Prelude.{◌≡◌, ℕ, ◌+◌, ◌<◌, ◌⊎◌, ◌↔◌, List, ◌++◌, length, take, true, false}
+use Rattle.std.specs.Prelude.{◌≡◌, ℕ, ◌+◌, ◌<◌, ◌⊎◌, ◌↔◌, List, ◌++◌, get_or, length, take, true, false}
+use Rattle.std.specs.List.{Contains}
 use Rattle.histories.specs.declared.event.Event.{Event}
 use Rattle.histories.specs.declared.event.Event.TheVariants.{End}
-use Rattle.histories.specs.Histories.{IsExplained, StandsAt}
-use Rattle.histories.specs.Frontier.{HasManyOpen, HasManyOrders, IsFrontOf, IsSound}
+use Rattle.histories.specs.declared.front.Config.{Config}
+use Rattle.histories.specs.declared.front.Front.{Front}
+use Rattle.histories.specs.Histories.{Explains, IsExplained, StandsAt}
+use Rattle.histories.specs.Frontier.{HasManyOpen, HasManyOrders, IsFrontOf, IsSound, order_of}
 use Rattle.histories.specs.Splitting.{BeginsAnew, IsQuiet}
+use Rattle.history_windows.specs.declared.window.Cut.{Cut}
+use Rattle.history_windows.specs.declared.window.Cut.TheVariants as cut
 use Rattle.history_windows.specs.declared.window.Stop.{Stop}
 use Rattle.history_windows.specs.declared.window.Stop.TheVariants as stop
 use Rattle.history_windows.specs.declared.window.Verdict.{Verdict}
@@ -62,12 +67,13 @@ pub record IsStop {S : Type 0} (Step : S → ℕ → S → Type 0) (olds : List 
   pub before : IsExplained Step (take place events) olds
   pub at : IsStopAt Step olds events place why
 
--- Explained: some order explains the history.
+-- Explained: some order explains the history; with the window that it ends in.
 -- Refused, ManyConfigs, ManyOpen: an order explains the events before this place, and it is refused
 -- or not decided there; with the window that they end in.
 abbrev pub IsVerdict : {S : Type 0} → (S → ℕ → S → Type 0) → List S → List Event → Verdict S
     → Type 0
-IsVerdict Step olds events verdict.Explained = IsExplained Step events olds
+IsVerdict Step olds events (verdict.Explained window) =
+    IsExplained Step events olds × IsWindowOf Step olds events window
 IsVerdict Step olds events (verdict.Refused place window) =
     IsStop Step olds events place stop.Refused × IsWindowOf Step olds (take place events) window
 IsVerdict Step olds events (verdict.ManyConfigs place) =
@@ -75,8 +81,29 @@ IsVerdict Step olds events (verdict.ManyConfigs place) =
 IsVerdict Step olds events (verdict.ManyOpen place) =
     IsStop Step olds events place stop.ManyOpen
 
+-- where orders explain the history, the configurations of the window are those of all that do: no
+-- call is before the window
+abbrev pub IsWhole : {S : Type 0} → (S → ℕ → S → Type 0) → List S → List Event → Verdict S → Type 0
+IsWhole Step olds events (verdict.Explained window) = IsFrontOf Step window.front events olds
+IsWhole Step olds events _ = Unit {0}
+
+-- this order of the calls explains the history from one of the old states
+abbrev pub IsOrder : {S : Type 0} → (S → ℕ → S → Type 0) → List Event → List S → List ℕ → Type 0
+IsOrder {S} Step events olds order =
+    (old : S) × (new : S) × Contains olds old × Explains Step events old order new
+
+-- this is the order of the first configuration of the front
+abbrev pub IsFirstOrder : {S : Type 0} → Front S → List ℕ → Type 0
+IsFirstOrder {S} front order =
+    (d : Config S) → order ≡ order_of front.links.items (get_or front.configs.items 0 d)
+
 -- a new window begins after so many events, or a call is open and nothing changes
 abbrev pub BeginsWindow : {S : Type 0} → (S → ℕ → S → Type 0) → ℕ → Window S → Window S → Type 0
 BeginsWindow Step count old new =
     ((new.begin ≡ count) × BeginsAnew Step old.front new.front true)
     ⊎ ((new.begin ≡ old.begin) × BeginsAnew Step old.front new.front false)
+
+-- the history is cut after so many events, or not
+abbrev pub CutsAt : {S : Type 0} → (S → ℕ → S → Type 0) → Cut → ℕ → Window S → Window S → Type 0
+CutsAt Step cut.WhereQuiet count old new = BeginsWindow Step count old new
+CutsAt Step cut.Never count old new = new ≡ old

@@ -1,9 +1,10 @@
 //! Following a history event by event.
-ghost use Rattle.std.specs.Prelude.{◌<◌, IfErr, IfOk, OnOk, length};
+ghost use Rattle.std.specs.Prelude.{◌≡◌, ◌<◌, IfErr, IfOk, OnOk, length};
+ghost use Rattle.histories.specs.Frontier.{IsFrontOf};
 ghost use Rattle.histories.specs.Histories.{IsExplained, IsHistory};
-ghost use Rattle.history_windows.specs.Windows.{BeginsWindow, IsStop, IsWindowOf};
+ghost use Rattle.history_windows.specs.Windows.{BeginsWindow, CutsAt, IsStop, IsWindowOf};
 
-use super::window::{Stop, Window};
+use super::window::{Cut, Stop, Window};
 use histories::{Advance, Event, Machine, advance, begin_anew, start};
 use std::alloc::{AllocError, Global};
 
@@ -17,6 +18,22 @@ fn begin_window<M: Machine>(alloc: Global, machine: &M, window: &mut Window<M::S
     window.begin = count;
 }
 
+/// Begins a new window after so many events, if the history is cut there.
+fn cut_at<M: Machine>(
+    alloc: Global,
+    machine: &M,
+    window: &mut Window<M::State>,
+    count: usize,
+    cut: Cut,
+)
+    ensures { CutsAt (M.Step machine.now) cut count window.old window.new }
+{
+    match cut {
+        Cut::WhereQuiet => begin_window(alloc, machine, window, count),
+        Cut::Never => (),
+    }
+}
+
 /// Follows the events. Returns the window that they end in, or the index of the event at which they
 /// are not followed further, and why.
 pub(super) fn follow<M: Machine>(
@@ -24,11 +41,14 @@ pub(super) fn follow<M: Machine>(
     machine: &M,
     states: &[M::State],
     events: &[Event],
+    cut: Cut,
 ) -> Result<Result<Window<M::State>, (usize, Stop)>, AllocError>
     requires some { 0 < length states.now }
     requires history { IsHistory events.now }
     ensures all { IfOk result (λ end. IfOk end
         (IsWindowOf (M.Step machine.now) states.now events.now)) }
+    ensures whole { cut ≡ Cut.Never → IfOk result (λ end. IfOk end
+        (λ window. IsFrontOf (M.Step machine.now) window.front events.now states.now)) }
     ensures explained { IfOk result (λ end. OnOk end
         (IsExplained (M.Step machine.now) events.now states.now)) }
     ensures stop { IfOk result (λ end. IfErr end
@@ -44,7 +64,7 @@ pub(super) fn follow<M: Machine>(
             Advance::ManyOpen => return Ok(Err((at, Stop::ManyOpen))),
             Advance::NoEvent => unreachable!(),
         }
-        begin_window(alloc, machine, &mut window, at + 1);
+        cut_at(alloc, machine, &mut window, at + 1, cut);
     }
     Ok(Ok(window))
 }

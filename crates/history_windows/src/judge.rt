@@ -1,10 +1,10 @@
 //! The verdict on a history.
-ghost use Rattle.std.specs.Prelude.{◌<◌, IfOk, length};
+ghost use Rattle.std.specs.Prelude.{◌≡◌, ◌<◌, IfOk, length};
 ghost use Rattle.histories.specs.Histories.{IsHistory};
-ghost use Rattle.history_windows.specs.Windows.{IsStop, IsVerdict};
+ghost use Rattle.history_windows.specs.Windows.{IsStop, IsVerdict, IsWhole};
 
 use super::follow::follow;
-use super::window::{Stop, Verdict, Window};
+use super::window::{Cut, Stop, Verdict};
 use histories::{Event, Machine};
 use std::alloc::{AllocError, Global};
 
@@ -19,9 +19,10 @@ fn refused<M: Machine>(
     requires some { 0 < length states.now }
     requires history { IsHistory events.now }
     requires stop { IsStop (M.Step machine.now) states.now events.now place Stop.Refused }
-    ensures { IfOk result (IsVerdict (M.Step machine.now) states.now events.now) }
+    ensures verdict { IfOk result (IsVerdict (M.Step machine.now) states.now events.now) }
+    ensures whole { IfOk result (IsWhole (M.Step machine.now) states.now events.now) }
 {
-    match follow(alloc, machine, states, &events[..place])? {
+    match follow(alloc, machine, states, &events[..place], Cut::WhereQuiet)? {
         Ok(window) => Ok(Verdict::Refused(place, window)),
         Err((_, Stop::Refused)) => unreachable!(),
         Err((at, Stop::ManyConfigs)) => Ok(Verdict::ManyConfigs(at)),
@@ -30,22 +31,25 @@ fn refused<M: Machine>(
 }
 
 /// Judges a history that begins in one of these states: whether some order of its calls explains
-/// it. What is kept grows with what lies between two events after which no call is open, and not
-/// with the history.
+/// it. Where it is cut, what is kept grows with what lies between two events after which no call is
+/// open, and not with the history. Where it is never cut, the links of all calls are kept.
 ///
-/// Where an event is refused, the events before it are followed once more.
+/// Where an event is refused, the events before it are followed once more, and cut.
 pub fn judge_windows<M: Machine>(
     alloc: Global,
     machine: &M,
     states: &[M::State],
     events: &[Event],
+    cut: Cut,
 ) -> Result<Verdict<M::State>, AllocError>
     requires some { 0 < length states.now }
     requires history { IsHistory events.now }
-    ensures { IfOk result (IsVerdict (M.Step machine.now) states.now events.now) }
+    ensures verdict { IfOk result (IsVerdict (M.Step machine.now) states.now events.now) }
+    ensures whole { cut ≡ Cut.Never
+        → IfOk result (IsWhole (M.Step machine.now) states.now events.now) }
 {
-    match follow(alloc, machine, states, events)? {
-        Ok(_) => Ok(Verdict::Explained),
+    match follow(alloc, machine, states, events, cut)? {
+        Ok(window) => Ok(Verdict::Explained(window)),
         Err((at, Stop::Refused)) => refused(alloc, machine, states, events, at),
         Err((at, Stop::ManyConfigs)) => Ok(Verdict::ManyConfigs(at)),
         Err((at, Stop::ManyOpen)) => Ok(Verdict::ManyOpen(at)),

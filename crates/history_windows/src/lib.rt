@@ -4,7 +4,9 @@
 
 mod follow;
 mod judge;
+mod order;
 mod window;
 
 pub use judge::judge_windows;
-pub use window::{Stop, Verdict, Window};
+pub use order::order_in;
+pub use window::{Cut, Stop, Verdict, Window};

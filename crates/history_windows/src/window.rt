@@ -10,11 +10,21 @@ pub struct Window<S> {
     pub front: Front<S>,
 }
 
+/// Where a history is cut into windows.
+#[derive(Clone, Copy, Debug, PartialEq, Eq)]
+pub enum Cut {
+    /// Where no call is open: what is kept does not grow with the history.
+    WhereQuiet,
+    /// Nowhere: all is one window, and the links of all calls are kept. From them an order of all
+    /// calls is read (`order_in`).
+    Never,
+}
+
 /// Whether orders explain a history.
 #[derive(Debug, Drop)]
 pub enum Verdict<S> {
-    /// Some order explains it.
-    Explained,
+    /// Some order explains it. The window is that in which it ends.
+    Explained(Window<S>),
     /// No order explains the events up to the one at this index, by which a call was answered, and
     /// one explains those before it. The window is that of these.
     Refused(usize, Window<S>),

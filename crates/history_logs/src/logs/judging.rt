@@ -11,15 +11,15 @@ ghost use Rattle.log_lines.specs.Lines.{IsLine, Line, line_seen, line_text};
 ghost use Rattle.service_conformance.specs.Calls.{Call};
 ghost use Rattle.service_descriptions.specs.Script.{first_state};
 ghost use Rattle.history_logs.specs.Good.{IsOrderly};
-ghost use Rattle.history_logs.specs.Judging.{AreBelow, AreJudged, AreLines, AreLinesTo, IsFoundOf};
-ghost use Rattle.history_logs.specs.Judging.{IsRefusedIn, IsToldAt, earlier};
+ghost use Rattle.history_logs.specs.Judging.{AreBelow, AreJudged, AreLines, AreLinesTo, Explores};
+ghost use Rattle.history_logs.specs.Judging.{IsFoundOf, IsRefusedIn, IsToldAt, IsToldOf, earlier};
 ghost use Rattle.history_logs.specs.Logs.{IsTold, StepOf, news};
 ghost use Rattle.history_logs.specs.Placed.{Answers, IsLineAt, IsPlaced};
 
 use super::service::LogService;
 use super::verdict::{Configuration, Refusal, Verdict};
 use histories::{Config, Event};
-use history_windows::{Verdict as Found, Window, judge_windows};
+use history_windows::{Cut, Verdict as Found, Window, judge_windows};
 use iox2_dynamic::dynamic_config::MessagingPatternSettings;
 use line_streams::before_byte;
 use log_lines::{LogLine, read_log_line};
@@ -244,31 +244,32 @@ fn refused(
     refusal(alloc, service, place, call, words, window)
 }
 
-/// The verdict by what was found of the service, with its line, unless orders explain all.
+/// The verdict by what was found of the service, with its line, or the window in which it ends
+/// where orders explain all.
 fn told_of(
     alloc: Global,
     log: &[u8],
     service: &LogService,
     found: Found<ServiceCheck>,
-) -> Result<Option<(usize, Verdict)>, AllocError>
+) -> Result<Result<Window<ServiceCheck>, (usize, Verdict)>, AllocError>
     requires orderly { IsOrderly service.now }
     requires placed { IsPlaced log.now service.now }
     requires found { IsVerdict (StepOf service.now) (news service.now) service.now.events found }
-    ensures { IfOk result (IsFoundOf service.now) }
+    ensures { IfOk result (IsToldOf service.now found) }
 {
     match found {
-        Found::Explained => Ok(None),
+        Found::Explained(window) => Ok(Ok(window)),
         Found::Refused(place, window) => {
             let told = refused(alloc, log, service, place, &window)?;
-            Ok(Some((told.line, Verdict::Refused(told))))
+            Ok(Err((told.line, Verdict::Refused(told))))
         }
         Found::ManyConfigs(place) => {
             let line = line_at(service, place);
-            Ok(Some((line, Verdict::ManyConfigs(line))))
+            Ok(Err((line, Verdict::ManyConfigs(line))))
         }
         Found::ManyOpen(place) => {
             let line = line_at(service, place);
-            Ok(Some((line, Verdict::ManyOpen(line))))
+            Ok(Err((line, Verdict::ManyOpen(line))))
         }
     }
 }
@@ -290,6 +291,28 @@ fn first_states(alloc: Global, line: &ServiceLine) -> Result<Vec<ServiceCheck>, 
     Ok(states)
 }
 
+/// Judges what was seen of a service. Returns the window in which it ends, or what was found, with
+/// its line, where no order of the calls explains all.
+pub(super) fn explore(
+    alloc: Global,
+    log: &[u8],
+    service: &LogService,
+    cut: Cut,
+) -> Result<Result<Window<ServiceCheck>, (usize, Verdict)>, AllocError>
+    requires orderly { IsOrderly service.now }
+    requires placed { IsPlaced log.now service.now }
+    ensures { IfOk result (Explores service.now cut) }
+{
+    let machine = Calls {
+        alloc,
+        first: 0,
+        calls: service.calls(),
+    };
+    let states = first_states(alloc, service.line())?;
+    let found = judge_windows(alloc, &machine, &states, service.events(), cut)?;
+    told_of(alloc, log, service, found)
+}
+
 /// Judges what was seen of a service. Returns what was found, with its line, unless orders of the
 /// calls explain all.
 fn judge_service(
@@ -301,18 +324,14 @@ fn judge_service(
     requires placed { IsPlaced log.now service.now }
     ensures { IfOk result (IsFoundOf service.now) }
 {
-    let machine = Calls {
-        alloc,
-        first: 0,
-        calls: service.calls(),
-    };
-    let states = first_states(alloc, service.line())?;
-    let found = judge_windows(alloc, &machine, &states, service.events())?;
-    told_of(alloc, log, service, found)
+    match explore(alloc, log, service, Cut::WhereQuiet)? {
+        Ok(_) => Ok(None),
+        Err(found) => Ok(Some(found)),
+    }
 }
 
 /// What was found in the first of two lines.
-fn earlier(
+pub(super) fn earlier(
     one: Option<(usize, Verdict)>,
     other: Option<(usize, Verdict)>,
 ) -> Option<(usize, Verdict)>

@@ -3,11 +3,11 @@ ghost use Rattle.std.specs.Prelude.{◌≡◌, ◌++◌, OnOk, codes, decimal};
 ghost use Rattle.std.specs.List.{flat_map};
 ghost use Rattle.history_logs.specs.Reports.{attached_text, choice_text, config_text, conforms_text};
 ghost use Rattle.history_logs.specs.Reports.{expected_text, number_word};
-ghost use Rattle.history_logs.specs.Reports.{made_text, next_text};
+ghost use Rattle.history_logs.specs.Reports.{line_of, made_text, next_text, order_text};
 ghost use Rattle.history_logs.specs.Reports.{possible_text, refusal_text, report_text, services_text};
 ghost use Rattle.service_descriptions.specs.Replies.{id_word, port_word, text_of};
 
-use super::verdict::{Configuration, Expected, Refusal, Verdict};
+use super::verdict::{Configuration, Expected, Order, Refusal, Verdict};
 use iox2_dynamic::dynamic_config::PortDetails;
 use iox2_ids::identifiers::{Hexadecimal, UniqueNodeId};
 use itoa::Buffer;
@@ -243,4 +243,35 @@ pub(super) fn append_report(verdict: &Verdict, out: &mut Vec<u8>) -> Result<(), 
         Verdict::ManyOpen(line) => append_line(*line, MANY_OPEN, out),
         Verdict::BadLine(line, expected) => append_line(*line, expected_text(*expected), out),
     }
+}
+
+/// Appends numbers, each in a line.
+fn append_lines(numbers: &[usize], out: &mut Vec<u8>) -> Result<(), AllocError>
+    ensures { OnOk result (out.new.items ≡ out.old.items ++ flat_map line_of numbers.now) }
+{
+    for number in numbers {
+        append_decimal(*number as u64, out)?;
+        out.push(b'\n')?;
+    }
+    Ok(())
+}
+
+/// Appends the order of the calls on a service.
+fn append_order(order: &Order, out: &mut Vec<u8>) -> Result<(), AllocError>
+    ensures { OnOk result (out.new.items ≡ out.old.items ++ order_text order.now) }
+{
+    append_number(b"service ", order.service, out)?;
+    out.push(b'\n')?;
+    append_lines(&order.lines, out)?;
+    Ok(())
+}
+
+/// Appends the orders of the calls on services.
+pub(super) fn append_orders(orders: &[Order], out: &mut Vec<u8>) -> Result<(), AllocError>
+    ensures { OnOk result (out.new.items ≡ out.old.items ++ flat_map order_text orders.now) }
+{
+    for order in orders {
+        append_order(order, out)?;
+    }
+    Ok(())
 }

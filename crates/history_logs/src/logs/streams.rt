@@ -1,13 +1,15 @@
 //! Logs that come from a stream.
-ghost use Rattle.std.specs.Prelude.{◌≡◌, ◌<◌, IfOk, IfSome, OnOk};
+ghost use Rattle.std.specs.Prelude.{◌≡◌, ◌<◌, IfOk, IfSome, OnOk, true};
 ghost use Rattle.std.specs.Io.KnownBytes.{Appends, IsAtEnd};
 ghost use Rattle.line_streams.specs.Streams.{IsFlushed};
-ghost use Rattle.history_logs.specs.Reports.{Reported, errors_text, output_text, report_text, status_of};
+ghost use Rattle.history_logs.specs.Logs.{Judged};
+ghost use Rattle.history_logs.specs.Orders.{IsTextOf, ReportedWith};
+ghost use Rattle.history_logs.specs.Reports.{Reported, on_errors, on_output, status_of};
 
-use super::report_log;
 use super::verdict::Verdict;
+use super::{report_log, witness_log};
 use line_streams::{Sink, Source, read_all, write_whole};
-use std::alloc::Global;
+use std::alloc::{AllocError, Global};
 use std::io;
 
 /// The status of a verdict.
@@ -21,6 +23,18 @@ fn status(verdict: &Verdict) -> u8
     }
 }
 
+/// Judges the log: the verdict, and the text that reports it, with the orders if they are wanted.
+fn judged(alloc: Global, log: &[u8], with_orders: bool) -> Result<(Verdict, Vec<u8>), AllocError>
+    ensures judged { IfOk result (λ found. Judged log.now found.0) }
+    ensures text { IfOk result (λ found. IsTextOf with_orders log.now found.0 found.1.items) }
+{
+    if with_orders {
+        witness_log(alloc, log)
+    } else {
+        report_log(alloc, log)
+    }
+}
+
 /// Writes the text of a verdict where it belongs, and flushes both writers.
 fn report<W: Sink, E: Sink>(
     output: &mut W,
@@ -28,11 +42,10 @@ fn report<W: Sink, E: Sink>(
     verdict: &Verdict,
     text: &[u8],
 ) -> io::Result<()>
-    requires { text.now ≡ report_text verdict.now }
     ensures output { OnOk result
-        (Appends (W.contents output.old) (W.contents output.new) (output_text verdict.now)) }
+        (Appends (W.contents output.old) (W.contents output.new) (on_output verdict.now text.now)) }
     ensures errors { OnOk result
-        (Appends (E.contents errors.old) (E.contents errors.new) (errors_text verdict.now)) }
+        (Appends (E.contents errors.old) (E.contents errors.new) (on_errors verdict.now text.now)) }
     ensures flushed { OnOk result
         (IsFlushed W.Flushes output.new × IsFlushed E.Flushes errors.new) }
 {
@@ -52,17 +65,18 @@ fn run<R: Source, W: Sink, E: Sink>(
     input: &mut R,
     output: &mut W,
     errors: &mut E,
+    with_orders: bool,
 ) -> io::Result<u8>
     ensures range { IfOk result (λ status. status < 4) }
     ensures reported { IfOk result (λ status. status < 3 → IfSome (R.remaining input.old)
-        (λ log. Reported log status (W.contents output.old) (W.contents output.new)
+        (λ log. ReportedWith with_orders log status (W.contents output.old) (W.contents output.new)
         (E.contents errors.old) (E.contents errors.new))) }
     ensures flushed { IfOk result (λ status. status < 3
         → IsFlushed W.Flushes output.new × IsFlushed E.Flushes errors.new) }
     ensures read { IfOk result (λ status. status < 3 → IsAtEnd (R.remaining input.new)) }
 {
     let end = match read_all(alloc, input)? {
-        Ok(log) => report_log(alloc, &log),
+        Ok(log) => judged(alloc, &log, with_orders),
         Err(why) => Err(why),
     };
     match end {
@@ -74,6 +88,33 @@ fn run<R: Source, W: Sink, E: Sink>(
             write_whole(errors, b"no memory\n")?;
             errors.flush_pieces()?;
             Ok(3)
+        }
+    }
+}
+
+/// Judges the log that the reader gives, reports it, with the orders if they are wanted, and answers
+/// the status of the program.
+fn answer<R: Source, W: Sink, E: Sink>(
+    alloc: Global,
+    input: &mut R,
+    output: &mut W,
+    errors: &mut E,
+    with_orders: bool,
+) -> u8
+    ensures range { result < 4 }
+    ensures reported { result < 3 → IfSome (R.remaining input.old)
+        (λ log. ReportedWith with_orders log result (W.contents output.old) (W.contents output.new)
+        (E.contents errors.old) (E.contents errors.new)) }
+    ensures flushed { result < 3
+        → IsFlushed W.Flushes output.new × IsFlushed E.Flushes errors.new }
+    ensures read { result < 3 → IsAtEnd (R.remaining input.new) }
+{
+    match run(alloc, input, output, errors, with_orders) {
+        Ok(status) => status,
+        Err(_) => {
+            // Where this fails too, the status alone tells it.
+            let _told = write_whole(errors, b"a stream failed\n");
+            3
         }
     }
 }
@@ -106,12 +147,28 @@ pub fn check_streams<R: Source, W: Sink, E: Sink>(
     // All input was read.
     ensures read { result < 3 → IsAtEnd (R.remaining input.new) }
 {
-    match run(alloc, input, output, errors) {
-        Ok(status) => status,
-        Err(_) => {
-            // Where this fails too, the status alone tells it.
-            let _told = write_whole(errors, b"a stream failed\n");
-            3
-        }
-    }
+    answer(alloc, input, output, errors, false)
+}
+
+/// Judges the log that the reader gives, and answers the status of the program, as `check_streams`
+/// does. Where the status is 0, an order of the calls on each service was written to `output` too,
+/// below the report, as `witness_log` has it.
+pub fn check_witness_streams<R: Source, W: Sink, E: Sink>(
+    alloc: Global,
+    input: &mut R,
+    output: &mut W,
+    errors: &mut E,
+) -> u8
+    ensures range { result < 4 }
+    // A status below 3 is that of a verdict on the log, and the writers got what fits it.
+    ensures reported { result < 3 → IfSome (R.remaining input.old) (λ log. ReportedWith true log result
+        (W.contents output.old) (W.contents output.new)
+        (E.contents errors.old) (E.contents errors.new)) }
+    // Both writers were flushed last.
+    ensures flushed { result < 3
+        → IsFlushed W.Flushes output.new × IsFlushed E.Flushes errors.new }
+    // All input was read.
+    ensures read { result < 3 → IsAtEnd (R.remaining input.new) }
+{
+    answer(alloc, input, output, errors, true)
 }

@@ -70,3 +70,13 @@ pub enum Verdict {
     /// the log ends before it.
     BadLine(usize, Expected),
 }
+
+/// An order of the calls on a service that explains what was seen of it.
+#[derive(Debug, Drop)]
+pub struct Order {
+    /// The number of the service.
+    pub service: u64,
+    /// The lines in which its calls begin: a call alone begins in the line of its reply. A call that
+    /// was never answered and took no effect is not there.
+    pub lines: Vec<usize>,
+}

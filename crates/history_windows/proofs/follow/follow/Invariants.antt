@@ -1,7 +1,7 @@
 use Rattle.std.proofs.Common.{take}
-use Rattle.history_windows.proofs.Following.{GoesTo}
+use Rattle.history_windows.proofs.Following.{FollowsTo}
 use Rattle.history_windows.proofs.follow.follow.Given as goal
 
 abbrev pub invariant-loop-at : goal.invariant-loop-at
 invariant-loop-at g l =
-    GoesTo (g.M.Machine.Step l.machine) l.states (take l.at l.events) l.window
+    FollowsTo (g.M.Machine.Step l.machine) l.states l.cut (take l.at l.events) l.window

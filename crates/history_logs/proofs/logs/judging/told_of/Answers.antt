@@ -24,7 +24,7 @@ line_at-line-requires-in-ManyOpen c =
     (rw c.in-ManyOpen.is at c.requires.found)
 
 pub returns-in-Explained : goal.returns-in-Explained
-returns-in-Explained c = rw c.in-Explained.is at c.requires.found
+returns-in-Explained c = c.in-Explained.is
 
 pub returns-in_ok-told-in-Refused : goal.returns-in_ok-told-in-Refused
 returns-in_ok-told-in-Refused c = c.in_ok-told-in-Refused.ensures

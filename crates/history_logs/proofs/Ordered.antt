@@ -1,0 +1,154 @@
+-- The lines of calls, in the order in which they took effect.
+use Rattle.std.proofs.Common.{◌≡◌, ℕ, ◌+◌, ◌<◌, ◌≤◌, All, Bool, true, false, IfNone, List, [], ◌∷◌, ◌++◌, Option, Some, None, get_or, length, ltb, slice_get, take, refl, sym, ◌∙◌, ap, subst, arith, take_all}
+use Rattle.std.specs.List.{AllZip}
+use Rattle.std.proofs.lemmas.List.Elements.{All-cons, All-nil}
+use Rattle.std.proofs.lemmas.List.{take_more}
+use Rattle.std.proofs.lemmas.Option.{slice_get-get_or}
+use Rattle.histories.specs.Frontier.{IsFrontOf}
+use Rattle.histories.proofs.Counting.{times_at}
+use Rattle.history_windows.specs.declared.window.Window.{Window}
+use Rattle.history_windows.specs.Windows.{IsFirstOrder, IsOrder}
+use Rattle.history_windows.proofs.Ordering.{first_explains}
+use Rattle.iox2_dynamic.specs.Service as dynamic
+use Rattle.history_logs.specs.declared.logs.verdict.Order.{Order}
+use Rattle.history_logs.specs.declared.logs.verdict.Verdict.{Verdict}
+use Rattle.history_logs.specs.declared.logs.verdict.Verdict.TheVariants.{Conforms, Refused, ManyConfigs, ManyOpen, BadLine}
+use Rattle.history_logs.specs.Good.{IsOrderly, IsReadTo}
+use Rattle.history_logs.specs.Judging.{AreJudged, AreOrdered, IsFirstFound, IsFoundOf, earlier, end_verdict}
+use Rattle.history_logs.specs.Logs.{BeginsAt, HasGood, IsSeenRightly, StepOf, news}
+use Rattle.history_logs.specs.Orders.{HasOrders, IsOrderOf}
+use Rattle.history_logs.specs.Placed.{IsPlaced}
+use Rattle.history_logs.specs.Seen.{Service}
+use Rattle.history_logs.proofs.Found.{first_next, first_none}
+use Rattle.history_logs.proofs.Telling.{zip_push}
+
+-- one call more
+pub begins_more : (begins calls : List ℕ) (i : ℕ) (lines more : List ℕ)
+    → AllZip (BeginsAt begins) (take i calls) lines → i < length calls
+    → get_or calls i 0 < length begins → more ≡ lines ++ get_or begins (get_or calls i 0) 0 ∷ []
+    → AllZip (BeginsAt begins) (take (i + 1) calls) more
+begins_more begins calls i lines more all h within new =
+    let call = get_or calls i 0 in
+    subst (λ (l : List ℕ). AllZip (BeginsAt begins) (take (i + 1) calls) l) (sym new)
+    (subst (λ (l : List ℕ). AllZip (BeginsAt begins) l (lines ++ get_or begins call 0 ∷ []))
+    (sym (take_more calls i 0 h))
+    (zip_push (BeginsAt begins) (take i calls) lines call (get_or begins call 0) all
+    (slice_get-get_or begins call 0 within)))
+
+module _ (s : Service) (o : IsOrderly s) (window : Window dynamic.Service) (calls : List ℕ)
+    (f : IsFrontOf (StepOf s) window.front s.events (news s))
+    (some : 0 < length window.front.configs.items) (is : IsFirstOrder window.front calls) where
+  explains : IsOrder (StepOf s) s.events (news s) calls
+  explains = first_explains (StepOf s) window.front s.events (news s) calls f some is
+
+  -- the calls of an order have begun
+  pub calls_within : All (λ call. call < length s.begins) calls
+  calls_within i d h =
+      let call = get_or calls i d in
+      omega (
+        arith,
+        o.numbered call (explains.3.begun call (times_at calls i d h)),
+        o.counts,
+        o.all.begins,
+      )
+
+  pub order_told : (number : ℕ) (lines : List ℕ) (told : Order) → number ≡ s.line.number
+      → AllZip (BeginsAt s.begins) calls lines → told.service ≡ number
+      → told.lines.items ≡ lines → IsOrderOf s told
+  order_told number lines told a begins b same = record {
+    number = b ∙ a;
+    order = calls;
+    explains = explains;
+    begins = subst (λ (l : List ℕ). AllZip (BeginsAt s.begins) calls l) (sym same) begins;
+  }
+
+-- what has an order is explained
+pub ordered_right : (services : List Service) (orders : List Order) → AreOrdered services orders
+    → All IsSeenRightly services
+ordered_right [] [] all = All-nil IsSeenRightly
+ordered_right [] (o ∷ orders) all = absurd all
+ordered_right (s ∷ services) [] all = absurd all
+ordered_right (s ∷ services) (o ∷ orders) all =
+    let x = all.0.explains in
+    All-cons IsSeenRightly s services (x.0, all.0.order, x.1, x.2, x.3)
+    (ordered_right services orders all.1)
+
+-- one service more
+orders_more : (services : List Service) (i : ℕ) (d : Service) (orders more : List Order)
+    (found : Option (ℕ × Verdict)) → i < length services → d ≡ get_or services i d
+    → AreOrdered (take i services) orders
+    → (order : Order) × IsOrderOf d order × (more ≡ orders ++ order ∷ [])
+    → AreOrdered (take (i + 1) services) more
+orders_more services i d orders more found h is all added =
+    let one : take (i + 1) services ≡ take i services ++ d ∷ [] =
+    take_more services i d h ∙ ap (λ (e : Service). take i services ++ e ∷ []) (sym is) in
+    subst (λ (l : List Order). AllZip IsOrderOf (take (i + 1) services) l) (sym added.2)
+    (subst (λ (l : List Service). AllZip IsOrderOf l (orders ++ added.0 ∷ [])) (sym one)
+    (zip_push IsOrderOf (take i services) orders d added.0 all added.1))
+
+pub orders_all : (services : List Service) (i : ℕ) (orders : List Order) → length services ≤ i
+    → AreOrdered (take i services) orders → AreOrdered services orders
+orders_all services i orders h all =
+    subst (λ (l : List Service). AllZip IsOrderOf l orders) (take_all i services h) all
+
+-- Of the first services this is found in the first line; where nothing is, each has an order.
+pub record OrdersTo (services : List Service) (i : ℕ) (first : Option (ℕ × Verdict))
+    (orders : List Order) : Type 0 where
+  pub found : IsFirstFound (take i services) first
+  pub ordered : first ≡ None → AreOrdered (take i services) orders
+
+pub orders_none : (services : List Service) (orders : List Order) → orders ≡ []
+    → OrdersTo services 0 None orders
+orders_none services orders is = record {
+  found = first_none;
+  ordered = λ none. subst (λ (l : List Order). AreOrdered [] l) (sym is) tt;
+}
+
+earlier_none : (one other : Option (ℕ × Verdict)) → earlier one other ≡ None
+    → (one ≡ None) × (other ≡ None)
+earlier_none None other is = (refl, is)
+earlier_none (Some one) None is = absurd (cc)
+earlier_none (Some one) (Some other) is = cases (ltb other.0 one.0) refl
+  where
+    cases : (t : Bool) → ltb other.0 one.0 ≡ t → (Some one ≡ None) × (Some other ≡ None)
+    cases true e = let x = rw e at is in absurd (cc)
+    cases false e = let x = rw e at is in absurd (cc)
+
+none_of : {A : Type 0} (o : Option A) (P : Type 0) → IfNone o P → o ≡ None → P
+none_of None P h is = h
+none_of (Some x) P h is = absurd (cc)
+
+pub orders_next : (bytes : List ℕ) (services : List Service) (i : ℕ) (d : Service)
+    (first found result : Option (ℕ × Verdict)) (orders more : List Order)
+    → All IsOrderly services → All (IsPlaced bytes) services → i < length services
+    → d ≡ get_or services i d → OrdersTo services i first orders → IsFoundOf d found
+    → IfNone found ((order : Order) × IsOrderOf d order × (more ≡ orders ++ order ∷ []))
+    → result ≡ earlier first found → OrdersTo services (i + 1) result more
+orders_next bytes services i d first found result orders more os ps h is to f added same = record {
+  found = first_next bytes services i d first found result os ps h is to.found f same;
+  ordered = λ none.
+      let both = earlier_none first found (sym same ∙ none) in
+      orders_more services i d orders more found h is (to.ordered both.0)
+      (none_of found ((order : Order) × IsOrderOf d order × (more ≡ orders ++ order ∷ [])) added
+      both.1);
+}
+
+-- what is found is that of a log without orders
+pub no_orders : (bytes : List ℕ) (services : List Service) (v : Verdict) (orders : List Order)
+    → AreJudged services (Some v) → orders ≡ [] → HasOrders bytes v orders
+no_orders bytes services (Conforms n m) orders f none = absurd f.1.2
+no_orders bytes services (Refused told) orders f none = none
+no_orders bytes services (ManyConfigs line) orders f none = none
+no_orders bytes services (ManyOpen line) orders f none = none
+no_orders bytes services (BadLine line e) orders f none = none
+
+-- where the log ends after its good lines, each service has an order
+pub orders_end : (bytes : List ℕ) (services : List Service) (orders : List Order)
+    → IsReadTo bytes services None → AreOrdered services orders
+    → HasOrders bytes (end_verdict services None) orders
+orders_end bytes services orders r all = (
+  r.count,
+  r.log,
+  subst (λ (l : List ℕ). HasGood bytes r.count r.log l) r.ends.0 r.good,
+  subst (λ (l : List Service). AllZip IsOrderOf l orders) (sym r.same) all,
+)

@@ -1,0 +1,40 @@
+-- What the writers get without the orders.
+use Rattle.std.proofs.Common.{◌≡◌, ℕ, false, IfSome, List, Option, Some, None, ◌∙◌, ap, refl, subst}
+use Rattle.std.specs.Io.KnownBytes.{Appends}
+use Rattle.history_logs.specs.declared.logs.verdict.Verdict.{Verdict}
+use Rattle.history_logs.specs.declared.logs.verdict.Verdict.TheVariants.{Conforms, Refused, ManyConfigs, ManyOpen, BadLine}
+use Rattle.history_logs.specs.Orders.{ReportedWith}
+use Rattle.history_logs.specs.Reports.{Reported, errors_text, on_errors, on_output, output_text, report_text}
+
+output_is : (v : Verdict) → on_output v (report_text v) ≡ output_text v
+output_is (Conforms n m) = refl
+output_is (Refused told) = refl
+output_is (ManyConfigs k) = refl
+output_is (ManyOpen k) = refl
+output_is (BadLine k e) = refl
+
+errors_is : (v : Verdict) → on_errors v (report_text v) ≡ errors_text v
+errors_is (Conforms n m) = refl
+errors_is (Refused told) = refl
+errors_is (ManyConfigs k) = refl
+errors_is (ManyOpen k) = refl
+errors_is (BadLine k e) = refl
+
+reported_plain : (log : List ℕ) (status : ℕ) (a b c d : Option (List ℕ))
+    → ReportedWith false log status a b c d → Reported log status a b c d
+reported_plain log status a b c d r = record {
+  end = r.end;
+  judged = r.judged;
+  told = r.told;
+  output = subst (λ (t : List ℕ). Appends a b t)
+      (ap (λ (t : List ℕ). on_output r.end t) r.is ∙ output_is r.end) r.output;
+  errors = subst (λ (t : List ℕ). Appends c d t)
+      (ap (λ (t : List ℕ). on_errors r.end t) r.is ∙ errors_is r.end) r.errors;
+}
+
+-- the same of what the reader gives
+pub reported_all : (input : Option (List ℕ)) (status : ℕ) (a b c d : Option (List ℕ))
+    → IfSome input (λ log. ReportedWith false log status a b c d)
+    → IfSome input (λ log. Reported log status a b c d)
+reported_all None status a b c d h = h
+reported_all (Some log) status a b c d h = reported_plain log status a b c d h

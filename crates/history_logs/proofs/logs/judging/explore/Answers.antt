@@ -1,0 +1,45 @@
+use Rattle.std.proofs.Common.{◌≡◌, ◌<◌, ◌∙◌, ◌∷◌, [], List, length, ap, sym, subst, arith}
+use Rattle.histories.specs.declared.event.Event.{Event}
+use Rattle.histories.specs.Histories.{IsHistory}
+use Rattle.service_descriptions.specs.Script.{first_state}
+use Rattle.history_logs.specs.Logs.{news}
+use Rattle.history_logs.proofs.LinesAt.{if_ok}
+use Rattle.history_logs.proofs.Found.{explored, verdict_of, whole_of}
+use Rattle.history_logs.proofs.logs.judging.explore.Goals as goal
+
+pub judge_windows-requires : goal.judge_windows-requires
+judge_windows-requires c =
+    let states = c.deref.ensures.value ∙ c.in_ok-states.ensures in
+    record {
+      some = omega (arith, ap length states);
+      history = subst (λ (l : List Event). IsHistory l) (sym c.events.ensures)
+          c.requires.orderly.history;
+    }
+
+pub told_of-requires : goal.told_of-requires
+told_of-requires c =
+    let s = c.args.service.now in
+    let states : c.deref.result.now ≡ news s =
+    c.deref.ensures.value
+    ∙ (c.in_ok-states.ensures ∙ ap (λ l. (first_state l).service ∷ []) c.line.ensures) in
+    record {
+      orderly = c.requires.orderly;
+      placed = c.requires.placed;
+      found = verdict_of s c.calls.result.now c.deref.result.now c.events.result.now
+          c.in_ok-found.found c.calls.ensures states c.events.ensures c.in_ok-found.ensures.verdict;
+    }
+
+pub returns : goal.returns
+returns c =
+    let s = c.args.service.now in
+    let found = c.in_ok-found.found in
+    let states : c.deref.result.now ≡ news s =
+    c.deref.ensures.value
+    ∙ (c.in_ok-states.ensures ∙ ap (λ l. (first_state l).service ∷ []) c.line.ensures) in
+    if_ok _ _ c.told_of.result c.told_of.ensures (λ told is.
+    explored s c.args.cut found told
+    (verdict_of s c.calls.result.now c.deref.result.now c.events.result.now found c.calls.ensures
+    states c.events.ensures c.in_ok-found.ensures.verdict)
+    (λ never.
+    whole_of s c.calls.result.now c.deref.result.now c.events.result.now found c.calls.ensures
+    states c.events.ensures (c.in_ok-found.ensures.whole never)) is)

@@ -1,0 +1,52 @@
+use Rattle.std.proofs.Common.{None, Some, arith, subst, sym}
+use Rattle.history_logs.specs.Good.{IsReadTo}
+use Rattle.history_logs.specs.Logs.{Judged}
+use Rattle.history_logs.specs.Orders.{HasOrders}
+use Rattle.history_logs.proofs.Answered.{placed_of}
+use Rattle.history_logs.proofs.Judgements.{few_calls, judged_bad, judged_end, judged_found}
+use Rattle.history_logs.proofs.Ordered.{no_orders, ordered_right, orders_end}
+use Rattle.history_logs.proofs.logs.order_read.Goals as goal
+
+pub order_services-requires : goal.order_services-requires
+order_services-requires c = record {
+  orderly = c.requires.orderly;
+  placed = placed_of c.args.log.now c.args.services.now c.args.bad c.requires;
+}
+
+pub end_verdict-requires : goal.end_verdict-requires
+end_verdict-requires c =
+    let few = few_calls c.args.log.now c.args.services.now c.args.bad c.requires in
+    omega (arith, few)
+
+pub returns-in-Err-clause-judged : goal.returns-in-Err-clause-judged
+returns-in-Err-clause-judged c =
+    judged_found c.args.log.now c.args.services.now c.args.bad c.in-Err.verdict c.requires
+    (rw c.in-Err.is at c.in_ok-orders.ensures.found)
+
+pub returns-in-Err-clause-orders : goal.returns-in-Err-clause-orders
+returns-in-Err-clause-orders c =
+    no_orders c.args.log.now c.args.services.now c.in-Err.verdict _
+    (rw c.in-Err.is at c.in_ok-orders.ensures.found) c.new-in-Err.ensures.items
+
+pub returns-in-Some-clause-judged : goal.returns-in-Some-clause-judged
+returns-in-Some-clause-judged c =
+    let all = rw c.in-Ok.is at c.in_ok-orders.ensures.orders in
+    judged_bad c.args.log.now c.args.services.now c.in-Some.line c.in-Some.expected
+    (subst (λ b. IsReadTo c.args.log.now c.args.services.now b) c.in-Some.is c.requires)
+    (ordered_right c.args.services.now c.in-Ok.orders.items all)
+
+pub returns-in-None-clause-judged : goal.returns-in-None-clause-judged
+returns-in-None-clause-judged c =
+    let all = rw c.in-Ok.is at c.in_ok-orders.ensures.orders in
+    subst (λ v. Judged c.args.log.now v) (sym c.end_verdict.ensures)
+    (judged_end c.args.log.now c.args.services.now None
+    (subst (λ b. IsReadTo c.args.log.now c.args.services.now b) c.in-None.is c.requires)
+    (ordered_right c.args.services.now c.in-Ok.orders.items all))
+
+pub returns-in-None-clause-orders : goal.returns-in-None-clause-orders
+returns-in-None-clause-orders c =
+    let orders = c.in-Ok.orders.items in
+    let all = rw c.in-Ok.is at c.in_ok-orders.ensures.orders in
+    subst (λ v. HasOrders c.args.log.now v orders) (sym c.end_verdict.ensures)
+    (orders_end c.args.log.now c.args.services.now orders
+    (subst (λ b. IsReadTo c.args.log.now c.args.services.now b) c.in-None.is c.requires) all)

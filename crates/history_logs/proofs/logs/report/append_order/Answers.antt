@@ -1,0 +1,20 @@
+use Rattle.std.proofs.Common.{◌≡◌, [], ◌∷◌, ◌++◌, List, ℕ, codes, decimal, rules, ◌∙◌, ap, append_assoc}
+use Rattle.std.specs.List.{flat_map}
+use Rattle.history_logs.specs.Reports.{line_of}
+use Rattle.history_logs.proofs.Reports.{two_parts}
+use Rattle.history_logs.proofs.logs.report.append_order.Goals as goal
+
+pub returns : goal.returns
+returns c =
+    let order = c.args.order.now in
+    let one = c.append_number.new.out.items in
+    let two = c.push.new.self.items in
+    let lines = flat_map line_of c.deref.result.now in
+    let end : two ≡ one ++ 10 ∷ [] = search rules in
+    two_parts c.args.out.now.items one c.append_lines.new.out.items
+    (codes "service " ++ decimal order.service) (10 ∷ flat_map line_of order.lines.items)
+    c.in_ok-append_number.ensures
+    (c.in_ok-append_lines.ensures
+    ∙ (ap (λ (l : List ℕ). l ++ lines) end
+    ∙ (append_assoc one (10 ∷ []) lines
+    ∙ ap (λ (l : List ℕ). one ++ (10 ∷ flat_map line_of l)) c.deref.ensures.value)))

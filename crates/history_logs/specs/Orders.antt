@@ -1,0 +1,49 @@
+-- In which order calls took effect.
+use Rattle.std.specs.Prelude.{◌≡◌, ℕ, Bool, true, false, List, [], ◌++◌, Option}
+use Rattle.std.specs.Io.KnownBytes.{Appends}
+use Rattle.std.specs.List.{AllZip, flat_map}
+use Rattle.history_windows.specs.Windows.{IsOrder}
+use Rattle.history_logs.specs.declared.logs.verdict.Order.{Order}
+use Rattle.history_logs.specs.declared.logs.verdict.Verdict.{Verdict}
+use Rattle.history_logs.specs.declared.logs.verdict.Verdict.TheVariants as verdict
+use Rattle.history_logs.specs.Logs.{BeginsIn, HasGood, Judged, StepOf, news}
+use Rattle.history_logs.specs.Reading.{Log}
+use Rattle.history_logs.specs.Reports.{on_errors, on_output, order_text, report_text, status_of}
+use Rattle.history_logs.specs.Seen.{Service}
+
+-- This is told of an order of the calls on the service that explains all that was seen of it: its
+-- number, and the lines in which the calls begin, one after the other.
+pub record IsOrderOf (s : Service) (told : Order) : Type 0 where
+  pub number : told.service ≡ s.line.number
+  pub order : List ℕ
+  pub explains : IsOrder (StepOf s) s.events (news s) order
+  pub begins : AllZip (BeginsIn s) order told.lines.items
+
+-- where the log conforms, there is an order for each service, by their lines, and else none
+abbrev pub HasOrders : List ℕ → Verdict → List Order → Type 0
+HasOrders bytes (verdict.Conforms n m) orders =
+    (count : ℕ) × (log : Log) × HasGood bytes count log [] × AllZip IsOrderOf log.services orders
+HasOrders bytes _ orders = orders ≡ []
+
+-- the text is the report on the verdict, and below it that of the orders
+abbrev pub IsWitness : List ℕ → Verdict → List ℕ → Type 0
+IsWitness bytes v text =
+    (orders : List Order) × HasOrders bytes v orders
+    × (text ≡ report_text v ++ flat_map order_text orders)
+
+-- the text reports the verdict: with the orders, if they are wanted
+abbrev pub IsTextOf : Bool → List ℕ → Verdict → List ℕ → Type 0
+IsTextOf true log v text = IsWitness log v text
+IsTextOf false log v text = text ≡ report_text v
+
+-- The log was judged in one way: that is the status, and the writers got a text that reports it,
+-- with the orders, if they are wanted.
+pub record ReportedWith (with_orders : Bool) (log : List ℕ) (status : ℕ)
+    (out_old out_new err_old err_new : Option (List ℕ)) : Type 0 where
+  pub end : Verdict
+  pub judged : Judged log end
+  pub told : status ≡ status_of end
+  pub text : List ℕ
+  pub is : IsTextOf with_orders log end text
+  pub output : Appends out_old out_new (on_output end text)
+  pub errors : Appends err_old err_new (on_errors end text)

@@ -1,0 +1,97 @@
+//! The order in which calls took effect.
+ghost use Rattle.std.specs.Prelude.{◌≡◌, ◌<◌, ◌++◌, ◌∷◌, [], All, IfErr, IfOk, IfSome, IfNone, List, OnOk, Some, length};
+ghost use Rattle.std.specs.List.{AllZip};
+ghost use Rattle.histories.specs.Frontier.{IsFrontOf};
+ghost use Rattle.history_logs.specs.Good.{IsOrderly};
+ghost use Rattle.history_logs.specs.Judging.{AreJudged, AreOrdered, IsFound, IsFoundOf};
+ghost use Rattle.history_logs.specs.Logs.{BeginsAt, StepOf, news};
+ghost use Rattle.history_logs.specs.Orders.{IsOrderOf};
+ghost use Rattle.history_logs.specs.Placed.{IsPlaced};
+
+use super::judging::{earlier, explore};
+use super::service::LogService;
+use super::verdict::{Order, Verdict};
+use history_windows::{Cut, Window, order_in};
+use service_conformance::conformance::ServiceCheck;
+use std::alloc::{AllocError, Global};
+
+/// The lines in which these calls begin.
+fn lines_of(alloc: Global, begins: &[usize], calls: &[usize]) -> Result<Vec<usize>, AllocError>
+    requires { All (λ call. call < length begins.now) calls.now }
+    ensures { IfOk result (λ lines. AllZip (BeginsAt begins.now) calls.now lines.items) }
+{
+    let mut lines = Vec::new(alloc);
+    for call in calls {
+        lines.push(begins[*call])?;
+    }
+    Ok(lines)
+}
+
+/// The order of the first configuration to which all that was seen of the service has led.
+fn order_of(
+    alloc: Global,
+    service: &LogService,
+    window: &Window<ServiceCheck>,
+) -> Result<Order, AllocError>
+    requires orderly { IsOrderly service.now }
+    requires front { IsFrontOf (StepOf service.now) window.now.front service.now.events
+        (news service.now) }
+    requires some { 0 < length window.now.front.configs.items }
+    ensures { IfOk result (IsOrderOf service.now) }
+{
+    let calls = order_in(alloc, window)?;
+    let lines = lines_of(alloc, service.begins(), &calls)?;
+    Ok(Order {
+        service: service.line().number,
+        lines,
+    })
+}
+
+/// Adds an order of the calls on the service that explains what was seen of it. Where none does,
+/// returns what was found, with its line.
+fn order_service(
+    alloc: Global,
+    log: &[u8],
+    service: &LogService,
+    orders: &mut Vec<Order>,
+) -> Result<Option<(usize, Verdict)>, AllocError>
+    requires orderly { IsOrderly service.now }
+    requires placed { IsPlaced log.now service.now }
+    ensures found { IfOk result (IsFoundOf service.now) }
+    ensures order { IfOk result (λ found. IfNone found ((order : Order) × IsOrderOf service.now order
+        × (orders.new.items ≡ orders.old.items ++ order ∷ []))) }
+{
+    match explore(alloc, log, service, Cut::Never)? {
+        Ok(window) => {
+            let order = order_of(alloc, service, &window)?;
+            orders.push(order)?;
+            Ok(None)
+        }
+        Err(found) => Ok(Some(found)),
+    }
+}
+
+/// For each service an order of the calls on it that explains what was seen of it, or what was
+/// found in the first line, where there is not one for each.
+pub(super) fn order_services(
+    alloc: Global,
+    log: &[u8],
+    services: &[LogService],
+) -> Result<Result<Vec<Order>, Verdict>, AllocError>
+    requires orderly { All IsOrderly services.now }
+    requires placed { All (IsPlaced log.now) services.now }
+    ensures orders { IfOk result (λ found. IfOk found
+        (λ orders. AreOrdered services.now orders.items)) }
+    ensures found { IfOk result (λ found. IfErr found
+        (λ verdict. AreJudged services.now (Some verdict))) }
+{
+    let mut first: Option<(usize, Verdict)> = None;
+    let mut orders = Vec::new(alloc);
+    for service in services {
+        first = earlier(first, order_service(alloc, log, service, &mut orders)?);
+    }
+    match first {
+        Some((_, verdict)) => Ok(Err(verdict)),
+        None => Ok(Ok(orders)),
+    }
+}

@@ -1,0 +1,13 @@
+use Rattle.std.proofs.Common.{◌∙◌, ◌++◌, List, ℕ, ap}
+use Rattle.histories.specs.Frontier.{read}
+use Rattle.history_windows.proofs.Ordering.{order_first}
+use Rattle.history_windows.proofs.order.order_in.Goals as goal
+
+pub returns : goal.returns
+returns g c =
+    let k = c.index-first.result.now in
+    let known = c.in_ok-order.order.items in
+    order_first c.args.window.now.front k known _ c.requires c.index-first.ensures
+    (c.in_ok-order.ensures ∙ ap (λ l. read l k.base) c.deref.ensures.value)
+    (c.in_ok-extend_from_slice.ensures.items
+    ∙ ap (λ (l : List ℕ). known ++ l) c.deref-2.ensures.value)
