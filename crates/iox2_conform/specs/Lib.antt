@@ -1,2 +1,3 @@
--- Promises: what the program does for its arguments.
+-- Promises: what the arguments request, and what the program does for them.
+pub mod Requests
 pub mod Program

@@ -6,15 +6,18 @@ ghost use Rattle.std.specs.Io.KnownBytes.{IsAtEnd};
 ghost use Rattle.line_streams.specs.Streams.{IsFlushed};
 ghost use Rattle.iox2_conform.specs.Program.{Ran, RequestsCheck};
 
-use history_logs::logs::check_streams;
-use line_streams::{Request, RequestError, Sink, Source, print, request_of};
+mod request;
+
+use history_logs::logs::{check_streams, check_witness_streams};
+use line_streams::{Sink, Source};
+use request::{Request, RequestError, print, request_of};
 use std::alloc::Global;
 use std::env::Args;
 use std::process::ExitCode;
 use std::{env, io};
 
 /// How the program is used.
-const HELP: &str = "usage: iox2-conform [--help | --version] < LOG
+const HELP: &str = "usage: iox2-conform [--witness | --help | --version] < LOG
 
 Reads the log of services from standard input: the line of a service, and then what was seen of it,
 in the order of time. `A> COMMAND` begins a call of the caller A, `A< WORDS` ends it with the reply
@@ -24,6 +27,8 @@ number 7. Writes whether an order of the calls, each between its begin and its e
 replies by the proved machine. If not, it writes the first reply that none explains, the line from
 which calls overlap, every reply that the call could have had, and who was attached then.
 
+  --witness  write an order of the calls on each service too, where the log conforms: the lines
+             in which they begin, one a line
   --help     write this text and read nothing
   --version  write the version and read nothing
 
@@ -64,7 +69,8 @@ fn conform_streams<R: Source, W: Sink, E: Sink>(
     ensures read { result < 3 → RequestsCheck arguments → IsAtEnd (R.remaining input.new) }
 {
     match request_of(arguments) {
-        Ok(Request::Work) => check_streams(alloc, input, output, errors),
+        Ok(Request::Check) => check_streams(alloc, input, output, errors),
+        Ok(Request::Witness) => check_witness_streams(alloc, input, output, errors),
         Ok(Request::Help) => print(output, HELP, 0),
         Ok(Request::Version) => print(output, VERSION, 0),
         Err(RequestError::BadArgument) => print(errors, BAD_ARGUMENT, 2),

@@ -1,6 +1,4 @@
--- Promises: the texts of phrases, what arguments request, and what a failed stream has read or
--- written.
-pub mod Requests
+-- Promises: the texts of phrases, and what a failed stream has read or written.
 pub mod Spelling
 pub mod Streams
 -- Lemmas that the laws of the phrases cite: each is read in one way.

@@ -5,10 +5,8 @@
 pub mod laws;
 mod number;
 mod phrase;
-mod request;
 mod streams;
 
 pub use number::Number;
 pub use phrase::{After, LineEnd, Phrase, Then, after_word, before_byte, list_before};
-pub use request::{Request, RequestError, print, request_of};
 pub use streams::{Sink, Source, read_all, write_whole};

@@ -1,4 +1,4 @@
--- What the arguments of a program request.
+-- What the arguments request.
 use Rattle.std.specs.Prelude.{◌≡◌, ◌≢◌, ℕ, List, [], ◌∷◌, codes, map, drop, Option, Result, Ok, Err, String, string_bytes}
 use Rattle.std.specs.IoError.{error_kind}
 use Rattle.std.specs.Io.KnownBytes.{Appends}
@@ -7,10 +7,10 @@ use Rattle.std.specs.declared.alloc.Global.{Global}
 use Rattle.std.specs.declared.vec.IntoIter.{IntoIter}
 use Rattle.std.specs.declared.io.Error.{Error}
 use Rattle.std.specs.declared.io.ErrorKind.TheVariants.{OutOfMemory}
-use Rattle.line_streams.specs.declared.request.Request.{Request}
-use Rattle.line_streams.specs.declared.request.Request.TheVariants.{Help, Version, Work}
-use Rattle.line_streams.specs.declared.request.RequestError.{RequestError}
-use Rattle.line_streams.specs.declared.request.RequestError.TheVariants.{BadArgument, NoMemory}
+use Rattle.iox2_conform.specs.declared.request.Request.{Request}
+use Rattle.iox2_conform.specs.declared.request.Request.TheVariants.{Check, Help, Version, Witness}
+use Rattle.iox2_conform.specs.declared.request.RequestError.{RequestError}
+use Rattle.iox2_conform.specs.declared.request.RequestError.TheVariants.{BadArgument, NoMemory}
 
 -- the arguments
 abbrev pub words_of : IntoIter (String Global) Global → List (List ℕ)
@@ -18,11 +18,13 @@ words_of words = map string_bytes (into_iter_items words)
 
 -- what the words after the program's name request
 abbrev pub RequestsIn : List (List ℕ) → Result Request RequestError → Type 0
-RequestsIn words (Ok Work) = words ≡ []
+RequestsIn words (Ok Check) = words ≡ []
+RequestsIn words (Ok Witness) = words ≡ codes "--witness" ∷ []
 RequestsIn words (Ok Help) = words ≡ codes "--help" ∷ []
 RequestsIn words (Ok Version) = words ≡ codes "--version" ∷ []
 RequestsIn words (Err BadArgument) =
-    (words ≢ []) × (words ≢ codes "--help" ∷ []) × (words ≢ codes "--version" ∷ [])
+    (words ≢ []) × (words ≢ codes "--witness" ∷ []) × (words ≢ codes "--help" ∷ [])
+    × (words ≢ codes "--version" ∷ [])
 RequestsIn words (Err NoMemory) = ⊥
 
 -- what the arguments request: where they could not be had, there is no memory or they are bad

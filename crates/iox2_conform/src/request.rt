@@ -1,18 +1,20 @@
-//! What the arguments of a program request, and texts that it prints.
+//! What the arguments request, and texts that are printed.
 ghost use Rattle.std.specs.Prelude.{◌≡◌, ◌<◌, IfErr, OnOk, drop};
 ghost use Rattle.std.specs.Io.KnownBytes.{Appends};
-ghost use Rattle.line_streams.specs.Requests.{Printed, Requests, RequestsIn, words_of};
+ghost use Rattle.iox2_conform.specs.Requests.{Printed, Requests, RequestsIn, words_of};
 ghost use Rattle.line_streams.specs.Streams.{Fails, IsFlushed};
 
-use crate::streams::{Sink, write_whole};
+use line_streams::{Sink, write_whole};
 use std::env::Args;
 use std::io;
 use std::io::{Error, ErrorKind};
 
-/// What is requested of a program that reads its standard input.
-pub enum Request {
-    /// To do its work on the input.
-    Work,
+/// What is requested.
+pub(crate) enum Request {
+    /// To judge the log on the standard input.
+    Check,
+    /// The same, and to print an order of the calls where the log conforms.
+    Witness,
     /// To print how the program is used.
     Help,
     /// To print the version.
@@ -20,21 +22,16 @@ pub enum Request {
 }
 
 /// Why the arguments are no request.
-pub enum RequestError {
+pub(crate) enum RequestError {
     /// There are arguments, and not one of the known words alone.
     BadArgument,
     /// Memory was refused.
     NoMemory,
 }
 
-/// What the arguments request: no word, `--help` or `--version`. The first is the program's name.
-///
-/// From `crates/iox2_conform/src/main.rt`:
-///
-/// ```
-/// match request_of(arguments) {
-/// ```
-pub fn request_of(arguments: io::Result<Args>) -> Result<Request, RequestError>
+/// What the arguments request: no word, `--witness`, `--help` or `--version`. The first is the
+/// program's name.
+pub(crate) fn request_of(arguments: io::Result<Args>) -> Result<Request, RequestError>
     ensures { Requests arguments result }
 {
     match arguments {
@@ -52,12 +49,13 @@ fn request_in(words: Args) -> Result<Request, RequestError>
     // The program's name requests nothing.
     let _program = words.next();
     let Some(word) = words.next() else {
-        return Ok(Request::Work);
+        return Ok(Request::Check);
     };
     if words.next().is_some() {
         return Err(RequestError::BadArgument);
     }
     match word.as_str() {
+        "--witness" => Ok(Request::Witness),
         "--help" => Ok(Request::Help),
         "--version" => Ok(Request::Version),
         _ => Err(RequestError::BadArgument),
@@ -75,13 +73,7 @@ fn write_text<W: Sink>(out: &mut W, text: &str) -> io::Result<()>
 }
 
 /// Writes a text, flushes its writer, and returns the status, below 3, or 3 where the writer fails.
-///
-/// From `crates/iox2_conform/src/main.rt`:
-///
-/// ```
-/// Ok(Request::Version) => print(output, VERSION, 0),
-/// ```
-pub fn print<W: Sink>(out: &mut W, text: &str, status: u8) -> u8
+pub(crate) fn print<W: Sink>(out: &mut W, text: &str, status: u8) -> u8
     requires { status < 3 }
     ensures range { result < 4 }
     ensures printed { result < 3
