@@ -147,15 +147,23 @@ enum iox2sd_status_number {
     IOX2SD_STATUS_NO_FILE = 85,         /* A file cannot be read: C++ alone returns it. */
     /* Tables and arrays of a file are more than 32 deep in one another. */
     IOX2SD_STATUS_TOO_DEEP = 86,
-    IOX2SD_STATUS_NO_RUN = 90, /* No run of the proved machine gives a reply of a log. */
+    /* No order of the calls of a log explains a reply: no run of the proved machine gives it. */
+    IOX2SD_STATUS_NO_ORDER = 90,
     /* A line of a log is not what is expected, or the log ends before it. */
     IOX2SD_STATUS_NO_SERVICE_LINE = 91,
-    IOX2SD_STATUS_NO_COMMAND_LINE = 92,
+    IOX2SD_STATUS_NO_CALL_LINE = 92, /* Of a service, a call or an event. */
     IOX2SD_STATUS_NO_REPLY_LINE = 93,
-    IOX2SD_STATUS_NO_ORDER = 94,        /* No order of the calls of a group gives their replies. */
-    IOX2SD_STATUS_TOO_MANY_STATES = 95, /* The orders of a group lead to more than 64 states. */
-    IOX2SD_STATUS_NO_GROUP_LINE = 96, /* A call of a group, or the end of the group, is expected. */
-    IOX2SD_STATUS_NO_GROUP_END = 97   /* The end of a group of eight calls is expected. */
+    /* A log is not decided: orders of its calls lead to more than 4,096 configurations, or more
+     * than 64 calls of a service are open. */
+    IOX2SD_STATUS_TOO_MANY_CONFIGURATIONS = 94,
+    IOX2SD_STATUS_TOO_MANY_OPEN_CALLS = 95,
+    IOX2SD_STATUS_CALLER_IS_BUSY = 96, /* A caller begins a call, and has one open. */
+    IOX2SD_STATUS_NO_OPEN_CALL = 97,   /* A caller ends a call, and has none open. */
+    IOX2SD_STATUS_CALLER_IS_DEAD = 98, /* A caller goes on after it died. */
+    IOX2SD_STATUS_UNKNOWN_CALLER = 99, /* A caller died that has begun no call. */
+    IOX2SD_STATUS_NO_NEWLINE = 100,    /* The last line has no newline. */
+    /* A line that is not what is expected ends in a carriage return. */
+    IOX2SD_STATUS_CARRIAGE_RETURN = 101
 };
 typedef uint32_t iox2sd_status;
 

@@ -152,14 +152,19 @@ NUMBERS(SettingKind, IS(None, KIND_NONE) IS(Table, KIND_TABLE) IS(Number, KIND_N
     S(NoTomlInteger, NO_TOML_INTEGER, "TOML has no integer above 2^63 - 1")                        \
     S(NoFile, NO_FILE, "the file cannot be read")                                                  \
     S(TooDeep, TOO_DEEP, "tables and arrays are nested too deeply")                                \
-    S(NoRun, NO_RUN, "no run gives the reply")                                                     \
+    S(NoOrder, NO_ORDER, "no order of the calls explains the reply")                               \
     S(NoServiceLine, NO_SERVICE_LINE, "the line of a service is expected")                         \
-    S(NoCommandLine, NO_COMMAND_LINE, "the line of a command is expected")                         \
-    S(NoReplyLine, NO_REPLY_LINE, "the line of a reply is expected")                               \
-    S(NoOrder, NO_ORDER, "no order of the group gives the replies")                                \
-    S(TooManyStates, TOO_MANY_STATES, "orders of the group lead to more than 64 states")           \
-    S(NoGroupLine, NO_GROUP_LINE, "the line of a call of the group, or its end, is expected")      \
-    S(NoGroupEnd, NO_GROUP_END, "the end of the group is expected, which has 8 calls")
+    S(NoCallLine, NO_CALL_LINE, "the line of a service, a call or an event is expected")           \
+    S(NoReplyLine, NO_REPLY_LINE, "a reply is expected")                                           \
+    S(TooManyConfigurations, TOO_MANY_CONFIGURATIONS,                                              \
+      "orders of the calls lead to more than 4,096 configurations")                                \
+    S(TooManyOpenCalls, TOO_MANY_OPEN_CALLS, "more than 64 calls are open")                        \
+    S(CallerIsBusy, CALLER_IS_BUSY, "a caller without an open call is expected")                   \
+    S(NoOpenCall, NO_OPEN_CALL, "a caller with an open call is expected")                          \
+    S(CallerIsDead, CALLER_IS_DEAD, "a caller that has not died is expected")                      \
+    S(UnknownCaller, UNKNOWN_CALLER, "a caller that has begun a call is expected")                 \
+    S(NoNewline, NO_NEWLINE, "a newline is expected at the end of the line")                       \
+    S(CarriageReturn, CARRIAGE_RETURN, "no carriage return is expected before the newline")
 
 #define OF_HEADER(name, NAME, words) IS(name, STATUS_##NAME)
 NUMBERS(Status, STATUSES(OF_HEADER))

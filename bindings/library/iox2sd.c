@@ -133,17 +133,21 @@ const char *iox2sd_status_str(iox2sd_status status) {
         case IOX2SD_STATUS_NO_TOML_INTEGER: return "TOML has no integer above 2^63 - 1";
         case IOX2SD_STATUS_NO_FILE: return "the file cannot be read";
         case IOX2SD_STATUS_TOO_DEEP: return "tables and arrays are nested too deeply";
-        case IOX2SD_STATUS_NO_RUN: return "no run gives the reply";
+        case IOX2SD_STATUS_NO_ORDER: return "no order of the calls explains the reply";
         case IOX2SD_STATUS_NO_SERVICE_LINE: return "the line of a service is expected";
-        case IOX2SD_STATUS_NO_COMMAND_LINE: return "the line of a command is expected";
-        case IOX2SD_STATUS_NO_REPLY_LINE: return "the line of a reply is expected";
-        case IOX2SD_STATUS_NO_ORDER: return "no order of the group gives the replies";
-        case IOX2SD_STATUS_TOO_MANY_STATES:
-            return "orders of the group lead to more than 64 states";
-        case IOX2SD_STATUS_NO_GROUP_LINE:
-            return "the line of a call of the group, or its end, is expected";
-        case IOX2SD_STATUS_NO_GROUP_END:
-            return "the end of the group is expected, which has 8 calls";
+        case IOX2SD_STATUS_NO_CALL_LINE:
+            return "the line of a service, a call or an event is expected";
+        case IOX2SD_STATUS_NO_REPLY_LINE: return "a reply is expected";
+        case IOX2SD_STATUS_TOO_MANY_CONFIGURATIONS:
+            return "orders of the calls lead to more than 4,096 configurations";
+        case IOX2SD_STATUS_TOO_MANY_OPEN_CALLS: return "more than 64 calls are open";
+        case IOX2SD_STATUS_CALLER_IS_BUSY: return "a caller without an open call is expected";
+        case IOX2SD_STATUS_NO_OPEN_CALL: return "a caller with an open call is expected";
+        case IOX2SD_STATUS_CALLER_IS_DEAD: return "a caller that has not died is expected";
+        case IOX2SD_STATUS_UNKNOWN_CALLER: return "a caller that has begun a call is expected";
+        case IOX2SD_STATUS_NO_NEWLINE: return "a newline is expected at the end of the line";
+        case IOX2SD_STATUS_CARRIAGE_RETURN:
+            return "no carriage return is expected before the newline";
         default: return "unknown status";
     }
 }
