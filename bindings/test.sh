@@ -180,6 +180,11 @@ for compiler in gcc clang; do
         sanitized "$compiler" address,undefined "$source" -std=c99
     done
     sanitized "$compiler" thread c/test_threads.c -std=c99
+    wrapped_log=-Wl,--wrap=malloc,--wrap=calloc,--wrap=realloc
+    caller "$compiler" iox2sd c/test_log.c -std=c99 "$wrapped_log"
+    for sanitizer in address,undefined thread; do
+        sanitized "$compiler" "$sanitizer" c/test_log.c -std=c99 "$wrapped_log"
+    done
     if has valgrind; then
         runs "$compiler" iox2sd c/test_threads.c -std=c99 -g &&
             run "$compiler c/test_threads.c under helgrind" races "$work/caller"
@@ -260,7 +265,7 @@ if has clang++; then
 fi
 for compiler in g++ clang++; do
     for standard in c++17 c++20 c++2b; do
-        for header in iox2sd{,_fwd,_result,_text,_values,_service,_config,_conform}.hpp; do
+        for header in iox2sd{,_fwd,_result,_text,_values,_service,_config,_log,_conform}.hpp; do
             run "$compiler -std=$standard has no warning about $header" "$compiler" \
                 -std=$standard "${warnings[@]}" -Wshadow -fsyntax-only -I../include \
                 -x c++ "../include/$header"

@@ -1,6 +1,6 @@
-/// Declarations of what iox2sd.hpp, iox2sd_config.hpp and iox2sd_conform.hpp define, for headers
-/// that only name these types. Ports and patterns of any kind (`PortDetails`, `MessagingPattern`)
-/// are variants, and are not declared here.
+/// Declarations of what iox2sd.hpp, iox2sd_config.hpp, iox2sd_log.hpp and iox2sd_conform.hpp define,
+/// for headers that only name these types. Ports and patterns of any kind (`PortDetails`,
+/// `MessagingPattern`) are variants, and are not declared here.
 #ifndef IOX2SD_FWD_HPP
 #define IOX2SD_FWD_HPP
 
@@ -78,7 +78,8 @@ struct PortRoles; struct DeadNodeRemoval; class ServiceNumbers; class Service; s
 struct ConfigTexts; struct Config; struct ConfigFile; struct ConfigFault; struct ConfigError;
 struct ConfigWriteError; struct UnknownKey;
 
-struct LogVerdict; class Recorder;
+struct LogVerdict; struct Configuration; class Configurations; class Recorder;
+class LogWriter; class LogCaller; class LogToken; class LogCommand; class LogReply;
 
 }  // namespace iox2sd
 

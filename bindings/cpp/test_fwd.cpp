@@ -42,5 +42,6 @@ int main() {
     CHECK(monitor.kind() == PatternKind::Event);
     CHECK(monitor.remove(UniqueNodeId::create(1, 2, 3, 4).value()) == Status::Done);
     CHECK(monitor.last == Status::Done && is_declared<Recorder> && is_declared<Config>);
+    CHECK(is_declared<LogWriter> && is_declared<Configurations>);
     return end_of_checks();
 }

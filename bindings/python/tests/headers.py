@@ -4,7 +4,10 @@ import re
 
 from . import PROJECT
 
-FILES = sorted((PROJECT / "include").glob("iox2sd*.h"))
+FILES = sorted(
+    path for path in (PROJECT / "include").glob("iox2sd*.h") if path.name != "iox2sd_log.h"
+)
+"""Those of the library: iox2sd_log.h defines all its functions."""
 
 TEXT = "".join(path.read_text() for path in FILES).replace("IOX2SD_CHECKED ", "")
 

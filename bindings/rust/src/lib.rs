@@ -50,6 +50,7 @@ pub mod conform;
 pub mod container;
 pub mod dynamic_config;
 pub mod identifiers;
+pub mod log;
 pub mod messaging_pattern;
 pub mod paths;
 pub mod prelude;

@@ -72,7 +72,7 @@ macro_rules! patterns {
 
         impl MessagingPatternSettings {
             /// The pattern, with the capacities of its two kinds of ports.
-            fn parts(&self) -> (Kind, [usize; 2]) {
+            pub(crate) fn parts(&self) -> (Kind, [usize; 2]) {
                 match self {
                     $(Self::$variant(room) => (Kind::$variant, room.each()),)*
                 }
