@@ -1,18 +1,16 @@
 /// Logs of services for C++17: the calls that were made on a service of any implementation and the
-/// replies that were seen are judged by the proved machine (docs/CONFORM.md shows a log), and a
-/// `Recorder` writes such a log.
+/// replies that were seen are judged by the proved machine (docs/CONFORM.md shows a log). A
+/// `LogWriter` (iox2sd_log.hpp) writes the log of a registry of one's own, and a `Recorder` that of
+/// a service of this layer.
 ///
-/// A header alone, over iox2sd.hpp and iox2sd_conform.h, under the rules of the first. A `Recorder`
-/// is for tests: it keeps its log in a `std::string`, which throws where memory is refused.
+/// A header alone, over iox2sd.hpp, iox2sd_log.hpp and iox2sd_conform.h, under the rules of the
+/// first.
 #ifndef IOX2SD_CONFORM_HPP
 #define IOX2SD_CONFORM_HPP
 
 #include <iterator>
-#include <map>
-#include <string>
-#include <vector>
 
-#include "iox2sd.hpp"
+#include "iox2sd_log.hpp"
 // Headers of C have the casts and the NULL of C.
 #pragma GCC diagnostic push
 #pragma GCC diagnostic ignored "-Wold-style-cast"
@@ -39,8 +37,12 @@ inline std::string_view take_ids(std::string_view& lines, std::string_view front
 
 }  // namespace detail
 
-/// Who is there in a state of a service.
-struct Attached {
+/// What the calls before a refused reply can have led to. Its texts last as long as their
+/// `LogVerdict`.
+struct Configuration {
+    /// The lines in which the open calls begin that were made, with a space between.
+    std::string_view made;
+    std::string_view possible;  ///< Every reply that the call could have had then.
     /// The ids of the nodes that are registered, by rising slot, one for each handle, with a space
     /// between.
     std::string_view nodes;
@@ -48,32 +50,24 @@ struct Attached {
     /// others.
     std::string_view ports;
 
-    IOX2SD_FIELDS(nodes, ports);
+    IOX2SD_FIELDS(made, possible, nodes, ports);
 };
 
-/// A state that a service may be in. Its texts last as long as their `LogVerdict`.
-struct PossibleState {
-    std::string_view possible;  ///< With `NoRun`, every reply that a run gives from it.
-    Attached attached;          ///< Who is there.
-
-    IOX2SD_FIELDS(possible, attached);
-};
-
-/// The states of a verdict, one after the other. They are read from its report, and last as long
-/// as their `LogVerdict`.
-class PossibleStates {
+/// The configurations of a verdict, one after the other, each once. They are read from its report,
+/// and last as long as their `LogVerdict`.
+class Configurations {
 public:
     class const_iterator {
     public:
         using iterator_category = std::input_iterator_tag;
-        using value_type = PossibleState;
+        using value_type = Configuration;
         using difference_type = std::ptrdiff_t;
-        using pointer = const PossibleState*;
-        using reference = PossibleState;
+        using pointer = const Configuration*;
+        using reference = Configuration;
 
         explicit const_iterator(std::string_view lines) noexcept : lines_(lines) {}
 
-        PossibleState operator*() const noexcept {
+        Configuration operator*() const noexcept {
             std::string_view rest = lines_;
             return take(rest);
         }
@@ -87,7 +81,7 @@ public:
             return before;
         }
 
-        /// Iterators of one verdict are equal where equally many states are left.
+        /// Iterators of one verdict are equal where equally many are left.
         friend bool operator==(const const_iterator& a, const const_iterator& b) noexcept {
             return a.lines_.size() == b.lines_.size();
         }
@@ -96,23 +90,23 @@ public:
         }
 
     private:
-        /// Takes the lines of one state off the others.
-        static PossibleState take(std::string_view& lines) noexcept {
-            constexpr std::string_view front = "possible: ";
-            PossibleState state{};
-            if (lines.substr(0, front.size()) == front) {
-                state.possible = detail::take_line(lines, front);
-            }
-            state.attached.nodes = detail::take_ids(lines, "nodes:");
-            state.attached.ports = detail::take_ids(lines, "ports:");
-            return state;
+        /// Takes the lines of one configuration off the others.
+        static Configuration take(std::string_view& lines) noexcept {
+            constexpr std::string_view some = "lines ";
+            const std::string_view made = detail::take_line(lines, "made: ");
+            Configuration found{};
+            if (made.substr(0, some.size()) == some) found.made = made.substr(some.size());
+            found.possible = detail::take_line(lines, "possible: ");
+            found.nodes = detail::take_ids(lines, "nodes:");
+            found.ports = detail::take_ids(lines, "ports:");
+            return found;
         }
 
         std::string_view lines_;
     };
-    using value_type = PossibleState;
+    using value_type = Configuration;
 
-    explicit PossibleStates(std::string_view lines) noexcept : lines_(lines) {}
+    explicit Configurations(std::string_view lines) noexcept : lines_(lines) {}
 
     const_iterator begin() const noexcept { return const_iterator(lines_); }
     const_iterator end() const noexcept { return const_iterator({}); }
@@ -120,8 +114,8 @@ public:
     std::size_t size() const noexcept {
         return static_cast<std::size_t>(std::distance(begin(), end()));
     }
-    /// The first of the states, where there is one.
-    PossibleState front() const noexcept { return *begin(); }
+    /// The first one, where there is one.
+    Configuration front() const noexcept { return *begin(); }
 
 private:
     std::string_view lines_;
@@ -130,10 +124,11 @@ private:
 /// What a log was judged to be.
 struct [[nodiscard]] LogVerdict {
     /// `Done` where the log conforms; `NoMemory`; or what the first line that does not conform is:
-    /// `NoRun` where no run gives its reply; at the end of a group `NoOrder` where no order of its
-    /// calls gives their replies, and `TooManyStates` where their orders lead to more than 64
-    /// states; else `NoServiceLine`, `NoCommandLine`, `NoReplyLine`, `NoGroupLine` or `NoGroupEnd`
-    /// by what is expected.
+    /// `NoOrder` where no order of the calls explains its reply; not decided with
+    /// `TooManyConfigurations`, where orders of the calls lead to more than 4,096, and with
+    /// `TooManyOpenCalls`, where more than 64 calls of a service are open; else `NoServiceLine`,
+    /// `NoCallLine`, `NoReplyLine`, `CallerIsBusy`, `NoOpenCall`, `CallerIsDead`, `UnknownCaller`,
+    /// `NoNewline` or `CarriageReturn`, as the line is not what is expected.
     Status status;
     std::size_t line;   ///< The number of that line, from 1 on; else 0.
     std::size_t calls;  ///< The calls of a log that conforms; else 0.
@@ -142,26 +137,44 @@ struct [[nodiscard]] LogVerdict {
     /// What iox2-conform writes; nothing with `NoMemory`.
     IOX2SD_LENDS(std::string_view, report, text);
 
-    /// With `NoRun`: the words of the reply that was seen. Else nothing.
-    std::string_view seen() const& noexcept {
-        if (status != Status::NoRun) return {};
-        std::string_view lines = report();
-        detail::take_line(lines, {});
-        return detail::take_line(lines, "seen: ");
+    /// With `NoOrder`: the words of the reply that was seen. Else nothing.
+    std::string_view words() const& noexcept {
+        std::string_view lines = refusal();
+        return lines.empty() ? lines : detail::take_line(lines, "seen: ");
     }
-    std::string_view seen() const&& = delete;
+    std::string_view words() const&& = delete;
 
-    /// With `NoRun`: each state that the service may be in then, at least one, and several where
-    /// groups above have several orders. With `NoOrder`: the same before the group, without
-    /// replies. Else none.
-    PossibleStates states() const& noexcept {
-        if (status != Status::NoRun && status != Status::NoOrder) return PossibleStates({});
-        std::string_view lines = report();
+    /// With `NoOrder`: the line from which the window is open, which is that of the first event of
+    /// the service since none of its calls was open. Else 0.
+    std::size_t window() const noexcept {
+        std::string_view lines = refusal();
+        if (lines.empty()) return 0;
         detail::take_line(lines, {});
-        if (status == Status::NoRun) detail::take_line(lines, {});
-        return PossibleStates(lines);
+        std::size_t number = 0;
+        for (const char digit : detail::take_line(lines, "window: from line ")) {
+            number = 10 * number + static_cast<std::size_t>(digit - '0');
+        }
+        return number;
     }
-    PossibleStates states() const&& = delete;
+
+    /// With `NoOrder`: what the calls before the reply can have led to, at least one. Else none.
+    Configurations configurations() const& noexcept {
+        std::string_view lines = refusal();
+        if (lines.empty()) return Configurations({});
+        detail::take_line(lines, {});
+        detail::take_line(lines, {});
+        return Configurations(lines);
+    }
+    Configurations configurations() const&& = delete;
+
+private:
+    /// The lines of a refusal below the first one.
+    std::string_view refusal() const noexcept {
+        if (status != Status::NoOrder) return {};
+        std::string_view lines = text;
+        detail::take_line(lines, {});
+        return lines;
+    }
 };
 
 /// Judges a log of services.
@@ -189,221 +202,193 @@ inline LogVerdict check_log(std::string_view log) noexcept {
 /// A service that writes down each call on it with its reply, as a log that `check_log` judges. So
 /// what a test saw is compared with the proved machine.
 ///
-/// Its calls are those of `Service` that have a line in a log, with the errors of that class. A
-/// call with a handle that no call here returned is refused, and stands in the log as a comment.
+/// Its calls are those of `Service` that have a line in a log, with the errors of that class, and
+/// `NoMemory` where there is none for a line: then the call is not made. A call with a handle of
+/// another service, or of the other kind, has no line.
 class Recorder {
 public:
     /// Makes a service with nothing attached, with all the tickets that there are.
     /// Errors: those of `Service::create`.
     static Result<Recorder> create(PatternKind pattern, std::uint64_t number,
-                                   const Capacities& capacities) {
-        Result<Service> made = Service::create(pattern, number, capacities);
-        if (!made) return made.error();
-        std::string line = "service ";
-        line += text(pattern);
-        for (const std::uint64_t each :
-             {number, std::uint64_t{capacities.nodes}, std::uint64_t{capacities.first},
-              std::uint64_t{capacities.second}}) {
-            line += ' ' + std::to_string(each);
-        }
-        return Recorder(std::move(made).value(), line + '\n');
+                                   const Capacities& capacities) noexcept {
+        Result<Service> service = Service::create(pattern, number, capacities);
+        if (!service) return service.error();
+        Result<LogWriter> log = LogWriter::create(pattern, number, capacities);
+        if (!log) return log.error();
+        const Result<LogCaller> caller = log->caller("A");
+        if (!caller) return caller.error();
+        return Recorder(std::move(service).value(), std::move(log).value(), *caller);
     }
 
     /// The same of what `Service::create` makes a service of.
     template <class Described, class = decltype(capacities(std::declval<const Described&>()))>
-    static Result<Recorder> create(const Described& described, std::uint64_t number) {
+    static Result<Recorder> create(const Described& described, std::uint64_t number) noexcept {
         return create(detail::pattern_of(described), number, capacities(described));
     }
 
-    /// The service, for queries that are not written down, and the log so far.
+    /// The service, for queries that are not written down.
     IOX2SD_LENDS(const Service&, service, service_);
-    IOX2SD_LENDS(const std::string&, log, log_);
 
-    // Each of the next five calls changes the service. So each takes the memory for its line first,
-    // and the line cannot be missing.
+    /// The log so far. Error: `NoMemory`.
+    Result<List<char>> log() noexcept { return log_.text(); }
 
-    Result<ContainerHandle> register_node_id(const UniqueNodeId& node) {
-        Line line(*this, "register " + dotted(node.parts()));
-        return line.write_made(service_.register_node_id(node));
+    Result<ContainerHandle> register_node_id(const UniqueNodeId& node) noexcept {
+        return recorded(LogCommand::register_node(node), made_reply,
+                        [&] { return service_.register_node_id(node); });
     }
 
-    Result<DeregisterNodeState> deregister_node_id(const ContainerHandle& handle) {
-        Line line(*this, "deregister", handle);
-        const auto state = service_.deregister_node_id(handle);
-        line.write(state ? words(*state) : words(state.error()));
-        return state;
+    Result<DeregisterNodeState> deregister_node_id(const ContainerHandle& handle) noexcept {
+        const auto call = [&] { return service_.deregister_node_id(handle); };
+        if (!is_own(handle) || handle.role != Role::Node) return call();
+        const LogCommand command = LogCommand::deregister_node(handle.slot, handle.ticket);
+        return recorded(command, [](DeregisterNodeState state) { return state_reply(state); },
+                        call);
     }
 
-    Result<ContainerHandle> attach(const PortDetails& details) {
-        std::string command = "add ";
-        command += text(role(details));
-        command += ' ' + dotted(port_id(details).parts()) + ' ' + dotted(node_id(details).parts());
-        Line line(*this, command);
-        return line.write_made(service_.attach(details));
+    Result<ContainerHandle> attach(const PortDetails& details) noexcept {
+        return recorded(LogCommand::attach(port_id(details), node_id(details)), made_reply,
+                        [&] { return service_.attach(details); });
     }
 
-    Result<void> release_port(const ContainerHandle& handle) {
-        Line line(*this, "release", handle);
-        const auto released = service_.release_port(handle);
-        line.write(released ? "released" : words(released.error()));
-        return released;
+    Result<void> release_port(const ContainerHandle& handle) noexcept {
+        const auto call = [&] { return service_.release_port(handle); };
+        if (!is_own(handle) || !is_port(handle.role)) return call();
+        const LogCommand command =
+            LogCommand::release_port(handle.role, handle.slot, handle.ticket);
+        return recorded(command, [] { return LogReply::released(); }, call);
     }
 
     /// A line has no kinds of ports: the port of the other kind with the number of one that is kept
     /// is kept too.
     template <class Range>
     Result<DeadNodeRemoval> remove_dead_node_id(const UniqueNodeId& dead, Range&& kept) {
-        const PortRoles roles = service_.port_roles().value();
-        std::vector<UniquePortId> ports;
-        std::string command = "dead " + dotted(dead.parts());
-        for (const UniquePortId& port : kept) {
-            command += (ports.empty() ? " skip " : " ") + dotted(port.parts());
-            for (const Role role : {roles.first, roles.second}) {
-                ports.emplace_back(role, port.parts(), detail::FromLibrary());
-            }
-        }
-        Line line(*this, command);
-        const auto removal = service_.remove_dead_node_id(dead, ports);
-        if (removal) line.write(words(removal->state));
-        return removal;
+        const auto parts = [](const UniquePortId& port) { return port.parts(); };
+        const Result<List<iox2sd_id>> ids = List<iox2sd_id>::of_range(kept, parts);
+        if (!ids) return ids.error();
+        const Result<List<UniquePortId>> ports = of_both_kinds(*ids);
+        if (!ports) return ports.error();
+        const LogCommand command = LogCommand::remove_dead_node(dead, ids->data(), ids->size());
+        const auto reply = [](const DeadNodeRemoval& removal) {
+            return state_reply(removal.state);
+        };
+        return recorded(command, reply,
+                        [&] { return service_.remove_dead_node_id(dead, *ports); });
     }
     Result<DeadNodeRemoval> remove_dead_node_id(
         const UniqueNodeId& dead, std::initializer_list<UniquePortId> kept = {}) {
         return remove_dead_node_id<const std::initializer_list<UniquePortId>&>(dead, kept);
     }
 
-    Result<List<UniqueNodeId>> nodes() {
-        auto nodes = service_.nodes();
-        if (!nodes) return nodes;
-        const auto reply = listed(*nodes, [](const UniqueNodeId& node) { return node; });
-        Line(*this, "nodes", reply.size()).write(reply);
-        return nodes;
+    Result<List<UniqueNodeId>> nodes() noexcept {
+        return listed(LogCommand::nodes(), service_.nodes(),
+                      [](const UniqueNodeId& node) { return node.parts(); });
     }
 
     /// `Role::Node` has no line.
-    Result<List<PortDetails>> ports(Role role) {
-        auto ports = service_.ports(role);
-        const auto id = [](const PortDetails& port) { return port_id(port); };
-        write_query("list ", role,
-                    ports ? listed(*ports, id) : std::string(words(ports.error())));
-        return ports;
+    Result<List<PortDetails>> ports(Role role) noexcept {
+        if (!is_port(role)) return service_.ports(role);
+        return listed(LogCommand::ports(role), service_.ports(role),
+                      [](const PortDetails& port) { return port_id(port).parts(); });
     }
 
     /// `Role::Node` has no line.
-    Result<std::size_t> count_ports(Role role) {
-        const auto count = service_.count_ports(role);
-        write_query("count ", role,
-                    count ? "count " + std::to_string(*count) : std::string(words(count.error())));
-        return count;
+    Result<std::size_t> count_ports(Role role) noexcept {
+        const auto call = [&] { return service_.count_ports(role); };
+        if (!is_port(role)) return call();
+        return recorded(LogCommand::count_ports(role),
+                        [](std::size_t count) { return LogReply::count(count); }, call);
     }
 
 private:
-    Recorder(Service&& service, const std::string& line)
-        : service_(std::move(service)), log_(line) {}
+    Recorder(Service&& service, LogWriter&& log, const LogCaller& caller) noexcept
+        : service_(std::move(service)), log_(std::move(log)), caller_(caller) {}
 
-    /// The line of a call before it is made, with memory for its reply. Writing it takes no more.
-    class Line {
-    public:
-        Line(Recorder& recorder, const std::string& command, std::size_t longest_reply = 64)
-            : recorder_(recorder) {
-            made_.emplace(ContainerHandle(), recorder.calls_);
-            take(command + "\n= ", longest_reply);
-        }
-
-        /// Of a call that takes a handle: the line names the call that returned it. Where none did,
-        /// the line is a comment.
-        Line(Recorder& recorder, const std::string& command, const ContainerHandle& handle)
-            : recorder_(recorder) {
-            const auto found = recorder.returned_by_.find(handle);
-            is_comment_ = found == recorder.returned_by_.end();
-            take(is_comment_ ? "# " + command + ": no call returned the handle\n"
-                             : command + ' ' + std::to_string(found->second) + "\n= ",
-                 64);
-        }
-
-        /// Writes the line with its reply; nothing where no reply says what was returned.
-        void write(std::string_view reply) {
-            if (is_comment_) {
-                recorder_.log_ += line_;
-            } else if (!reply.empty()) {
-                recorder_.log_.append(line_).append(reply) += '\n';
-                ++recorder_.calls_;
-            }
-        }
-
-        /// The same of a call that returns a handle, which later lines may name.
-        Result<ContainerHandle> write_made(const Result<ContainerHandle>& made) {
-            if (made) {
-                auto returned = made_.extract(made_.begin());
-                returned.key() = *made;
-                recorder_.returned_by_.insert(std::move(returned));
-                const detail::Digits slot(made->slot), ticket(made->ticket);
-                const auto reply = Text<64>::joined({"handle ", slot.view(), " ", ticket.view()});
-                write(reply);
-            } else {
-                write(words(made.error()));
-            }
-            return made;
-        }
-
-    private:
-        void take(std::string line, std::size_t longest_reply) {
-            const std::size_t size = recorder_.log_.size();
-            recorder_.log_.append(line.size() + longest_reply + 1, ' ').resize(size);
-            line_ = std::move(line);
-        }
-
-        Recorder& recorder_;
-        std::string line_;
-        bool is_comment_ = false;
-        /// What `returned_by_` will have of the call.
-        std::map<ContainerHandle, std::size_t> made_;
-    };
-
-    static std::string_view words(DeregisterNodeState state) noexcept {
-        return state == DeregisterNodeState::HasOwners ? "has-owners" : "no-owners";
+    bool is_own(const ContainerHandle& handle) const noexcept {
+        return handle.service == service_.service_number().value();
     }
 
-    /// The reply of a call that is refused; nothing where no reply says so.
-    static std::string_view words(Status status) noexcept {
-        if (status == Status::IsLocked) return "locked";
-        if (status == Status::NodeNotRegistered) return "not-registered";
-        if (status == Status::OutOfSpace) return "full";
-        if (status == Status::RoleNotInPattern) return "wrong-pattern";
-        if (status == Status::ForeignHandle) return "not-owned";
-        if (status == Status::PortsStillAttached) return "ports-attached";
+    static bool is_port(Role role) noexcept { return role > Role::Node && role <= Role::Writer; }
+
+    static LogReply made_reply(const ContainerHandle& made) noexcept {
+        return LogReply::handle(made.slot, made.ticket);
+    }
+
+    static LogReply state_reply(DeregisterNodeState state) noexcept {
+        return state == DeregisterNodeState::HasOwners ? LogReply::has_owners()
+                                                       : LogReply::no_owners();
+    }
+
+    /// The reply of a call that is refused, where one says so.
+    static std::optional<LogReply> refusal(Status status) noexcept {
+        if (status == Status::IsLocked) return LogReply::locked();
+        if (status == Status::NodeNotRegistered) return LogReply::not_registered();
+        if (status == Status::OutOfSpace) return LogReply::full();
+        if (status == Status::RoleNotInPattern) return LogReply::wrong_pattern();
+        if (status == Status::ForeignHandle) return LogReply::not_owned();
+        if (status == Status::PortsStillAttached) return LogReply::ports_attached();
         return {};
     }
 
-    /// An id as commands have it.
-    static std::string dotted(const iox2sd_id& id) {
-        return std::to_string(id.process) + '.' + std::to_string(id.seconds) + '.' +
-               std::to_string(id.nanoseconds) + '.' + std::to_string(id.counter);
+    /// Makes a call, and writes it down with its reply. Memory for its line is taken first, so the
+    /// line cannot be missing.
+    template <class Reply, class Make>
+    std::invoke_result_t<Make> recorded(const LogCommand& command, Reply reply, Make make) {
+        const Result<void> room = caller_.reserve(1, command.as_c().kept_count);
+        if (!room) return room.error();
+        auto made = make();
+        if (made) {
+            if constexpr (std::is_void_v<typename decltype(made)::value_type>) {
+                write(command, reply());
+            } else {
+                write(command, reply(*made));
+            }
+        } else if (const auto refused = refusal(made.error())) {
+            write(command, *refused);
+        }
+        return made;
     }
 
-    /// Ids as replies have them.
-    template <class T, class Id>
-    static std::string listed(const List<T>& items, Id id) {
-        std::string found = "list";
-        for (const T& item : items) {
-            const auto text = id(item).text();
-            found += ' ';
-            found += std::string_view(text);
+    /// The same of a query that returned a list or was refused.
+    template <class T, class Parts>
+    Result<List<T>> listed(const LogCommand& command, Result<List<T>> found, Parts parts) noexcept {
+        List<iox2sd_id> ids;
+        if (found) {
+            Result<List<iox2sd_id>> copied = List<iox2sd_id>::of_range(*found, parts);
+            if (!copied) return copied.error();
+            ids = std::move(copied).value();
+        }
+        const Result<void> room = caller_.reserve(1, ids.size());
+        if (!room) return room.error();
+        if (found) {
+            write(command, LogReply::list(ids.data(), ids.size()));
+        } else if (const auto refused = refusal(found.error())) {
+            write(command, *refused);
         }
         return found;
     }
 
-    void write_query(std::string command, Role role, const std::string& reply) {
-        if (role == Role::Node) return;
-        command += text(role);
-        Line(*this, command, reply.size()).write(reply);
+    /// Writes a call for whose line there is memory.
+    void write(const LogCommand& command, const LogReply& reply) noexcept {
+        caller_.begin(command).value().end(reply).value();
+    }
+
+    /// The ids of the ports of both kinds that have these numbers.
+    Result<List<UniquePortId>> of_both_kinds(const List<iox2sd_id>& numbers) const noexcept {
+        const PortRoles roles = service_.port_roles().value();
+        return List<UniquePortId>::written_by(
+            [&](UniquePortId* out, std::size_t capacity) {
+                for (const iox2sd_id& number : numbers) {
+                    ::new (out++) UniquePortId(roles.first, number, detail::FromLibrary());
+                    ::new (out++) UniquePortId(roles.second, number, detail::FromLibrary());
+                }
+                return detail::counted(IOX2SD_STATUS_DONE, capacity);
+            },
+            2 * numbers.size());
     }
 
     Service service_;
-    std::string log_;
-    std::size_t calls_ = 0;
-    /// The number of the call that returned each handle.
-    std::map<ContainerHandle, std::size_t> returned_by_;
+    LogWriter log_;
+    LogCaller caller_;
 };
 
 }  // namespace iox2sd

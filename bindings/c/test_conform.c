@@ -1,5 +1,5 @@
-/* Judges logs by iox2sd_conform.h: that of docs/CONFORM.md, groups of calls, each refusal, buffers
- * of each length, and want of memory at each request. Compiled as C99 with
+/* Judges logs by iox2sd_conform.h: calls alone and calls that overlapped, each verdict, buffers of
+ * each length, and want of memory at each request. Compiled as C99 with
  * -Wl,--wrap=malloc,--wrap=realloc and linked with libiox2sd.a. The last line is 'N checks, N
  * failed'. */
 #include "check.h"
@@ -37,21 +37,26 @@ static const char two_services[] = "service event 7 1 0 0\n"
 
 /* A service with room for one node, for which two calls ask at a time. */
 static const char one_place[] = "service event 7 1 0 0\n"
-                                "overlap\n"
-                                "A: register 1.0.0.1\n"
-                                "= handle 0 0\n"
-                                "B: register 2.0.0.2\n"
-                                "= full\n"
-                                "end\n";
+                                "A> register 1.0.0.1\n"
+                                "B> register 2.0.0.2\n"
+                                "A< handle 0 0\n"
+                                "B< full\n";
 
-/* Each of the two came second. */
-static const char no_order[] = "service event 7 1 0 0\n"
-                               "overlap\n"
-                               "A: register 1.0.0.1\n"
-                               "= full\n"
-                               "B: register 2.0.0.2\n"
-                               "= full\n"
-                               "end\n";
+/* The second of the two saw that there is room, after the first one had it. */
+static const char two_in_one_place[] = "service event 7 1 0 0\n"
+                                       "A> register 1.0.0.1\n"
+                                       "B> register 2.0.0.2\n"
+                                       "A< handle 0 0\n"
+                                       "B< handle 0 1\n";
+
+/* A node is registered while it is not known whether another one was: the caller died. */
+static const char died[] = "service event 7 2 0 0\n"
+                           "A> register 1.0.0.1\n"
+                           "A!\n"
+                           "B> register 2.0.0.2\n"
+                           "B< handle 0 1\n"
+                           "nodes\n"
+                           "= list 2000000000000000000000002 1000000000000000000000001\n";
 
 /* The first node is registered again and gets a port, while it is removed as a dead one: first,
  * last, or after the port was attached and before it is registered. */
@@ -61,57 +66,54 @@ static const char no_order[] = "service event 7 1 0 0\n"
     "= handle 0 0\n" \
     "register 1.0.0.2\n" \
     "= handle 1 1\n" \
-    "overlap\n" \
-    "A: dead 1.0.0.1\n" \
-    "= has-owners\n" \
-    "B: register 1.0.0.1\n" \
-    "= handle 2 2\n" \
-    "C: add listener 1.0.0.9 1.0.0.1\n" \
-    "= handle 0 0\n" \
-    "end\n"
+    "A> dead 1.0.0.1\n" \
+    "B> register 1.0.0.1\n" \
+    "C> add listener 1.0.0.9 1.0.0.1\n" \
+    "A< has-owners\n" \
+    "B< handle 2 2\n" \
+    "C< handle 0 0\n"
 
 static const char three_states[] = THREE_STATES "count listener\n= count 7\n";
 
-static const char no_order_of_three[] =
-    THREE_STATES "overlap\nA: register 1.0.0.3\n= locked\nend\n";
-
-/* The port is there, so that one state is left, and its handle is that of the fifth command. */
+/* The port is there, so that one state is left. */
 static const char one_of_three[] =
-    THREE_STATES "count listener\n= count 1\nrelease 4\n= released\n";
+    THREE_STATES "count listener\n= count 1\nrelease listener 0 0\n= released\n";
 
 static const char conforming_report[] = "conforms, 3 calls on 1 service\n";
 
-static const char refused_report[] = "line 9: no run gives this reply\n"
+static const char refused_report[] = "line 9: no order of the calls explains this reply\n"
                                      "seen: handle 0 0\n"
+                                     "window: from line 9\n"
+                                     "made: none\n"
                                      "possible: handle SLOT 1, SLOT below 2 and none of:\n"
                                      "nodes: 1000000000000000000000001\n"
                                      "ports:\n";
 
-static const char no_order_report[] = "line 7: no order of the group gives these replies\n"
-                                      "nodes:\n"
-                                      "ports:\n";
+static const char two_in_one_place_report[] =
+    "line 5: no order of the calls explains this reply\n"
+    "seen: handle 0 1\n"
+    "window: from line 2\n"
+    "made: none\n"
+    "possible: full\n"
+    "nodes: 1000000000000000000000001\n"
+    "ports:\n";
 
 static const char three_states_report[] =
-    "line 15: no run gives this reply\n"
+    "line 13: no order of the calls explains this reply\n"
     "seen: count 7\n"
+    "window: from line 13\n"
+    "made: none\n"
+    "possible: count 0\n"
+    "nodes: 1000000000000000000000002\n"
+    "ports:\n"
+    "made: none\n"
+    "possible: count 0\n"
+    "nodes: 1000000000000000000000002 1000000000000000000000001\n"
+    "ports:\n"
+    "made: none\n"
     "possible: count 1\n"
     "nodes: 1000000000000000000000002 1000000000000000000000001\n"
-    "ports: 1000000000000000000000009\n"
-    "possible: count 0\n"
-    "nodes: 1000000000000000000000002\n"
-    "ports:\n"
-    "possible: count 0\n"
-    "nodes: 1000000000000000000000002 1000000000000000000000001\n"
-    "ports:\n";
-
-static const char no_order_of_three_report[] =
-    "line 17: no order of the group gives these replies\n"
-    "nodes: 1000000000000000000000002 1000000000000000000000001\n"
-    "ports: 1000000000000000000000009\n"
-    "nodes: 1000000000000000000000002\n"
-    "ports:\n"
-    "nodes: 1000000000000000000000002 1000000000000000000000001\n"
-    "ports:\n";
+    "ports: 1000000000000000000000009\n";
 
 enum { MOST = 512 };
 
@@ -151,66 +153,52 @@ static void buffers(const char *log, const char *report, uint32_t status, size_t
 
 /* The first line that is not what is expected. */
 static void bad_lines(void) {
-    static const char service[] = "line 1: the line of a service is expected\n";
-    static const char command[] = "line 2: the line of a command is expected\n";
-    static const char reply[] = "line 3: the line of a reply is expected\n";
-    buffers("", service, IOX2SD_STATUS_NO_SERVICE_LINE, 1, 0);
-    buffers("service event 7 2 2 0", service, IOX2SD_STATUS_NO_SERVICE_LINE, 1, 0);
-    buffers("\xff\n", service, IOX2SD_STATUS_NO_SERVICE_LINE, 1, 0);
-    buffers("service event 7 2 2 0\nleave\n", command, IOX2SD_STATUS_NO_COMMAND_LINE, 2, 0);
-    buffers("service event 7 2 2 0\nnodes\nlist\n", reply, IOX2SD_STATUS_NO_REPLY_LINE, 3, 0);
-    buffers("service event 7 2 2 0\nnodes\n", reply, IOX2SD_STATUS_NO_REPLY_LINE, 3, 0);
+#define SERVICE "service event 7 2 2 0\n"
+    static const struct {
+        const char *log;
+        const char *expected;
+        uint32_t status;
+        size_t line;
+    } rows[] = {
+        {"", "the line of a service", IOX2SD_STATUS_NO_SERVICE_LINE, 1},
+        {"\xff\n", "the line of a service", IOX2SD_STATUS_NO_SERVICE_LINE, 1},
+        {SERVICE "leave\n", "the line of a service, a call or an event",
+         IOX2SD_STATUS_NO_CALL_LINE, 2},
+        {SERVICE "overlap\n", "the line of a service, a call or an event",
+         IOX2SD_STATUS_NO_CALL_LINE, 2},
+        {SERVICE "nodes\nlist\n", "a reply", IOX2SD_STATUS_NO_REPLY_LINE, 3},
+        {SERVICE "nodes\n= list A\n", "a reply", IOX2SD_STATUS_NO_REPLY_LINE, 3},
+        {SERVICE "nodes\n", "a reply", IOX2SD_STATUS_NO_REPLY_LINE, 3},
+        {SERVICE "A> nodes\nA> nodes\n", "a caller without an open call",
+         IOX2SD_STATUS_CALLER_IS_BUSY, 3},
+        {SERVICE "A< list\n", "a caller with an open call", IOX2SD_STATUS_NO_OPEN_CALL, 2},
+        {SERVICE "A> nodes\nA!\nA< list\n", "a caller that has not died",
+         IOX2SD_STATUS_CALLER_IS_DEAD, 4},
+        {SERVICE "A!\n", "a caller that has begun a call", IOX2SD_STATUS_UNKNOWN_CALLER, 2},
+    };
+#undef SERVICE
+    for (size_t at = 0; at < sizeof rows / sizeof *rows; at++) {
+        char report[128];
+        snprintf(report, sizeof report, "line %zu: %s is expected\n", rows[at].line,
+                 rows[at].expected);
+        buffers(rows[at].log, report, rows[at].status, rows[at].line, 0);
+    }
+    buffers("service event 7 2 2 0", "line 1: a newline is expected at the end of the line\n",
+            IOX2SD_STATUS_NO_NEWLINE, 1, 0);
+    buffers("service event 7 2 2 0\r\n",
+            "line 1: no carriage return is expected before the newline\n",
+            IOX2SD_STATUS_CARRIAGE_RETURN, 1, 0);
 }
 
-/* Groups that are empty, are cut, have lines of other kinds, or have a ninth call. */
-static void lines_of_groups(void) {
-#define GROUP "service event 7 2 2 0\noverlap\n"
-#define CALL "A: nodes\n= list\n"
-    static const char no_reply[] = "line 4: the line of a reply is expected\n";
-    static const char third[] =
-        "line 3: the line of a call of the group, or its end, is expected\n";
-    static const char fifth[] =
-        "line 5: the line of a call of the group, or its end, is expected\n";
-    static const char ninth[] = "line 19: the end of the group is expected, which has 8 calls\n";
-    static const char command[] = "line 2: the line of a command is expected\n";
-    buffers(GROUP "end\n", "conforms, 0 calls on 1 service\n", IOX2SD_STATUS_DONE, 0, 0);
-    buffers(GROUP "# a note\n" CALL "\nend\n", "conforms, 1 calls on 1 service\n",
-            IOX2SD_STATUS_DONE, 0, 1);
-    buffers(GROUP, third, IOX2SD_STATUS_NO_GROUP_LINE, 3, 0);
-    buffers(GROUP "nodes\n= list\nend\n", third, IOX2SD_STATUS_NO_GROUP_LINE, 3, 0);
-    buffers(GROUP "a: nodes\n= list\nend\n", third, IOX2SD_STATUS_NO_GROUP_LINE, 3, 0);
-    buffers(GROUP "7: A: nodes\n= list\nend\n", third, IOX2SD_STATUS_NO_GROUP_LINE, 3, 0);
-    buffers(GROUP "A: nodes\nend\n", no_reply, IOX2SD_STATUS_NO_REPLY_LINE, 4, 0);
-    buffers(GROUP CALL, fifth, IOX2SD_STATUS_NO_GROUP_LINE, 5, 0);
-    buffers(GROUP CALL "end", fifth, IOX2SD_STATUS_NO_GROUP_LINE, 5, 0);
-    buffers(GROUP CALL CALL CALL CALL CALL CALL CALL CALL "end\n",
-            "conforms, 8 calls on 1 service\n", IOX2SD_STATUS_DONE, 0, 8);
-    buffers(GROUP CALL CALL CALL CALL CALL CALL CALL CALL CALL "end\n", ninth,
-            IOX2SD_STATUS_NO_GROUP_END, 19, 0);
-    buffers("service event 7 2 2 0\nend\n", command, IOX2SD_STATUS_NO_COMMAND_LINE, 2, 0);
-    buffers("service event 7 2 2 0\noverlap", command, IOX2SD_STATUS_NO_COMMAND_LINE, 2, 0);
-#undef GROUP
-#undef CALL
-}
-
-/* Groups that each double the states: a node is registered again before or after it is removed as a
- * dead one. Of one service with seven such nodes the seventh group leads to 128 states. */
-static void too_many_states(void) {
-    char log[4096] = "service event 7 20 0 0\n";
+/* So many callers that each have a call open, and one that sees no node. */
+static void open_calls(size_t callers, uint32_t status, const char *report, size_t calls) {
+    char log[4096] = "service event 7 2 0 0\n";
     size_t at = strlen(log);
-    for (int node = 0; node < 8; node++) {
-        at += (size_t)snprintf(log + at, sizeof log - at, "register 1.0.0.%d\n= handle %d %d\n",
-                               node, node, node);
+    for (size_t caller = 0; caller < callers; caller++) {
+        at += (size_t)snprintf(log + at, sizeof log - at, "c%zu> nodes\n", caller);
     }
-    for (int node = 0; node < 7; node++) {
-        if (node == 6) CHECK(answers(run(log, MOST), IOX2SD_STATUS_DONE, 0, 20, 32));
-        at += (size_t)snprintf(log + at, sizeof log - at,
-                               "overlap\nA: dead 1.0.0.%d\n= has-owners\n"
-                               "B: register 1.0.0.%d\n= handle %d %d\nend\n",
-                               node, node, node + 8, node + 8);
-    }
-    buffers(log, "line 59: orders of the group lead to more than 64 states\n",
-            IOX2SD_STATUS_TOO_MANY_STATES, 59, 0);
+    const size_t line = status == IOX2SD_STATUS_DONE ? 0 : callers + 1;
+    CHECK(answers(run(log, MOST), status, line, calls, strlen(report)) && wrote(report));
 }
 
 /* The library's requests for memory, of which the one that this counts down to is refused. */
@@ -245,15 +233,16 @@ static void no_memory(const char *log, size_t capacity, uint32_t status) {
 int main(void) {
     buffers(conforming, conforming_report, IOX2SD_STATUS_DONE, 0, 3);
     buffers(two_services, "conforms, 2 calls on 2 services\n", IOX2SD_STATUS_DONE, 0, 2);
-    buffers(refused, refused_report, IOX2SD_STATUS_NO_RUN, 9, 0);
+    buffers(refused, refused_report, IOX2SD_STATUS_NO_ORDER, 9, 0);
     buffers(one_place, "conforms, 2 calls on 1 service\n", IOX2SD_STATUS_DONE, 0, 2);
     buffers(one_of_three, "conforms, 7 calls on 1 service\n", IOX2SD_STATUS_DONE, 0, 7);
-    buffers(three_states, three_states_report, IOX2SD_STATUS_NO_RUN, 15, 0);
-    buffers(no_order, no_order_report, IOX2SD_STATUS_NO_ORDER, 7, 0);
-    buffers(no_order_of_three, no_order_of_three_report, IOX2SD_STATUS_NO_ORDER, 17, 0);
+    buffers(died, "conforms, 3 calls on 1 service\n", IOX2SD_STATUS_DONE, 0, 3);
+    buffers(three_states, three_states_report, IOX2SD_STATUS_NO_ORDER, 13, 0);
+    buffers(two_in_one_place, two_in_one_place_report, IOX2SD_STATUS_NO_ORDER, 5, 0);
     bad_lines();
-    lines_of_groups();
-    too_many_states();
+    open_calls(64, IOX2SD_STATUS_DONE, "conforms, 64 calls on 1 service\n", 64);
+    open_calls(65, IOX2SD_STATUS_TOO_MANY_OPEN_CALLS,
+               "line 66: more than 64 calls are open\n", 0);
     CHECK(answers(iox2sd_conform_run(NULL, 1, out, MOST), IOX2SD_STATUS_NULL, 0, 0, 0));
     CHECK(
         answers(iox2sd_conform_run((const uint8_t *)"", 0, NULL, 1), IOX2SD_STATUS_NULL, 0, 0, 0));
@@ -261,10 +250,9 @@ int main(void) {
     CHECK(answers(iox2sd_conform_run(NULL, 0, NULL, 0), IOX2SD_STATUS_BUFFER_TOO_SHORT, 1, 0, 42));
     CHECK(answers(iox2sd_conform_run_str(conforming, out, MOST), IOX2SD_STATUS_DONE, 0, 3, 31));
     no_memory(conforming, MOST, IOX2SD_STATUS_DONE);
-    no_memory(refused, MOST, IOX2SD_STATUS_NO_RUN);
+    no_memory(refused, MOST, IOX2SD_STATUS_NO_ORDER);
     no_memory(refused, 0, IOX2SD_STATUS_BUFFER_TOO_SHORT);
     no_memory(one_place, MOST, IOX2SD_STATUS_DONE);
-    no_memory(three_states, MOST, IOX2SD_STATUS_NO_RUN);
-    no_memory(no_order_of_three, MOST, IOX2SD_STATUS_NO_ORDER);
+    no_memory(three_states, MOST, IOX2SD_STATUS_NO_ORDER);
     return end_of_checks();
 }

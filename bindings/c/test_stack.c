@@ -91,12 +91,12 @@ static const char *const log_of_calls =
     "8: nodes\n= list\n7: dead 1.0.0.1\n= no-owners\n";
 static const char *const wrong_log =
     "service event 7 2 2 2\nregister 1.0.0.1\n= handle 0 0\nnodes\n= list\n";
-static const char *const log_of_groups =
+static const char *const log_of_open_calls =
     "service event 7 3 2 0\nregister 1.0.0.1\n= handle 0 0\nregister 1.0.0.2\n= handle 1 1\n"
-    "overlap\nA: dead 1.0.0.1\n= has-owners\nB: register 1.0.0.1\n= handle 2 2\n"
-    "C: add listener 1.0.0.9 1.0.0.1\n= handle 0 0\nD: nodes\n= list 1000000000000000000000002\n"
-    "E: count listener\n= count 0\nend\n";
-static const char *const wrong_group = "service event 7 2 2 2\noverlap\nA: nodes\n= full\nend\n";
+    "A> dead 1.0.0.1\nB> register 1.0.0.1\nC> add listener 1.0.0.9 1.0.0.1\nD> nodes\n"
+    "E> count listener\nA< has-owners\nB< handle 2 2\nC!\nD< list 1000000000000000000000002\n"
+    "E< count 0\n";
+static const char *const wrong_end = "service event 7 2 2 2\nA> nodes\nB> nodes\nA< full\n";
 /* Arrays in one another as deep as they may be, deeper ones, and tables. */
 static char nested[3][1024];
 
@@ -224,8 +224,8 @@ static char nested[3][1024];
 #define CONFORM_CALLS(CALL) \
     CALL(conform_run, iox2sd_conform_run_at(TEXT(log_of_calls), ALL(out))) \
     CALL(conform_run_refused, iox2sd_conform_run_at(TEXT(wrong_log), ALL(out))) \
-    CALL(conform_run_groups, iox2sd_conform_run_at(TEXT(log_of_groups), ALL(out))) \
-    CALL(conform_run_no_order, iox2sd_conform_run_at(TEXT(wrong_group), ALL(out)))
+    CALL(conform_run_open_calls, iox2sd_conform_run_at(TEXT(log_of_open_calls), ALL(out))) \
+    CALL(conform_run_no_order, iox2sd_conform_run_at(TEXT(wrong_end), ALL(out)))
 
 #define CONFIG_CALLS(CALL) \
     CALL(config_read, iox2sd_config_read_at(NULL, 0, &config, 1)) \

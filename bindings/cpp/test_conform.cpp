@@ -1,6 +1,5 @@
-// Judges logs by iox2sd_conform.hpp: one of each verdict, with a short and a long report, groups of
-// calls, and logs of random calls that a Recorder writes down. The last line is 'N checks, N
-// failed'.
+// Judges logs by iox2sd_conform.hpp: verdicts with a short and a long report, logs of random calls
+// that a Recorder writes down, and those of a LogWriter. The last line is 'N checks, N failed'.
 #include <set>
 #include <string>
 #include <vector>
@@ -21,13 +20,14 @@ bool is(const LogVerdict& found, Status status, std::size_t line, std::size_t ca
 }
 
 bool has_no_parts(const LogVerdict& found) {
-    return found.seen().empty() && found.states().empty() && found.states().size() == 0;
+    return found.words().empty() && found.window() == 0 && found.configurations().empty() &&
+           found.configurations().size() == 0;
 }
 
-/// The state that is alone.
-PossibleState only(const LogVerdict& found) {
-    CHECK(found.states().size() == 1);
-    return found.states().front();
+/// The configuration that is alone.
+Configuration only(const LogVerdict& found) {
+    CHECK(found.configurations().size() == 1);
+    return found.configurations().front();
 }
 
 void conforming() {
@@ -38,17 +38,30 @@ void conforming() {
 }
 
 void bad_lines() {
+    const auto expects = [](std::string_view lines, Status status, std::size_t line) {
+        const LogVerdict found = check_log(service + std::string(lines));
+        CHECK(found.status == status && found.line == line && found.calls == 0);
+        const std::string front = "line " + std::to_string(line) + ": ";
+        CHECK(found.report() == front + std::string(text(status)) + '\n' && has_no_parts(found));
+    };
     const LogVerdict empty = check_log({});
     const std::string_view expected = "line 1: the line of a service is expected\n";
     CHECK(is(empty, Status::NoServiceLine, 1, 0, expected) && has_no_parts(empty));
-    const LogVerdict command = check_log(service + "\nleave\n");
-    CHECK(is(command, Status::NoCommandLine, 3, 0,
-             "line 3: the line of a command is expected\n"));
-    const LogVerdict reply = check_log(service + "nodes\n");
-    CHECK(is(reply, Status::NoReplyLine, 3, 0, "line 3: the line of a reply is expected\n"));
+    expects("\nleave\n", Status::NoCallLine, 3);
+    expects("overlap\n", Status::NoCallLine, 2);
+    expects("nodes\n", Status::NoReplyLine, 3);
+    expects("A> nodes\nA> nodes\n", Status::CallerIsBusy, 3);
+    expects("A< list\n", Status::NoOpenCall, 2);
+    expects("A> nodes\nA!\nA> nodes\n", Status::CallerIsDead, 4);
+    expects("A!\n", Status::UnknownCaller, 2);
+    expects("nodes\n= list", Status::NoNewline, 3);
+    expects("nodes\r\n", Status::CarriageReturn, 2);
+    std::string open;
+    for (int caller = 0; caller < 65; ++caller) open += "c" + std::to_string(caller) + "> nodes\n";
+    expects(open, Status::TooManyOpenCalls, 66);
 }
 
-/// A reply that no run gives, after so many registrations and one attached port.
+/// A reply that no order explains, after so many registrations and one attached port.
 void refused(int nodes) {
     std::string log = service, ids;
     for (int k = 0; k < nodes; ++k) {
@@ -57,153 +70,111 @@ void refused(int nodes) {
     }
     log += "add listener 1.0.0.11 1.0.0.1\n= handle 1 0\n";
     const std::size_t line = 2 * static_cast<std::size_t>(nodes) + 5;
-    const LogVerdict found = check_log(log + "release 0\n=  seen: x\r\n");
-    CHECK(found.status == Status::NoRun && found.line == line && found.calls == 0);
-    CHECK(found.seen() == " seen: x\r");
-    CHECK((only(found) == PossibleState{"not-owned", {ids, "100000000000000000000000b"}}));
-    const std::string report = "line " + std::to_string(line) + ": no run gives this reply\nseen: " +
-                               std::string(found.seen()) + "\npossible: not-owned\nnodes: " + ids +
-                               "\nports: 100000000000000000000000b\n";
+    const LogVerdict found = check_log(log + "release 0\n= released\n");
+    CHECK(found.status == Status::NoOrder && found.line == line && found.calls == 0);
+    CHECK(found.words() == "released" && found.window() == line);
+    CHECK((only(found) == Configuration{"", "not-owned", ids, "100000000000000000000000b"}));
+    const std::string number = std::to_string(line);
+    const std::string report =
+        "line " + number + ": no order of the calls explains this reply\nseen: released\n" +
+        "window: from line " + number + "\nmade: none\npossible: not-owned\nnodes: " + ids +
+        "\nports: 100000000000000000000000b\n";
     CHECK(found.report() == report);
 }
 
 /// The ids of nobody.
 void nobody() {
-    const LogVerdict found = check_log(service + "nodes\n= \n");
-    CHECK(found.status == Status::NoRun && found.seen().empty());
-    CHECK((only(found) == PossibleState{"list", {"", ""}}));
+    const LogVerdict found = check_log(service + "nodes\n= locked\n");
+    CHECK(found.status == Status::NoOrder && found.words() == "locked");
+    CHECK((only(found) == Configuration{"", "list", "", ""}));
 }
 
-/// Texts that look like lines of a report stand in a line of their own.
-void words_like_lines() {
-    const LogVerdict found = check_log(service + "nodes\n= possible: nodes: ports:\n");
-    CHECK(found.seen() == "possible: nodes: ports:");
-    CHECK((only(found) == PossibleState{"list", {"", ""}}));
-}
-
-// ---- Groups ----
+// ---- Calls that overlapped ----
 
 constexpr std::string_view node_1 = "1000000000000000000000001";
 constexpr std::string_view node_2 = "1000000000000000000000002";
 constexpr std::string_view nodes_2_1 = "1000000000000000000000002 1000000000000000000000001";
 
+/// Two nodes at a time ask for one place: one comes first.
+void one_place() {
+    const std::string both = "service event 7 1 0 0\nA> register 1.0.0.1\nB> register 2.0.0.2\n";
+    const LogVerdict one = check_log(both + "A< handle 0 0\nB< full\n");
+    CHECK(is(one, Status::Done, 0, 2, "conforms, 2 calls on 1 service\n"));
+    const LogVerdict two = check_log(both + "A< handle 0 0\nB< handle 0 1\n");
+    CHECK(two.status == Status::NoOrder && two.line == 5 && two.words() == "handle 0 1");
+    CHECK(two.window() == 2 && (only(two) == Configuration{"", "full", node_1, ""}));
+}
+
 /// The first node is registered again and gets a port, while it is removed as a dead one: first,
 /// last, or after the port was attached and before it is registered.
 const std::string three = service +
                           "register 1.0.0.1\n= handle 0 0\nregister 1.0.0.2\n= handle 1 1\n"
-                          "overlap\nA: dead 1.0.0.1\n= has-owners\n"
-                          "B: register 1.0.0.1\n= handle 2 2\n"
-                          "C: add listener 1.0.0.9 1.0.0.1\n= handle 0 0\nend\n";
-const std::vector<Attached> three_states = {
-    {nodes_2_1, "1000000000000000000000009"}, {node_2, ""}, {nodes_2_1, ""}};
+                          "A> dead 1.0.0.1\nB> register 1.0.0.1\nC> add listener 1.0.0.9 1.0.0.1\n"
+                          "A< has-owners\nB< handle 2 2\nC< handle 0 0\n";
 
-/// Two nodes at a time ask for one place: one comes first.
-void one_place() {
-    const std::string group = "service event 7 1 0 0\noverlap\nA: register 1.0.0.1\n= ";
+void several_configurations() {
     const LogVerdict one =
-        check_log(group + "handle 0 0\nB: register 2.0.0.2\n= full\nend\nnodes\n= list\n");
-    CHECK(one.status == Status::NoRun && one.line == 9 && one.seen() == "list");
-    const std::string possible = "list " + std::string(node_1);
-    CHECK((only(one) == PossibleState{possible, {node_1, ""}}));
-    const LogVerdict both = check_log(group + "full\nB: register 2.0.0.2\n= full\nend\n");
-    CHECK(is(both, Status::NoOrder, 7, 0,
-             "line 7: no order of the group gives these replies\nnodes:\nports:\n"));
-    CHECK(both.seen().empty() && (only(both) == PossibleState{"", {"", ""}}));
-}
-
-void several_states() {
-    const LogVerdict one =
-        check_log(three + "count listener\n= count 1\nrelease 4\n= released\n");
+        check_log(three + "count listener\n= count 1\nrelease listener 0 0\n= released\n");
     CHECK(is(one, Status::Done, 0, 7, "conforms, 7 calls on 1 service\n"));
     const LogVerdict found = check_log(three + "count listener\n= count 7\n");
-    CHECK(found.status == Status::NoRun && found.line == 15 && found.seen() == "count 7");
-    const PossibleStates states = found.states();
-    const std::vector<PossibleState> all(states.begin(), states.end());
-    const std::vector<PossibleState> expected = {{"count 1", three_states[0]},
-                                                 {"count 0", three_states[1]},
-                                                 {"count 0", three_states[2]}};
-    CHECK(all == expected && states.size() == 3 && states.front() == expected[0]);
-    auto at = states.begin();
-    CHECK(*at++ == expected[0] && *at == expected[1] && at != states.end());
+    CHECK(found.status == Status::NoOrder && found.line == 13 && found.words() == "count 7");
+    const Configurations told = found.configurations();
+    const std::set<Configuration> all(told.begin(), told.end());
+    const std::set<Configuration> expected = {
+        {"", "count 1", nodes_2_1, "1000000000000000000000009"},
+        {"", "count 0", node_2, ""},
+        {"", "count 0", nodes_2_1, ""}};
+    CHECK(all == expected && told.size() == 3 && all.count(told.front()) == 1);
+    auto at = told.begin();
+    CHECK(*at++ == told.front() && *at != told.front() && at != told.end());
 }
 
-void no_order_from_several_states() {
+/// An open call that was made, since a reply shows it.
+void open_calls() {
+    const std::string shown = "nodes\n= list " + std::string(node_1) + '\n';
     const LogVerdict found =
-        check_log(three + "overlap\nA: register 1.0.0.3\n= locked\nend\n");
-    CHECK(found.status == Status::NoOrder && found.line == 17 && found.seen().empty());
-    std::vector<Attached> before;
-    for (const PossibleState& state : found.states()) {
-        CHECK(state.possible.empty());
-        before.push_back(state.attached);
-    }
-    CHECK(before == three_states);
+        check_log("service event 7 1 0 0\nA> register 1.0.0.1\n" + shown + "nodes\n= list\n");
+    CHECK(found.status == Status::NoOrder && found.line == 6 && found.window() == 2);
+    const std::string possible = "list " + std::string(node_1);
+    CHECK((only(found) == Configuration{"2", possible, node_1, ""}));
+}
+
+/// What a LogWriter writes is judged: two threads that overlapped.
+void written() {
+    LogWriter log = LogWriter::create(PatternKind::Event, 7, {1, 0, 0}).value();
+    LogCaller a = log.caller("A").value(), b = log.caller("B").value();
+    const UniqueNodeId node = UniqueNodeId::create(1, 0, 0, 1).value();
+    LogToken first = a.begin(LogCommand::register_node(node)).value();
+    LogToken second = b.begin(LogCommand::register_node(node)).value();
+    CHECK(a.begin(LogCommand::nodes()).status() == Status::CallerIsBusy);
+    CHECK(second.end(LogReply::handle(0, 0)) && first.end(LogReply::full()));
+    CHECK(first.end(LogReply::full()).status() == Status::NoOpenCall);
+    const iox2sd_id id = node.parts();
+    CHECK(a.begin(LogCommand::nodes()).value().end(LogReply::list(&id, 1)));
+    CHECK(b.begin(LogCommand::deregister_node(0, 0)));
+    CHECK(b.died() && b.begin(LogCommand::nodes()).status() == Status::CallerIsDead);
+    CHECK(a.begin(LogCommand::register_node(node)).value().end(LogReply::locked()));
+    const List<char> text = log.text().value();
+    CHECK(check_log(text).status == Status::Done && check_log(text).calls == 5);
+    CHECK(log.caller("a b").status() == Status::IllegalByte);
+    CHECK(log.caller(std::string_view("a\0", 2)).status() == Status::IllegalByte);
+    CHECK(log.caller("a2345678901234567").status() == Status::TooLong);
+    CHECK(a.reserve(SIZE_MAX).status() == Status::NoMemory);
 }
 
 template <class T, class = void>
-constexpr bool has_states = false;
+constexpr bool has_configurations = false;
 template <class T>
-constexpr bool has_states<T, std::void_t<decltype(std::declval<T>().states())>> = true;
+constexpr bool has_configurations<T, std::void_t<decltype(std::declval<T>().configurations())>> = true;
 
-/// States and who is there differ by each of their texts. Those of a temporary do not compile.
-void states_differ() {
-    static_assert(has_states<const LogVerdict&> && !has_states<LogVerdict>);
-    const PossibleState state{"list", {"1", "2"}};
-    CHECK((state == PossibleState{"list", {"1", "2"}}));
-    CHECK((state != PossibleState{"", {"1", "2"}}));
-    CHECK((state != PossibleState{"list", {"", "2"}}));
-    CHECK((state != PossibleState{"list", {"1", ""}}));
-    CHECK((Attached{"1", "2"} < Attached{"1", "3"} && Attached{"1", "3"} < Attached{"2", "2"}));
-}
-
-/// So many groups that each double the states: a node is registered again before or after it is
-/// removed as a dead one.
-std::string doubled(int groups) {
-    std::string log = service;
-    const auto registered = [&log](int node, int place) {
-        const std::string at = std::to_string(place);
-        log += "register 1.0.0." + std::to_string(node) + "\n= handle " + at + ' ' + at + '\n';
-    };
-    for (int node = 0; node < 8; ++node) registered(node, node);
-    for (int node = 0; node < groups; ++node) {
-        log += "overlap\nA: dead 1.0.0." + std::to_string(node) + "\n= has-owners\nB: ";
-        registered(node, node + 8);
-        log += "end\n";
-    }
-    return log;
-}
-
-void many_states() {
-    const LogVerdict most = check_log(doubled(6) + "nodes\n= x\n");
-    CHECK(most.status == Status::NoRun && most.line == 55 && most.states().size() == 64);
-    std::set<std::string_view> replies;
-    for (const PossibleState& state : most.states()) {
-        replies.insert(state.possible);
-        CHECK(state.possible.substr(5) == state.attached.nodes && state.attached.ports.empty());
-    }
-    CHECK(replies.size() == 64);
-    CHECK(is(check_log(doubled(7)), Status::TooManyStates, 59, 0,
-             "line 59: orders of the group lead to more than 64 states\n"));
-    CHECK(has_no_parts(check_log(doubled(7))));
-}
-
-void lines_of_groups() {
-    const std::string group = service + "overlap\n", call = "A: nodes\n= list\n";
-    const std::string_view third =
-        "line 3: the line of a call of the group, or its end, is expected\n";
-    CHECK(is(check_log(group + "end\n"), Status::Done, 0, 0, "conforms, 0 calls on 1 service\n"));
-    CHECK(is(check_log(group), Status::NoGroupLine, 3, 0, third));
-    CHECK(is(check_log(group + "nodes\n= list\nend\n"), Status::NoGroupLine, 3, 0, third));
-    CHECK(is(check_log(group + call + "end"), Status::NoGroupLine, 5, 0,
-             "line 5: the line of a call of the group, or its end, is expected\n"));
-    CHECK(is(check_log(group + "A: nodes\nend\n"), Status::NoReplyLine, 4, 0,
-             "line 4: the line of a reply is expected\n"));
-    std::string eight = group;
-    for (int k = 0; k < 8; ++k) eight += call;
-    CHECK(is(check_log(eight + "end\n"), Status::Done, 0, 8, "conforms, 8 calls on 1 service\n"));
-    const LogVerdict ninth = check_log(eight + call + "end\n");
-    CHECK(is(ninth, Status::NoGroupEnd, 19, 0,
-             "line 19: the end of the group is expected, which has 8 calls\n"));
-    CHECK(has_no_parts(ninth));
+/// Configurations differ by each of their texts. Those of a temporary do not compile.
+void configurations_differ() {
+    static_assert(has_configurations<const LogVerdict&> && !has_configurations<LogVerdict>);
+    const Configuration one{"2", "list", "1", "2"};
+    CHECK((one == Configuration{"2", "list", "1", "2"}));
+    CHECK((one != Configuration{"", "list", "1", "2"} && one != Configuration{"2", "", "1", "2"}));
+    CHECK((one != Configuration{"2", "list", "", "2"}));
+    CHECK((one != Configuration{"2", "list", "1", ""}));
 }
 
 // ---- Recorders ----
@@ -272,29 +243,23 @@ bool step(Recorder& recorder, std::vector<ContainerHandle>& handles, Dice& dice)
     return recorder.release_port(handle).has_value();
 }
 
-/// The lines of a log that begin with `= `, and the others.
-struct Lines {
-    std::string replies, commands;
+/// The replies of a log, and the first word of each.
+struct Replies {
     std::size_t calls = 0;
     std::set<std::string> words;
 
-    explicit Lines(const std::string& log) {
-        for (std::size_t at = 0; at < log.size();) {
-            const std::size_t end = log.find('\n', at) + 1;
-            const std::string line = log.substr(at, end - at);
-            at = end;
-            if (line.substr(0, 2) == "= ") {
-                replies += line.substr(2);
-                words.insert(line.substr(2, line.find_first_of(" \n", 2) - 2));
-                ++calls;
-            } else {
-                commands += line;
-            }
+    explicit Replies(std::string_view log) {
+        while (!log.empty()) {
+            const std::string_view line = log.substr(0, log.find('\n'));
+            log.remove_prefix(line.size() + 1);
+            if (line.substr(0, 3) != "A< ") continue;
+            words.emplace(line.substr(3, line.find(' ', 3) - 3));
+            ++calls;
         }
     }
 };
 
-/// The log of random calls conforms, and is that of the same calls as a script.
+/// The log of random calls conforms.
 void random_calls() {
     Dice dice;
     std::set<std::string> seen;
@@ -303,12 +268,11 @@ void random_calls() {
         Recorder recorder = Recorder::create(patterns[round % 4], 7, capacities).value();
         std::vector<ContainerHandle> handles;
         for (std::size_t calls = dice.below(60); calls > 0; --calls) step(recorder, handles, dice);
-        const Lines lines(recorder.log());
-        const LogVerdict found = check_log(recorder.log());
-        CHECK(found.status == Status::Done && found.calls == lines.calls);
-        const ScriptRun again = run_script(lines.commands);
-        CHECK(again.status == Status::Done && again.replies() == lines.replies);
-        seen.insert(lines.words.begin(), lines.words.end());
+        const List<char> log = recorder.log().value();
+        const Replies replies(log);
+        const LogVerdict found = check_log(log);
+        CHECK(found.status == Status::Done && found.calls == replies.calls);
+        seen.insert(replies.words.begin(), replies.words.end());
     }
     const std::set<std::string> all = {"handle",         "locked",     "full",      "not-registered",
                                        "wrong-pattern",  "has-owners", "no-owners", "list",
@@ -316,19 +280,24 @@ void random_calls() {
     CHECK(seen == all);
 }
 
-/// What has no line is not written, but for a handle of elsewhere, which has a comment.
+/// What has no line is not written.
 void what_has_no_line() {
     Recorder recorder = Recorder::create(PatternKind::RequestResponse, 7, {1, 2, 3}).value();
-    const std::string start = "service request-response 7 1 2 3\n";
-    CHECK(recorder.log() == start && !*recorder.service().is_locked());
+    CHECK(!*recorder.service().is_locked());
     CHECK(recorder.ports(Role::Node).status() == Status::RoleNotInPattern);
     CHECK(recorder.count_ports(Role::Node).status() == Status::RoleNotInPattern);
-    CHECK(recorder.ports(Role{9}).status() == Status::UnknownRole && recorder.log() == start);
-    CHECK(recorder.deregister_node_id({7, Role::Node, 0, 0}).status() == Status::ForeignHandle);
+    CHECK(recorder.ports(Role{9}).status() == Status::UnknownRole);
+    CHECK(recorder.deregister_node_id({8, Role::Node, 0, 0}).status() == Status::ForeignHandle);
+    CHECK(recorder.deregister_node_id({7, Role::Client, 0, 0}).status() == Status::ForeignHandle);
+    CHECK(recorder.release_port({7, Role::Node, 0, 0}).status() == Status::ForeignHandle);
     CHECK(recorder.release_port({}).status() == Status::UnknownRole);
-    CHECK(recorder.log() == start + "# deregister: no call returned the handle\n"
-                                    "# release: no call returned the handle\n");
-    CHECK(check_log(recorder.log()).status == Status::Done);
+    const std::string_view start = "service request-response 7 1 2 3\n";
+    const List<char> log = recorder.log().value();
+    CHECK(std::string_view(log) == start);
+    CHECK(recorder.release_port({7, Role::Client, 4, 5}).status() == Status::ForeignHandle);
+    const List<char> longer = recorder.log().value();
+    CHECK(std::string_view(longer) == std::string(start) + "A> release client 4 5\nA< not-owned\n");
+    CHECK(check_log(longer).status == Status::Done);
     CHECK(Recorder::create(PatternKind{4}, 7, {1, 1, 1}).status() == Status::UnknownPattern);
 }
 
@@ -340,13 +309,11 @@ int main() {
     refused(1);
     refused(200);
     nobody();
-    words_like_lines();
     one_place();
-    several_states();
-    no_order_from_several_states();
-    states_differ();
-    many_states();
-    lines_of_groups();
+    several_configurations();
+    open_calls();
+    written();
+    configurations_differ();
     random_calls();
     what_has_no_line();
     return end_of_checks();

@@ -73,14 +73,18 @@ class Status(Choice):
     NO_TOML_INTEGER = 84
     NO_FILE = 85
     TOO_DEEP = 86
-    NO_RUN = 90
+    NO_ORDER = 90
     NO_SERVICE_LINE = 91
-    NO_COMMAND_LINE = 92
+    NO_CALL_LINE = 92
     NO_REPLY_LINE = 93
-    NO_ORDER = 94
-    TOO_MANY_STATES = 95
-    NO_GROUP_LINE = 96
-    NO_GROUP_END = 97
+    TOO_MANY_CONFIGURATIONS = 94
+    TOO_MANY_OPEN_CALLS = 95
+    CALLER_IS_BUSY = 96
+    NO_OPEN_CALL = 97
+    CALLER_IS_DEAD = 98
+    UNKNOWN_CALLER = 99
+    NO_NEWLINE = 100
+    CARRIAGE_RETURN = 101
 
     def __str__(self) -> str:
         """The library's text."""
@@ -225,6 +229,16 @@ class BadDurationError(RefusedError, ValueError, status=Status.BAD_DURATION):
 
 class NoTomlIntegerError(RefusedError, OverflowError, status=Status.NO_TOML_INTEGER):
     """A number, or the seconds of a duration, are above 2^63 - 1, which TOML does not have."""
+
+
+class CallerIsBusyError(RefusedError, status=Status.CALLER_IS_BUSY):
+    """The last call of a caller of a log was begun and not ended."""
+
+class NoOpenCallError(RefusedError, status=Status.NO_OPEN_CALL):
+    """The call of a log has ended already."""
+
+class CallerIsDeadError(RefusedError, status=Status.CALLER_IS_DEAD):
+    """The caller of a log has died."""
 
 
 class BadLineError(RefusedError, ValueError, status=Status.BAD_LINE):

@@ -15,35 +15,37 @@ class Expected(Choice):
 
     SERVICE = Status.NO_SERVICE_LINE.value
     """The line of a service."""
-    COMMAND = Status.NO_COMMAND_LINE.value
-    """The line of a command."""
+    CALL = Status.NO_CALL_LINE.value
+    """The line of a service, a call or an event."""
     REPLY = Status.NO_REPLY_LINE.value
-    """The line of a reply."""
-    GROUP_LINE = Status.NO_GROUP_LINE.value
-    """The line of a call of a group, or the group's end."""
-    GROUP_END = Status.NO_GROUP_END.value
-    """The end of a group that has eight calls."""
+    """A reply."""
+    IDLE_CALLER = Status.CALLER_IS_BUSY.value
+    """A caller without an open call."""
+    OPEN_CALL = Status.NO_OPEN_CALL.value
+    """A caller with an open call."""
+    LIVE_CALLER = Status.CALLER_IS_DEAD.value
+    """A caller that has not died."""
+    KNOWN_CALLER = Status.UNKNOWN_CALLER.value
+    """A caller that has begun a call."""
+    NEWLINE = Status.NO_NEWLINE.value
+    """A newline at the end of the line."""
+    NO_CARRIAGE_RETURN = Status.CARRIAGE_RETURN.value
+    """No carriage return before the newline."""
 
 
 @dataclass(frozen=True, slots=True)
-class Attached(Value):
-    """Who is there in a state of a service."""
+class Configuration(Value):
+    """What the calls before a refused reply can have led to."""
 
+    made: "tuple[int, ...]"
+    """The lines in which the open calls begin that were made."""
+    possible: str
+    """Every reply that the refused call could have had then."""
     nodes: "tuple[UniqueNodeId, ...]"
     """The nodes that are registered, by rising slot, one for each handle."""
     ports: "tuple[int, ...]"
     """The values of the ids of the ports that are attached: those of the pattern's first role by
     rising slot, then the others."""
-
-
-@dataclass(frozen=True, slots=True)
-class PossibleState(Value):
-    """A state that a service may be in where a reply was seen."""
-
-    possible: str
-    """Every reply that a run gives from it."""
-    attached: Attached
-    """Who is there."""
 
 
 class _Fails(Value):
@@ -57,51 +59,49 @@ class _Fails(Value):
 
 @dataclass(frozen=True, slots=True)
 class Conforms(Value):
-    """All replies of a log are those of a run."""
+    """An order of the calls of a log explains all replies."""
 
     calls: int
-    """How many there are."""
-
-
-@dataclass(frozen=True, slots=True)
-class NoRun(_Fails):
-    """The replies before one are those of a run, and no run goes on with it. It counts as False."""
-
-    line: int
-    """The number of its line, from 1 on."""
-    seen: str
-    """Its words. Bytes that are no UTF-8 are printed as `\\xff`."""
-    states: "tuple[PossibleState, ...]"
-    """Each state that the service may be in then: at least one, and several where groups above have
-    several orders."""
+    """How many calls there are."""
 
 
 @dataclass(frozen=True, slots=True)
 class NoOrder(_Fails):
-    """The replies before a group of calls that overlapped are those of a run, and no order of the
-    group's calls gives theirs. It counts as False.
+    """Orders of the calls explain what is above a reply, and none explains it. It counts as False.
     """
 
     line: int
-    """The number of the line that ends the group, from 1 on."""
-    states: "tuple[Attached, ...]"
-    """Each state that the service may be in before the group: at least one."""
+    """The number of its line, from 1 on."""
+    words: str
+    """Its words."""
+    window: int
+    """The line from which the window is open: that of the first event of the service since none of
+    its calls was open."""
+    configurations: "tuple[Configuration, ...]"
+    """What the calls before it can have led to: at least one, each once."""
 
 
 @dataclass(frozen=True, slots=True)
-class TooManyStates(_Fails):
-    """The replies before a group are those of a run, and the orders of its calls lead to more than
-    64 states. It counts as False.
+class TooManyConfigurations(_Fails):
+    """Not decided: orders of the calls lead to more than 4,096 configurations. It counts as False.
     """
 
     line: int
-    """The number of the line that ends the group, from 1 on."""
+    """The number of the line, from 1 on."""
+
+
+@dataclass(frozen=True, slots=True)
+class TooManyOpenCalls(_Fails):
+    """Not decided: more than 64 calls of a service are open. It counts as False."""
+
+    line: int
+    """The number of the line, from 1 on."""
 
 
 @dataclass(frozen=True, slots=True)
 class UnexpectedLine(_Fails):
-    """The replies before a line are those of a run. The line is not what is expected, or has no
-    newline, or the log ends before it. It counts as False.
+    """Orders explain what is above a line. The line is not what is expected, or the log ends before
+    it. It counts as False.
     """
 
     line: int
@@ -110,7 +110,7 @@ class UnexpectedLine(_Fails):
     """What is expected."""
 
 
-Verdict = Union[Conforms, NoRun, NoOrder, TooManyStates, UnexpectedLine]
+Verdict = Union[Conforms, NoOrder, TooManyConfigurations, TooManyOpenCalls, UnexpectedLine]
 """What a log was judged to be."""
 
 
@@ -124,31 +124,31 @@ def check_log(log: Union[str, bytes]) -> Verdict:
     # The report of a log that conforms fits here, so such a log is judged once.
     answer, written = _native.filled(512, _native.conform_run_at, given, len(given))
     report = written.decode(errors="backslashreplace")
-    if answer.status == Status.NO_RUN.value:
-        return _no_run(answer.line, report)
     if answer.status == Status.NO_ORDER.value:
-        _, *lines, _ = report.split("\n")
-        return NoOrder(answer.line, tuple(map(_attached, lines[::2], lines[1::2])))
-    if answer.status == Status.TOO_MANY_STATES.value:
-        return TooManyStates(answer.line)
+        return _no_order(answer.line, report)
+    if answer.status == Status.TOO_MANY_CONFIGURATIONS.value:
+        return TooManyConfigurations(answer.line)
+    if answer.status == Status.TOO_MANY_OPEN_CALLS.value:
+        return TooManyOpenCalls(answer.line)
     if answer.status in (expected.value for expected in Expected):
         return UnexpectedLine(answer.line, Expected(answer.status))
     check(answer.status, "check_log")
     return Conforms(answer.calls)
 
 
-def _no_run(line: int, report: str) -> NoRun:
+def _no_order(line: int, report: str) -> NoOrder:
     """What the lines of a report say, which stand below its first one."""
-    _, seen, *lines, _ = report.split("\n")
-    states = (
-        PossibleState(possible.removeprefix("possible: "), _attached(nodes, ports))
-        for possible, nodes, ports in zip(lines[::3], lines[1::3], lines[2::3])
-    )
-    return NoRun(line, seen.removeprefix("seen: "), tuple(states))
+    _, words, window, *lines, _ = report.split("\n")
+    told = map(_configuration, lines[::4], lines[1::4], lines[2::4], lines[3::4])
+    from_line = int(window.removeprefix("window: from line "))
+    return NoOrder(line, words.removeprefix("seen: "), from_line, tuple(told))
 
 
-def _attached(nodes: str, ports: str) -> Attached:
-    return Attached(
+def _configuration(made: str, possible: str, nodes: str, ports: str) -> Configuration:
+    lines = made.removeprefix("made: ").removeprefix("lines ").removeprefix("none")
+    return Configuration(
+        tuple(map(int, lines.split())),
+        possible.removeprefix("possible: "),
         tuple(map(UniqueNodeId.from_text, nodes.split(" ")[1:])),
         tuple(int(port, 16) for port in ports.split(" ")[1:]),
     )

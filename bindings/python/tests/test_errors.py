@@ -34,8 +34,8 @@ class Errors(TestCase):
             MemoryError: "NoMemory",
             iox2sd.IncompatibleError: "OtherPattern OtherName OtherVariant OtherSize OtherAlignment"
             " GreaterAlignment Unmet",
-            object: "HasService IllegalHash Incompatible IsLocked NoService OutOfSpace"
-            " PortsStillAttached",
+            object: "CallerIsBusy CallerIsDead HasService IllegalHash Incompatible IsLocked NoOpenCall"
+            " NoService OutOfSpace PortsStillAttached",
         }
         expected: "dict[str, tuple[type, ...]]" = {
             "Error": (Exception,), "RefusedError": (iox2sd.Error,),

@@ -26,19 +26,18 @@ PORTS = (publisher(1), subscriber(1), LISTENER, NOTIFIER, SERVER, CLIENT, READER
 
 EVENT = iox2sd.EventStaticConfig.new()
 
-ATTACHED = iox2sd.Attached((NODE,), (1,))
 
 VALUES: "list[Any]" = [
     *(kind(1, 2, 3, 4) for kind in details.UniquePortId.__args__),  # type: ignore[attr-defined]
     NODE, iox2sd.UniqueServiceId(1, 2, 3, 4), iox2sd.ContainerHandle(7, iox2sd.Role.NODE, 1, 2),
     iox2sd.Capacities(1, 2, 3),
     iox2sd.DeadNodeRemoval(iox2sd.DeregisterNodeState.HAS_OWNERS, 1, 2),
-    ATTACHED,
-    iox2sd.PossibleState("list", ATTACHED),
+    iox2sd.LogCommand.nodes(), iox2sd.LogReply.count(9),
+    iox2sd.Configuration((8,), "list", (NODE,), (1,)),
     iox2sd.Conforms(9),
-    iox2sd.NoRun(9, "x", (iox2sd.PossibleState("list", ATTACHED),)),
-    iox2sd.NoOrder(9, (ATTACHED,)),
-    iox2sd.TooManyStates(9),
+    iox2sd.NoOrder(9, "x", 8, (iox2sd.Configuration((8,), "list", (NODE,), (1,)),)),
+    iox2sd.TooManyConfigurations(9),
+    iox2sd.TooManyOpenCalls(9),
     iox2sd.UnexpectedLine(9, iox2sd.Expected.REPLY),
     iox2sd.ConfigFault("key", "reason", iox2sd.Status.BELOW_ZERO),
     iox2sd.UnknownKey("key", "meant"),

@@ -52,20 +52,9 @@ def step(dice: random.Random, service: Recorder, handles: "list[Any]") -> None:
         dice.choice((service.deregister_node_id, service.release_port))(dice.choice(handles))
 
 
-def overlapped(dice: random.Random, log: str) -> str:
-    """The log with its calls in groups of two callers, as if they had overlapped."""
-    service, *lines = (line for line in log.splitlines(keepends=True) if not line.startswith("#"))
-    calls = [f"{dice.choice('AB')}: {one}{reply}" for one, reply in zip(lines[::2], lines[1::2])]
-    while calls:
-        size = dice.randint(1, 8)
-        service += "".join(["overlap\n", *calls[:size], "end\n"])
-        del calls[:size]
-    return service
-
-
 class Recording(unittest.TestCase):
     def test_random_logs_conform(self):
-        dice, callers = random.Random(1), random.Random(2)
+        dice = random.Random(1)
         seen: "set[str]" = set()
         for pattern in [*MessagingPattern] * 50:
             capacities = Capacities(*(dice.randrange(5) for _ in range(3)))
@@ -74,15 +63,9 @@ class Recording(unittest.TestCase):
                 for _ in range(dice.randrange(60)):
                     with suppress(iox2sd.RefusedError):
                         step(dice, service, handles)
-            replies = [line for line in service.log.splitlines() if line.startswith("= ")]
+            replies = [line for line in service.log.splitlines() if line.startswith("A< ")]
             self.assertEqual(check_log(service.log), Conforms(len(replies)))
-            grouped = overlapped(callers, service.log)
-            self.assertEqual(check_log(grouped), Conforms(len(replies)))
             seen.update(reply.split()[1] for reply in replies)
-            commands = [line for line in service.log.splitlines() if not line.startswith("= ")]
-            script = "".join(f"{command}\n" for command in commands)
-            again = iox2sd.run_script(script).splitlines()
-            self.assertEqual([f"= {reply}" for reply in again], replies)
         words = (
             "handle locked full not-registered wrong-pattern has-owners no-owners ports-attached"
             " released not-owned count list"
@@ -99,17 +82,20 @@ class Recording(unittest.TestCase):
             for call in (service.list_ports, service.count_ports):
                 self.assertRaises(iox2sd.RoleNotInPatternError, call, Role.NODE)
                 self.assertRaises(iox2sd.WrongTypeError, call, 0)
-            foreign = iox2sd.ContainerHandle(7, Role.NODE, 0, 0)
-            for call in (service.deregister_node_id, service.release_port):
-                self.assertRaises(iox2sd.ForeignHandleError, call, foreign)
-            notes = "".join(
-                f"# {command}: no call returned the handle\n"
-                for command in ("deregister", "release")
-            )
-            self.assertEqual(service.log, start + notes)
-            self.assertEqual(check_log(service.log), Conforms(0))
+            for number, role in ((8, Role.NODE), (7, Role.LISTENER)):
+                other = iox2sd.ContainerHandle(number, role, 0, 0)
+                self.assertRaises(iox2sd.ForeignHandleError, service.deregister_node_id, other)
+            for number, role in ((8, Role.LISTENER), (7, Role.NODE)):
+                other = iox2sd.ContainerHandle(number, role, 0, 0)
+                self.assertRaises(iox2sd.ForeignHandleError, service.release_port, other)
+            self.assertEqual(service.log, start)
+            stale = iox2sd.ContainerHandle(7, Role.LISTENER, 4, 5)
+            self.assertRaises(iox2sd.ForeignHandleError, service.release_port, stale)
+            text = start + "A> release listener 4 5\nA< not-owned\n"
+            self.assertEqual(service.log, text)
+            self.assertEqual(check_log(service.log), Conforms(1))
         self.assertRaises(iox2sd.NoServiceError, service.list_node_ids)
-        self.assertEqual((service.log, repr(service)), (start + notes, "<a closed Recorder>"))
+        self.assertEqual((service.log, repr(service)), (text, "<a closed Recorder>"))
 
     def test_with_statements_and_lists_of_a_kind_are_written(self):
         with Recorder.described(iox2sd.EventSettings(), 7) as service:
@@ -119,9 +105,9 @@ class Recording(unittest.TestCase):
         self.assertEqual(
             service.log.splitlines()[1:],
             [
-                "register 1.1.0.5", "= handle 0 0", "add listener 7.0.0.0 1.1.0.5", "= handle 0 0",
-                "list listener", "= list 7000000000000000000000000", "release 1", "= released",
-                "deregister 0", "= no-owners",
+                "A> register 1.1.0.5", "A< handle 0 0", "A> add listener 7.0.0.0 1.1.0.5",
+                "A< handle 0 0", "A> list listener", "A< list 7000000000000000000000000",
+                "A> release listener 0 0", "A< released", "A> deregister 0 0", "A< no-owners",
             ],
         )
         self.assertEqual(check_log(service.log), Conforms(5))

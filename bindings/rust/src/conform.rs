@@ -37,24 +37,25 @@ pub use recorder::Recorder;
 #[derive(Clone, Debug, PartialEq, Eq, Hash)]
 #[non_exhaustive]
 pub enum Verdict {
-    /// All replies are those of a run.
+    /// An order of the calls explains all replies.
     Conforms {
-        /// How many there are.
+        /// How many calls there are.
         calls: usize,
     },
-    /// The replies before this one are those of a run, and no run goes on with it.
-    NoRun(Refusal),
-    /// The replies before a group of calls that overlapped are those of a run, and no order of the
-    /// group's calls gives theirs.
-    NoOrder(GroupRefusal),
-    /// The replies before a group are those of a run, and the orders of its calls lead to more than
-    /// 64 states.
-    TooManyStates {
-        /// The number of the line that ends the group, from 1 on.
+    /// Orders explain what is above this reply, and none explains it.
+    NoOrder(Refusal),
+    /// Not decided: orders of the calls lead to more than 4,096 configurations.
+    TooManyConfigurations {
+        /// The number of the line, from 1 on.
         line: usize,
     },
-    /// The replies before this line are those of a run. The line is not what is expected, or has no
-    /// newline, or the log ends before it.
+    /// Not decided: more than 64 calls of a service are open.
+    TooManyOpenCalls {
+        /// The number of the line, from 1 on.
+        line: usize,
+    },
+    /// Orders explain what is above this line. The line is not what is expected, or the log ends
+    /// before it.
     BadLine {
         /// The number of the line, from 1 on.
         line: usize,
@@ -63,15 +64,15 @@ pub enum Verdict {
     },
 }
 
-/// A reply that no run gives.
+/// A reply that no order of the calls explains.
 ///
 /// ```
 /// use iox2sd::conform::{check_log, Verdict};
 ///
 /// let log = "service event 7 1 0 0\nregister 1.0.0.1\n= handle 0 0\nregister 1.0.0.1\n= locked\n";
-/// let Verdict::NoRun(refusal) = check_log(log)? else { panic!("a run gives it") };
-/// assert_eq!((refusal.line, refusal.seen.as_str()), (5, "locked"));
-/// assert_eq!(refusal.states[0].possible, "full");
+/// let Verdict::NoOrder(refusal) = check_log(log)? else { panic!("an order explains it") };
+/// assert_eq!((refusal.line, refusal.words.as_str(), refusal.window), (5, "locked", 5));
+/// assert_eq!(refusal.configurations[0].possible, "full");
 /// # Ok::<(), iox2sd::dynamic_config::AllocError>(())
 /// ```
 #[derive(Clone, Debug, PartialEq, Eq, Hash)]
@@ -79,71 +80,32 @@ pub struct Refusal {
     /// The number of its line, from 1 on.
     pub line: usize,
     /// Its words.
-    pub seen: String,
-    /// Each state that the service may be in then: at least one, and several where groups above
-    /// have several orders.
-    pub states: Vec<PossibleState>,
+    pub words: String,
+    /// The line from which the window is open: that of the first event of the service since none of
+    /// its calls was open.
+    pub window: usize,
+    /// What the calls before it can have led to: at least one, each once.
+    pub configurations: Vec<Configuration>,
 }
 
-/// A state that a service may be in where a reply was seen.
+/// What the calls before a refused reply can have led to.
 ///
 /// ```
 /// use iox2sd::conform::{check_log, Verdict};
 ///
-/// // The first node was registered again before it was removed, or after that.
-/// let log = "service event 7 3 0 0\n\
-///            register 1.0.0.1\n= handle 0 0\n\
-///            register 1.0.0.2\n= handle 1 1\n\
-///            overlap\n\
-///            A: dead 1.0.0.1\n= has-owners\n\
-///            B: register 1.0.0.1\n= handle 2 2\n\
-///            end\n\
-///            nodes\n= list\n";
-/// let Verdict::NoRun(refusal) = check_log(log)? else { panic!("a run gives it") };
-/// let possible = "list 1000000000000000000000002";
-/// assert_eq!(refusal.states.len(), 2);
-/// assert!(refusal.states.iter().any(|state| state.possible == possible));
+/// // The first list shows that the open call of A was made, and the second one that it was not.
+/// let log = "service event 7 1 0 0\nA> register 0.0.0.1\nnodes\n= list 1\nnodes\n= list\n";
+/// let Verdict::NoOrder(refusal) = check_log(log)? else { panic!("an order explains it") };
+/// let told = &refusal.configurations[0];
+/// assert_eq!((told.made.as_slice(), told.possible.as_str()), ([2].as_slice(), "list 1"));
 /// # Ok::<(), iox2sd::dynamic_config::AllocError>(())
 /// ```
 #[derive(Clone, Debug, PartialEq, Eq, Hash)]
-pub struct PossibleState {
-    /// Every reply that a run gives from it.
+pub struct Configuration {
+    /// The lines in which the open calls begin that were made.
+    pub made: Vec<usize>,
+    /// Every reply that the refused call could have had then.
     pub possible: String,
-    /// Who is there.
-    pub attached: Attached,
-}
-
-/// A group of calls that overlapped, of which no order gives the replies.
-///
-/// ```
-/// use iox2sd::conform::{check_log, Verdict};
-///
-/// let log = "service event 7 1 0 0\noverlap\nA: register 1.0.0.1\n= full\nend\n";
-/// let Verdict::NoOrder(refusal) = check_log(log)? else { panic!("an order gives it") };
-/// assert_eq!((refusal.line, refusal.states.len()), (5, 1));
-/// # Ok::<(), iox2sd::dynamic_config::AllocError>(())
-/// ```
-#[derive(Clone, Debug, PartialEq, Eq, Hash)]
-pub struct GroupRefusal {
-    /// The number of the line that ends it, from 1 on.
-    pub line: usize,
-    /// Each state that the service may be in before it: at least one.
-    pub states: Vec<Attached>,
-}
-
-/// Who is there in a state of a service.
-///
-/// ```
-/// use iox2sd::conform::{check_log, Verdict};
-///
-/// let log = "service event 7 1 0 0\nregister 1.0.0.1\n= handle 0 0\nnodes\n= list\n";
-/// let Verdict::NoRun(refusal) = check_log(log)? else { panic!("a run gives it") };
-/// let attached = &refusal.states[0].attached;
-/// assert_eq!((attached.nodes.len(), attached.ports.len()), (1, 0));
-/// # Ok::<(), iox2sd::dynamic_config::AllocError>(())
-/// ```
-#[derive(Clone, Debug, PartialEq, Eq, Hash)]
-pub struct Attached {
     /// The nodes that are registered, by rising slot, one for each handle.
     pub nodes: Vec<UniqueNodeId>,
     /// The ids of the ports that are attached, as numbers: those of the pattern's first role by
@@ -159,22 +121,30 @@ choices! {
     ///
     /// let bad = |line, expected| Verdict::BadLine { line, expected };
     /// assert_eq!(check_log("")?, bad(1, Expected::Service));
-    /// assert_eq!(check_log("service event 7 2 0 0\nleave\n")?, bad(2, Expected::Command));
-    /// assert_eq!(check_log("service event 7 2 0 0\noverlap\n")?, bad(3, Expected::GroupLine));
+    /// assert_eq!(check_log("service event 7 2 0 0\nleave\n")?, bad(2, Expected::Call));
+    /// assert_eq!(check_log("service event 7 2 0 0\nA< list\n")?, bad(2, Expected::OpenCall));
     /// # Ok::<(), iox2sd::dynamic_config::AllocError>(())
     /// ```
     #[non_exhaustive]
     Expected of u32 in "conform" {
         /// The line of a service.
         Service = IOX2SD_STATUS_NO_SERVICE_LINE;
-        /// The line of a command.
-        Command = IOX2SD_STATUS_NO_COMMAND_LINE;
-        /// The line of a reply.
+        /// The line of a service, a call or an event.
+        Call = IOX2SD_STATUS_NO_CALL_LINE;
+        /// A reply.
         Reply = IOX2SD_STATUS_NO_REPLY_LINE;
-        /// The line of a call of a group, or the group's end.
-        GroupLine = IOX2SD_STATUS_NO_GROUP_LINE;
-        /// The end of a group that has eight calls.
-        GroupEnd = IOX2SD_STATUS_NO_GROUP_END;
+        /// A caller without an open call.
+        IdleCaller = IOX2SD_STATUS_CALLER_IS_BUSY;
+        /// A caller with an open call.
+        OpenCall = IOX2SD_STATUS_NO_OPEN_CALL;
+        /// A caller that has not died.
+        LiveCaller = IOX2SD_STATUS_CALLER_IS_DEAD;
+        /// A caller that has begun a call.
+        KnownCaller = IOX2SD_STATUS_UNKNOWN_CALLER;
+        /// A newline at the end of the line.
+        Newline = IOX2SD_STATUS_NO_NEWLINE;
+        /// No carriage return before the newline.
+        NoCarriageReturn = IOX2SD_STATUS_CARRIAGE_RETURN;
     }
 }
 
@@ -199,9 +169,9 @@ pub fn check_log(log: &str) -> Result<Verdict, AllocError> {
         sys::IOX2SD_STATUS_DONE => Verdict::Conforms {
             calls: judged.calls,
         },
-        sys::IOX2SD_STATUS_NO_RUN => Verdict::NoRun(Refusal::of(line, &judged.report)),
-        sys::IOX2SD_STATUS_NO_ORDER => Verdict::NoOrder(GroupRefusal::of(line, &judged.report)),
-        sys::IOX2SD_STATUS_TOO_MANY_STATES => Verdict::TooManyStates { line },
+        sys::IOX2SD_STATUS_NO_ORDER => Verdict::NoOrder(Refusal::of(line, &judged.report)),
+        sys::IOX2SD_STATUS_TOO_MANY_CONFIGURATIONS => Verdict::TooManyConfigurations { line },
+        sys::IOX2SD_STATUS_TOO_MANY_OPEN_CALLS => Verdict::TooManyOpenCalls { line },
         sys::IOX2SD_STATUS_NO_MEMORY => return Err(AllocError),
         expected => Verdict::BadLine {
             line,
@@ -211,7 +181,7 @@ pub fn check_log(log: &str) -> Result<Verdict, AllocError> {
 }
 
 impl Verdict {
-    /// Whether all replies are those of a run.
+    /// Whether an order of the calls explains all replies.
     ///
     /// ```
     /// use iox2sd::conform::check_log;
@@ -256,10 +226,12 @@ impl fmt::Display for Verdict {
         match self {
             Verdict::Conforms { calls: 1 } => f.pad("conforms, 1 call"),
             Verdict::Conforms { calls } => padded(f, format_args!("conforms, {calls} calls")),
-            Verdict::NoRun(refusal) => refusal.fmt(f),
             Verdict::NoOrder(refusal) => refusal.fmt(f),
-            Verdict::TooManyStates { line } => {
-                at_line(f, *line, sys::IOX2SD_STATUS_TOO_MANY_STATES)
+            Verdict::TooManyConfigurations { line } => {
+                at_line(f, *line, sys::IOX2SD_STATUS_TOO_MANY_CONFIGURATIONS)
+            }
+            Verdict::TooManyOpenCalls { line } => {
+                at_line(f, *line, sys::IOX2SD_STATUS_TOO_MANY_OPEN_CALLS)
             }
             Verdict::BadLine { line, expected } => at_line(f, *line, expected.as_c()),
         }
@@ -270,7 +242,6 @@ impl fmt::Display for Verdict {
 impl Error for Verdict {
     fn source(&self) -> Option<&(dyn Error + 'static)> {
         match self {
-            Verdict::NoRun(refusal) => Some(refusal),
             Verdict::NoOrder(refusal) => Some(refusal),
             _ => None,
         }
@@ -280,26 +251,18 @@ impl Error for Verdict {
 /// The line, the reply that was seen, and those that are possible.
 impl fmt::Display for Refusal {
     fn fmt(&self, f: &mut fmt::Formatter<'_>) -> fmt::Result {
-        let possible: BTreeSet<_> = self.states.iter().map(|state| &*state.possible).collect();
+        let each = self.configurations.iter();
+        let possible: BTreeSet<_> = each.map(|told| &*told.possible).collect();
         let possible = Vec::from_iter(possible).join("; or: ");
-        let Refusal { line, seen, .. } = self;
+        let Refusal { line, words, .. } = self;
         padded(
             f,
-            format_args!("line {line}: seen: {seen}; possible: {possible}"),
+            format_args!("line {line}: seen: {words}; possible: {possible}"),
         )
     }
 }
 
 impl Error for Refusal {}
-
-/// The line of the group's end.
-impl fmt::Display for GroupRefusal {
-    fn fmt(&self, f: &mut fmt::Formatter<'_>) -> fmt::Result {
-        at_line(f, self.line, sys::IOX2SD_STATUS_NO_ORDER)
-    }
-}
-
-impl Error for GroupRefusal {}
 
 /// Writes what a status says of a line.
 fn at_line(f: &mut fmt::Formatter<'_>, line: usize, status: u32) -> fmt::Result {
@@ -310,58 +273,37 @@ fn at_line(f: &mut fmt::Formatter<'_>, line: usize, status: u32) -> fmt::Result 
 impl Refusal {
     /// What the lines of a report say, which stand below its first one.
     fn of(line: usize, report: &str) -> Self {
-        let lines = below_first(report);
+        let lines: Vec<_> = report.split_terminator('\n').skip(1).collect();
         Refusal {
             line,
-            seen: after("seen: ", lines[0]).to_string(),
-            states: lines[1..]
-                .chunks(1 + LINES_OF_ATTACHED)
-                .map(PossibleState::of)
+            words: after("seen: ", lines[0]).to_string(),
+            window: number(after("window: from line ", lines[1])),
+            configurations: lines[2..]
+                .chunks_exact(LINES_OF_A_CONFIGURATION)
+                .map(Configuration::of)
                 .collect(),
         }
     }
 }
 
-impl GroupRefusal {
-    /// What the lines of a report say, which stand below its first one.
-    fn of(line: usize, report: &str) -> Self {
-        GroupRefusal {
-            line,
-            states: below_first(report)
-                .chunks(LINES_OF_ATTACHED)
-                .map(Attached::of)
-                .collect(),
-        }
-    }
-}
-
-impl PossibleState {
+impl Configuration {
     fn of(lines: &[&str]) -> Self {
-        PossibleState {
-            possible: after("possible: ", lines[0]).to_string(),
-            attached: Attached::of(&lines[1..]),
-        }
-    }
-}
-
-impl Attached {
-    fn of(lines: &[&str]) -> Self {
-        Attached {
-            nodes: ids(after("nodes:", lines[0]), |id| id.parse().ok()),
-            ports: ids(after("ports:", lines[1]), |id| {
+        Configuration {
+            made: match after("made: ", lines[0]) {
+                "none" => Vec::new(),
+                some => ids(after("lines", some), |line| line.parse().ok()),
+            },
+            possible: after("possible: ", lines[1]).to_string(),
+            nodes: ids(after("nodes:", lines[2]), |id| id.parse().ok()),
+            ports: ids(after("ports:", lines[3]), |id| {
                 u128::from_str_radix(id, 16).ok()
             }),
         }
     }
 }
 
-/// How many lines of a report say who is there in a state.
-const LINES_OF_ATTACHED: usize = 2;
-
-/// The lines of a report but the first one.
-fn below_first(report: &str) -> Vec<&str> {
-    report.split_terminator('\n').skip(1).collect()
-}
+/// How many lines of a report are about one configuration.
+const LINES_OF_A_CONFIGURATION: usize = 4;
 
 /// What stands in a line behind these words.
 fn after<'a>(front: &str, line: &'a str) -> &'a str {
@@ -369,7 +311,11 @@ fn after<'a>(front: &str, line: &'a str) -> &'a str {
     rest.expect("the library writes this line")
 }
 
-/// Ids that each have a space before them.
+fn number(word: &str) -> usize {
+    word.parse().expect("the library writes numbers")
+}
+
+/// Ids, or numbers, that each have a space before them.
 fn ids<T>(words: &str, read: impl Fn(&str) -> Option<T>) -> Vec<T> {
     let texts = words.split(' ').skip(1);
     texts

@@ -86,9 +86,9 @@ fn each_text_is_padded() -> Tested {
     let (key, value) = ("k".parse::<AttributeKey>()?, "v".parse::<AttributeValue>()?);
     let conforms = check_log("service event 7 1 0 0\nnodes\n= list\n")?;
     let bad = check_log("")?;
-    let no_run = check_log("service event 7 1 0 0\nnodes\n= locked\n")?;
-    let none = check_log("service event 7 1 0 0\noverlap\nA: register 1.0.0.1\n= full\nend\n")?;
-    let too_many = Verdict::TooManyStates { line: 3 };
+    let no_order = check_log("service event 7 1 0 0\nnodes\n= locked\n")?;
+    let open_calls = Verdict::TooManyOpenCalls { line: 3 };
+    let too_many = Verdict::TooManyConfigurations { line: 3 };
     let unknown = Config::from_toml("a = 1\n[global]\nprefx = 2\n")?.unknown;
     let faults = Config::from_toml("global.prefix = 1\nglobal.node = 2\n").unwrap_err();
     let ConfigError::Faults(each) = &faults else {
@@ -120,7 +120,7 @@ fn each_text_is_padded() -> Tested {
     let id = UniqueNodeId::new(1, 2, 3, 4).ok_or("no node")?;
     let port = UniquePortId::Reader(UniqueReaderId::new(1, 2, 3, 4));
     padded! {
-        text, fault, place, key, value, conforms, bad, no_run, none, too_many, unknown[0],
+        text, fault, place, key, value, conforms, bad, no_order, open_calls, too_many, unknown[0],
         unknown[1], faults, each[0], each[1], not_toml, unread, content, unwritten, script, hash,
         pattern, incompatible, unmet[0], unmet[1], unmet[2], unmet[3], unmet[4], unmet[5],
         unmet[6], OtherRole { found, wanted }, id, port, UnknownName, AllocError, ConfigError::NoMemory,
@@ -491,16 +491,15 @@ fn a_verdict_is_told_in_words() -> Tested {
     let refusal = error.source().ok_or("no source")?;
     assert_eq!(refusal.to_string(), error.to_string());
 
-    let group = judged("overlap\nA: register 1.0.0.1\n= full\nend\n")?;
-    equal! {
-        group.to_string() => "line 5: no order of the group gives the replies";
-    }
-    assert!(group.source().is_some() && !group.conforms());
     let bad = judged("leave\n")?;
-    assert_eq!(bad.to_string(), "line 2: the line of a command is expected");
+    equal! {
+        bad.to_string() => "line 2: the line of a service, a call or an event is expected";
+    }
     assert!(bad.source().is_none() && !bad.conforms());
-    let states = Verdict::TooManyStates { line: 4 }.to_string();
-    assert!(states.starts_with("line 4: orders of the group lead to more than"));
+    let many = Verdict::TooManyConfigurations { line: 4 }.to_string();
+    assert!(many.starts_with("line 4: orders of the calls lead to more than"));
+    let open = Verdict::TooManyOpenCalls { line: 4 }.to_string();
+    assert_eq!(open, "line 4: more than 64 calls are open");
     Ok(())
 }
 

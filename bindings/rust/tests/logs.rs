@@ -1,44 +1,38 @@
-//! Logs: a verdict of each kind, with a short and a long report, and groups of calls.
+//! Logs: verdicts, with a short and a long report, and logs that threads write.
 #![forbid(unsafe_code)]
 
 use std::collections::HashSet;
-use std::fmt::Write as _;
+use std::thread;
 
-use iox2sd::conform::{
-    check_log, Attached, Expected, GroupRefusal, PossibleState, Refusal, Verdict,
-};
-use iox2sd::identifiers::UniqueNodeId;
+use iox2sd::conform::{check_log, Configuration, Expected, Refusal, Verdict};
+use iox2sd::container::Role;
+use iox2sd::dynamic_config::{blackboard, event, publish_subscribe, request_response};
+use iox2sd::identifiers::{UniqueListenerId, UniqueNodeId, UniqueNotifierId, UniquePortId};
+use iox2sd::log::{Command, LogError, LogWriter, Reply};
 
 const SERVICE: &str = "service event 7 200 2 2\n";
 
 /// Nodes and ports by their counters.
-fn attached(nodes: &[u32], ports: &[u128]) -> Attached {
-    Attached {
-        nodes: nodes
-            .iter()
-            .map(|counter| UniqueNodeId::new(1, 0, 0, *counter).unwrap())
-            .collect(),
+fn told(made: &[usize], possible: &str, nodes: &[u32], ports: &[u128]) -> Configuration {
+    Configuration {
+        made: made.to_vec(),
+        possible: possible.to_string(),
+        nodes: nodes.iter().copied().map(node).collect(),
         ports: ports.iter().map(|counter| (1 << 96) + counter).collect(),
     }
 }
 
-fn possible(reply: &str, attached: Attached) -> PossibleState {
-    PossibleState {
-        possible: reply.to_string(),
-        attached,
-    }
+fn node(counter: u32) -> UniqueNodeId {
+    UniqueNodeId::new(1, 0, 0, counter).unwrap()
 }
 
-fn no_run(line: usize, seen: &str, states: Vec<PossibleState>) -> Verdict {
-    Verdict::NoRun(Refusal {
+fn no_order(line: usize, words: &str, window: usize, told: Vec<Configuration>) -> Verdict {
+    Verdict::NoOrder(Refusal {
         line,
-        seen: seen.to_string(),
-        states,
+        words: words.to_string(),
+        window,
+        configurations: told,
     })
-}
-
-fn no_order(line: usize, states: Vec<Attached>) -> Verdict {
-    Verdict::NoOrder(GroupRefusal { line, states })
 }
 
 #[test]
@@ -52,193 +46,127 @@ fn a_log_conforms_with_its_calls() {
 #[test]
 fn a_line_is_not_what_is_expected() {
     let cases = [
-        ("", 1, Expected::Service),
         ("nodes\n", 3, Expected::Reply),
-        ("\nleave\n", 3, Expected::Command),
-        ("nodes\n= list\nnodes\n= list", 5, Expected::Reply),
+        ("nodes\n= list A\n", 3, Expected::Reply),
+        ("\nleave\n", 3, Expected::Call),
+        ("overlap\n", 2, Expected::Call),
+        ("A> nodes\nA> nodes\n", 3, Expected::IdleCaller),
+        ("A< list\n", 2, Expected::OpenCall),
+        ("A> nodes\nA!\nA!\n", 4, Expected::LiveCaller),
+        ("A!\n", 2, Expected::KnownCaller),
+        ("nodes\n= list\nnodes\n= list", 5, Expected::Newline),
+        ("nodes\r\n", 2, Expected::NoCarriageReturn),
     ];
     for (rest, line, expected) in cases {
-        let log = if rest.is_empty() { "" } else { SERVICE }.to_string() + rest;
-        assert_eq!(check_log(&log), Ok(Verdict::BadLine { line, expected }));
+        let found = check_log(&(SERVICE.to_string() + rest));
+        assert_eq!(found, Ok(Verdict::BadLine { line, expected }), "{rest}");
     }
+    let expected = Expected::Service;
+    assert_eq!(check_log(""), Ok(Verdict::BadLine { line: 1, expected }));
 }
 
 #[test]
-fn a_reply_is_refused_with_what_a_run_gives() {
+fn a_reply_is_refused_with_what_it_could_have_been() {
     for nodes in [1, 200] {
         let registered: String = (0..nodes)
             .map(|k| format!("register 1.0.0.1\n= handle {k} {k}\n"))
             .collect();
-        let calls = "add listener 1.0.0.11 1.0.0.1\n= handle 1 0\nrelease 0\n=  x\r\n";
-        let state = possible("not-owned", attached(&vec![1; nodes], &[11]));
+        let calls = "add listener 1.0.0.11 1.0.0.1\n= handle 1 0\nrelease 0\n= released\n";
+        let each = vec![told(&[], "not-owned", &vec![1; nodes], &[11])];
+        let line = 2 * nodes + 5;
         let found = check_log(&(SERVICE.to_string() + &registered + calls));
-        assert_eq!(found, Ok(no_run(2 * nodes + 5, " x\r", vec![state])));
+        assert_eq!(found, Ok(no_order(line, "released", line, each)));
     }
 }
 
 #[test]
-fn nobody_is_there_at_first() {
-    let found = check_log(&(SERVICE.to_string() + "nodes\n= \n"));
-    let state = possible("list", attached(&[], &[]));
-    assert_eq!(found, Ok(no_run(3, "", vec![state])));
+fn calls_that_overlapped_have_an_order_or_none() {
+    let both = "service event 7 1 0 0\nA> register 1.0.0.1\nB> register 1.0.0.2\n".to_string();
+    let one = check_log(&(both.clone() + "A< handle 0 0\nB< full\n"));
+    assert_eq!(one, Ok(Verdict::Conforms { calls: 2 }));
+    let two = check_log(&(both + "A< handle 0 0\nB< handle 0 1\n"));
+    let full = vec![told(&[], "full", &[1], &[])];
+    assert_eq!(two, Ok(no_order(5, "handle 0 1", 2, full)));
 }
 
 /// The first node is registered again and gets a port, while it is removed as a dead one: first,
 /// last, or after the port was attached and before it is registered.
 const THREE: &str = "\
-service event 7 3 2 0
 register 1.0.0.1
 = handle 0 0
 register 1.0.0.2
 = handle 1 1
-overlap
-A: dead 1.0.0.1
-= has-owners
-B: register 1.0.0.1
-= handle 2 2
-C: add listener 1.0.0.9 1.0.0.1
-= handle 0 0
-end
+A> dead 1.0.0.1
+B> register 1.0.0.1
+C> add listener 1.0.0.9 1.0.0.1
+A< has-owners
+B< handle 2 2
+C< handle 0 0
 ";
 
-fn three_states() -> [Attached; 3] {
-    [
-        attached(&[2, 1], &[9]),
-        attached(&[2], &[]),
-        attached(&[2, 1], &[]),
-    ]
-}
-
 #[test]
-fn a_group_has_an_order_or_none() {
-    let calls = |first: &str| {
-        let group = "service event 7 1 0 0\noverlap\nA: register 1.0.0.1\n= ".to_string();
-        check_log(&(group + first + "\nB: register 2.0.0.2\n= full\nend\n"))
+fn a_refusal_has_each_configuration() {
+    let with = |calls: &str| check_log(&(SERVICE.to_string() + THREE + calls));
+    let Ok(Verdict::NoOrder(refusal)) = with("count listener\n= count 7\n") else {
+        panic!("no order explains it");
     };
-    let one_came_first = Verdict::Conforms { calls: 2 };
-    assert_eq!(calls("handle 0 0"), Ok(one_came_first));
-    let none = no_order(7, vec![attached(&[], &[])]);
-    assert_eq!(calls("full"), Ok(none));
-    let locked = THREE.to_string() + "overlap\nA: register 1.0.0.3\n= locked\nend\n";
-    let of_three = no_order(17, three_states().to_vec());
-    assert_eq!(check_log(&locked), Ok(of_three));
-}
-
-#[test]
-fn a_group_leaves_each_state_of_its_orders() {
-    let with = |calls: &str| check_log(&(THREE.to_string() + calls));
-    let [first, second, third] = three_states();
-    let states = vec![
-        possible("count 1", first),
-        possible("count 0", second),
-        possible("count 0", third),
+    assert_eq!((refusal.line, refusal.window), (13, 13));
+    assert_eq!(refusal.words, "count 7");
+    let each = [
+        told(&[], "count 1", &[2, 1], &[9]),
+        told(&[], "count 0", &[2], &[]),
+        told(&[], "count 0", &[2, 1], &[]),
     ];
-    let refused = with("count listener\n= count 7\n");
-    assert_eq!(refused, Ok(no_run(15, "count 7", states)));
-    // The port is there, so that one state is left, and its handle is that of the fifth command.
-    let conforms = with("count listener\n= count 1\nrelease 4\n= released\n");
+    let found: HashSet<_> = refusal.configurations.iter().collect();
+    assert_eq!(found, each.iter().collect());
+    assert_eq!(refusal.configurations.len(), 3);
+    // The port is there, so that one state is left.
+    let conforms = with("count listener\n= count 1\nrelease listener 0 0\n= released\n");
     assert_eq!(conforms, Ok(Verdict::Conforms { calls: 7 }));
 }
 
-/// So many groups that each double the states: a node is registered again before or after it is
-/// removed as a dead one.
-fn doubled(groups: usize) -> String {
-    let mut log = SERVICE.to_string();
-    for node in 0..8 {
-        write!(log, "register 1.0.0.{node}\n= handle {node} {node}\n").unwrap();
-    }
-    for node in 0..groups {
-        let place = node + 8;
-        write!(log, "overlap\nA: dead 1.0.0.{node}\n= has-owners\n").unwrap();
-        write!(
-            log,
-            "B: register 1.0.0.{node}\n= handle {place} {place}\nend\n"
-        )
-        .unwrap();
-    }
-    log
+#[test]
+fn open_calls_are_told_by_their_lines() {
+    let listed = "list 1000000000000000000000001";
+    let log = format!("A> register 1.0.0.1\nnodes\n= {listed}\nnodes\n= list\n");
+    let found = check_log(&format!("service event 7 1 0 0\n{log}"));
+    let made = vec![told(&[2], listed, &[1], &[])];
+    assert_eq!(found, Ok(no_order(6, "list", 2, made)));
 }
 
 #[test]
-fn groups_lead_to_at_most_64_states() {
-    let Ok(Verdict::NoRun(most)) = check_log(&(doubled(6) + "nodes\n= x\n")) else {
-        panic!("no run gives it");
+fn at_most_64_calls_are_open() {
+    let open = |calls: usize| {
+        let lines: String = (0..calls).map(|k| format!("c{k}> nodes\n")).collect();
+        check_log(&(SERVICE.to_string() + &lines))
     };
-    let different: HashSet<_> = most.states.iter().collect();
-    assert_eq!(
-        (most.line, most.states.len(), different.len()),
-        (55, 64, 64)
-    );
-    for state in &most.states {
-        let ids = state.attached.nodes.iter().map(|id| format!(" {id}"));
-        let listed: String = ids.collect();
-        assert_eq!(state.possible, format!("list{listed}"));
-        assert!(state.attached.ports.is_empty());
-    }
-    assert_eq!(
-        check_log(&doubled(7)),
-        Ok(Verdict::TooManyStates { line: 59 })
-    );
-}
-
-#[test]
-fn groups_have_lines_of_their_own() {
-    let call = "A: nodes\n= list\n";
-    let eight = call.repeat(8);
-    let of_group = |rest: &str| check_log(&(SERVICE.to_string() + "overlap\n" + rest));
-    for (rest, calls) in [("end\n", 0), (&format!("# a note\n{call}\nend\n"), 1)] {
-        assert_eq!(of_group(rest), Ok(Verdict::Conforms { calls }));
-    }
-    assert_eq!(
-        of_group(&format!("{eight}end\n")),
-        Ok(Verdict::Conforms { calls: 8 })
-    );
-    let cases = [
-        ("", 3, Expected::GroupLine),
-        ("nodes\n= list\nend\n", 3, Expected::GroupLine),
-        ("a: nodes\n= list\nend\n", 3, Expected::GroupLine),
-        ("7: A: nodes\n= list\nend\n", 3, Expected::GroupLine),
-        ("A: nodes\nend\n", 4, Expected::Reply),
-        (call, 5, Expected::GroupLine),
-        (&format!("{call}end"), 5, Expected::GroupLine),
-        (&format!("{eight}{call}end\n"), 19, Expected::GroupEnd),
-        ("end\nend\n", 4, Expected::Command),
-    ];
-    for (rest, line, expected) in cases {
-        assert_eq!(
-            of_group(rest),
-            Ok(Verdict::BadLine { line, expected }),
-            "{rest}"
-        );
-    }
+    assert_eq!(open(64), Ok(Verdict::Conforms { calls: 64 }));
+    assert_eq!(open(65), Ok(Verdict::TooManyOpenCalls { line: 66 }));
 }
 
 #[test]
 fn verdicts_differ_by_each_field() {
-    let state = possible("list", attached(&[1], &[2]));
-    let refusal = no_run(3, "x", vec![state.clone()]);
-    let group = no_order(3, vec![attached(&[1], &[2])]);
-    let too_many = |line| Verdict::TooManyStates { line };
+    let one = told(&[2], "list", &[1], &[2]);
+    let refusal = |told| no_order(3, "x", 2, vec![told]);
     let bad = |expected| Verdict::BadLine { line: 3, expected };
     let different = [
-        no_run(4, "x", vec![state.clone()]),
-        no_run(3, "y", vec![state.clone()]),
-        no_run(3, "x", vec![state.clone(), state]),
-        no_run(3, "x", vec![possible("count 1", attached(&[1], &[2]))]),
-        no_run(3, "x", vec![possible("list", attached(&[2], &[2]))]),
-        no_run(3, "x", vec![possible("list", attached(&[1], &[3]))]),
-        refusal,
-        no_order(4, vec![attached(&[1], &[2])]),
-        no_order(3, vec![]),
-        no_order(3, vec![attached(&[1, 1], &[2])]),
-        no_order(3, vec![attached(&[1], &[])]),
-        group,
-        too_many(3),
-        too_many(4),
+        no_order(4, "x", 2, vec![one.clone()]),
+        no_order(3, "y", 2, vec![one.clone()]),
+        no_order(3, "x", 3, vec![one.clone()]),
+        no_order(3, "x", 2, vec![one.clone(), one.clone()]),
+        refusal(told(&[], "list", &[1], &[2])),
+        refusal(told(&[2], "count 1", &[1], &[2])),
+        refusal(told(&[2], "list", &[2], &[2])),
+        refusal(told(&[2], "list", &[1], &[3])),
+        refusal(one),
+        Verdict::TooManyConfigurations { line: 3 },
+        Verdict::TooManyConfigurations { line: 4 },
+        Verdict::TooManyOpenCalls { line: 3 },
+        Verdict::TooManyOpenCalls { line: 4 },
         Verdict::Conforms { calls: 3 },
         bad(Expected::Reply),
-        bad(Expected::GroupLine),
-        bad(Expected::GroupEnd),
+        bad(Expected::IdleCaller),
+        bad(Expected::OpenCall),
     ];
     for (at, one) in different.iter().enumerate() {
         let equal = different.iter().filter(|other| *other == one).count();
@@ -248,5 +176,183 @@ fn verdicts_differ_by_each_field() {
     assert_eq!(
         different.iter().collect::<HashSet<_>>().len(),
         different.len()
+    );
+}
+
+// ---- Logs that threads write ----
+
+fn a_log() -> LogWriter {
+    let ports = event::DynamicConfigSettings {
+        number_of_listeners: 3,
+        number_of_notifiers: 2,
+    };
+    LogWriter::new(ports, 4, 7)
+}
+
+/// What stands below the line of the service.
+fn lines(mut log: LogWriter) -> String {
+    let text = log.text();
+    let rest = text.strip_prefix("service event 7 4 3 2\n");
+    rest.expect("the line of the service").to_string()
+}
+
+#[test]
+fn each_service_has_its_line() {
+    let publish_subscribe = publish_subscribe::DynamicConfigSettings {
+        number_of_publishers: 1,
+        number_of_subscribers: 2,
+    };
+    let request_response = request_response::DynamicConfigSettings {
+        number_of_servers: 1,
+        number_of_clients: 2,
+    };
+    let blackboard = blackboard::DynamicConfigSettings {
+        number_of_readers: 1,
+        number_of_writers: 2,
+    };
+    let texts = [
+        LogWriter::new(publish_subscribe, 4, 7).text(),
+        LogWriter::new(request_response, 4, 7).text(),
+        LogWriter::new(blackboard, 4, 7).text(),
+    ];
+    assert_eq!(
+        texts,
+        ["publish-subscribe", "request-response", "blackboard"]
+            .map(|pattern| format!("service {pattern} 7 4 1 2\n"))
+    );
+}
+
+#[test]
+fn each_command_has_its_line() {
+    let port = UniquePortId::Listener(UniqueListenerId::new(u32::MAX, 0, 10, 3));
+    let (slot, ticket) = (12, u64::MAX);
+    let commands = [
+        (Command::Register(node(1)), "register 1.0.0.1"),
+        (
+            Command::Deregister { slot, ticket },
+            "deregister 12 18446744073709551615",
+        ),
+        (
+            Command::Add(port, node(1)),
+            "add listener 4294967295.0.10.3 1.0.0.1",
+        ),
+        (
+            Command::Release {
+                role: Role::Notifier,
+                slot,
+                ticket: 0,
+            },
+            "release notifier 12 0",
+        ),
+        (Command::Dead(node(1), vec![]), "dead 1.0.0.1"),
+        (
+            Command::Dead(node(1), vec![port, port]),
+            "dead 1.0.0.1 skip 4294967295.0.10.3 4294967295.0.10.3",
+        ),
+        (Command::Nodes, "nodes"),
+        (Command::List(Role::Client), "list client"),
+        (Command::Count(Role::Writer), "count writer"),
+    ];
+    for (command, line) in commands {
+        let log = a_log();
+        let mut caller = log.caller("worker1").unwrap();
+        caller.begin(command).unwrap().end(Reply::Full);
+        drop(caller);
+        assert_eq!(lines(log), format!("worker1> {line}\nworker1< full\n"));
+    }
+}
+
+#[test]
+fn each_reply_has_its_line() {
+    let port = UniquePortId::Notifier(UniqueNotifierId::new(0, 0, 0, 11));
+    let (slot, ticket) = (0, u64::MAX);
+    let replies = [
+        (
+            Reply::Handle { slot, ticket },
+            "handle 0 18446744073709551615",
+        ),
+        (Reply::Count(17), "count 17"),
+        (Reply::Nodes(vec![]), "list"),
+        (
+            Reply::Nodes(vec![node(1), node(2)]),
+            "list 1000000000000000000000001 1000000000000000000000002",
+        ),
+        (Reply::Ports(vec![port]), "list b"),
+        (Reply::Locked, "locked"),
+        (Reply::NotRegistered, "not-registered"),
+        (Reply::Full, "full"),
+        (Reply::WrongPattern, "wrong-pattern"),
+        (Reply::HasOwners, "has-owners"),
+        (Reply::NoOwners, "no-owners"),
+        (Reply::PortsAttached, "ports-attached"),
+        (Reply::Released, "released"),
+        (Reply::NotOwned, "not-owned"),
+    ];
+    for (reply, line) in replies {
+        let log = a_log();
+        let mut caller = log.caller("A").unwrap();
+        caller.begin(Command::Nodes).unwrap().end(reply);
+        drop(caller);
+        assert_eq!(lines(log), format!("A> nodes\nA< {line}\n"));
+    }
+}
+
+#[test]
+fn lines_stand_in_the_order_of_time() {
+    let log = a_log();
+    let (mut a, mut b) = (log.caller("A").unwrap(), log.caller("B").unwrap());
+    let first = b.begin(Command::Register(node(1))).unwrap();
+    a.begin(Command::Nodes).unwrap().end(Reply::Nodes(vec![]));
+    let second = a.begin(Command::Nodes).unwrap();
+    first.end(Reply::Handle { slot: 2, ticket: 0 });
+    second.end(Reply::Nodes(vec![node(1)]));
+    drop(b.begin(Command::Nodes).unwrap());
+    assert_eq!(b.begin(Command::Nodes).unwrap_err(), LogError::CallerIsBusy);
+    drop(a.begin(Command::Nodes).unwrap());
+    a.died();
+    b.died();
+    log.caller("C").unwrap().died(); // It has begun no call.
+    let text = lines(log);
+    assert!(
+        text.ends_with(
+            "A< list\nA> nodes\nB< handle 2 0\nA< list 1000000000000000000000001\n\
+             B> nodes\nA> nodes\nA!\nB!\n"
+        ) || text.ends_with(
+            "A< list\nA> nodes\nB< handle 2 0\nA< list 1000000000000000000000001\n\
+             A> nodes\nB> nodes\nA!\nB!\n"
+        ),
+        "{text}"
+    );
+}
+
+#[test]
+fn names_have_one_to_sixteen_letters_and_digits() {
+    let log = a_log();
+    for name in ["a", "A12345678901234b"] {
+        assert!(log.caller(name).is_ok());
+    }
+    for name in ["", "A12345678901234bc", "A>", "a b", "\u{e4}", "a\0"] {
+        assert_eq!(log.caller(name).unwrap_err(), LogError::NoName);
+    }
+}
+
+#[test]
+fn threads_write_one_log() {
+    let log = a_log();
+    thread::scope(|scope| {
+        for name in ["A", "B", "C", "D"] {
+            let mut caller = log.caller(name).unwrap();
+            scope.spawn(move || {
+                for _ in 0..500 {
+                    let call = caller.begin(Command::Count(Role::Listener)).unwrap();
+                    call.end(Reply::Count(0));
+                }
+            });
+        }
+    });
+    let mut log = log;
+    assert_eq!(
+        check_log(&log.text()),
+        Ok(Verdict::Conforms { calls: 2000 })
     );
 }

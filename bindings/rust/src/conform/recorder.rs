@@ -4,17 +4,13 @@ use crate::dynamic_config::{
     MessagingPatternSettings, PortCleanupAction, PortDetails, RegisterNodeResult,
 };
 use crate::identifiers::{UniqueNodeId, UniquePortId};
-use crate::messaging_pattern::MessagingPattern;
-use crate::plain::Plain;
-use crate::sys;
-use std::collections::HashMap;
-use std::fmt::Display;
+use crate::log::{self, Command, Ends, Record, Reply};
 
 /// A service that writes down each call on it with its reply, as a log that
 /// [`check_log`](super::check_log) judges. So what a test saw is compared with the proved machine.
 ///
-/// Its methods are those of [`DynamicConfig`] that have a line in a log. A call with a handle that
-/// no call here returned is refused, and stands in the log as a comment.
+/// Its methods are those of [`DynamicConfig`] that have a line in a log. A call with a handle of
+/// another service, or of the other kind, has no line.
 ///
 /// ```
 /// use iox2sd::conform::{check_log, Recorder, Verdict};
@@ -26,18 +22,18 @@ use std::fmt::Display;
 /// let node = UniqueNodeId::new(1, 0, 0, 1).expect("the id of a node");
 /// let handle = service.register_node_id(node)?;
 /// service.deregister_node_id(handle)?;
-/// let log = "service event 7 1 2 2\nregister 1.0.0.1\n= handle 0 0\nderegister 0\n= no-owners\n";
-/// assert_eq!(service.log(), log);
-/// assert_eq!(check_log(log), Ok(Verdict::Conforms { calls: 2 }));
+/// let log = service.log();
+/// assert!(log.ends_with("A> deregister 0 0\nA< no-owners\n"));
+/// assert_eq!(check_log(&log), Ok(Verdict::Conforms { calls: 2 }));
 /// # Ok::<(), Box<dyn std::error::Error>>(())
 /// ```
 #[derive(Debug)]
 pub struct Recorder {
     service: DynamicConfig,
-    log: String,
-    calls: usize,
-    /// The number of the call that returned each handle.
-    returned_by: HashMap<ContainerHandle, usize>,
+    /// The line of the service.
+    front: String,
+    ends: Ends,
+    record: Record,
 }
 
 impl Recorder {
@@ -63,20 +59,13 @@ impl Recorder {
         max_nodes: usize,
         service_number: u64,
     ) -> Result<Self, AllocError> {
+        let settings = settings.into();
         let service = DynamicConfig::new(settings, max_nodes, service_number)?;
-        let pattern = match service.kind() {
-            MessagingPattern::PublishSubscribe => "publish-subscribe",
-            MessagingPattern::Event => "event",
-            MessagingPattern::RequestResponse => "request-response",
-            MessagingPattern::Blackboard => "blackboard",
-        };
-        let (first, second) = service.port_roles();
-        let [first, second] = [first, second].map(|role| service.max_ports(role).unwrap_or(0));
         Ok(Recorder {
             service,
-            log: format!("service {pattern} {service_number} {max_nodes} {first} {second}\n"),
-            calls: 0,
-            returned_by: HashMap::new(),
+            front: log::service(&settings, max_nodes, service_number),
+            ends: Ends::default(),
+            record: Record::new("A").map_err(|_| AllocError)?,
         })
     }
 
@@ -122,12 +111,12 @@ impl Recorder {
     /// # use iox2sd::{conform::Recorder, prelude::*};
     /// let mut service = Recorder::with_capacities(&Config::default().defaults.event, 7)?;
     /// assert!(service.nodes().next().is_none());
-    /// assert_eq!(service.log(), "service event 7 36 16 16\nnodes\n= list\n");
+    /// assert_eq!(service.log(), "service event 7 36 16 16\nA> nodes\nA< list\n");
     /// # Ok::<(), Box<dyn std::error::Error>>(())
     /// ```
     #[must_use]
-    pub fn log(&self) -> &str {
-        &self.log
+    pub fn log(&self) -> String {
+        log::text(&self.front, std::slice::from_ref(&self.record))
     }
 
     /// [`DynamicConfig::register_node_id`], written down.
@@ -144,7 +133,7 @@ impl Recorder {
     /// # let mut service = Recorder::new(ports, 0, 7)?;
     /// let node = UniqueNodeId::new(1, 0, 0, 1).expect("the id of a node");
     /// assert!(service.register_node_id(node).is_err());
-    /// assert!(service.log().ends_with("register 1.0.0.1\n= full\n"));
+    /// assert!(service.log().ends_with("A> register 1.0.0.1\nA< full\n"));
     /// # Ok::<(), Box<dyn std::error::Error>>(())
     /// ```
     pub fn register_node_id(
@@ -152,14 +141,13 @@ impl Recorder {
         node_id: UniqueNodeId,
     ) -> Result<ContainerHandle, RegisterNodeResult> {
         let made = self.service.register_node_id(node_id);
-        self.write_made(
-            &format!("register {}", dotted(node_id.as_c())),
-            made,
-            |refused| match refused {
-                RegisterNodeResult::MarkedForDestruction => "locked",
-                RegisterNodeResult::ExceedsMaxNumberOfNodes => "full",
-            },
-        )
+        let reply = match made {
+            Ok(handle) => made_reply(handle),
+            Err(RegisterNodeResult::MarkedForDestruction) => Reply::Locked,
+            Err(RegisterNodeResult::ExceedsMaxNumberOfNodes) => Reply::Full,
+        };
+        self.write(Command::Register(node_id), reply);
+        made
     }
 
     /// [`DynamicConfig::deregister_node_id`], written down.
@@ -176,7 +164,7 @@ impl Recorder {
     /// # let node = UniqueNodeId::new(1, 0, 0, 1).expect("the id of a node");
     /// let handle = service.register_node_id(node)?;
     /// service.deregister_node_id(handle)?;
-    /// assert!(service.log().ends_with("deregister 0\n= no-owners\n"));
+    /// assert!(service.log().ends_with("A> deregister 0 0\nA< no-owners\n"));
     /// # Ok::<(), Box<dyn std::error::Error>>(())
     /// ```
     pub fn deregister_node_id(
@@ -185,11 +173,14 @@ impl Recorder {
     ) -> Result<DeregisterNodeState, DeregisterError> {
         let removed = self.service.deregister_node_id(handle);
         let reply = match removed {
-            Ok(state) => words_of_state(state),
-            Err(DeregisterError::ContainerHandleNotOwnedByContainer) => "not-owned",
-            Err(DeregisterError::PortsStillAttached) => "ports-attached",
+            Ok(state) => state_reply(state),
+            Err(DeregisterError::ContainerHandleNotOwnedByContainer) => Reply::NotOwned,
+            Err(DeregisterError::PortsStillAttached) => Reply::PortsAttached,
         };
-        self.write_removed("deregister", handle, reply);
+        let (slot, ticket) = (handle.slot(), handle.ticket());
+        if self.is_own(handle) && handle.role() == Role::Node {
+            self.write(Command::Deregister { slot, ticket }, reply);
+        }
         removed
     }
 
@@ -207,7 +198,7 @@ impl Recorder {
     /// # let node_id = UniqueNodeId::new(1, 0, 0, 1).expect("the id of a node");
     /// let listener_id = UniqueListenerId::new(1, 0, 0, 2);
     /// assert!(service.attach(ListenerDetails { listener_id, node_id }).is_err());
-    /// assert!(service.log().ends_with("add listener 1.0.0.2 1.0.0.1\n= not-registered\n"));
+    /// assert!(service.log().ends_with("listener 1.0.0.2 1.0.0.1\nA< not-registered\n"));
     /// # Ok::<(), Box<dyn std::error::Error>>(())
     /// ```
     pub fn attach(
@@ -215,19 +206,17 @@ impl Recorder {
         details: impl Into<PortDetails>,
     ) -> Result<ContainerHandle, AttachError> {
         let details = details.into();
-        let command = format!(
-            "add {} {} {}",
-            word_of(details.role()),
-            dotted(details.port_id().parts()),
-            dotted(details.node_id().as_c())
-        );
+        let command = Command::Add(details.port_id(), details.node_id());
         let made = self.service.attach(details);
-        self.write_made(&command, made, |refused| match refused {
-            AttachError::RoleNotInPattern => "wrong-pattern",
-            AttachError::ServiceIsLocked => "locked",
-            AttachError::NodeNotRegistered => "not-registered",
-            AttachError::OutOfSpace => "full",
-        })
+        let reply = match made {
+            Ok(handle) => made_reply(handle),
+            Err(AttachError::RoleNotInPattern) => Reply::WrongPattern,
+            Err(AttachError::ServiceIsLocked) => Reply::Locked,
+            Err(AttachError::NodeNotRegistered) => Reply::NotRegistered,
+            Err(AttachError::OutOfSpace) => Reply::Full,
+        };
+        self.write(command, reply);
+        made
     }
 
     /// [`DynamicConfig::release_port`], written down.
@@ -241,18 +230,21 @@ impl Recorder {
     /// ```
     /// # use iox2sd::{conform::Recorder, prelude::*};
     /// # let mut service = Recorder::with_capacities(&Config::default().defaults.event, 7)?;
-    /// let foreign = ContainerHandle::from_parts(7, Role::Listener, 0, 0);
-    /// assert!(service.release_port(foreign).is_err());
-    /// assert!(service.log().ends_with("# release: no call returned the handle\n"));
+    /// let stale = ContainerHandle::from_parts(7, Role::Listener, 0, 0);
+    /// assert!(service.release_port(stale).is_err());
+    /// assert!(service.log().ends_with("A> release listener 0 0\nA< not-owned\n"));
     /// # Ok::<(), Box<dyn std::error::Error>>(())
     /// ```
     pub fn release_port(&mut self, handle: ContainerHandle) -> Result<(), ContainerRemoveError> {
         let removed = self.service.release_port(handle);
         let reply = match removed {
-            Ok(()) => "released",
-            Err(ContainerRemoveError::ContainerHandleNotOwnedByContainer) => "not-owned",
+            Ok(()) => Reply::Released,
+            Err(ContainerRemoveError::ContainerHandleNotOwnedByContainer) => Reply::NotOwned,
         };
-        self.write_removed("release", handle, reply);
+        let (role, slot, ticket) = (handle.role(), handle.slot(), handle.ticket());
+        if self.is_own(handle) && role != Role::Node {
+            self.write(Command::Release { role, slot, ticket }, reply);
+        }
         removed
     }
 
@@ -266,7 +258,7 @@ impl Recorder {
     /// # let node = UniqueNodeId::new(1, 0, 0, 1).expect("the id of a node");
     /// service.register_node_id(node)?;
     /// service.remove_dead_node_id(&node, |_| PortCleanupAction::RemovePort);
-    /// assert!(service.log().ends_with("dead 1.0.0.1\n= no-owners\n"));
+    /// assert!(service.log().ends_with("A> dead 1.0.0.1\nA< no-owners\n"));
     /// # Ok::<(), Box<dyn std::error::Error>>(())
     /// ```
     pub fn remove_dead_node_id<F: FnMut(UniquePortId) -> PortCleanupAction>(
@@ -274,17 +266,15 @@ impl Recorder {
         dead: &UniqueNodeId,
         mut callback: F,
     ) -> DeregisterNodeState {
-        let mut skipped = String::new();
+        let mut skipped = Vec::new();
         let state = self.service.remove_dead_node_id(dead, |port| {
             let action = callback(port);
             if action == PortCleanupAction::SkipPort {
-                skipped += if skipped.is_empty() { " skip " } else { " " };
-                skipped += &dotted(port.parts());
+                skipped.push(port);
             }
             action
         });
-        let command = format!("dead {}{skipped}", dotted(dead.as_c()));
-        self.write(&command, words_of_state(state));
+        self.write(Command::Dead(*dead, skipped), state_reply(state));
         state
     }
 
@@ -294,12 +284,12 @@ impl Recorder {
     /// # use iox2sd::{conform::Recorder, prelude::*};
     /// # let mut service = Recorder::with_capacities(&Config::default().defaults.event, 7)?;
     /// assert_eq!(service.nodes().len(), 0);
-    /// assert!(service.log().ends_with("nodes\n= list\n"));
+    /// assert!(service.log().ends_with("A> nodes\nA< list\n"));
     /// # Ok::<(), Box<dyn std::error::Error>>(())
     /// ```
     pub fn nodes(&mut self) -> Entries<UniqueNodeId> {
         let nodes = self.service.nodes();
-        self.write("nodes", &listed(nodes.as_slice()));
+        self.write(Command::Nodes, Reply::Nodes(nodes.as_slice().to_vec()));
         nodes
     }
 
@@ -309,16 +299,18 @@ impl Recorder {
     /// # use iox2sd::{conform::Recorder, prelude::*};
     /// # let mut service = Recorder::with_capacities(&Config::default().defaults.event, 7)?;
     /// assert!(service.ports(Role::Reader).is_none());
-    /// assert!(service.log().ends_with("list reader\n= wrong-pattern\n"));
+    /// assert!(service.log().ends_with("A> list reader\nA< wrong-pattern\n"));
     /// # Ok::<(), Box<dyn std::error::Error>>(())
     /// ```
     pub fn ports(&mut self, role: Role) -> Option<Entries<PortDetails>> {
         let ports = self.service.ports(role);
-        let reply = ports.as_ref().map(|ports| {
-            let ids: Vec<_> = ports.as_slice().iter().map(PortDetails::port_id).collect();
-            listed(&ids)
-        });
-        self.write_of_role("list", role, reply.as_deref());
+        if role != Role::Node {
+            let ids = |ports: &Entries<PortDetails>| {
+                ports.as_slice().iter().map(PortDetails::port_id).collect()
+            };
+            let reply = ports.as_ref().map(ids).map(Reply::Ports);
+            self.write(Command::List(role), reply.unwrap_or(Reply::WrongPattern));
+        }
         ports
     }
 
@@ -328,86 +320,40 @@ impl Recorder {
     /// # use iox2sd::{conform::Recorder, prelude::*};
     /// # let mut service = Recorder::with_capacities(&Config::default().defaults.event, 7)?;
     /// assert_eq!(service.count_ports(Role::Listener), Some(0));
-    /// assert!(service.log().ends_with("count listener\n= count 0\n"));
+    /// assert!(service.log().ends_with("A> count listener\nA< count 0\n"));
     /// # Ok::<(), Box<dyn std::error::Error>>(())
     /// ```
     pub fn count_ports(&mut self, role: Role) -> Option<usize> {
         let count = self.service.count_ports(role);
-        let reply = count.map(|count| format!("count {count}"));
-        self.write_of_role("count", role, reply.as_deref());
+        if role != Role::Node {
+            let reply = count.map(Reply::Count);
+            self.write(Command::Count(role), reply.unwrap_or(Reply::WrongPattern));
+        }
         count
     }
 
-    fn append(&mut self, parts: &[&str]) {
-        for part in parts {
-            self.log.push_str(part);
-        }
+    fn is_own(&self, handle: ContainerHandle) -> bool {
+        handle.service() == self.service.service_number()
     }
 
-    fn write(&mut self, command: &str, reply: &str) {
-        self.append(&[command, "\n= ", reply, "\n"]);
-        self.calls += 1;
-    }
-
-    /// Writes a call that returns a handle, and returns what it returned.
-    fn write_made<E>(
-        &mut self,
-        command: &str,
-        made: Result<ContainerHandle, E>,
-        words: impl FnOnce(&E) -> &'static str,
-    ) -> Result<ContainerHandle, E> {
-        match &made {
-            Ok(handle) => {
-                self.returned_by.insert(*handle, self.calls);
-                let reply = format!("handle {} {}", handle.slot(), handle.ticket());
-                self.write(command, &reply);
-            }
-            Err(refused) => self.write(command, words(refused)),
-        }
-        made
-    }
-
-    /// Writes a call that takes a handle. A line names the call that returned it.
-    fn write_removed(&mut self, command: &str, handle: ContainerHandle, reply: &str) {
-        match self.returned_by.get(&handle) {
-            Some(call) => self.write(&format!("{command} {call}"), reply),
-            None => self.append(&["# ", command, ": no call returned the handle\n"]),
-        }
-    }
-
-    /// Writes a query about the ports of a role.
-    fn write_of_role(&mut self, command: &str, role: Role, reply: Option<&str>) {
-        if role != Role::Node {
-            let command = format!("{command} {}", word_of(role));
-            self.write(&command, reply.unwrap_or("wrong-pattern"));
-        }
+    /// Writes a call with its reply.
+    fn write(&mut self, command: Command, reply: Reply) {
+        let begun = self.record.begin(&self.ends, command);
+        begun.expect("there is memory, as for a `Vec`");
+        self.record.end(&self.ends, reply);
     }
 }
 
-fn word_of(role: Role) -> String {
-    role.to_string().to_lowercase()
+fn made_reply(handle: ContainerHandle) -> Reply {
+    Reply::Handle {
+        slot: handle.slot(),
+        ticket: handle.ticket(),
+    }
 }
 
-fn words_of_state(state: DeregisterNodeState) -> &'static str {
+fn state_reply(state: DeregisterNodeState) -> Reply {
     match state {
-        DeregisterNodeState::HasOwners => "has-owners",
-        DeregisterNodeState::NoMoreOwners => "no-owners",
+        DeregisterNodeState::HasOwners => Reply::HasOwners,
+        DeregisterNodeState::NoMoreOwners => Reply::NoOwners,
     }
-}
-
-/// An id as commands have it.
-fn dotted(id: sys::iox2sd_id) -> String {
-    let sys::iox2sd_id {
-        process,
-        seconds,
-        nanoseconds,
-        counter,
-    } = id;
-    format!("{process}.{seconds}.{nanoseconds}.{counter}")
-}
-
-/// Ids as replies have them.
-fn listed(ids: &[impl Display]) -> String {
-    let words = ids.iter().map(|id| format!(" {id}"));
-    std::iter::once(String::from("list")).chain(words).collect()
 }
