@@ -139,7 +139,7 @@ struct [[nodiscard]] LogVerdict {
 
     /// With `NoOrder`: the words of the reply that was seen. Else nothing.
     std::string_view words() const& noexcept {
-        std::string_view lines = refusal();
+        std::string_view lines = below_first();
         return lines.empty() ? lines : detail::take_line(lines, "seen: ");
     }
     std::string_view words() const&& = delete;
@@ -147,7 +147,7 @@ struct [[nodiscard]] LogVerdict {
     /// With `NoOrder`: the line from which the window is open, which is that of the first event of
     /// the service since none of its calls was open. Else 0.
     std::size_t window() const noexcept {
-        std::string_view lines = refusal();
+        std::string_view lines = below_first();
         if (lines.empty()) return 0;
         detail::take_line(lines, {});
         std::size_t number = 0;
@@ -159,7 +159,7 @@ struct [[nodiscard]] LogVerdict {
 
     /// With `NoOrder`: what the calls before the reply can have led to, at least one. Else none.
     Configurations configurations() const& noexcept {
-        std::string_view lines = refusal();
+        std::string_view lines = below_first();
         if (lines.empty()) return Configurations({});
         detail::take_line(lines, {});
         detail::take_line(lines, {});
@@ -168,8 +168,8 @@ struct [[nodiscard]] LogVerdict {
     Configurations configurations() const&& = delete;
 
 private:
-    /// The lines of a refusal below the first one.
-    std::string_view refusal() const noexcept {
+    /// With `NoOrder`: the lines of the report below the first one.
+    std::string_view below_first() const noexcept {
         if (status != Status::NoOrder) return {};
         std::string_view lines = text;
         detail::take_line(lines, {});
@@ -319,7 +319,7 @@ private:
     }
 
     /// The reply of a call that is refused, where one says so.
-    static std::optional<LogReply> refusal(Status status) noexcept {
+    static std::optional<LogReply> refused_reply(Status status) noexcept {
         if (status == Status::IsLocked) return LogReply::locked();
         if (status == Status::NodeNotRegistered) return LogReply::not_registered();
         if (status == Status::OutOfSpace) return LogReply::full();
@@ -333,8 +333,8 @@ private:
     /// line cannot be missing.
     template <class Reply, class Make>
     std::invoke_result_t<Make> recorded(const LogCommand& command, Reply reply, Make make) {
-        const Result<void> room = caller_.reserve(1, command.as_c().kept_count);
-        if (!room) return room.error();
+        const Result<void> taken = caller_.reserve(1, command.as_c().kept_count);
+        if (!taken) return taken.error();
         auto made = make();
         if (made) {
             if constexpr (std::is_void_v<typename decltype(made)::value_type>) {
@@ -342,7 +342,7 @@ private:
             } else {
                 write(command, reply(*made));
             }
-        } else if (const auto refused = refusal(made.error())) {
+        } else if (const auto refused = refused_reply(made.error())) {
             write(command, *refused);
         }
         return made;
@@ -357,11 +357,11 @@ private:
             if (!copied) return copied.error();
             ids = std::move(copied).value();
         }
-        const Result<void> room = caller_.reserve(1, ids.size());
-        if (!room) return room.error();
+        const Result<void> taken = caller_.reserve(1, ids.size());
+        if (!taken) return taken.error();
         if (found) {
             write(command, LogReply::list(ids.data(), ids.size()));
-        } else if (const auto refused = refusal(found.error())) {
+        } else if (const auto refused = refused_reply(found.error())) {
             write(command, *refused);
         }
         return found;

@@ -8,8 +8,8 @@
  * to it, and the rest is written to memory of the caller's own. So what one call ended before
  * another began stands so in the log, and an end stands below the begins of the same number.
  *
- * - Memory is taken by malloc and realloc where a caller is made, and where it has more calls or ids
- *   than were reserved. It is freed by iox2sd_log_writer_free alone.
+ * - Memory is taken by malloc and realloc where a caller is made, and where it has more calls or
+ *   ids than were reserved. It is freed by iox2sd_log_writer_free alone.
  * - Where memory is refused the status says so, and the log is as it was.
  * - One thread at a time uses a caller. Callers are made on any thread. The writer is written and
  *   freed after the threads were joined.
@@ -247,7 +247,7 @@ typedef struct iox2sd_log_token {
     size_t call;
 } iox2sd_log_token;
 
-/* Begins the log of a service with nothing attached. The writer stays where it is until it is freed.
+/* Begins the log of a service with nothing attached. The writer stays where it is until freed.
  * Errors: IOX2SD_STATUS_NULL; IOX2SD_STATUS_UNKNOWN_PATTERN. */
 IOX2SD_CHECKED static inline iox2sd_status
 iox2sd_log_writer_create(iox2sd_log_writer *writer, iox2sd_pattern pattern, uint64_t number,
@@ -273,37 +273,37 @@ static inline void iox2sd_log_writer_free(iox2sd_log_writer *writer) {
     }
 }
 
-/* Room for at least `needed` items, which is written once, so that the system has given it. */
-static inline void *iox2sd_log_room(void *items, size_t count, size_t *capacity, size_t needed,
+/* Memory for at least `needed` items, which is written once, so that the system has given it. */
+static inline void *iox2sd_log_take(void *items, size_t count, size_t *capacity, size_t needed,
                                     size_t size) {
     if (needed > SIZE_MAX / 2 / size) return NULL;
-    void *const room = realloc(items, needed * size);
-    if (room == NULL) return NULL;
-    memset((char *)room + count * size, 0, (needed - count) * size);
+    void *const memory = realloc(items, needed * size);
+    if (memory == NULL) return NULL;
+    memset((char *)memory + count * size, 0, (needed - count) * size);
     *capacity = needed;
-    return room;
+    return memory;
 }
 
-/* Room for one more call than there are. Error: IOX2SD_STATUS_NO_MEMORY. */
-static inline iox2sd_status iox2sd_log_room_for_calls(iox2sd_log_caller *caller, size_t more) {
+/* Takes memory for so many more calls. Error: IOX2SD_STATUS_NO_MEMORY. */
+static inline iox2sd_status iox2sd_log_take_calls(iox2sd_log_caller *caller, size_t more) {
     if (more <= caller->call_capacity - caller->call_count) return IOX2SD_STATUS_DONE;
     if (more > SIZE_MAX / 4 - caller->call_count) return IOX2SD_STATUS_NO_MEMORY;
-    void *const room =
-        iox2sd_log_room(caller->calls, caller->call_count, &caller->call_capacity,
+    void *const memory =
+        iox2sd_log_take(caller->calls, caller->call_count, &caller->call_capacity,
                         2 * caller->call_count + more, sizeof *caller->calls);
-    if (room == NULL) return IOX2SD_STATUS_NO_MEMORY;
-    caller->calls = (struct iox2sd_log_call *)room;
+    if (memory == NULL) return IOX2SD_STATUS_NO_MEMORY;
+    caller->calls = (struct iox2sd_log_call *)memory;
     return IOX2SD_STATUS_DONE;
 }
 
 /* The same for ids. */
-static inline iox2sd_status iox2sd_log_room_for_ids(iox2sd_log_caller *caller, size_t more) {
+static inline iox2sd_status iox2sd_log_take_ids(iox2sd_log_caller *caller, size_t more) {
     if (more <= caller->id_capacity - caller->id_count) return IOX2SD_STATUS_DONE;
     if (more > SIZE_MAX / 4 - caller->id_count) return IOX2SD_STATUS_NO_MEMORY;
-    void *const room = iox2sd_log_room(caller->ids, caller->id_count, &caller->id_capacity,
+    void *const memory = iox2sd_log_take(caller->ids, caller->id_count, &caller->id_capacity,
                                        2 * caller->id_count + more, sizeof *caller->ids);
-    if (room == NULL) return IOX2SD_STATUS_NO_MEMORY;
-    caller->ids = (iox2sd_id *)room;
+    if (memory == NULL) return IOX2SD_STATUS_NO_MEMORY;
+    caller->ids = (iox2sd_id *)memory;
     return IOX2SD_STATUS_DONE;
 }
 
@@ -312,8 +312,8 @@ static inline iox2sd_status iox2sd_log_room_for_ids(iox2sd_log_caller *caller, s
 IOX2SD_CHECKED static inline iox2sd_status iox2sd_log_reserve(iox2sd_log_caller *caller,
                                                               size_t calls, size_t ids) {
     if (caller == NULL) return IOX2SD_STATUS_NULL;
-    const iox2sd_status status = iox2sd_log_room_for_calls(caller, calls);
-    return status == IOX2SD_STATUS_DONE ? iox2sd_log_room_for_ids(caller, ids) : status;
+    const iox2sd_status status = iox2sd_log_take_calls(caller, calls);
+    return status == IOX2SD_STATUS_DONE ? iox2sd_log_take_ids(caller, ids) : status;
 }
 
 /* Whether a byte may stand in the name of a caller. */
@@ -322,8 +322,8 @@ static inline bool iox2sd_log_is_of_name(char byte) {
            (byte >= 'a' && byte <= 'z');
 }
 
-/* Makes a caller with this name, which ends in a zero byte: one to sixteen ASCII letters and digits.
- * Two callers with one name are one caller to whoever judges the log.
+/* Makes a caller with this name, which ends in a zero byte: one to sixteen ASCII letters and
+ * digits. Two callers with one name are one caller to whoever judges the log.
  * Errors: IOX2SD_STATUS_NULL; IOX2SD_STATUS_EMPTY; IOX2SD_STATUS_TOO_LONG;
  * IOX2SD_STATUS_ILLEGAL_BYTE; IOX2SD_STATUS_NO_MEMORY. */
 IOX2SD_CHECKED static inline iox2sd_log_caller_answer
@@ -371,7 +371,7 @@ static inline iox2sd_status iox2sd_log_command_check(const iox2sd_log_command *c
     return IOX2SD_STATUS_DONE;
 }
 
-/* Copies ids to the caller's own, for which there is room. Returns where they begin. */
+/* Copies ids to the caller's own, for which there is memory. Returns where they begin. */
 static inline size_t iox2sd_log_keep(iox2sd_log_caller *caller, const iox2sd_id *ids,
                                      size_t count) {
     const size_t at = caller->id_count;
@@ -420,8 +420,8 @@ IOX2SD_CHECKED static inline iox2sd_log_token iox2sd_log_begin(iox2sd_log_caller
  * IOX2SD_STATUS_NO_MEMORY, which a list alone meets: the call stays open. */
 static inline iox2sd_status iox2sd_log_end(iox2sd_log_token token, iox2sd_log_reply reply) {
     iox2sd_log_caller *const caller = token.caller;
-    const bool lists = reply.kind == IOX2SD_LOG_LISTED && reply.count != 0;
-    if (caller == NULL || (reply.ids == NULL && lists)) return IOX2SD_STATUS_NULL;
+    const bool has_ids = reply.kind == IOX2SD_LOG_LISTED && reply.count != 0;
+    if (caller == NULL || (reply.ids == NULL && has_ids)) return IOX2SD_STATUS_NULL;
     if (reply.kind > IOX2SD_LOG_NOT_OWNED) return IOX2SD_STATUS_UNKNOWN_VARIANT;
     if (token.status != IOX2SD_STATUS_DONE || !caller->has_open_call ||
         token.call + 1 != caller->call_count) {
@@ -432,7 +432,7 @@ static inline iox2sd_status iox2sd_log_end(iox2sd_log_token token, iox2sd_log_re
     call->seen[0] = reply.kind == IOX2SD_LOG_COUNTED ? reply.count : reply.slot;
     call->seen[1] = reply.ticket;
     if (reply.kind == IOX2SD_LOG_LISTED) {
-        const iox2sd_status status = iox2sd_log_room_for_ids(caller, reply.count);
+        const iox2sd_status status = iox2sd_log_take_ids(caller, reply.count);
         if (status != IOX2SD_STATUS_DONE) return status;
         call->seen[0] = iox2sd_log_keep(caller, reply.ids, reply.count);
         call->seen[1] = reply.count;
@@ -552,8 +552,8 @@ static inline void iox2sd_log_put_reply(struct iox2sd_log_text *text,
     }
 }
 
-/* The number of the next line of a caller: twice that of an end, one more for an end, so that begins
- * of the same number stand above it. IOX2SD_LOG_NEVER where no line is left. */
+/* Where the next line of a caller stands: begins stand above an end of the same number.
+ * IOX2SD_LOG_NEVER where no line is left. */
 static inline uint64_t iox2sd_log_next(const iox2sd_log_caller *caller) {
     if (caller->at == caller->call_count || caller->ended) {
         if (caller->ended || caller->at == 0) return IOX2SD_LOG_NEVER;

@@ -126,8 +126,8 @@ class LogWriter:
 
         >>> import iox2sd
         >>> from iox2sd import LogCommand, LogReply, LogWriter
-        >>> room = iox2sd.Capacities(nodes=2, first=1, second=1)
-        >>> log = LogWriter(iox2sd.MessagingPattern.EVENT, 7, room)
+        >>> capacities = iox2sd.Capacities(nodes=2, first=1, second=1)
+        >>> log = LogWriter(iox2sd.MessagingPattern.EVENT, 7, capacities)
         >>> first, second = log.caller("A"), log.caller("B")
         >>> call = first.begin(LogCommand.register(iox2sd.UniqueNodeId(1, 0, 0, 1)))
         >>> second.begin(LogCommand.nodes()).end(LogReply.list([]))
@@ -146,8 +146,8 @@ class LogWriter:
         """The log of a service with nothing attached."""
         pattern = messaging_pattern.name.lower().replace("_", "-")
         of = number(service_number, U64, "LogWriter.service_number")
-        room = f"{capacities.nodes} {capacities.first} {capacities.second}"
-        self._service = f"service {pattern} {of} {room}\n"
+        most = f"{capacities.nodes} {capacities.first} {capacities.second}"
+        self._service = f"service {pattern} {of} {most}\n"
         self._numbers = numbers()
         self._callers: "list[LogCaller]" = []
 

@@ -190,7 +190,7 @@ pub struct LogWriter {
 /// The callers of a log.
 #[derive(Debug, Default)]
 struct Callers {
-    /// What those recorded that are gone, with room for the others.
+    /// What those recorded that are gone, with capacity for the others.
     records: Vec<Record>,
     /// How many are not gone.
     alive: usize,

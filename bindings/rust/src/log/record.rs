@@ -121,8 +121,8 @@ impl Record {
         self.died = Some(ends.take());
     }
 
-    /// What happened, each with its place in the log: begins stand above an end of their number. A
-    /// caller that has begun no call has no line.
+    /// What happened, each with its number in the log: begins stand above an end of theirs. A caller
+    /// that has begun no call has no line.
     pub(super) fn events(&self) -> impl Iterator<Item = (u64, Event<'_>)> {
         let died = self.died.filter(|_| !self.calls.is_empty());
         let death = died.map(|number| (2 * number + 1, Event::Death));
