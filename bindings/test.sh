@@ -294,6 +294,14 @@ for compiler in g++ clang++; do
         example "$compiler" "$source" c++17
     done
 done
+if has g++; then
+    if [ -x ../crates/iox2_conform/out/iox2_conform ]; then
+        run "the logs of a registry without a lock conform, and its faults are found" \
+            lockfree/run 3000
+    else
+        echo "not found: iox2_conform, so no logs of a registry without a lock are judged"
+    fi
+fi
 run "statuses agree" same_statuses
 if has python3; then run "the structs are those of the table" ./fields; fi
 if has objdump && [ "$(uname -m)" = x86_64 ]; then

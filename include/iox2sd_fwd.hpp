@@ -1,5 +1,5 @@
-/// Declarations of what iox2sd.hpp, iox2sd_config.hpp, iox2sd_log.hpp and iox2sd_conform.hpp define,
-/// for headers that only name these types. Ports and patterns of any kind (`PortDetails`,
+/// Declarations of what iox2sd.hpp, iox2sd_config.hpp, iox2sd_log.hpp and iox2sd_conform.hpp
+/// define, for headers that only name these types. Ports and patterns of any kind (`PortDetails`,
 /// `MessagingPattern`) are variants, and are not declared here.
 #ifndef IOX2SD_FWD_HPP
 #define IOX2SD_FWD_HPP

@@ -4,8 +4,8 @@
  *
  * A header alone, which calls no function of the library. A writer has the log of one service, and
  * each thread a caller of its own. A call is begun before the registry is called and ended once the
- * reply is seen. Neither takes a lock: a begin reads the one counter that callers share, an end adds
- * to it, and the rest is written to memory of the caller's own. So what one call ended before
+ * reply is seen. Neither takes a lock: a begin reads the one counter that callers share, an end
+ * adds to it, and the rest is written to memory of the caller's own. So what one call ended before
  * another began stands so in the log, and an end stands below the begins of the same number.
  *
  * - Memory is taken by malloc and realloc where a caller is made, and where it has more calls or
