@@ -58,7 +58,8 @@ fn order_service(
     requires orderly { IsOrderly service.now }
     requires placed { IsPlaced log.now service.now }
     ensures found { IfOk result (IsFoundOf service.now) }
-    ensures order { IfOk result (λ found. IfNone found ((order : Order) × IsOrderOf service.now order
+    ensures order { IfOk result (λ found. IfNone found ((order : Order)
+        × IsOrderOf service.now order
         × (orders.new.items ≡ orders.old.items ++ order ∷ []))) }
 {
     match explore(alloc, log, service, Cut::Never)? {

@@ -92,8 +92,8 @@ fn run<R: Source, W: Sink, E: Sink>(
     }
 }
 
-/// Judges the log that the reader gives, reports it, with the orders if they are wanted, and answers
-/// the status of the program.
+/// Judges the log that the reader gives, reports it, with the orders if they are wanted, and
+/// answers the status of the program.
 fn answer<R: Source, W: Sink, E: Sink>(
     alloc: Global,
     input: &mut R,
@@ -161,8 +161,8 @@ pub fn check_witness_streams<R: Source, W: Sink, E: Sink>(
 ) -> u8
     ensures range { result < 4 }
     // A status below 3 is that of a verdict on the log, and the writers got what fits it.
-    ensures reported { result < 3 → IfSome (R.remaining input.old) (λ log. ReportedWith true log result
-        (W.contents output.old) (W.contents output.new)
+    ensures reported { result < 3 → IfSome (R.remaining input.old)
+        (λ log. ReportedWith true log result (W.contents output.old) (W.contents output.new)
         (E.contents errors.old) (E.contents errors.new)) }
     // Both writers were flushed last.
     ensures flushed { result < 3

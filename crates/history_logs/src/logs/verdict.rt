@@ -76,7 +76,7 @@ pub enum Verdict {
 pub struct Order {
     /// The number of the service.
     pub service: u64,
-    /// The lines in which its calls begin: a call alone begins in the line of its reply. A call that
-    /// was never answered and took no effect is not there.
+    /// The lines in which its calls begin: a call alone begins in the line of its reply. A call
+    /// that was never answered and took no effect is not there.
     pub lines: Vec<usize>,
 }
