@@ -9,8 +9,6 @@ use Rattle.iox2_dynamic.specs.Ports.{Ports, OnSide, IsNeither}
 use Rattle.iox2_dynamic.specs.PortsState.{Side, of_side, other_side}
 use Rattle.iox2_dynamic.specs.PortsState.Side.{First, Second}
 use Rattle.iox2_dynamic.specs.Steps.{AddsPort, RemovesPort}
-use Rattle.service_conformance.specs.declared.conformance.possible.Possible.{Possible}
-use Rattle.service_conformance.specs.Possible.{Allows, ArePossible}
 use Rattle.service_conformance.specs.Sides.{role_at, ports_at}
 use Rattle.service_conformance.proofs.Sides.{has_role, lacks, one_side, step_at}
 use Rattle.iox2_container.specs.declared.container.refusal.ContainerRemoveError.TheVariants.{ContainerHandleNotOwnedByContainer}
@@ -239,12 +237,3 @@ module _ (s : Service) (h : Handle) where
 pub reported : (s : Service) (Reported : Reply → Type 0) (r : Reply) → quiet s ≡ s
     → LeadsTo (Reports s Reported) r s
 reported s Reported r rest = λ w so. ap quiet so.1 ∙ rest
-
--- the possible replies are those that can be given
-pub can_be : (s : Service) (Step : Reply → Service → Type 0) (p : Possible) (r : Reply)
-    → ArePossible s Step p → Allows s p r → CanServe Step r
-can_be s Step p r all a = all.can r a
-
-pub cannot_be : (s : Service) (Step : Reply → Service → Type 0) (p : Possible) (r : Reply)
-    → ArePossible s Step p → (Allows s p r → ⊥) → CanServe Step r → ⊥
-cannot_be s Step p r all n can = n (all.only r can.0 can.1 can.2)

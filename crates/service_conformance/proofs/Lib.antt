@@ -12,11 +12,6 @@ pub mod Listing
 pub mod Quiet
 pub mod Following
 pub mod Words
-pub mod Conforming
-pub mod Stepping
-pub mod Grouping
-pub mod CallsAlone
-pub mod QuietGroups
 pub mod Dying
 pub mod DeadSteps
 pub mod IdTexts

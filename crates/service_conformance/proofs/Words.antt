@@ -1,9 +1,9 @@
 -- What words tell.
-use Rattle.std.proofs.Common.{◌≡◌, ◌≢◌, ℕ, ◌^◌, ◌<◌, ◌+◌, Option, Some, None, List, [], ◌∷◌, ◌++◌, All, codes, map, refl, sym, ◌∙◌, ap, subst, arith, append_assoc, length, length-append, take, ◌-◌}
+use Rattle.std.proofs.Common.{◌≡◌, ◌≢◌, ℕ, ◌^◌, ◌<◌, ◌+◌, Option, Some, None, List, [], ◌∷◌, ◌++◌, All, codes, map, refl, sym, ◌∙◌, ap, subst, arith, append_assoc}
 use Rattle.std.specs.Fmt.{decimal}
 use Rattle.std.specs.Global.{Vec}
 use Rattle.std.proofs.lemmas.Fmt.{decimal_injective}
-use Rattle.std.proofs.lemmas.List.{append_cancel_left, append-nil, take_at}
+use Rattle.std.proofs.lemmas.List.{append_cancel_left, append-nil}
 use Rattle.std.proofs.lemmas.List.Elements.{All-cons, All-head, All-map, All-nil, All-tail}
 use Rattle.iox2_container.specs.Handle.{Handle}
 use Rattle.iox2_container.specs.State.{Entry, RegistryState}
@@ -21,18 +21,16 @@ use Rattle.service_descriptions.specs.declared.replay.machine.reply.Reply.TheVar
 use Rattle.service_descriptions.specs.Handles.{named}
 use Rattle.service_descriptions.specs.Lines.{HasLine}
 use Rattle.service_descriptions.specs.Replies.{IsSameReply, text_of}
-use Rattle.service_descriptions.specs.Steps.{Serves, ServesDeregister, ServesRelease, handle_in}
+use Rattle.service_descriptions.specs.Steps.{Serves, ServesDeregister, ServesRelease}
 use Rattle.service_descriptions.proofs.Lines.{any_fits, any_number}
 use Rattle.service_conformance.specs.declared.conformance.possible.NextHandle.{NextHandle}
 use Rattle.service_conformance.specs.declared.conformance.possible.Part.{Part}
 use Rattle.service_conformance.specs.declared.conformance.possible.Part.TheVariants as part
-use Rattle.service_conformance.specs.declared.conformance.possible.Possible.{Possible}
 use Rattle.service_conformance.specs.declared.conformance.possible.Possible.TheVariants as possible
 use Rattle.service_conformance.specs.declared.conformance.possible.PossibleReplies.TheVariants as replies
 use Rattle.service_conformance.specs.Entries.{MayGive}
 use Rattle.service_conformance.specs.Possible.{ArePossible, IsCovered, MayGiveIn}
-use Rattle.service_conformance.specs.Quiet.{CanServe, LeadsTo}
-use Rattle.service_conformance.specs.Words.{AllowsWords, ArePossibleWords, CheckedWords, IsNextHandle, IsNextIn, Tells, TellsHandle, handle_words}
+use Rattle.service_conformance.specs.Words.{AllowsWords, ArePossibleWords, IsNextHandle, IsNextIn, Tells, TellsHandle, handle_words}
 
 -- the text of a handle: its slot, a space, and the rest
 spaced : (slot ticket : ℕ) → codes "handle " ++ decimal slot ++ codes " " ++ decimal ticket
@@ -105,21 +103,8 @@ unread words never slot ticket s t e =
     ∙ ap (λ (l : List ℕ). codes "handle " ++ (decimal slot ++ 32 ∷ l))
     (sym (append-nil (decimal ticket)))))
 
--- a text before its newline
-pub before_last : (text line : List ℕ) (n : ℕ) → n ≡ length line → line ≡ text ++ 10 ∷ []
-    → take (n - 1) line ≡ text
-before_last text line n is e =
-    let one : length line ≡ length text + 1 = ap length e ∙ length-append text (10 ∷ []) in
-    ap (take (n - 1)) e ∙ take_at text (10 ∷ []) (n - 1) (omega (arith, is, one))
-
 module _ {T : Type 0} (r : RegistryState T) (words : List ℕ) (fits : r.capacity < 2 ^ 64)
     (counts : r.used < 2 ^ 64) where
-  -- no slot and ticket have the words
-  pub none_parsed : ((slot ticket : ℕ) → slot < 2 ^ 64 → ticket < 2 ^ 64
-      → handle_words slot ticket ≢ words) → TellsHandle (MayGive r) words None
-  none_parsed never h may e =
-      never h.slot h.ticket (omega (arith, may.fits, fits)) (omega (arith, may.ticket, counts)) e
-
   module _ (slot ticket : ℕ) (s : slot < 2 ^ 64) (t : ticket < 2 ^ 64)
       (told : handle_words slot ticket ≡ words) where
     parts_told : (h : Handle) → MayGive r h → text_of (reply.Handle h) ≡ words
@@ -155,11 +140,6 @@ same_text (reply.Ports ports) r e =
     let a = is_ports ports r e in rw (a.1, ← a.2) refl
 same_text _ r e = ap text_of e
 
-pub same_given : (one r : Reply) → IsSameReply one r → handle_in one ≡ handle_in r
-same_given (reply.Nodes ids) r e = ap handle_in (sym (is_nodes ids r e).1)
-same_given (reply.Ports ports) r e = ap handle_in (sym (is_ports ports r e).1)
-same_given _ r e = ap handle_in e
-
 module _ (s : Service) (words : List ℕ) where
   pub one_told : (one : Reply) → text_of one ≡ words → Tells s (possible.One one) words (Some one)
   one_told one e = (same_reply one, e, λ other a f. a)
@@ -178,23 +158,6 @@ module _ (s : Service) (words : List ℕ) where
   pub given_not : (part : Part) → TellsHandle (MayGiveIn s part) words None
       → Tells s (possible.Given part) words None
   given_not part never r a e = never a.0 a.2 (ap text_of (sym a.1) ∙ e)
-
-module _ (s : Service) (Step : Reply → Service → Type 0) (p : Possible) (words : List ℕ)
-    (all : ArePossible s Step p) where
-  pub told_none : (new : Service) → new ≡ s → Tells s p words None
-      → CheckedWords Step words s None new
-  told_none new e never = (λ r f can. never r (all.only r can.0 can.1 can.2) f, e)
-
-  pub told_can : (r : Reply) → Tells s p words (Some r) → CanServe Step r
-  told_can r tells = all.can r tells.0
-
-  pub told_one : (r : Reply) (new : Service) → Tells s p words (Some r) → LeadsTo Step r new
-      → CheckedWords Step words s (Some r) new
-  told_one r new tells leads = (
-    tells.1,
-    (told_can r tells, leads),
-    λ other e can. tells.2 other (all.only other can.0 can.1 can.2) e,
-  )
 
 from_map : {X Y : Type 0} (P : X → Type 0) (f : Y → X) (ys : List Y) → All P (map f ys)
     → All (λ y. P (f y)) ys

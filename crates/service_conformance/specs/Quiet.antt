@@ -51,10 +51,3 @@ is_removal reply.HasOwners = true
 is_removal reply.NoMoreOwners = true
 is_removal reply.Released = true
 is_removal _ = false
-
--- Yes: the steps with this reply lead to a service, and to the new one alone. No: they lead to
--- none,
--- and nothing has changed.
-abbrev pub Checked : (Reply → Service → Type 0) → Reply → Service → Bool → Service → Type 0
-Checked Step r old true new = CanServe Step r × LeadsTo Step r new
-Checked Step r old false new = ¬ (CanServe Step r) × (new ≡ old)

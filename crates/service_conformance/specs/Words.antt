@@ -1,14 +1,12 @@
 -- What the words of a reply tell.
-use Rattle.std.specs.Prelude.{◌≡◌, ◌≢◌, ◌↔◌, ◌<◌, ℕ, Bool, true, false, List, ◌++◌, All, codes, map, Option, Some, None}
+use Rattle.std.specs.Prelude.{◌≡◌, ◌≢◌, ◌↔◌, ◌<◌, ℕ, List, ◌++◌, All, codes, map, Option, Some, None}
 use Rattle.std.specs.Fmt.{decimal}
 use Rattle.iox2_container.specs.Handle.{Handle}
 use Rattle.iox2_container.specs.State.{Entry, RegistryState}
 use Rattle.iox2_dynamic.specs.Service.{Service}
-use Rattle.service_descriptions.specs.declared.replay.machine.command.Command.{Command}
 use Rattle.service_descriptions.specs.declared.replay.machine.reply.Reply.{Reply}
 use Rattle.service_descriptions.specs.declared.replay.machine.reply.Reply.TheVariants as reply
 use Rattle.service_descriptions.specs.Replies.{IsSameReply, text_of}
-use Rattle.service_descriptions.specs.Steps.{State, ServiceStep}
 use Rattle.service_conformance.specs.declared.conformance.possible.NextHandle.{NextHandle}
 use Rattle.service_conformance.specs.declared.conformance.possible.Part.{Part}
 use Rattle.service_conformance.specs.declared.conformance.possible.Part.TheVariants as part
@@ -16,7 +14,7 @@ use Rattle.service_conformance.specs.declared.conformance.possible.Possible.{Pos
 use Rattle.service_conformance.specs.declared.conformance.possible.PossibleReplies.{PossibleReplies}
 use Rattle.service_conformance.specs.declared.conformance.possible.PossibleReplies.TheVariants as replies
 use Rattle.service_conformance.specs.Possible.{Allows}
-use Rattle.service_conformance.specs.Quiet.{CanServe, Checked, quiet_state}
+use Rattle.service_conformance.specs.Quiet.{CanServe}
 
 -- the words of a handle
 abbrev pub handle_words : ℕ → ℕ → List ℕ
@@ -35,29 +33,6 @@ Tells s p words (Some r) =
     Allows s p r × (text_of r ≡ words)
     × ((other : Reply) → Allows s p other → text_of other ≡ words → IsSameReply r other)
 Tells s p words None = (r : Reply) → Allows s p r → text_of r ≢ words
-
--- Some: of the replies with which the steps lead to a service, the one with these words, and the
--- state that it leaves. None: none has these words, and nothing has changed.
-abbrev pub CheckedWords : (Reply → Service → Type 0) → List ℕ → Service → Option Reply → Service
-    → Type 0
-CheckedWords Step words old (Some r) new =
-    (text_of r ≡ words) × Checked Step r old true new
-    × ((other : Reply) → text_of other ≡ words → CanServe Step other → IsSameReply r other)
-CheckedWords Step words old None new =
-    ((r : Reply) → text_of r ≡ words → ¬ (CanServe Step r)) × (new ≡ old)
-
--- a step with a reply of these words
-abbrev pub WordsStep : State → Command → List ℕ → State → Type 0
-WordsStep old c words new = (r : Reply) × (text_of r ≡ words) × ServiceStep old c r new
-
--- Yes: a step with these words leads to the new state, and each state that one leads to is seen as
--- the new one. No: none leads to a state, and nothing has changed.
-abbrev pub FollowsWords : State → Command → List ℕ → Bool → State → Type 0
-FollowsWords old c words true new =
-    WordsStep old c words new
-    × ((other : State) → WordsStep old c words other → quiet_state other ≡ new)
-FollowsWords old c words false new =
-    ((other : State) → ¬ (WordsStep old c words other)) × (new ≡ old)
 
 -- these are the handles that the next add may give
 pub record IsNextHandle {T : Type 0} (r : RegistryState T) (next : NextHandle) : Type 0 where
@@ -83,9 +58,3 @@ abbrev pub ArePossibleWords : (Reply → Service → Type 0) → PossibleReplies
 ArePossibleWords Step p =
     (words : List ℕ)
     → AllowsWords p words ↔ ((r : Reply) × (text_of r ≡ words) × CanServe Step r)
-
--- these are the replies, by their words, with which a step from the state under the command leads
--- to a state
-abbrev pub AreRepliesTo : State → Command → PossibleReplies → Type 0
-AreRepliesTo s c p =
-    (words : List ℕ) → AllowsWords p words ↔ ((new : State) × WordsStep s c words new)

@@ -1,14 +1,8 @@
-//! Tests of the check of commands and replies. They are tests of what no
-//! contract says: runs, and replies that fit no run, worked out by hand.
+//! Tests of the machine of calls that were seen. They are tests of what no contract says: words of
+//! replies, and histories of calls, worked out by hand.
 #![tactic(auto)]
 
 #[cfg(test)]
-mod groups;
-#[cfg(test)]
 mod overlapping;
-#[cfg(test)]
-mod rows;
-#[cfg(test)]
-mod runs;
 #[cfg(test)]
 mod seen;

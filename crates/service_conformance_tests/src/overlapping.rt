@@ -31,7 +31,7 @@ struct Row {
 
 /// What becomes of a history.
 #[derive(Clone, Copy, Debug, PartialEq, Eq)]
-pub(super) enum Found {
+enum Found {
     /// It is explained, and orders have left so many configurations.
     Left(usize),
     /// No order explains it up to this event.
@@ -280,11 +280,7 @@ fn calls_of(alloc: Global, calls: &[Call]) -> Result<Vec<SeenCall>, AllocError> 
 }
 
 /// What becomes of a history.
-pub(super) fn judged(
-    alloc: Global,
-    calls: &[SeenCall],
-    events: &[Event],
-) -> Result<Found, AllocError> {
+fn judged(alloc: Global, calls: &[SeenCall], events: &[Event]) -> Result<Found, AllocError> {
     let settings = MessagingPatternSettings::Event(DynamicConfigSettings {
         number_of_listeners: 2,
         number_of_notifiers: 2,

@@ -16,7 +16,6 @@ ghost use Rattle.service_conformance.specs.Words.{IsNextHandle, TellsHandle, han
 use super::placed::{Placed, copied, details_of, free_position, position_with, put, slots_of};
 use super::possible::NextHandle;
 use super::same::{Same, are_same};
-use super::words::slot_and_ticket;
 use iox2_container::container::{ContainerAddFailure, ContainerHandle, ReleaseMode, Role};
 use iox2_dynamic::dynamic_config::PortDetails;
 use iox2_ids::identifiers::UniqueNodeId;
@@ -174,30 +173,6 @@ impl<T: Copy> RegistryCheck<T> {
             return None;
         }
         Some(handle)
-    }
-
-    /// The handle that the next add may give and that has these words, or `None` where none has.
-    pub(super) fn told(&self, words: &[u8]) -> Option<ContainerHandle>
-        ensures told { TellsHandle (MayGive self.now) words.now result }
-        ensures kept { IsRegistry self.now }
-    {
-        // For the proof: slots and tickets are numbers of 64 bits.
-        let (_capacity, _used) = (self.capacity, self.used);
-        let Some((slot, ticket)) = slot_and_ticket(words) else {
-            return None;
-        };
-        self.handle_at(slot, ticket)
-    }
-
-    /// Whether the next add may give the handle.
-    pub(super) fn may_give(&self, handle: ContainerHandle) -> bool
-        ensures may { IsTrue result ↔ MayGive self.now handle }
-        ensures kept { IsRegistry self.now }
-    {
-        let Some(next) = self.next(handle.slot()) else {
-            return false;
-        };
-        next == handle
     }
 
     /// Adds an entry with this handle.

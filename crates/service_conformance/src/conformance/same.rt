@@ -1,7 +1,6 @@
 //! Whether values are the same.
 ghost use Rattle.std.specs.Prelude.{◌≡◌, ◌↔◌, IsTrue};
 
-use iox2_container::container::ContainerHandle;
 use iox2_dynamic::dynamic_config::PortDetails;
 use iox2_ids::identifiers::UniqueNodeId;
 
@@ -19,12 +18,6 @@ impl Same for UniqueNodeId {
 }
 
 impl Same for PortDetails {
-    fn same(&self, other: &Self) -> bool {
-        self == other
-    }
-}
-
-impl Same for Option<ContainerHandle> {
     fn same(&self, other: &Self) -> bool {
         self == other
     }

@@ -1,16 +1,12 @@
 //! What a service must hold, by the commands and replies that were seen.
-ghost use Rattle.std.specs.Prelude.{◌≡◌, ◌↔◌, ◌-◌, ◌^◌, ◌||◌, IfOk, IsTrue, None, OnErr};
+ghost use Rattle.std.specs.Prelude.{◌≡◌, ◌↔◌, ◌-◌, ◌^◌, ◌||◌, IfOk, IsTrue};
 ghost use Rattle.std.specs.List.{list_any};
 ghost use Rattle.iox2_dynamic.specs.Ports.{has_ports_of};
 ghost use Rattle.iox2_dynamic.specs.Service.{IsService, capacities_in, fresh_service};
 ghost use Rattle.iox2_dynamic.specs.Steps.{is_last_of_ports};
 ghost use Rattle.service_conformance.specs.Dead.{after_dead, ports_after, stays};
-ghost use Rattle.service_conformance.specs.Possible.{IsCovered};
-ghost use Rattle.service_conformance.specs.Quiet.{Checked, ports_at_rest, quiet};
+ghost use Rattle.service_conformance.specs.Quiet.{ports_at_rest, quiet};
 ghost use Rattle.service_conformance.specs.Sides.{ports_at, side_of};
-ghost use Rattle.service_conformance.specs.Words.{CheckedWords};
-ghost use Rattle.service_descriptions.specs.Lines.{command_of};
-ghost use Rattle.service_descriptions.specs.Steps.{Serves};
 
 mod following;
 mod replies_possible;
@@ -19,10 +15,9 @@ mod seeing;
 
 use super::registry_check::RegistryCheck;
 use iox2_config::hash::PatternKind;
-use iox2_container::container::{ContainerHandle, Role};
+use iox2_container::container::Role;
 use iox2_dynamic::dynamic_config::{MessagingPatternSettings, PortDetails, PortRoles};
 use iox2_ids::identifiers::UniqueNodeId;
-use service_descriptions::replay::{Command, LineCommand, Reply};
 use std::alloc::{AllocError, Global};
 use std::marker::Model;
 
@@ -236,60 +231,5 @@ impl ServiceCheck {
             return nodes.is_locked();
         }
         nodes.locks_without(dead)
-    }
-
-    /// Whether a command may have been replied to so, where earlier ones gave these handles. Where
-    /// it may, the check goes on from the one state that the reply leaves.
-    #[tactic(auto, using(crate::proofs::Following::can_be, crate::proofs::Following::cannot_be))]
-    pub(super) fn check(
-        &mut self,
-        alloc: Global,
-        earlier: &[Option<ContainerHandle>],
-        command: &Command,
-        reply: &Reply,
-    ) -> Result<bool, AllocError>
-        requires { IsCovered command.now }
-        ensures ok { IfOk result (λ yes. Checked (Serves self.old None earlier.now command.now)
-            reply.now self.old yes self.new) }
-        ensures err { OnErr result (self.new ≡ self.old) }
-        ensures kept { IsService self.new }
-        ensures rest { quiet self.new ≡ self.new }
-    {
-        // For the proof: what is true of every check.
-        let _pattern = &self.pattern;
-        let possible = self.possible(alloc, earlier, command)?;
-        if !self.allows(&possible, reply) {
-            return Ok(false);
-        }
-        self.follow(earlier, command, reply)?;
-        Ok(true)
-    }
-
-    /// Checks a command with the words of its reply, where earlier ones gave these handles: the
-    /// reply, or `None` where no possible one has the words. With a reply, the check goes on from
-    /// the one state that it leaves.
-    pub(super) fn check_words(
-        &mut self,
-        alloc: Global,
-        earlier: &[Option<ContainerHandle>],
-        command: &LineCommand,
-        words: &[u8],
-    ) -> Result<Option<Reply>, AllocError>
-        requires { IsCovered (command_of command.now) }
-        ensures ok { IfOk result (λ found. CheckedWords
-            (Serves self.old None earlier.now (command_of command.now)) words.now self.old found
-            self.new) }
-        ensures err { OnErr result (self.new ≡ self.old) }
-        ensures kept { IsService self.new }
-        ensures rest { quiet self.new ≡ self.new }
-    {
-        // For the proof: what is true of every check.
-        let _pattern = &self.pattern;
-        let possible = self.possible_for_line(alloc, earlier, command)?;
-        let Some(reply) = self.told(alloc, possible, words)? else {
-            return Ok(None);
-        };
-        self.follow_line(earlier, command, &reply)?;
-        Ok(Some(reply))
     }
 }

@@ -1,11 +1,8 @@
 //! The words of replies.
-ghost use Rattle.std.specs.Prelude.{◌≡◌, ◌≢◌, ◌<◌, ◌^◌, ◌↔◌, ℕ, IfNone, IfOk, IfSome, IsTrue};
+ghost use Rattle.std.specs.Prelude.{◌≡◌, ◌≢◌, ◌<◌, ◌^◌, ℕ, IfNone, IfSome};
 ghost use Rattle.service_conformance.specs.Words.{handle_words};
-ghost use Rattle.service_descriptions.specs.Replies.{text_of};
 
 use line_streams::{After, LineEnd, Number, Phrase, Then};
-use service_descriptions::replay::{Reply, write_reply};
-use std::alloc::{AllocError, Global};
 
 /// A number.
 pub(super) const NUMBER: Number = Number(u64::MAX);
@@ -22,14 +19,4 @@ pub(super) fn slot_and_ticket(words: &[u8]) -> Option<(usize, u64)>
         return None;
     };
     Some((slot as usize, ticket))
-}
-
-/// Whether these are the words of the reply.
-pub(super) fn are_words_of(alloc: Global, reply: &Reply, words: &[u8]) -> Result<bool, AllocError>
-    ensures { IfOk result (λ yes. IsTrue yes ↔ (text_of reply.now ≡ words.now)) }
-{
-    let mut line = Vec::new(alloc);
-    write_reply(reply, &mut line)?;
-    let _newline = line.pop();
-    Ok(line.as_slice() == words)
 }

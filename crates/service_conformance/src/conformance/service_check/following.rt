@@ -15,7 +15,7 @@ use super::{ServiceCheck, has_ports_in};
 use iox2_container::container::{ContainerHandle, ReleaseMode};
 use iox2_dynamic::dynamic_config::PortDetails;
 use iox2_ids::identifiers::UniqueNodeId;
-use service_descriptions::replay::{Cleanup, Command, LineCommand, Reply};
+use service_descriptions::replay::{Cleanup, LineCommand, Reply};
 use std::alloc::AllocError;
 
 impl ServiceCheck {
@@ -165,45 +165,6 @@ impl ServiceCheck {
                 self.follow_cleanup(dead, cleanup, reply);
                 Ok(())
             }
-        }
-    }
-
-    /// The service after a command and its reply.
-    #[tactic(auto, using(crate::proofs::Following::reported))]
-    pub(super) fn follow(
-        &mut self,
-        earlier: &[Option<ContainerHandle>],
-        command: &Command,
-        reply: &Reply,
-    ) -> Result<(), AllocError>
-        requires covered { IsCovered command.now }
-        requires can { CanServe (Serves self.old None earlier.now command.now) reply.now }
-        ensures ok { OnOk result
-            (LeadsTo (Serves self.old None earlier.now command.now) reply.now self.new) }
-        ensures err { OnErr result (self.new ≡ self.old) }
-        ensures kept { IsService self.new }
-    {
-        // For the proof: what is true of every check.
-        let _pattern = &self.pattern;
-        match command {
-            Command::Register(id) => self.follow_register(*id, reply),
-            Command::Deregister(k) => {
-                self.follow_deregister(named(earlier, *k), reply);
-                Ok(())
-            }
-            Command::Add(details) => self.follow_attach(*details, reply),
-            Command::Release(k) => {
-                self.follow_release(named(earlier, *k), reply);
-                Ok(())
-            }
-            Command::Nodes => Ok(()),
-            Command::List(_) => Ok(()),
-            Command::Count(_) => Ok(()),
-            Command::Dead(dead, Cleanup::ByPort(kept)) => {
-                self.follow_dead(dead, kept, reply);
-                Ok(())
-            }
-            _ => unreachable!(),
         }
     }
 }

@@ -1,7 +1,7 @@
 //! The replies that a command may have.
-ghost use Rattle.std.specs.Prelude.{◌≡◌, ◌↔◌, ◌<◌, IsTrue, IfNone, IfOk, IfSome, None};
+ghost use Rattle.std.specs.Prelude.{◌≡◌, ◌<◌, IfNone, IfOk, IfSome, None};
 ghost use Rattle.iox2_container.specs.Handle.{Handle};
-ghost use Rattle.service_conformance.specs.Possible.{Allows, ArePossible, IsCovered, MayGiveIn};
+ghost use Rattle.service_conformance.specs.Possible.{ArePossible, IsCovered, MayGiveIn};
 ghost use Rattle.service_conformance.specs.Quiet.{Reports};
 ghost use Rattle.service_descriptions.specs.Cleanups.{ServesDead};
 ghost use Rattle.service_descriptions.specs.Lines.{command_of};
@@ -11,14 +11,13 @@ ghost use Rattle.service_descriptions.specs.declared.replay.machine.command.Clea
 ghost use Rattle.service_descriptions.specs.declared.replay.machine.command.Command.TheVariants as command;
 
 use super::super::possible::{Part, Possible};
-use super::super::replies::{given, named, possible_add, reply_of_owners};
+use super::super::replies::{named, possible_add, reply_of_owners};
 use super::super::sides::{part, side};
 use super::ServiceCheck;
 use iox2_container::container::{ContainerHandle, Role};
 use iox2_dynamic::dynamic_config::PortDetails;
 use iox2_ids::identifiers::UniqueNodeId;
-use service_descriptions::laws::replies_go_by_fields;
-use service_descriptions::replay::{Cleanup, Command, LineCommand, Reply};
+use service_descriptions::replay::{Cleanup, LineCommand, Reply};
 use std::alloc::{AllocError, Global};
 
 impl ServiceCheck {
@@ -137,30 +136,6 @@ impl ServiceCheck {
     }
 
     /// The replies that a command may have, where earlier ones gave these handles.
-    pub(super) fn possible(
-        &self,
-        alloc: Global,
-        earlier: &[Option<ContainerHandle>],
-        command: &Command,
-    ) -> Result<Possible, AllocError>
-        requires { IsCovered command.now }
-        ensures { IfOk result (ArePossible self.now
-            (Serves self.now None earlier.now command.now)) }
-    {
-        match command {
-            Command::Register(id) => Ok(self.possible_register(*id)),
-            Command::Deregister(k) => Ok(self.possible_deregister(named(earlier, *k))),
-            Command::Nodes => self.possible_nodes(alloc),
-            Command::Add(details) => Ok(self.possible_attach(*details)),
-            Command::Release(k) => Ok(self.possible_release(named(earlier, *k))),
-            Command::List(role) => self.possible_list(alloc, *role),
-            Command::Count(role) => Ok(self.possible_count(*role)),
-            Command::Dead(dead, cleanup) => Ok(self.possible_cleanup(dead, cleanup)),
-            _ => unreachable!(),
-        }
-    }
-
-    /// The same for a command that has a line.
     pub(in super::super) fn possible_for_line(
         &self,
         alloc: Global,
@@ -204,30 +179,6 @@ impl ServiceCheck {
             Part::Nodes => self.nodes.next(slot),
             Part::First => self.first.next(slot),
             Part::Second => self.second.next(slot),
-        }
-    }
-
-    /// Whether the registry of the part may give the handle next.
-    fn may_give(&self, part: Part, handle: ContainerHandle) -> bool
-        ensures { IsTrue result ↔ MayGiveIn self.now part handle }
-    {
-        match part {
-            Part::Nodes => self.nodes.may_give(handle),
-            Part::First => self.first.may_give(handle),
-            Part::Second => self.second.may_give(handle),
-        }
-    }
-
-    /// Whether the reply is one of these.
-    pub(super) fn allows(&self, possible: &Possible, reply: &Reply) -> bool
-        ensures { IsTrue result ↔ Allows self.now possible.now reply.now }
-    {
-        match possible {
-            Possible::One(one) => replies_go_by_fields(one, reply),
-            Possible::Given(part) => match given(reply) {
-                Some(handle) => self.may_give(*part, handle),
-                None => false,
-            },
         }
     }
 }
