@@ -3,8 +3,9 @@
 use super::deaths;
 use super::serving::{new_service, serve, spell};
 use super::worked::DIED_TWICE;
+use service_descriptions::container::Role;
 use service_descriptions::identifiers::UniqueNodeId;
-use service_descriptions::replay::{Command, ServiceState};
+use service_descriptions::replay::{Command, Reply, ServiceState, replay};
 use std::alloc::{AllocError, Global};
 use std::test::Fail;
 
@@ -71,5 +72,17 @@ fn a_dead_node_whose_ports_are_answered_in_order(rt: HostRuntime) -> Result<(), 
         serve_some_at_once(rt.alloc(), &commands, at_once, &mut out)?;
         assert_eq!(rt; out.as_slice(), DIED_TWICE.as_bytes(), "{at_once} at once");
     }
+    Ok(())
+}
+
+#[test]
+fn queries_are_replied_to_in_turn(rt: HostRuntime) -> Result<(), Fail> {
+    let alloc = rt.alloc();
+    let commands = [Command::Count(Role::Listener), Command::List(Role::Reader)];
+    let good = [Reply::Count(0), Reply::WrongPattern];
+    let mut state = new_service(alloc, "service event 7 2 2 2")?;
+    let mut replies = Vec::new(alloc);
+    replay(alloc, &mut state, &commands, &mut replies)?;
+    assert_eq!(rt; replies.as_slice(), good.as_slice());
     Ok(())
 }
