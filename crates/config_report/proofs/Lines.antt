@@ -12,15 +12,15 @@ use Rattle.iox2_config_file.specs.Values.{SettingValue}
 use Rattle.iox2_config_file.proofs.Rowed.{past, here, keyed, row_key}
 use Rattle.config_report.specs.Text.{IsSettingLine, AreSettingLines, AreTableLines}
 
--- one text is written after another
-pub then : (out mid new first second : List ℕ) → mid ≡ out ++ first → new ≡ mid ++ second
-    → new ≡ out ++ (first ++ second)
+-- one text is written after another, or one list added
+pub then : {A : Type 0} (out mid new first second : List A) → mid ≡ out ++ first
+    → new ≡ mid ++ second → new ≡ out ++ (first ++ second)
 then out mid new first second was now =
     now ∙ ap (λ l. l ++ second) was ∙ append_assoc out first second
 
--- the text of one more of some values is written
-pub one_more : {A B : Type 0} (view : A → B) (text : B → List ℕ) (xs : List A) (i : ℕ) (x : A)
-    (out new whole : List ℕ) → i < length xs → x ≡ get_or xs i x
+-- what there is of one more of some values is added
+pub one_more : {A B C : Type 0} (view : A → B) (text : B → List C) (xs : List A) (i : ℕ) (x : A)
+    (out new whole : List C) → i < length xs → x ≡ get_or xs i x
     → out ++ flat_map text (map view (drop i xs)) ≡ whole → new ≡ out ++ text (view x)
     → new ++ flat_map text (map view (drop (i + 1) xs)) ≡ whole
 one_more view text xs i x out new whole lt is before wrote =

@@ -4,10 +4,12 @@ use Rattle.std.proofs.lemmas.List.Elements.{All-cons, All-nil}
 use Rattle.std.proofs.lemmas.List.Sorted.{All-permutation}
 use Rattle.iox2_config_file.specs.Faults.{reason_text}
 use Rattle.iox2_config_file.specs.Rows.{prefix_of}
-use Rattle.config_report.specs.Findings.{Checks, FindsOne, finding_view, topics_in}
+use Rattle.config_report.specs.Contradictions.{Contradiction, Side, beside_text, contradiction_note, contradictions_in, is_later, placed_note, side_note, side_position}
+use Rattle.config_report.specs.Findings.{Checks, FindsOne, finding_view, notes_in, topics_in}
 use Rattle.config_report.specs.InLine.{AreInLine, is_in_line, key_in_line}
 use Rattle.config_report.specs.Lines.{has_no_control, in_line}
-use Rattle.config_report.specs.Notes.{Note, Topic, fault, unknown, meant_text, note, note_in, topic_note}
+use Rattle.config_report.specs.Notes.{Note, Topic, fault, unknown, meant_text, note, note_in, topic_note, topic_position}
+use Rattle.config_report.specs.declared.contradiction.Effect.{Effect}
 use Rattle.config_report.specs.declared.finding.Finding.{Finding}
 use Rattle.config_report.specs.declared.finding.Findings.{Findings}
 use Rattle.config_report.specs.declared.finding.Severity.{Severity}
@@ -42,25 +44,58 @@ topic_of at (fault (s, key, reason)) =
 topic_of at (unknown (s, key, meant)) =
     note_of at Warning (Some (prefix_of s ++ key_text key)) (meant_text meant)
 
+side_of : (at : Option Position) (one : Side) (other : Option Side) (effect : Effect)
+    → is_in_line (side_note at one other effect) ≡ true
+side_of at one other effect =
+    note_of at Warning (Some (prefix_of one.0 ++ one.1)) (beside_text one other effect)
+
+choose_note : (b : Bool) (m n : Note) → is_in_line m ≡ true → is_in_line n ≡ true
+    → is_in_line (if b then m else n) ≡ true
+choose_note true m n p q = p
+choose_note false m n p q = q
+
+placed_of : (bytes : List ℕ) (one : Side) (other : Option Side) (effect : Effect)
+    → is_in_line (placed_note bytes one other effect) ≡ true
+placed_of bytes one None effect = side_of (side_position bytes one) one None effect
+placed_of bytes one (Some other) effect =
+    let p = side_position bytes one in
+    let q = side_position bytes other in
+    choose_note (is_later p q) (side_note q other (Some one) effect)
+    (side_note p one (Some other) effect) (side_of q other (Some one) effect)
+    (side_of p one (Some other) effect)
+
 abbrev Lined : Finding → Type 0
 Lined f = is_in_line (finding_view f) ≡ true
 
-all_of : (fs : List Finding) (bytes : List ℕ) (ts : List Topic)
-    → map finding_view fs ≡ map (note_in bytes) ts → AreInLine fs
-all_of [] bytes ts e = All-nil Lined
-all_of (f ∷ fs) bytes [] e = cc
-all_of (f ∷ fs) bytes (t ∷ ts) e =
-    let same : finding_view f ≡ note_in bytes t = cc in
-    let more : map finding_view fs ≡ map (note_in bytes) ts = cc in
-    All-cons Lined f fs (ap (λ n. is_in_line n) same ∙ topic_of _ t) (all_of fs bytes ts more)
+-- each of some notes is in line
+abbrev LinedNotes : List Note → Type 0
+LinedNotes [] = Unit {0}
+LinedNotes (n ∷ ns) = (is_in_line n ≡ true) × LinedNotes ns
+
+contradictions_lined : (bytes : List ℕ) (cs : List Contradiction)
+    → LinedNotes (map (contradiction_note bytes) cs)
+contradictions_lined bytes [] = tt
+contradictions_lined bytes (c ∷ cs) =
+    (placed_of bytes c.one c.other c.effect, contradictions_lined bytes cs)
+
+topics_lined : (bytes : List ℕ) (ts : List Topic) (more : List Note) → LinedNotes more
+    → LinedNotes (map (note_in bytes) ts ++ more)
+topics_lined bytes [] more h = h
+topics_lined bytes (t ∷ ts) more h =
+    (topic_of (topic_position bytes t) t, topics_lined bytes ts more h)
+
+all_of : (fs : List Finding) (ns : List Note) → LinedNotes ns → map finding_view fs ≡ ns
+    → AreInLine fs
+all_of [] ns h e = All-nil Lined
+all_of (f ∷ fs) [] h e = cc
+all_of (f ∷ fs) (n ∷ ns) (is, more) e =
+    let same : finding_view f ≡ n = cc in
+    let others : map finding_view fs ≡ ns = cc in
+    All-cons Lined f fs (ap (λ m. is_in_line m) same ∙ is) (all_of fs ns more others)
 
 one_of : (fs : List Finding) (n : Note) → is_in_line n ≡ true → map finding_view fs ≡ n ∷ []
     → AreInLine fs
-one_of [] n h e = cc
-one_of (f ∷ fs) n h e =
-    let same : finding_view f ≡ n = cc in
-    let none : map finding_view fs ≡ [] = cc in
-    All-cons Lined f fs (ap (λ m. is_in_line m) same ∙ h) (all_of fs [] [] none)
+one_of fs n h e = all_of fs (n ∷ []) (h, tt) e
 
 one_error : (at : Option Position) (words : List ℕ) (found : Findings) → FindsOne at words found
     → AreInLine found.list.items
@@ -79,4 +114,7 @@ checks_in_line bytes found (inr (inr (inl (n, words, within, utf8, shallow, unpa
 checks_in_line bytes found (inr (inr (inr h))) =
     let (fs, same, order) = h.list in
     All-permutation Lined fs found.list.items order.same
-    (all_of fs bytes (topics_in h.default h.file) same)
+    (all_of fs (notes_in bytes h.default h.file found.config)
+    (topics_lined bytes (topics_in h.default h.file)
+    (map (contradiction_note bytes) (contradictions_in found.config))
+    (contradictions_lined bytes (contradictions_in found.config))) same)

@@ -12,6 +12,7 @@ use Rattle.iox2_config_file.specs.Read.{Located, fault_view, faults_in, IsSettin
 use Rattle.iox2_config_file.specs.Unknown.{unknown_in}
 use Rattle.iox2_config_file.specs.declared.fault.SettingFault.{SettingFault}
 use Rattle.iox2_config_file.specs.declared.depth.TooDeep.{TooDeep}
+use Rattle.config_report.specs.Contradictions.{contradiction_note, contradictions_in}
 use Rattle.config_report.specs.Notes.{Note, note, Topic, fault, unknown, note_in, note_text}
 use Rattle.config_report.specs.declared.finding.Finding.{Finding}
 use Rattle.config_report.specs.declared.finding.Findings.{Findings}
@@ -57,6 +58,13 @@ Lists notes listed =
 abbrev pub topics_in : Config → Members → List Topic
 topics_in c file = map fault (faults_in c file) ++ map unknown (unknown_in c file)
 
+-- what is said of a file: of its faults, of its unknown keys, and of its settings that contradict
+-- each other
+abbrev pub notes_in : List ℕ → Config → Members → Option Config → List Note
+notes_in bytes default file config =
+    map (note_in bytes) (topics_in default file)
+    ++ map (contradiction_note bytes) (contradictions_in config)
+
 -- these are all the faults of a file
 abbrev pub HasFaults : Members → List SettingFault → Type 0
 HasFaults file faults = (c : Config) → map fault_view faults ≡ faults_in c file
@@ -79,7 +87,7 @@ pub record FindsInFile (bytes : List ℕ) (found : Findings) : Type 0 where
   pub parsed : parse_document bytes ≡ Some file
   pub is_default : IsDefaultConfig default
   pub config : IsConfigOf default file found.config
-  pub list : Lists (map (note_in bytes) (topics_in default file)) found.list.items
+  pub list : Lists (notes_in bytes default file found.config) found.list.items
 
 -- the bytes are no file of this kind: there is one finding, an error at a position
 abbrev pub FindsOne : Option Position → List ℕ → Findings → Type 0

@@ -1,3 +1,4 @@
+pub mod Contradictions
 pub mod Findings
 pub mod InLine
 pub mod Limits

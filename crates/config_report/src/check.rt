@@ -1,11 +1,13 @@
 //! What is found in a file of settings.
 ghost use Rattle.std.specs.Prelude.{◌≡◌, ◌≤◌, ◌++◌, ℕ, List, IfOk, IsSome, IsUtf8, None, OnOk};
-ghost use Rattle.std.specs.Prelude.{Some, length, map};
+ghost use Rattle.std.specs.Prelude.{Some, length, map, option_copied};
 ghost use Rattle.std.specs.Str.{IsValidUpTo};
 ghost use Rattle.iox2_config_file.specs.Answers.{IsUnparsed, ReadsAll};
 ghost use Rattle.iox2_config_file.specs.Depth.{too_deep};
 ghost use Rattle.iox2_config_file.specs.Read.{IsSettingsOf};
 ghost use Rattle.iox2_config.specs.Defaults.{IsDefaultConfig};
+ghost use Rattle.config_report.specs.Contradictions.{contradiction_note, contradiction_view};
+ghost use Rattle.config_report.specs.Contradictions.{contradictions_in};
 ghost use Rattle.config_report.specs.Findings.{Checks, FindsInFile, FindsNoToml, FindsNoUtf8};
 ghost use Rattle.config_report.specs.Findings.{FindsOne, FindsTooDeep, HasFaults, IsConfigOf, IsInOrder};
 ghost use Rattle.config_report.specs.Findings.{IsShallow, Lists, finding_view};
@@ -14,6 +16,8 @@ ghost use Rattle.config_report.specs.Subjects.{subject_view};
 ghost use Rattle.toml.specs.Data.{Members};
 ghost use Rattle.toml.specs.Parse.{parse_document};
 
+use crate::contradiction::{Contradiction, contradiction_finding};
+use crate::contradictions::contradictions_in;
 use crate::finding::{Finding, Findings, Severity, place};
 use crate::line::in_line;
 use crate::positions::{position_at, subject_positions};
@@ -26,8 +30,9 @@ use toml_positions::{Position, position_after};
 
 /// All that is found in a file of settings, in the order of the file: that it is no UTF-8, that its
 /// tables and arrays are more than 32 deep in one another, or that it is no TOML; or else each
-/// value that is not allowed, and each key that no setting has. The settings are there exactly
-/// where it has no errors. Only refused memory is an error.
+/// value that is not allowed, each key that no setting has, and, where it has no errors, each
+/// contradiction of its settings. The settings are there exactly where it has no errors. Only
+/// refused memory is an error.
 pub fn check_file(alloc: Global, bytes: &[u8]) -> Result<Findings, AllocError>
     ensures { IfOk result (Checks bytes.now) }
 {
@@ -81,12 +86,10 @@ fn list_all(alloc: Global, text: &str, contents: FileContents) -> Result<Finding
         faults,
         unknown,
     } = contents;
+    let config = settings_of(faults.as_slice(), config);
     let subjects = subjects_of(alloc, faults.as_slice(), unknown.as_slice())?;
-    let list = list_of(alloc, text, subjects.as_slice())?;
-    Ok(Findings {
-        config: settings_of(faults.as_slice(), config),
-        list,
-    })
+    let list = list_of(alloc, text, subjects.as_slice(), config.as_ref())?;
+    Ok(Findings { config, list })
 }
 
 /// The settings of a file, unless it has faults.
@@ -100,14 +103,23 @@ fn settings_of(faults: &[SettingFault], config: Config) -> Option<Config>
     }
 }
 
-/// What is said of some subjects, in the order of the file.
-fn list_of(alloc: Global, text: &str, subjects: &[Subject<'_>]) -> Result<Vec<Finding>, AllocError>
+/// What is said of some subjects and of the settings, if there are any, in the order of the file.
+fn list_of(
+    alloc: Global,
+    text: &str,
+    subjects: &[Subject<'_>],
+    config: Option<&Config>,
+) -> Result<Vec<Finding>, AllocError>
     ensures { IfOk result (λ list. IsSome (parse_document text.now)
-        → Lists (map (note_in text.now) (map subject_view subjects.now)) list.items) }
+        → Lists (map (note_in text.now) (map subject_view subjects.now)
+        ++ map (contradiction_note text.now) (contradictions_in (option_copied config.entry)))
+        list.items) }
 {
     let positions = subject_positions(alloc, text, subjects)?;
+    let contradictions = contradictions_in(alloc, config)?;
     let mut list = Vec::new(alloc);
     add_findings(&mut list, alloc, subjects, positions.as_slice())?;
+    add_contradictions(&mut list, alloc, text, contradictions.as_slice())?;
     put_in_order(&mut list)?;
     Ok(list)
 }
@@ -129,6 +141,23 @@ fn add_findings(
         let position = position_at(positions, i);
         list.push(subject.finding(alloc, position)?)?;
         i += 1;
+    }
+    Ok(())
+}
+
+/// Adds what is said of each of some contradictions.
+fn add_contradictions(
+    list: &mut Vec<Finding>,
+    alloc: Global,
+    text: &str,
+    contradictions: &[Contradiction<'_>],
+) -> Result<(), AllocError>
+    ensures { OnOk result (IsSome (parse_document text.now)
+        → map finding_view list.new.items ≡ map finding_view list.old.items
+        ++ map (contradiction_note text.now) (map contradiction_view contradictions.now)) }
+{
+    for contradiction in contradictions {
+        list.push(contradiction_finding(alloc, text, contradiction)?)?;
     }
     Ok(())
 }

@@ -7,6 +7,8 @@
 
 mod check;
 mod chunks;
+mod contradiction;
+mod contradictions;
 mod files;
 mod finding;
 mod key;

@@ -59,6 +59,19 @@ fn positions_for(
     Ok(found)
 }
 
+/// The position of a path, or none where the file is too large.
+pub(crate) fn position_of(
+    alloc: Global,
+    text: &str,
+    path: KeyPath<'_>,
+) -> Result<Option<Position>, AllocError>
+    ensures { IfOk result (λ found. IsSome (parse_document text.now)
+        → found ≡ position_for text.now (path_view path.entry)) }
+{
+    let found = positions_for(alloc, text, &[path])?;
+    Ok(position_at(found.as_slice(), 0))
+}
+
 /// The positions of the keys of some subjects.
 pub(crate) fn subject_positions(
     alloc: Global,

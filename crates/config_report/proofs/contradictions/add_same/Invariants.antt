@@ -1,0 +1,11 @@
+use Rattle.std.proofs.Common.{◌≡◌, ◌++◌, drop}
+use Rattle.std.specs.Prelude.{flat_map, map}
+use Rattle.config_report.specs.Contradictions.{contradiction_view, same_suffix, suffix_view}
+use Rattle.config_report.proofs.contradictions.add_same.Given as goal
+
+abbrev pub invariant-loop-other : goal.invariant-loop-other
+invariant-loop-other l =
+    map contradiction_view l.list.items
+    ++ flat_map (same_suffix (suffix_view l.kind)) (map suffix_view (drop l.other-index l.others))
+    ≡ map contradiction_view l.initial.list.items
+    ++ flat_map (same_suffix (suffix_view l.kind)) (map suffix_view l.others)

@@ -1,0 +1,394 @@
+//! Which settings of a configuration contradict each other.
+ghost use Rattle.std.specs.Prelude.{◌≡◌, ◌++◌, IfOk, OnOk, flat_map, map};
+ghost use Rattle.std.specs.Prelude.{option_copied};
+ghost use Rattle.iox2_config_file.specs.Values.{number, text};
+ghost use Rattle.config_report.specs.Contradictions.{contradiction_view, contradictions_in};
+ghost use Rattle.config_report.specs.Contradictions.{default_contradictions, global_contradictions};
+ghost use Rattle.config_report.specs.Contradictions.{has_small_buffer};
+ghost use Rattle.config_report.specs.Contradictions.{history_contradictions, is_long, is_relative};
+ghost use Rattle.config_report.specs.Contradictions.{limit_view, limits_of, long_name};
+ghost use Rattle.config_report.specs.Contradictions.{notifier_event_view, notifier_events_of};
+ghost use Rattle.config_report.specs.Contradictions.{other_view, root_contradictions, same_suffix};
+ghost use Rattle.config_report.specs.Contradictions.{side_view, suffix_contradictions, suffix_side};
+ghost use Rattle.config_report.specs.Contradictions.{suffix_view, suffixes_of, unsent_event};
+ghost use Rattle.config_report.specs.Contradictions.{useless_limit, where_so};
+
+use crate::contradiction::{Contradiction, Effect, Side};
+use iox2_config::config::{
+    Config, Defaults, Event, Global as GlobalSettings, PublishSubscribe, Service,
+};
+use iox2_config_file::{Section, SettingValue};
+use iox2_texts::paths::FileName;
+use std::alloc::{AllocError, Global};
+
+/// How the names of a kind of services' files end.
+#[derive(Clone, Copy)]
+struct Suffix<'a> {
+    key: &'static str,
+    suffix: &'a FileName,
+}
+
+/// An event that reports what happens to a notifier, if it is set.
+#[derive(Clone, Copy)]
+struct NotifierEvent {
+    key: &'static str,
+    number: Option<usize>,
+}
+
+/// A limit without which a pattern cannot be used.
+#[derive(Clone, Copy)]
+struct Limit {
+    section: Section,
+    key: &'static str,
+    value: usize,
+}
+
+/// A setting that is a number.
+fn number_of<'a>(section: Section, key: &'static str, value: usize) -> Side<'a>
+    ensures { side_view result ≡ (section, key.now, number value) }
+{
+    Side {
+        section,
+        key,
+        value: SettingValue::Number(value),
+    }
+}
+
+/// A setting that is a text.
+fn text_of<'a>(section: Section, key: &'static str, value: &'a str) -> Side<'a>
+    ensures { side_view result ≡ (section, key.now, text value.now) }
+{
+    Side {
+        section,
+        key,
+        value: SettingValue::Text(value),
+    }
+}
+
+/// The setting of a suffix.
+fn suffix_of(found: Suffix<'_>) -> Side<'_>
+    ensures { side_view result ≡ suffix_side (suffix_view found.entry) }
+{
+    text_of(Section::Service, found.key, found.suffix.as_str())
+}
+
+/// Adds a contradiction where this holds.
+fn add_where<'a>(
+    list: &mut Vec<Contradiction<'a>>,
+    holds: bool,
+    one: Side<'a>,
+    other: Option<Side<'a>>,
+    effect: Effect,
+) -> Result<(), AllocError>
+    ensures { OnOk result (map contradiction_view list.new.items
+        ≡ map contradiction_view list.old.items
+        ++ where_so holds (side_view one.entry) (other_view other.entry) effect) }
+{
+    if holds {
+        list.push(Contradiction { one, other, effect })?;
+    }
+    Ok(())
+}
+
+/// Whether a path does not begin with `/`.
+fn is_relative(path: &str) -> bool
+    ensures { result ≡ is_relative path.now }
+{
+    !matches!(path.as_bytes(), [b'/', ..])
+}
+
+/// Adds a root path that does not begin with `/`.
+fn add_root<'a>(
+    list: &mut Vec<Contradiction<'a>>,
+    global: &'a GlobalSettings,
+) -> Result<(), AllocError>
+    ensures { OnOk result (map contradiction_view list.new.items
+        ≡ map contradiction_view list.old.items ++ root_contradictions global.now) }
+{
+    let path = global.root_path().as_str();
+    let side = text_of(Section::Global, "root-path", path);
+    add_where(list, is_relative(path), side, None, Effect::ManyRoots)
+}
+
+/// The suffixes of services' files.
+fn suffixes(service: &Service) -> [Suffix<'_>; 7]
+    ensures { map suffix_view result ≡ suffixes_of service.now }
+{
+    let suffix = |key, suffix| Suffix { key, suffix };
+    [
+        suffix("data-segment-suffix", &service.data_segment_suffix),
+        suffix(
+            "static-config-storage-suffix",
+            &service.static_config_storage_suffix,
+        ),
+        suffix(
+            "dynamic-config-storage-suffix",
+            &service.dynamic_config_storage_suffix,
+        ),
+        suffix("connection-suffix", &service.connection_suffix),
+        suffix("event-connection-suffix", &service.event_connection_suffix),
+        suffix("blackboard-mgmt-suffix", &service.blackboard_mgmt_suffix),
+        suffix("blackboard-data-suffix", &service.blackboard_data_suffix),
+    ]
+}
+
+/// Adds each of some kinds of files that has the suffix of another kind.
+fn add_same<'a>(
+    list: &mut Vec<Contradiction<'a>>,
+    kind: Suffix<'a>,
+    others: &[Suffix<'a>],
+) -> Result<(), AllocError>
+    ensures { OnOk result (map contradiction_view list.new.items
+        ≡ map contradiction_view list.old.items
+        ++ flat_map (same_suffix (suffix_view kind.entry)) (map suffix_view others.now)) }
+{
+    for other in others {
+        let is_same = kind.suffix.as_str() == other.suffix.as_str();
+        let beside = Some(suffix_of(*other));
+        add_where(list, is_same, suffix_of(kind), beside, Effect::SameNames)?;
+    }
+    Ok(())
+}
+
+/// Adds each two of some kinds of files that have one suffix.
+fn add_suffixes<'a>(
+    list: &mut Vec<Contradiction<'a>>,
+    kinds: &[Suffix<'a>],
+) -> Result<(), AllocError>
+    ensures { OnOk result (map contradiction_view list.new.items
+        ≡ map contradiction_view list.old.items
+        ++ suffix_contradictions (map suffix_view kinds.now)) }
+{
+    for i in 0..kinds.len() {
+        add_same(list, kinds[i], &kinds[i + 1..])?;
+    }
+    Ok(())
+}
+
+/// Whether prefix, hash text and suffix have more than 255 bytes.
+fn is_long(prefix: &FileName, suffix: &FileName) -> bool
+    ensures { result ≡ is_long prefix.now suffix.now }
+{
+    prefix.as_str().len() + 27 + suffix.as_str().len() > 255
+}
+
+/// Adds each of some kinds of files whose names would be too long.
+fn add_names<'a>(
+    list: &mut Vec<Contradiction<'a>>,
+    prefix: &'a FileName,
+    kinds: &[Suffix<'a>],
+) -> Result<(), AllocError>
+    ensures { OnOk result (map contradiction_view list.new.items
+        ≡ map contradiction_view list.old.items
+        ++ flat_map (long_name prefix.now) (map suffix_view kinds.now)) }
+{
+    for kind in kinds {
+        let beside = Some(text_of(Section::Global, "prefix", prefix.as_str()));
+        let holds = is_long(prefix, kind.suffix);
+        add_where(list, holds, suffix_of(*kind), beside, Effect::LongNames)?;
+    }
+    Ok(())
+}
+
+/// Whether the history is larger than a subscriber's buffer, which may not overflow.
+fn has_small_buffer(settings: &PublishSubscribe) -> bool
+    ensures { result ≡ has_small_buffer settings.now }
+{
+    !settings.enable_safe_overflow
+        && settings.subscriber_max_buffer_size < settings.publisher_history_size
+}
+
+/// Adds a history that is larger than a subscriber's buffer, which may not overflow.
+fn add_history(
+    list: &mut Vec<Contradiction<'_>>,
+    settings: &PublishSubscribe,
+) -> Result<(), AllocError>
+    ensures { OnOk result (map contradiction_view list.new.items
+        ≡ map contradiction_view list.old.items ++ history_contradictions settings.now) }
+{
+    let history = settings.publisher_history_size;
+    let buffer = settings.subscriber_max_buffer_size;
+    let table = Section::PublishSubscribe;
+    add_where(
+        list,
+        has_small_buffer(settings),
+        number_of(table, "publisher-history-size", history),
+        Some(number_of(table, "subscriber-max-buffer-size", buffer)),
+        Effect::SmallBuffer,
+    )
+}
+
+/// The events that report what happens to a notifier.
+fn notifier_events(settings: &Event) -> [NotifierEvent; 3]
+    ensures { map notifier_event_view result ≡ notifier_events_of settings.now }
+{
+    [
+        NotifierEvent {
+            key: "notifier-created-event",
+            number: settings.notifier_created_event,
+        },
+        NotifierEvent {
+            key: "notifier-dropped-event",
+            number: settings.notifier_dropped_event,
+        },
+        NotifierEvent {
+            key: "notifier-dead-event",
+            number: settings.notifier_dead_event,
+        },
+    ]
+}
+
+/// Adds an event that is set and above the greatest one.
+fn add_event(
+    list: &mut Vec<Contradiction<'_>>,
+    greatest: usize,
+    event: NotifierEvent,
+) -> Result<(), AllocError>
+    ensures { OnOk result (map contradiction_view list.new.items
+        ≡ map contradiction_view list.old.items
+        ++ unsent_event greatest (notifier_event_view event)) }
+{
+    let Some(number) = event.number else {
+        return Ok(());
+    };
+    let beside = Some(number_of(Section::Event, "event-id-max-value", greatest));
+    let side = number_of(Section::Event, event.key, number);
+    add_where(list, greatest < number, side, beside, Effect::UnsentEvent)
+}
+
+/// Adds each of some events that is set and above the greatest one.
+fn add_events(
+    list: &mut Vec<Contradiction<'_>>,
+    greatest: usize,
+    events: &[NotifierEvent],
+) -> Result<(), AllocError>
+    ensures { OnOk result (map contradiction_view list.new.items
+        ≡ map contradiction_view list.old.items
+        ++ flat_map (unsent_event greatest) (map notifier_event_view events.now)) }
+{
+    for event in events {
+        add_event(list, greatest, *event)?;
+    }
+    Ok(())
+}
+
+/// A limit of this value.
+fn limit_of(section: Section, key: &'static str, value: usize) -> Limit
+    ensures { limit_view result ≡ (section, key.now, value) }
+{
+    Limit {
+        section,
+        key,
+        value,
+    }
+}
+
+/// The limits without which a pattern cannot be used.
+fn limits(settings: &Defaults) -> [Limit; 16]
+    ensures { map limit_view result ≡ limits_of settings.now }
+{
+    let samples = &settings.publish_subscribe;
+    let event = &settings.event;
+    let request = &settings.request_response;
+    let board = &settings.blackboard;
+    [
+        limit_of(
+            Section::PublishSubscribe,
+            "max-subscribers",
+            samples.max_subscribers,
+        ),
+        limit_of(
+            Section::PublishSubscribe,
+            "max-publishers",
+            samples.max_publishers,
+        ),
+        limit_of(Section::PublishSubscribe, "max-nodes", samples.max_nodes),
+        limit_of(
+            Section::PublishSubscribe,
+            "subscriber-max-buffer-size",
+            samples.subscriber_max_buffer_size,
+        ),
+        limit_of(
+            Section::PublishSubscribe,
+            "subscriber-max-borrowed-samples",
+            samples.subscriber_max_borrowed_samples,
+        ),
+        limit_of(
+            Section::PublishSubscribe,
+            "publisher-max-loaned-samples",
+            samples.publisher_max_loaned_samples,
+        ),
+        limit_of(Section::Event, "max-listeners", event.max_listeners),
+        limit_of(Section::Event, "max-notifiers", event.max_notifiers),
+        limit_of(Section::Event, "max-nodes", event.max_nodes),
+        limit_of(
+            Section::RequestResponse,
+            "max-active-requests-per-client",
+            request.max_active_requests_per_client,
+        ),
+        limit_of(Section::RequestResponse, "max-servers", request.max_servers),
+        limit_of(Section::RequestResponse, "max-clients", request.max_clients),
+        limit_of(Section::RequestResponse, "max-nodes", request.max_nodes),
+        limit_of(
+            Section::RequestResponse,
+            "max-loaned-requests",
+            request.max_loaned_requests,
+        ),
+        limit_of(Section::Blackboard, "max-readers", board.max_readers),
+        limit_of(Section::Blackboard, "max-nodes", board.max_nodes),
+    ]
+}
+
+/// Adds each of some limits that is 0.
+fn add_limits(list: &mut Vec<Contradiction<'_>>, limits: &[Limit]) -> Result<(), AllocError>
+    ensures { OnOk result (map contradiction_view list.new.items
+        ≡ map contradiction_view list.old.items
+        ++ flat_map useless_limit (map limit_view limits.now)) }
+{
+    for limit in limits {
+        let side = number_of(limit.section, limit.key, limit.value);
+        add_where(list, limit.value == 0, side, None, Effect::UselessLimit)?;
+    }
+    Ok(())
+}
+
+/// Adds all settings of a system that contradict each other.
+fn add_global<'a>(
+    list: &mut Vec<Contradiction<'a>>,
+    global: &'a GlobalSettings,
+) -> Result<(), AllocError>
+    ensures { OnOk result (map contradiction_view list.new.items
+        ≡ map contradiction_view list.old.items ++ global_contradictions global.now) }
+{
+    let kinds = suffixes(&global.service);
+    add_root(list, global)?;
+    add_suffixes(list, &kinds)?;
+    add_names(list, &global.prefix, &kinds)
+}
+
+/// Adds all settings of services that contradict each other.
+fn add_defaults(list: &mut Vec<Contradiction<'_>>, defaults: &Defaults) -> Result<(), AllocError>
+    ensures { OnOk result (map contradiction_view list.new.items
+        ≡ map contradiction_view list.old.items ++ default_contradictions defaults.now) }
+{
+    let event = &defaults.event;
+    add_history(list, &defaults.publish_subscribe)?;
+    add_events(list, event.event_id_max_value, &notifier_events(event))?;
+    add_limits(list, &limits(defaults))
+}
+
+/// All settings that contradict each other, if there are settings.
+pub(crate) fn contradictions_in<'a>(
+    alloc: Global,
+    config: Option<&'a Config>,
+) -> Result<Vec<Contradiction<'a>>, AllocError>
+    ensures { IfOk result (λ found. map contradiction_view found.items
+        ≡ contradictions_in (option_copied config.entry)) }
+{
+    let mut list = Vec::new(alloc);
+    if let Some(config) = config {
+        add_global(&mut list, &config.global)?;
+        add_defaults(&mut list, &config.defaults)?;
+    }
+    Ok(list)
+}
