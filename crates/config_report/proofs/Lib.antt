@@ -1,2 +1,3 @@
+mod AllPorts
 mod Lines
 mod Printable

@@ -1,5 +1,6 @@
 -- The limits that bound how many messages a port can have in use.
-use Rattle.std.specs.Prelude.{ℕ, List}
+use Rattle.std.specs.Prelude.{ℕ, List, replicate}
+use Rattle.std.specs.List.{concat}
 use Rattle.iox2_config.specs.declared.config.defaults.Defaults.{Defaults}
 use Rattle.iox2_static.specs.PublishSubscribe.{publish_subscribe_of, sample_limits}
 use Rattle.iox2_static.specs.RequestResponse.{request_response_of, client_limits, server_limits}
@@ -21,3 +22,7 @@ response_limits_of d =
     server_limits
     (request_response_of d.request_response)
     d.request_response.server_max_loaned_responses_per_request
+
+-- the limits of all of some ports, of which each has the same ones
+abbrev pub all_limits : ℕ → List ℕ → List ℕ
+all_limits ports limits = concat (replicate ports limits)

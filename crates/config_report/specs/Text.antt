@@ -3,6 +3,7 @@ use Rattle.std.specs.Prelude.{◌≡◌, ◌≢◌, ◌⊎◌, ◌-◌, ◌^◌,
 use Rattle.std.specs.Fmt.{decimal, padded, format_spec}
 use Rattle.iox2_config.specs.Defaults.{IsDefaultConfig}
 use Rattle.iox2_config.specs.declared.config.Config.{Config}
+use Rattle.iox2_config.specs.declared.config.defaults.Defaults.{Defaults}
 use Rattle.iox2_config.specs.declared.config.node.Node.{Node}
 use Rattle.iox2_config.specs.declared.config.service.Service.{Service}
 use Rattle.iox2_config_file.specs.declared.section.Section.{Section}
@@ -14,7 +15,7 @@ use Rattle.iox2_config_file.specs.Write.{value_text}
 use Rattle.iox2_static.specs.Chunks.{TellsGreatest}
 use Rattle.iox2_texts.specs.Path.{join}
 use Rattle.config_report.specs.declared.files.FileKind.{FileKind}
-use Rattle.config_report.specs.Limits.{sample_limits_of, request_limits_of, response_limits_of}
+use Rattle.config_report.specs.Limits.{all_limits, sample_limits_of, request_limits_of, response_limits_of}
 
 -- the line of a setting whose value is its default: its path and its value
 abbrev pub usual_line : Section → List ℕ → SettingValue → List ℕ
@@ -48,11 +49,13 @@ AreTableLines default config (s ∷ ss) lines =
     × AreSettingLines s (settings_in s default) (settings_in s config) table
     × AreTableLines default config ss more
 
--- a name, filled with spaces to 22 characters, and what stands beside it
+-- a name, filled with spaces to 22 characters
+abbrev pub padded_name : List ℕ → List ℕ
+padded_name name = padded (format_spec 32 1 0 22 (2 ^ 64 - 1)) name
+
+-- the same, and what stands beside it
 abbrev pub named_line : List ℕ → List ℕ → List ℕ
-named_line name text =
-    codes "  "
-    ++ (padded (format_spec 32 1 0 22 (2 ^ 64 - 1)) name ++ (codes " " ++ (text ++ codes "\n")))
+named_line name text = codes "  " ++ (padded_name name ++ (codes " " ++ (text ++ codes "\n")))
 
 -- the path of an entry of the root path, where a path may be as long
 abbrev pub directory_text : List ℕ → List ℕ → List ℕ
@@ -112,23 +115,33 @@ abbrev pub need_text : Option ℕ → List ℕ
 need_text (Some n) = decimal n
 need_text None = codes "more than 18446744073709551615"
 
+-- the line of a kind of ports: how many chunks one needs, and so many of them together
+abbrev pub need_line : List ℕ → Option ℕ → ℕ → Option ℕ → List ℕ
+need_line port one ports all =
+    codes "  " ++ (padded_name port ++ (codes " " ++ (need_text one ++ (codes ", all "
+    ++ (decimal ports ++ (codes " together " ++ (need_text all ++ codes "\n")))))))
+
+-- the numbers are the greatest that can be in use at once, by the limits of one port
+abbrev pub IsNeedLine : List ℕ → List ℕ → ℕ → List ℕ → Type 0
+IsNeedLine port limits ports line =
+    (one : Option ℕ) × (all : Option ℕ) × TellsGreatest limits one
+    × TellsGreatest (all_limits ports limits) all × (line ≡ need_line port one ports all)
+
 -- how many chunks the ports of each kind need
-abbrev pub needs_text : Option ℕ → Option ℕ → Option ℕ → List ℕ
-needs_text publisher client server =
-    codes "\nchunks that a port needs at these limits\n"
-    ++ (named_line (codes "publisher") (need_text publisher)
-    ++ (named_line (codes "client") (need_text client)
-    ++ (named_line (codes "server") (need_text server)
+abbrev pub needs_text : List ℕ → List ℕ → List ℕ → List ℕ
+needs_text publishers clients servers =
+    codes "\nchunks that a port needs at these limits, and all ports of its kind\n"
+    ++ (publishers ++ (clients ++ (servers
     ++ codes "  event, blackboard      none: their ports send no messages\n")))
 
--- how many chunks the ports need: the greatest number that can be in use at once
-abbrev pub IsNeedsText : Config → List ℕ → Type 0
-IsNeedsText c text =
-    (publisher : Option ℕ) × (client : Option ℕ) × (server : Option ℕ)
-    × TellsGreatest (sample_limits_of c.defaults) publisher
-    × TellsGreatest (request_limits_of c.defaults) client
-    × TellsGreatest (response_limits_of c.defaults) server
-    × (text ≡ needs_text publisher client server)
+abbrev pub IsNeedsText : Defaults → List ℕ → Type 0
+IsNeedsText d text =
+    (publishers : List ℕ) × (clients : List ℕ) × (servers : List ℕ)
+    × IsNeedLine (codes "publisher") (sample_limits_of d) d.publish_subscribe.max_publishers
+    publishers
+    × IsNeedLine (codes "client") (request_limits_of d) d.request_response.max_clients clients
+    × IsNeedLine (codes "server") (response_limits_of d) d.request_response.max_servers servers
+    × (text ≡ needs_text publishers clients servers)
 
 -- all settings, each beside its default where it differs from that
 abbrev pub IsSettingsText : Config → Config → List ℕ → Type 0
@@ -142,7 +155,7 @@ abbrev pub IsReportOver : Config → Config → List ℕ → Type 0
 IsReportOver default config text =
     (settings : List ℕ) × (needs : List ℕ)
     × (text ≡ settings ++ (directories_text config ++ (files_text config ++ needs)))
-    × IsSettingsText default config settings × IsNeedsText config needs
+    × IsSettingsText default config settings × IsNeedsText config.defaults needs
 
 -- the same, beside the defaults of the middleware
 abbrev pub IsReportText : Config → List ℕ → Type 0

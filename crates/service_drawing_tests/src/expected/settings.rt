@@ -38,6 +38,6 @@ files, with * for what the configuration does not fix
   port tags              own_*.port_tag
   global management      own_*.global_mgmt
 
-chunks that a port needs at these limits
-  publisher              42
+chunks that a port needs at these limits, and all ports of its kind
+  publisher              42, all 2 together 84
 ";

@@ -1,4 +1,12 @@
+use Rattle.std.proofs.Common.{refl}
+use Rattle.std.proofs.lemmas.Result.{on_ok_weaker}
 use Rattle.config_report.proofs.chunks.write_need.Goals as goal
 
-pub returns-in-None : goal.returns-in-None
-returns-in-None c = rw c.in-None.is c.write_named.ensures
+pub returns : goal.returns
+returns c =
+    on_ok_weaker c.write_line.result
+    (λ e limits tells. (
+      _,
+      e,
+      (c.args.one, c.of_all-all.result, tells, c.of_all-all.ensures limits tells, refl),
+    )) c.write_line.ensures
