@@ -1,3 +1,3 @@
 mod AllPorts
-mod Lines
+pub mod Lines
 mod Printable

@@ -69,6 +69,13 @@ topic_note at (unknown (s, key, meant)) =
 abbrev pub topic_position : List ℕ → Topic → Option Position
 topic_position bytes topic = position_for bytes (topic_path topic)
 
+-- the position of a key whose value is not allowed, and of one that no setting has
+abbrev pub fault_position : List ℕ → Located → Option Position
+fault_position bytes located = topic_position bytes (fault located)
+
+abbrev pub unknown_position : List ℕ → Unknown → Option Position
+unknown_position bytes key = topic_position bytes (unknown key)
+
 -- what is said of it in a file
 abbrev pub note_in : List ℕ → Topic → Note
 note_in bytes topic = topic_note (topic_position bytes topic) topic

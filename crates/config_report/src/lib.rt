@@ -12,6 +12,7 @@ mod contradictions;
 mod files;
 mod finding;
 mod key;
+mod keys;
 pub mod laws;
 mod line;
 mod meant;
@@ -24,7 +25,10 @@ mod text;
 pub use check::check_file;
 pub use chunks::{requests, responses, samples};
 pub use finding::{Finding, Findings, Severity};
+pub use keys::{fault_positions, unknown_positions};
+pub use positions::position_at;
 pub use report::{
     FileConfig, Report, ReportError, default_file, read_file, report_file, settings_text,
 };
+pub use subject::Subject;
 pub use toml_positions::Position;

@@ -89,7 +89,7 @@ pub(crate) fn subject_positions(
 }
 
 /// The position of this index, if it is known.
-pub(crate) fn position_at(positions: &[Option<Position>], index: usize) -> Option<Position>
+pub fn position_at(positions: &[Option<Position>], index: usize) -> Option<Position>
     ensures { result ≡ slice_index_or positions.now index None }
 {
     match positions.get(index) {

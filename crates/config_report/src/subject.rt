@@ -18,7 +18,7 @@ use toml_positions::{KeyPath, Position};
 
 /// What there is to say something of.
 #[derive(Clone, Copy)]
-pub(crate) enum Subject<'a> {
+pub enum Subject<'a> {
     /// A value that is not allowed.
     Fault(&'a SettingFault),
     /// A key that no setting has.
@@ -37,11 +37,7 @@ impl<'a> Subject<'a> {
     }
 
     /// What is said of it.
-    pub(crate) fn finding(
-        self,
-        alloc: Global,
-        position: Option<Position>,
-    ) -> Result<Finding, AllocError>
+    pub fn finding(self, alloc: Global, position: Option<Position>) -> Result<Finding, AllocError>
         ensures { IfOk result (λ found.
             finding_view found ≡ topic_note position (subject_view self.entry)) }
     {
