@@ -97,12 +97,28 @@ enum iox2sd_setting_kind_number {
 };
 typedef uint32_t iox2sd_setting_kind;
 
-/* What is wrong with a file, and with which key. */
+/* How a known key is like one that no setting has. */
+enum iox2sd_likeness_number {
+    IOX2SD_LIKENESS_NONE = 0,
+    IOX2SD_LIKENESS_SPELLING = 1,    /* It is the same but for '-', '_' and the case of letters. */
+    IOX2SD_LIKENESS_OTHER_TABLE = 2, /* It is the same, and a key of another table. */
+    IOX2SD_LIKENESS_QUOTED = 3,      /* Its path stands in quotes. */
+    IOX2SD_LIKENESS_NEAR = 4         /* It is the nearest key of the table. */
+};
+typedef uint32_t iox2sd_likeness;
+
+/* What is wrong with a file, where, and with which key. */
 typedef struct iox2sd_config_fault {
     iox2sd_status status;
     iox2sd_config_table table;  /* The table of the key. */
     iox2sd_toml_type found; /* The type of its value, with IOX2SD_STATUS_WRONG_TYPE; 0 otherwise. */
     iox2sd_setting_kind wanted; /* What its value may be; 0 where nothing is wrong with a key. */
+    /* Where the key begins, or where the text is found to be no UTF-8, too deep or no TOML: both
+     * from 1, columns in bytes (of a text that is too deep, in characters). Both are 0 where there
+     * is no position: of a key in a file of more than 128 KiB, and where nothing is wrong with the
+     * text. */
+    size_t line;
+    size_t column;
     uint8_t key[80]; /* The path of the key, as "defaults.event.deadline", then zeros. */
     size_t key_length;
     uint8_t reason[256]; /* The beginning of what is wrong, in words, then zeros. */
@@ -113,15 +129,21 @@ typedef struct iox2sd_config_fault {
 typedef struct iox2sd_config_answer {
     iox2sd_status status;
     size_t unknown;            /* How many keys no setting has. */
-    iox2sd_config_fault fault; /* The first fault; all 0 where the status is IOX2SD_STATUS_DONE. */
+    /* The first fault in the order of the file; all 0 where the status is IOX2SD_STATUS_DONE. */
+    iox2sd_config_fault fault;
 } iox2sd_config_answer;
 
 /* A key of a file that no setting has. */
 typedef struct iox2sd_unknown_key {
     iox2sd_config_table table;
+    iox2sd_likeness likeness; /* How the known key that was probably meant is like it. */
+    size_t line;              /* Where it begins, as of a fault. */
+    size_t column;
     size_t key_length; /* The bytes of its path, in the buffer of all paths. */
     uint8_t meant[80]; /* The path of the known key that was probably meant, then zeros. */
-    size_t meant_length; /* 0 where no known key is near. */
+    size_t meant_length; /* 0 where there is none. */
+    uint8_t reason[256]; /* What is wrong and was probably meant, in words, then zeros. */
+    size_t reason_length;
 } iox2sd_unknown_key;
 
 /* How many keys of a file no setting has. */
@@ -145,8 +167,8 @@ typedef struct iox2sd_config_write_answer {
  * tables. A key that it does not have has its default, and all bytes of `out` are written. A text
  * of NULL and 0 is an empty one.
  * Errors, after which `out` is as it was: IOX2SD_STATUS_NULL; IOX2SD_STATUS_NOT_UTF8;
- * IOX2SD_STATUS_TOO_DEEP and then IOX2SD_STATUS_NOT_TOML, whose `reason` has the line and the
- * column; and of the first key, in the order of the settings, whose value is not allowed:
+ * IOX2SD_STATUS_TOO_DEEP and then IOX2SD_STATUS_NOT_TOML, each with the line and the column; and
+ * of the first key, in the order of the file, whose value is not allowed, with its position:
  * IOX2SD_STATUS_WRONG_TYPE; IOX2SD_STATUS_BELOW_ZERO; IOX2SD_STATUS_TOO_LONG and
  * IOX2SD_STATUS_BAD_PATH of a path; IOX2SD_STATUS_TOO_LONG and IOX2SD_STATUS_NO_FILE_NAME of the
  * name of a file; IOX2SD_STATUS_UNKNOWN_VARIANT of a strategy; IOX2SD_STATUS_NO_DURATION;
@@ -155,7 +177,8 @@ IOX2SD_CHECKED iox2sd_config_answer iox2sd_config_read(const uint8_t *text, size
                                                        iox2sd_config *out);
 IOX2SD_CHECKED iox2sd_config_answer iox2sd_config_read_str(const char *text, iox2sd_config *out);
 
-/* Writes all faults of a file, in the order of the settings, to the front of `out`, where they fit.
+/* Writes all faults of a file, by line and column, to the front of `out`, where they fit. What has
+ * no position comes last, in the order of the settings.
  * Errors, after which `out` is as it was: IOX2SD_STATUS_NULL; IOX2SD_STATUS_NOT_UTF8;
  * IOX2SD_STATUS_TOO_DEEP; IOX2SD_STATUS_NOT_TOML; IOX2SD_STATUS_BUFFER_TOO_SHORT, with the number
  * of faults. At any point: IOX2SD_STATUS_NO_MEMORY. */
@@ -165,14 +188,15 @@ IOX2SD_CHECKED iox2sd_count_answer iox2sd_config_faults_str(const char *text,
                                                             iox2sd_config_fault *out,
                                                             size_t capacity);
 
-/* Writes the keys of a file that no setting has, in the order of the tables and of the keys in
- * each, to the front of `out`, and their paths, one after the other, to the front of `paths`, where
- * all of them fit. With each comes the path of the known key that was probably meant: the key of
- * its table that is the same but for '-', '_' and the case of letters; or else the same key of
- * another table; or else the key whose path stands in quotes; or else the nearest key of its table.
- * Errors, after which both are as they were: those of iox2sd_config_read;
- * IOX2SD_STATUS_BUFFER_TOO_SHORT, with the lengths that they need. At any point:
- * IOX2SD_STATUS_NO_MEMORY. */
+/* Writes the keys of a file that no setting has, in the order of faults, to the front of `out`, and
+ * their paths, as TOML writes them, one after the other, to the front of `paths`, where all of them
+ * fit. It does so whether values are allowed or not. With each comes the path of the known key that
+ * was probably meant: the key of its table that is the same but for '-', '_' and the case of
+ * letters; or else the same key of another table; or else the key whose path stands in quotes; or
+ * else the nearest key of its table.
+ * Errors, after which both are as they were: IOX2SD_STATUS_NULL; IOX2SD_STATUS_NOT_UTF8;
+ * IOX2SD_STATUS_TOO_DEEP; IOX2SD_STATUS_NOT_TOML; IOX2SD_STATUS_BUFFER_TOO_SHORT, with the lengths
+ * that they need. At any point: IOX2SD_STATUS_NO_MEMORY. */
 IOX2SD_CHECKED iox2sd_unknown_answer iox2sd_config_unknown(const uint8_t *text, size_t length,
                                                            iox2sd_unknown_key *out, size_t capacity,
                                                            uint8_t *paths, size_t paths_capacity);

@@ -47,6 +47,10 @@ static bool has_reason(const iox2sd_config_fault *fault, const char *reason) {
     return is_front(fault->reason, sizeof fault->reason, fault->reason_length, reason);
 }
 
+static bool is_at(const iox2sd_config_fault *fault, size_t line, size_t column) {
+    return fault->line == line && fault->column == column;
+}
+
 static void set(iox2sd_config_text *text, const char *value) {
     memset(text->bytes, 0, sizeof text->bytes);
     memcpy(text->bytes, value, strlen(value));
@@ -66,6 +70,7 @@ static void defaults(void) {
     CHECK(answer.fault.status == IOX2SD_STATUS_DONE && has_key(&answer.fault, ""));
     CHECK(has_reason(&answer.fault, ""));
     CHECK(answer.fault.table == 0 && answer.fault.found == 0 && answer.fault.wanted == 0);
+    CHECK(is_at(&answer.fault, 0, 0));
     const iox2sd_config_text *const texts[] = {
         &made.texts.root_path,
         &made.texts.prefix,
@@ -204,10 +209,12 @@ static void each_fault(void) {
     const iox2sd_config_fault *fault = first("global = 'a'", IOX2SD_STATUS_WRONG_TYPE);
     CHECK(fault->table == IOX2SD_TABLE_ROOT && has_key(fault, "global"));
     CHECK(fault->found == IOX2SD_TOML_STRING && fault->wanted == IOX2SD_KIND_TABLE);
+    CHECK(is_at(fault, 1, 1));
     CHECK(has_reason(fault, "is a string, and a table is wanted"));
     fault = first("[defaults.event]\nmax-nodes = true", IOX2SD_STATUS_WRONG_TYPE);
     CHECK(fault->table == IOX2SD_TABLE_EVENT && has_key(fault, "defaults.event.max-nodes"));
     CHECK(fault->found == IOX2SD_TOML_BOOLEAN && fault->wanted == IOX2SD_KIND_NUMBER);
+    CHECK(is_at(fault, 2, 1));
     fault = first("global.node.cleanup-dead-nodes-on-creation = 1.5", IOX2SD_STATUS_WRONG_TYPE);
     CHECK(fault->table == IOX2SD_TABLE_NODE && fault->found == IOX2SD_TOML_FLOAT);
     CHECK(fault->wanted == IOX2SD_KIND_FLAG);
@@ -244,9 +251,19 @@ static void each_fault(void) {
                   IOX2SD_STATUS_BAD_DURATION);
     CHECK(fault->wanted == IOX2SD_KIND_DURATION && has_key(fault, "global.creation-timeout"));
     fault = first("global = {}\nprefix", IOX2SD_STATUS_NOT_TOML);
-    CHECK(fault->key_length == 0 && strstr((const char *)fault->reason, "line 2") != NULL);
-    fault = first("\xff", IOX2SD_STATUS_NOT_UTF8);
-    CHECK(fault->wanted == 0 && has_reason(fault, "not UTF-8"));
+    CHECK(fault->key_length == 0 && is_at(fault, 2, 7) && fault->reason_length != 0);
+    CHECK(strchr((const char *)fault->reason, '\n') == NULL);
+    fault = first("\n \xff", IOX2SD_STATUS_NOT_UTF8);
+    CHECK(fault->wanted == 0 && has_reason(fault, "the file is no UTF-8") && is_at(fault, 2, 2));
+    /* columns are bytes; a byte order mark has none, and a text of many lines has lines */
+    fault = first("\xef\xbb\xbf'\xc3\xa4' = \"\"\"\n\n\"\"\"\r\n  global = {\n prefix = 1}",
+                  IOX2SD_STATUS_WRONG_TYPE);
+    CHECK(is_at(fault, 4, 3) && has_key(fault, "global.prefix"));
+    fault = first("[a.'\xc3\xa4'] # [[\n\n\t[ global . node ]\n\tmonitor-suffix = 1",
+                  IOX2SD_STATUS_WRONG_TYPE);
+    CHECK(is_at(fault, 4, 2));
+    fault = first("'\xc3\xa4' = 1 1", IOX2SD_STATUS_NOT_TOML);
+    CHECK(is_at(fault, 1, 8));
     fault = first("defaults.request-response.max-borrowed-responses-per-pending-response = ''",
                   IOX2SD_STATUS_WRONG_TYPE);
     CHECK(has_key(fault,
@@ -257,7 +274,7 @@ static bool is_count(iox2sd_count_answer answer, uint32_t status, size_t count) 
     return answer.status == status && answer.count == count;
 }
 
-static const char faulty[] = "[defaults.event]\nmax-nodes = -1\nmax-listeners = true\n"
+static const char faulty[] = "[defaults.event]\nmax-nodes = -1\n  max-listeners = true\n"
                              "[global]\nprefix = ''\nother = 1\n";
 
 static void all_faults(void) {
@@ -270,11 +287,15 @@ static void all_faults(void) {
             CHECK(((const uint8_t *)faults)[i] == 0xAA);
     }
     CHECK(is_count(iox2sd_config_faults_str(faulty, faults, 4), IOX2SD_STATUS_DONE, 3));
-    CHECK(has_key(&faults[0], "global.prefix") && faults[0].status == IOX2SD_STATUS_NO_FILE_NAME);
-    CHECK(has_key(&faults[1], "defaults.event.max-listeners"));
-    CHECK(faults[1].status == IOX2SD_STATUS_WRONG_TYPE &&
-          faults[2].status == IOX2SD_STATUS_BELOW_ZERO);
-    CHECK(has_key(&faults[2], "defaults.event.max-nodes"));
+    CHECK(has_key(&faults[0], "defaults.event.max-nodes") && is_at(&faults[0], 2, 1));
+    CHECK(faults[0].status == IOX2SD_STATUS_BELOW_ZERO);
+    CHECK(has_key(&faults[1], "defaults.event.max-listeners") && is_at(&faults[1], 3, 3));
+    CHECK(faults[1].status == IOX2SD_STATUS_WRONG_TYPE);
+    CHECK(has_key(&faults[2], "global.prefix") && is_at(&faults[2], 5, 1));
+    CHECK(faults[2].status == IOX2SD_STATUS_NO_FILE_NAME);
+    static iox2sd_config made;
+    const iox2sd_config_answer answer = iox2sd_config_read_str(faulty, &made);
+    CHECK(memcmp(&answer.fault, &faults[0], sizeof faults[0]) == 0);
     CHECK(faults[3].status == 0xAAAAAAAA);
     CHECK(is_count(iox2sd_config_faults_str(all, NULL, 0), IOX2SD_STATUS_DONE, 0));
     CHECK(is_count(iox2sd_config_faults_str("a", faults, 4), IOX2SD_STATUS_NOT_TOML, 0));
@@ -288,9 +309,14 @@ static bool is_unknown(iox2sd_unknown_answer answer, uint32_t status, size_t cou
     return answer.status == status && answer.count == count && answer.length == length;
 }
 
-static const char misspelt[] = "[defaults.publish-subscribe]\nmax-publisher = 3\n"
+static const char misspelt[] = "[defaults.publish-subscribe]\n max-publisher = 3\n"
                                "[global]\nnothing-like-it = 1\n";
-static const char paths[] = "global.nothing-like-itdefaults.publish-subscribe.max-publisher";
+static const char paths[] = "defaults.publish-subscribe.max-publisherglobal.nothing-like-it";
+
+static bool says(const iox2sd_unknown_key *key, const char *meant, const char *reason) {
+    return is_front(key->meant, sizeof key->meant, key->meant_length, meant) &&
+           is_front(key->reason, sizeof key->reason, key->reason_length, reason);
+}
 
 static void unknown_keys(void) {
     static iox2sd_config made;
@@ -308,15 +334,46 @@ static void unknown_keys(void) {
     CHECK(is_unknown(iox2sd_config_unknown_str(misspelt, keys, 2, buffer, LENGTH),
                      IOX2SD_STATUS_DONE, 2, LENGTH));
     CHECK(memcmp(buffer, paths, LENGTH) == 0 && buffer[LENGTH] == 0xAA);
-    CHECK(keys[0].table == IOX2SD_TABLE_GLOBAL && keys[0].key_length == 22);
-    CHECK(is_front(keys[0].meant, sizeof keys[0].meant, keys[0].meant_length, ""));
-    CHECK(keys[1].table == IOX2SD_TABLE_PUBLISH_SUBSCRIBE);
-    CHECK(keys[1].key_length == LENGTH - 22 && keys[2].table == 0xAAAAAAAA);
-    CHECK(is_front(keys[1].meant, sizeof keys[1].meant, keys[1].meant_length,
-                   "defaults.publish-subscribe.max-publishers"));
+    CHECK(keys[0].table == IOX2SD_TABLE_PUBLISH_SUBSCRIBE && keys[0].key_length == LENGTH - 22);
+    CHECK(keys[0].line == 2 && keys[0].column == 2 && keys[0].likeness == IOX2SD_LIKENESS_NEAR);
+    CHECK(says(&keys[0], "defaults.publish-subscribe.max-publishers",
+               "this table has no such key, defaults.publish-subscribe.max-publishers may be "
+               "meant"));
+    CHECK(keys[1].table == IOX2SD_TABLE_GLOBAL && keys[1].key_length == 22);
+    CHECK(keys[1].line == 4 && keys[1].column == 1 && keys[1].likeness == IOX2SD_LIKENESS_NONE);
+    CHECK(says(&keys[1], "", "this table has no such key") && keys[2].table == 0xAAAAAAAA);
+    /* how a known key is like each, and a key as TOML writes it */
+    static const char likes[] = "[global.service]\ncreation_timeout = 1\nDirectory = 1\n"
+                                "[global]\n'node.\tdirectory' = 1\n'node.directory' = 1\n";
+    static const char written[] = "global.service.creation_timeoutglobal.service.Directory"
+                                  "global.\"node.\\tdirectory\"global.\"node.directory\"";
+    static iox2sd_unknown_key found[4];
+    uint8_t names[200];
+    CHECK(is_unknown(iox2sd_config_unknown_str(likes, found, 4, names, sizeof names),
+                     IOX2SD_STATUS_DONE, 4, sizeof written - 1));
+    CHECK(memcmp(names, written, sizeof written - 1) == 0);
+    CHECK(found[1].likeness == IOX2SD_LIKENESS_SPELLING && found[1].line == 3);
+    CHECK(says(&found[1], "global.service.directory",
+               "this table has no such key, global.service.directory may be meant"));
+    CHECK(found[3].likeness == IOX2SD_LIKENESS_QUOTED && found[3].line == 6);
+    CHECK(says(&found[3], "global.node.directory",
+               "this table has no such key, global.node.directory without the quotes may be "
+               "meant"));
+    static const char elsewhere[] = "global.service.creation-timeout = 1\n";
+    CHECK(is_unknown(iox2sd_config_unknown_str(elsewhere, found, 4, names, sizeof names),
+                     IOX2SD_STATUS_DONE, 1, 31));
+    CHECK(found[0].likeness == IOX2SD_LIKENESS_OTHER_TABLE);
+    CHECK(says(&found[0], "global.creation-timeout",
+               "this table has no such key, it belongs to [global]"));
+    /* beside faults, and none of a text that is no file of settings */
+    CHECK(is_unknown(iox2sd_config_unknown_str(faulty, found, 4, names, sizeof names),
+                     IOX2SD_STATUS_DONE, 1, 12));
+    CHECK(found[0].line == 6 && memcmp(names, "global.other", 12) == 0);
+    CHECK(is_unknown(iox2sd_config_unknown_str("a", keys, 3, NULL, 0), IOX2SD_STATUS_NOT_TOML, 0,
+                     0));
+    CHECK(is_unknown(iox2sd_config_unknown_str("\xff", keys, 3, NULL, 0), IOX2SD_STATUS_NOT_UTF8,
+                     0, 0));
     CHECK(is_unknown(iox2sd_config_unknown_str(all, NULL, 0, NULL, 0), IOX2SD_STATUS_DONE, 0, 0));
-    CHECK(is_unknown(iox2sd_config_unknown_str(faulty, keys, 3, NULL, 0),
-                     IOX2SD_STATUS_NO_FILE_NAME, 0, 0));
     CHECK(is_unknown(iox2sd_config_unknown_str(NULL, NULL, 0, NULL, 0), IOX2SD_STATUS_NULL, 0, 0));
     CHECK(is_unknown(iox2sd_config_unknown_str(all, NULL, 1, NULL, 0), IOX2SD_STATUS_NULL, 0, 0));
     CHECK(is_unknown(iox2sd_config_unknown_str(all, NULL, 0, NULL, 1), IOX2SD_STATUS_NULL, 0, 0));
@@ -417,6 +474,28 @@ static bool is_soiled(const iox2sd_config *config) {
     return true;
 }
 
+/* A text of 128 KiB has positions, and one of a byte more has none. */
+static void sizes(void) {
+    enum { MOST_SEARCHED = 131072 };
+    static char text[MOST_SEARCHED + 2];
+    static const char front[] = "other = 1\nglobal.prefix = 1\n#";
+    static iox2sd_config made;
+    iox2sd_unknown_key key;
+    uint8_t path[5];
+    memset(text, 'x', MOST_SEARCHED + 1);
+    memcpy(text, front, sizeof front - 1);
+    for (size_t more = 0; more < 2; more++) {
+        const uint8_t *const bytes = (const uint8_t *)text;
+        const size_t length = MOST_SEARCHED + more;
+        const iox2sd_config_answer answer = iox2sd_config_read(bytes, length, &made);
+        CHECK(answer.status == IOX2SD_STATUS_WRONG_TYPE && has_key(&answer.fault, "global.prefix"));
+        CHECK(is_at(&answer.fault, more ? 0 : 2, more ? 0 : 1));
+        CHECK(is_unknown(iox2sd_config_unknown(bytes, length, &key, 1, path, 5),
+                         IOX2SD_STATUS_DONE, 1, 5));
+        CHECK(key.line == (more ? 0 : 1) && key.column == (more ? 0 : 1));
+    }
+}
+
 static char deep[1 << 14];
 
 /* Appends a text so many times. */
@@ -427,8 +506,9 @@ static void repeat(const char *text, int times) {
 /* Whether the file that was put together is read, or where it is too deep. */
 static bool is_deep(const char *place) {
     static iox2sd_config made;
+    static const char reason[] = "tables and arrays are more than 32 deep in one another";
     iox2sd_config_fault faults[1];
-    char reason[99];
+    size_t line = 0, column = 0;
     iox2sd_config_answer answer = iox2sd_config_read_str(deep, soiled(&made, 0xAA));
     iox2sd_count_answer listed = iox2sd_config_faults_str(deep, faults, 1);
     iox2sd_unknown_answer unknown = iox2sd_config_unknown_str(deep, NULL, 0, NULL, 0);
@@ -436,8 +516,8 @@ static bool is_deep(const char *place) {
     if (place == NULL)
         return answer.status == IOX2SD_STATUS_DONE && listed.status == IOX2SD_STATUS_DONE &&
                unknown.status != IOX2SD_STATUS_TOO_DEEP;
-    sprintf(reason, "%s: tables and arrays are more than 32 deep in one another", place);
-    return answer.status == IOX2SD_STATUS_TOO_DEEP && has_reason(&answer.fault, reason) &&
+    return sscanf(place, "%zu:%zu", &line, &column) == 2 && is_at(&answer.fault, line, column) &&
+           answer.status == IOX2SD_STATUS_TOO_DEEP && has_reason(&answer.fault, reason) &&
            has_key(&answer.fault, "") && answer.unknown == 0 && is_soiled(&made) &&
            listed.status == IOX2SD_STATUS_TOO_DEEP && listed.count == 0 &&
            unknown.status == IOX2SD_STATUS_TOO_DEEP && unknown.count == 0;
@@ -448,20 +528,20 @@ static void depth(void) {
     for (int more = 0; more < 2; more++) {
         repeat("a.", 32 + more);
         repeat("a = 1\n", 1);
-        CHECK(is_deep(more ? "line 1, column 66" : NULL));
+        CHECK(is_deep(more ? "1:66" : NULL));
         repeat("[a", 1);
         repeat(".a", 31 + more);
         repeat("]\n", 1);
-        CHECK(is_deep(more ? "line 1, column 65" : NULL));
+        CHECK(is_deep(more ? "1:65" : NULL));
         repeat("# [[[[ ....\nx = ", 1);
         repeat("[", 32 + more);
         repeat("]", 32 + more);
-        CHECK(is_deep(more ? "line 2, column 37" : NULL));
+        CHECK(is_deep(more ? "2:37" : NULL));
         repeat("x = ", 1);
         repeat("{a = ", 32 + more);
         repeat("1", 1);
         repeat("}", 32 + more);
-        CHECK(is_deep(more ? "line 1, column 165" : NULL));
+        CHECK(is_deep(more ? "1:165" : NULL));
         repeat("[a", 1);
         repeat(".a", 7);
         repeat("]\n", 1);
@@ -471,7 +551,7 @@ static void depth(void) {
         repeat("[", 1 + more);
         repeat("]", 1 + more);
         repeat("}]", 5);
-        CHECK(is_deep(more ? "line 7, column 8" : NULL));
+        CHECK(is_deep(more ? "7:8" : NULL));
     }
     /* what is in texts and comments is not counted, nor what is closed */
     repeat("\xef\xbb\xbf[a]\n", 1);
@@ -486,7 +566,7 @@ static void depth(void) {
     repeat(".a", 16);
     repeat("]\n\n'\xc3\xa4'", 1);
     repeat(".b", 16);
-    CHECK(is_deep("line 3, column 34"));
+    CHECK(is_deep("3:34"));
 }
 
 static void nulls(void) {
@@ -527,7 +607,7 @@ static uint32_t reads(void) {
 static uint32_t reads_a_fault(void) {
     static iox2sd_config made;
     uint32_t status = iox2sd_config_read_str(faulty, &made).status;
-    return status == IOX2SD_STATUS_NO_FILE_NAME ? IOX2SD_STATUS_DONE : status;
+    return status == IOX2SD_STATUS_BELOW_ZERO ? IOX2SD_STATUS_DONE : status;
 }
 
 static uint32_t lists_faults(void) {
@@ -601,6 +681,7 @@ int main(void) {
     all_faults();
     unknown_keys();
     writing();
+    sizes();
     depth();
     nulls();
     no_memory(reads);

@@ -276,9 +276,9 @@ static void name_deep(void) { (void)iox2sd_config_unknown_at(TEXT(deep), ALL(unk
 
 enum { FORMS = 12 };
 
-static void make_form(size_t form, size_t depth) {
+static void make_form(size_t form, size_t depth, bool faulty) {
     const size_t half = depth / 2;
-    deep[0] = 0;
+    strcpy(deep, faulty ? "defaults.event = 1\n" : "");
     if (form == 0 || form == 1) { /* a key; a key of a known table */
         repeat(form == 0 ? "" : "global.", 1);
         repeat("a.", depth - 1 - form);
@@ -335,11 +335,13 @@ static void deep_files(bool told) {
     size_t most = 0;
     for (size_t form = 0; form < FORMS; form++) {
         for (size_t i = 0; i < sizeof depths / sizeof depths[0]; i++) {
-            make_form(form, depths[i]);
-            const size_t taken[] = {depth_of(read_deep), depth_of(list_deep), depth_of(name_deep)};
+            make_form(form, depths[i], true);
+            const size_t with_fault = depth_of(read_deep), listed = depth_of(list_deep);
+            make_form(form, depths[i], false);
+            const size_t taken[] = {depth_of(read_deep), with_fault, listed, depth_of(name_deep)};
             const iox2sd_config_answer answer = iox2sd_config_read_str(deep, &config);
             CHECK(answer.status == (depths[i] <= 32 ? IOX2SD_STATUS_DONE : IOX2SD_STATUS_TOO_DEEP));
-            for (size_t call = 0; call < 3; call++) {
+            for (size_t call = 0; call < sizeof taken / sizeof taken[0]; call++) {
                 CHECK(taken[call] <= IOX2SD_CONFIG_STACK_BYTES);
                 if (taken[call] > most) most = taken[call];
                 if (told || taken[call] > IOX2SD_CONFIG_STACK_BYTES)

@@ -94,6 +94,8 @@ numbers! {
     u32: IOX2SD_KIND_TABLE = 1 IOX2SD_KIND_NUMBER = 2 IOX2SD_KIND_FLAG = 3 IOX2SD_KIND_PATH = 4
     IOX2SD_KIND_FILE_NAME = 5 IOX2SD_KIND_BACKPRESSURE = 6 IOX2SD_KIND_ALLOCATION = 7
     IOX2SD_KIND_DURATION = 8;
+    u32: IOX2SD_LIKENESS_SPELLING = 1 IOX2SD_LIKENESS_OTHER_TABLE = 2 IOX2SD_LIKENESS_QUOTED = 3
+    IOX2SD_LIKENESS_NEAR = 4;
 }
 
 structs! {
@@ -203,11 +205,14 @@ structs! {
         request_response: iox2sd_request_response_settings, blackboard: iox2sd_blackboard_settings,
     }
     iox2sd_config_fault {
-        status table found wanted: u32, key: [u8; 80], key_length: usize, reason: [u8; 256],
-        reason_length: usize,
+        status table found wanted: u32, line column: usize, key: [u8; 80], key_length: usize,
+        reason: [u8; 256], reason_length: usize,
     }
     iox2sd_config_answer { status: u32, unknown: usize, fault: iox2sd_config_fault, }
-    iox2sd_unknown_key { table: u32, key_length: usize, meant: [u8; 80], meant_length: usize, }
+    iox2sd_unknown_key {
+        table likeness: u32, line column key_length: usize, meant: [u8; 80], meant_length: usize,
+        reason: [u8; 256], reason_length: usize,
+    }
     iox2sd_unknown_answer { status: u32, count length: usize, }
     iox2sd_config_write_answer {
         status field: u32, length: usize, key: [u8; 80], key_length: usize,

@@ -1,13 +1,10 @@
 -- What is wrong with a file of settings, as plain values.
-use Rattle.std.specs.Prelude.{◌≡◌, ◌⊎◌, ℕ, List, ◌++◌, length, take, replicate}
-use Rattle.std.specs.Str.{trim_end}
-use Rattle.iox2_config_file.specs.Depth.{depth_text}
-use Rattle.iox2_config_file.specs.Faults.{reason_text}
-use Rattle.iox2_config_file.specs.Read.{Located, fault_view}
+use Rattle.std.specs.Prelude.{◌≡◌, ◌⊎◌, ℕ, List, [], ◌∷◌, ◌++◌, length, map, take, replicate, Option, Some, None}
+use Rattle.config_report.specs.Findings.{Checks, finding_view}
+use Rattle.config_report.specs.Notes.{Note, fault, fault_position, topic_note}
+use Rattle.config_report.specs.declared.finding.Findings.{Findings}
+use Rattle.iox2_config_file.specs.Read.{Located}
 use Rattle.iox2_config_file.specs.Rows.{prefix_of}
-use Rattle.iox2_config_file.specs.declared.depth.TooDeep.{TooDeep}
-use Rattle.iox2_config_file.specs.declared.error.ConfigFileError.{ConfigFileError}
-use Rattle.iox2_config_file.specs.declared.error.ConfigFileError.TheVariants as error
 use Rattle.iox2_config_file.specs.declared.kind.Fault.{Fault}
 use Rattle.iox2_config_file.specs.declared.kind.Fault.TheVariants.{WrongType, OutOfRange, NoPath, NoFileName, UnknownVariant, NoDuration, NanosTooLarge}
 use Rattle.iox2_config_file.specs.declared.kind.Kind.{Kind}
@@ -22,6 +19,7 @@ use Rattle.iox2sd_common.specs.Status.{code, status_text}
 use Rattle.iox2sd_common.specs.declared.status.Status.{Status}
 use Rattle.iox2sd_common.specs.declared.status.Status.TheVariants as status
 use Rattle.iox2sd_config.specs.declared.fault.PlainFault.{PlainFault}
+use Rattle.toml_positions.specs.declared.position.Position.{Position}
 
 -- the number of a table of the file
 abbrev pub section_number : Section → ℕ
@@ -101,6 +99,8 @@ pub record Known : Type 0 where
   pub table : ℕ
   pub found : ℕ
   pub wanted : ℕ
+  pub line : ℕ
+  pub column : ℕ
   pub key : List ℕ
   pub key_length : ℕ
   pub reason : List ℕ
@@ -112,6 +112,8 @@ known_of f = record {
   table = f.table;
   found = f.found;
   wanted = f.wanted;
+  line = f.line;
+  column = f.column;
   key = f.key;
   key_length = f.key_length;
   reason = f.reason;
@@ -125,6 +127,8 @@ worded s words = record {
   table = 0;
   found = 0;
   wanted = 0;
+  line = 0;
+  column = 0;
   key = replicate 80 0;
   key_length = 0;
   reason = cut_reason words;
@@ -135,35 +139,54 @@ worded s words = record {
 abbrev pub no_place : Status → Known
 no_place s = worded s (status_text s)
 
--- what is wrong with the value at this path of a key in a table, and the same in words
-abbrev pub placed : Fault → Section → List ℕ → List ℕ → Known
-placed fault s path words = record {
-  status = code (fault_status fault);
-  table = section_number s;
-  found = found_number fault;
-  wanted = wanted_number fault;
-  key = cut_key path;
-  key_length = length path;
-  reason = cut_reason words;
-  reason_length = length words;
+-- the line and the column of a position, 0 where there is none
+abbrev pub line_of : Option Position → ℕ
+line_of None = 0
+line_of (Some p) = p.line
+
+abbrev pub column_of : Option Position → ℕ
+column_of None = 0
+column_of (Some p) = p.column
+
+-- the key that something is said of, none where it is said of the whole file
+abbrev pub key_of : Option (List ℕ) → List ℕ
+key_of None = []
+key_of (Some key) = key
+
+-- what the report on a file says at a position, with its status, and with the table, the type and
+-- the kind of the value
+abbrev pub told_note : Status → ℕ → ℕ → ℕ → Note → Known
+told_note s table found wanted n = record {
+  status = code s;
+  table = table;
+  found = found;
+  wanted = wanted;
+  line = line_of n.position;
+  column = column_of n.position;
+  key = cut_key (key_of n.key);
+  key_length = length (key_of n.key);
+  reason = cut_reason n.message;
+  reason_length = length n.message;
 }
 
--- what is wrong with the value of a key
-abbrev pub told_fault : Located → Known
-told_fault (s, key, fault) = placed fault s (key_path s key) (reason_text fault)
+-- what the report says of a value that is not allowed, where its key has this position
+abbrev pub told_at : Option Position → Located → Known
+told_at at (s, key, reason) =
+    told_note (fault_status reason) (section_number s) (found_number reason) (wanted_number reason)
+    (topic_note at (fault (s, key, reason)))
 
--- why a text gives no settings; where it is no TOML, in words that end in no white space
-abbrev pub TellsError : ConfigFileError → Known → Type 0
-TellsError (error.Syntax e) known =
-    (said : List ℕ) × (known ≡ worded status.NotToml (trim_end said))
-TellsError (error.Setting fault) known = known ≡ told_fault (fault_view fault)
-TellsError (error.NoMemory e) known = known ≡ no_place status.NoMemory
+-- the same in a file
+abbrev pub told_fault : List ℕ → Located → Known
+told_fault bytes located = told_at (fault_position bytes located) located
 
--- the same, or that there was no memory to say it
-abbrev pub Explains : ConfigFileError → Known → Type 0
-Explains e known = TellsError e known ⊎ (known ≡ no_place status.NoMemory)
+-- the first thing that the report says, with this status
+abbrev pub told_first : Status → List Note → Known
+told_first s [] = no_place s
+told_first s (n ∷ more) = told_note s 0 0 0 n
 
--- where a text is too deep, or that there was no memory to say it
-abbrev pub TellsDepth : TooDeep → Known → Type 0
-TellsDepth place known =
-    (known ≡ worded status.TooDeep (depth_text place)) ⊎ (known ≡ no_place status.NoMemory)
+-- the first thing that the report on a file says, or that there was no memory to say it
+abbrev pub TellsFirst : List ℕ → Status → Known → Type 0
+TellsFirst bytes s known =
+    ((found : Findings) × Checks bytes found
+    × (known ≡ told_first s (map finding_view found.list.items)))
+    ⊎ (known ≡ no_place status.NoMemory)

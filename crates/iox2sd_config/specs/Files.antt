@@ -1,38 +1,48 @@
 -- The text of a file of settings: its settings, or what is wrong with it.
 use Rattle.std.specs.Prelude.{◌≡◌, ◌⊎◌, ◌≤◌, ◌<◌, ℕ, List, [], ◌∷◌, ◌++◌, map, drop, length, Some, None, IsUtf8}
-use Rattle.iox2_config_file.specs.Answers.{Refuses, ReportsAll, ReadsOverDefaults}
+use Rattle.config_report.specs.Findings.{IsShallow}
+use Rattle.iox2_config.specs.Defaults.{IsDefaultConfig}
+use Rattle.iox2_config.specs.declared.config.Config.{Config}
+use Rattle.iox2_config_file.specs.Answers.{ReadsAll, ReportsAll}
 use Rattle.iox2_config_file.specs.Depth.{too_deep}
-use Rattle.iox2_config_file.specs.Read.{Located, fault_view}
+use Rattle.iox2_config_file.specs.Read.{fault_view}
 use Rattle.iox2_config_file.specs.declared.depth.TooDeep.{TooDeep}
-use Rattle.iox2_config_file.specs.declared.error.ConfigFileError.{ConfigFileError}
 use Rattle.iox2_config_file.specs.declared.fault.SettingFault.{SettingFault}
-use Rattle.iox2_config_file.specs.declared.read.FileSettings.{FileSettings}
+use Rattle.iox2_config_file.specs.declared.read.FileContents.{FileContents}
 use Rattle.iox2sd_common.specs.Answers.{count_answer}
 use Rattle.iox2sd_common.specs.Status.{code}
 use Rattle.iox2sd_common.specs.declared.answers.CountAnswer.{CountAnswer}
+use Rattle.iox2sd_common.specs.declared.status.Status.{Status}
 use Rattle.iox2sd_common.specs.declared.status.Status.TheVariants as status
 use Rattle.iox2sd_config.specs.Configs.{told_config}
-use Rattle.iox2sd_config.specs.Faults.{Known, known_of, no_place, worded, told_fault, TellsDepth, TellsError}
+use Rattle.iox2sd_config.specs.Faults.{Known, known_of, no_place, worded, told_fault, TellsFirst}
+use Rattle.iox2sd_config.specs.Order.{place_at, IsInOrder}
 use Rattle.iox2sd_config.specs.declared.config.PlainConfig.{PlainConfig}
 use Rattle.iox2sd_config.specs.declared.fault.PlainFault.{PlainFault}
 use Rattle.iox2sd_config.specs.declared.read.ConfigAnswer.{ConfigAnswer}
 use Rattle.toml.specs.Parse.{parse_document}
 
--- tables and arrays are at most 32 deep in one another
-abbrev pub IsShallow : List ℕ → Type 0
-IsShallow bytes = too_deep bytes ≡ None
+-- the bytes are a text, and its tables and arrays are not too deep in one another
+abbrev pub IsText : List ℕ → Type 0
+IsText bytes = IsUtf8 bytes × IsShallow bytes
 
--- why a text of UTF-8 gives no settings: it is too deep, or else what the reader of files says
-abbrev pub RefusesText : List ℕ → Known → Type 0
-RefusesText bytes known =
-    ((place : TooDeep) × (too_deep bytes ≡ Some place) × TellsDepth place known)
-    ⊎ (IsShallow bytes × (e : ConfigFileError) × Refuses bytes e × TellsError e known)
+-- why bytes are no file of settings, by the status: each comes only where those before it do not
+abbrev pub IsNoFile : List ℕ → Status → Type 0
+IsNoFile bytes status.NotUtf8 = ¬ (IsUtf8 bytes)
+IsNoFile bytes status.TooDeep = IsUtf8 bytes × (place : TooDeep) × (too_deep bytes ≡ Some place)
+IsNoFile bytes status.NotToml = IsText bytes × (parse_document bytes ≡ None)
+IsNoFile bytes _ = ⊥
 
--- the same of any text: what is no UTF-8 is told first
-abbrev pub RefusesFile : List ℕ → Known → Type 0
-RefusesFile bytes known =
-    ((¬ (IsUtf8 bytes)) × (known ≡ no_place status.NotUtf8))
-    ⊎ (IsUtf8 bytes × RefusesText bytes known)
+-- where a fault stands among others
+abbrev pub fault_place : PlainFault → ℕ × ℕ
+fault_place f = place_at f.line f.column
+
+-- these are some faults of a file as plain values, in the order of the file
+abbrev pub ListsFaults : List ℕ → List SettingFault → List PlainFault → Type 0
+ListsFaults bytes faults listed =
+    (plain : List PlainFault)
+    × (map known_of plain ≡ map (told_fault bytes) (map fault_view faults))
+    × IsInOrder fault_place plain listed
 
 -- what an answer says
 pub record KnownAnswer : Type 0 where
@@ -51,13 +61,45 @@ read_answer n = record { status = code status.Done; unknown = n; fault = worded 
 abbrev pub refused_answer : Known → KnownAnswer
 refused_answer known = record { status = known.status; unknown = 0; fault = known }
 
+-- no settings were read for this cause, and the struct is as it was
+abbrev pub Keeps : Known → PlainConfig → KnownAnswer → PlainConfig → Type 0
+Keeps known old answer new = (answer ≡ refused_answer known) × (new ≡ old)
+
+-- where a file has no fault, its settings are those of this struct; else its first fault is told
+abbrev pub Settles : FileContents → List PlainFault → PlainConfig → KnownAnswer → PlainConfig
+    → Type 0
+Settles contents [] old answer new =
+    (new ≡ told_config contents.config) × (answer ≡ read_answer (length contents.unknown.items))
+Settles contents (first ∷ more) old answer new = Keeps (known_of first) old answer new
+
+-- the same by the faults that the file has, in its order
+abbrev pub ReadsContents : List ℕ → FileContents → PlainConfig → KnownAnswer → PlainConfig → Type 0
+ReadsContents bytes contents old answer new =
+    ((listed : List PlainFault) × ListsFaults bytes contents.faults.items listed
+    × Settles contents listed old answer new)
+    ⊎ Keeps (no_place status.NoMemory) old answer new
+
+-- these are the contents of a file, where an absent key has the default of the middleware
+abbrev pub HasContents : List ℕ → FileContents → Type 0
+HasContents bytes contents =
+    (default : Config) × IsDefaultConfig default × ReadsAll default bytes contents
+
+-- why bytes are no file of settings, as the report on them says it, or memory was refused
+abbrev pub RefusesFile : List ℕ → Known → Type 0
+RefusesFile bytes known =
+    ((s : Status) × IsNoFile bytes s × TellsFirst bytes s known)
+    ⊎ (known ≡ no_place status.NoMemory)
+
 -- the settings of the file are those of this struct, or it is as it was
 abbrev pub ReadsInto : List ℕ → PlainConfig → KnownAnswer → PlainConfig → Type 0
 ReadsInto bytes old answer new =
-    (IsUtf8 bytes × IsShallow bytes × (settings : FileSettings) × ReadsOverDefaults bytes settings
-    × (new ≡ told_config settings.config)
-    × (answer ≡ read_answer (length settings.unknown.items)))
-    ⊎ ((known : Known) × RefusesFile bytes known × (answer ≡ refused_answer known) × (new ≡ old))
+    (IsText bytes × (contents : FileContents) × HasContents bytes contents
+    × ReadsContents bytes contents old answer new)
+    ⊎ ((known : Known) × RefusesFile bytes known × Keeps known old answer new)
+
+-- why a text is not read: it is no TOML, or memory was refused
+abbrev pub IsUnread : List ℕ → Status → Type 0
+IsUnread bytes s = (s ≡ status.NoMemory) ⊎ IsNoFile bytes s
 
 -- the same of the first struct, where there is one
 abbrev pub Answers : List ℕ → List PlainConfig → KnownAnswer → List PlainConfig → Type 0
@@ -65,34 +107,30 @@ Answers bytes [] answer new = (answer ≡ refused_answer (no_place status.Null))
 Answers bytes (old ∷ rest) answer after =
     (new : PlainConfig) × ReadsInto bytes old answer new × (after ≡ new ∷ rest)
 
--- these faults stand at the front of the array, or they do not fit there or there was no memory,
--- and the array is as it was
-abbrev pub PutsFaults : List Located → List PlainFault → CountAnswer → List PlainFault → Type 0
-PutsFaults faults old answer new =
-    ((length faults ≤ length old) × (answer ≡ count_answer status.Done (length faults))
-    × (plain : List PlainFault) × (map known_of plain ≡ map told_fault faults)
-    × (new ≡ plain ++ drop (length plain) old))
-    ⊎ ((length old < length faults) × (answer ≡ count_answer status.BufferTooShort (length faults))
-    × (new ≡ old))
-    ⊎ ((answer ≡ count_answer status.NoMemory 0) × (new ≡ old))
+-- these faults stand at the front of the array, or they do not fit there and it is as it was
+abbrev pub PutsFaults : List PlainFault → List PlainFault → CountAnswer → List PlainFault → Type 0
+PutsFaults listed old answer new =
+    ((length listed ≤ length old) × (answer ≡ count_answer status.Done (length listed))
+    × (new ≡ listed ++ drop (length listed) old))
+    ⊎ ((length old < length listed)
+    × (answer ≡ count_answer status.BufferTooShort (length listed)) × (new ≡ old))
 
--- all faults of a text of UTF-8 are listed, or it is no TOML
-abbrev pub ReportsFaults : List ℕ → List PlainFault → CountAnswer → List PlainFault → Type 0
-ReportsFaults bytes old answer new =
-    ((faults : List SettingFault) × ReportsAll bytes faults
-    × PutsFaults (map fault_view faults) old answer new)
-    ⊎ ((parse_document bytes ≡ None) × (answer ≡ count_answer status.NotToml 0) × (new ≡ old))
-    ⊎ ((answer ≡ count_answer status.NoMemory 0) × (new ≡ old))
+-- this status refuses, and the array is as it was
+abbrev pub RefusesCount : Status → List PlainFault → CountAnswer → List PlainFault → Type 0
+RefusesCount s old answer new = (answer ≡ count_answer s 0) × (new ≡ old)
 
--- the same, where it is not too deep, which is told first
-abbrev pub ListsFaultsOf : List ℕ → List PlainFault → CountAnswer → List PlainFault → Type 0
-ListsFaultsOf bytes old answer new =
-    (IsShallow bytes × ReportsFaults bytes old answer new)
-    ⊎ ((place : TooDeep) × (too_deep bytes ≡ Some place)
-    × (answer ≡ count_answer status.TooDeep 0) × (new ≡ old))
+-- some faults of a text are put in its order, or there was no memory
+abbrev pub PutsListed : List ℕ → List SettingFault → List PlainFault → CountAnswer
+    → List PlainFault → Type 0
+PutsListed bytes faults old answer new =
+    ((listed : List PlainFault) × ListsFaults bytes faults listed
+    × PutsFaults listed old answer new)
+    ⊎ RefusesCount status.NoMemory old answer new
 
--- the same of any text: what is no UTF-8 is told first
-abbrev pub ListsFaults : List ℕ → List PlainFault → CountAnswer → List PlainFault → Type 0
-ListsFaults bytes old answer new =
-    (IsUtf8 bytes × ListsFaultsOf bytes old answer new)
-    ⊎ ((¬ (IsUtf8 bytes)) × (answer ≡ count_answer status.NotUtf8 0) × (new ≡ old))
+-- all faults of a file are listed, or it is none, or there was no memory
+abbrev pub ReportsFile : List ℕ → List PlainFault → CountAnswer → List PlainFault → Type 0
+ReportsFile bytes old answer new =
+    (IsText bytes × (faults : List SettingFault) × ReportsAll bytes faults
+    × PutsListed bytes faults old answer new)
+    ⊎ (((s : Status) × IsNoFile bytes s × RefusesCount s old answer new)
+    ⊎ RefusesCount status.NoMemory old answer new)

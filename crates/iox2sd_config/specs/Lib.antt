@@ -2,5 +2,6 @@
 pub mod Configs
 pub mod Faults
 pub mod Files
+pub mod Order
 pub mod Unknown
 pub mod Writing

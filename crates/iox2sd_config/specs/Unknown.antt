@@ -1,59 +1,122 @@
 -- The keys of a file that no setting has.
-use Rattle.std.specs.Prelude.{◌≡◌, ◌⊎◌, ◌≤◌, ◌<◌, ℕ, List, [], ◌++◌, map, flat_map, drop, length, Some, None, IsUtf8}
-use Rattle.iox2_config_file.specs.Answers.{ReadsOverDefaults}
+use Rattle.std.specs.Prelude.{◌≡◌, ◌⊎◌, ◌≤◌, ◌<◌, ℕ, List, [], ◌++◌, map, flat_map, drop, length, Option, Some, None, string_bytes}
+use Rattle.config_report.specs.Notes.{Note, topic_note, unknown, unknown_position}
+use Rattle.iox2_config_file.specs.Answers.{ReportsAllUnknown}
+use Rattle.iox2_config_file.specs.Proposals.{Proposed}
 use Rattle.iox2_config_file.specs.Unknown.{Unknown, unknown_view}
-use Rattle.iox2_config_file.specs.declared.read.FileSettings.{FileSettings}
+use Rattle.iox2_config_file.specs.declared.proposal.Likeness.{Likeness}
+use Rattle.iox2_config_file.specs.declared.proposal.Likeness.TheVariants.{Spelling, OtherTable, Quoted, Near}
+use Rattle.iox2_config_file.specs.declared.section.Section.{Section}
+use Rattle.iox2_config_file.specs.declared.unknown.UnknownKey.{UnknownKey}
 use Rattle.iox2sd_common.specs.Status.{code}
 use Rattle.iox2sd_common.specs.declared.status.Status.{Status}
 use Rattle.iox2sd_common.specs.declared.status.Status.TheVariants as status
-use Rattle.iox2sd_config.specs.Faults.{Known, section_number, key_path, cut_key}
-use Rattle.iox2sd_config.specs.Files.{IsShallow, RefusesFile}
+use Rattle.iox2sd_config.specs.Faults.{section_number, key_path, key_of, cut_key, cut_reason, line_of, column_of}
+use Rattle.iox2sd_config.specs.Files.{IsText, IsNoFile}
+use Rattle.iox2sd_config.specs.Order.{place_at, IsInOrder}
+use Rattle.iox2sd_config.specs.declared.unknown.NamedKey.{NamedKey}
 use Rattle.iox2sd_config.specs.declared.unknown.PlainUnknown.{PlainUnknown}
 use Rattle.iox2sd_config.specs.declared.unknown.UnknownAnswer.{UnknownAnswer}
+use Rattle.toml_positions.specs.declared.position.Position.{Position}
 
--- the path of an unknown key
-abbrev pub unknown_path : Unknown → List ℕ
-unknown_path (s, key, meant) = key_path s key
+-- the number of how a known key is like one that is not known
+abbrev pub likeness_number : Likeness → ℕ
+likeness_number Spelling = 1
+likeness_number OtherTable = 2
+likeness_number Quoted = 3
+likeness_number Near = 4
+
+-- the same of what was probably meant, 0 where that is nothing
+abbrev pub meant_number : Option Proposed → ℕ
+meant_number None = 0
+meant_number (Some (s, key, likeness)) = likeness_number likeness
 
 -- the path of the known key that was probably meant, or nothing
-abbrev pub meant_path : Unknown → List ℕ
-meant_path (s, key, Some (table, meant, likeness)) = key_path table meant
-meant_path (s, key, None) = []
+abbrev pub meant_path : Option Proposed → List ℕ
+meant_path None = []
+meant_path (Some (s, key, likeness)) = key_path s key
 
--- an unknown key as a plain value
-abbrev pub told_unknown : Unknown → PlainUnknown
-told_unknown (s, key, meant) = record {
+-- what the report on a file says of an unknown key, with its table and what was probably meant
+abbrev pub told_key : Section → Option Proposed → Note → PlainUnknown
+told_key s meant n = record {
   table = section_number s;
-  key_length = length (unknown_path (s, key, meant));
-  meant = cut_key (meant_path (s, key, meant));
-  meant_length = length (meant_path (s, key, meant));
+  likeness = meant_number meant;
+  line = line_of n.position;
+  column = column_of n.position;
+  key_length = length (key_of n.key);
+  meant = cut_key (meant_path meant);
+  meant_length = length (meant_path meant);
+  reason = cut_reason n.message;
+  reason_length = length n.message;
 }
+
+-- an unknown key at a position as a plain value, and its path as TOML writes it
+abbrev pub told_key_at : Option Position → Unknown → PlainUnknown × List ℕ
+told_key_at at (s, key, meant) =
+    let n = topic_note at (unknown (s, key, meant)) in
+    (told_key s meant n, key_of n.key)
+
+-- the same in a file
+abbrev pub told_unknown : List ℕ → Unknown → PlainUnknown × List ℕ
+told_unknown bytes key = told_key_at (unknown_position bytes key) key
+
+-- a plain value and its path, as the code holds them, and where they stand among others
+abbrev pub named_view : NamedKey → PlainUnknown × List ℕ
+named_view k = (k.plain, string_bytes k.path)
+
+abbrev pub named_place : NamedKey → ℕ × ℕ
+named_place k = place_at k.plain.line k.plain.column
+
+-- these are some unknown keys of a file, in the order of the file
+abbrev pub ListsKeys : List ℕ → List UnknownKey → List NamedKey → Type 0
+ListsKeys bytes keys listed =
+    (found : List NamedKey)
+    × (map named_view found ≡ map (told_unknown bytes) (map unknown_view keys))
+    × IsInOrder named_place found listed
+
+-- their plain values, and their paths, one after the other
+abbrev pub plain_of : List NamedKey → List PlainUnknown
+plain_of listed = map (λ k. k.plain) listed
+
+abbrev pub paths_of : List NamedKey → List ℕ
+paths_of listed = flat_map (λ k. string_bytes k.path) listed
 
 -- the answer of a status
 abbrev pub unknown_answer : Status → ℕ → ℕ → UnknownAnswer
 unknown_answer s count n = record { status = code s; count = count; length = n }
 
 -- these keys stand at the front of the array, and their paths at that of the buffer; or they do not
--- fit there or there was no memory, and both are as they were
-abbrev pub PutsUnknown : List Unknown → List PlainUnknown → List ℕ → UnknownAnswer
+-- fit there, and both are as they were
+abbrev pub PutsKeys : List PlainUnknown → List ℕ → List PlainUnknown → List ℕ → UnknownAnswer
     → List PlainUnknown → List ℕ → Type 0
-PutsUnknown keys old old_paths answer new new_paths =
-    let paths = flat_map unknown_path keys in
-    ((length keys ≤ length old) × (length paths ≤ length old_paths)
-    × (answer ≡ unknown_answer status.Done (length keys) (length paths))
-    × (new ≡ map told_unknown keys ++ drop (length keys) old)
+PutsKeys plain paths old old_paths answer new new_paths =
+    ((length plain ≤ length old) × (length paths ≤ length old_paths)
+    × (answer ≡ unknown_answer status.Done (length plain) (length paths))
+    × (new ≡ plain ++ drop (length plain) old)
     × (new_paths ≡ paths ++ drop (length paths) old_paths))
-    ⊎ (((length old < length keys) ⊎ (length old_paths < length paths))
-    × (answer ≡ unknown_answer status.BufferTooShort (length keys) (length paths))
+    ⊎ (((length old < length plain) ⊎ (length old_paths < length paths))
+    × (answer ≡ unknown_answer status.BufferTooShort (length plain) (length paths))
     × (new ≡ old) × (new_paths ≡ old_paths))
-    ⊎ ((answer ≡ unknown_answer status.NoMemory 0 0) × (new ≡ old) × (new_paths ≡ old_paths))
 
--- the unknown keys of a file are listed, or it is refused
+-- this status refuses, and both are as they were
+abbrev pub RefusesKeys : Status → List PlainUnknown → List ℕ → UnknownAnswer → List PlainUnknown
+    → List ℕ → Type 0
+RefusesKeys s old old_paths answer new new_paths =
+    (answer ≡ unknown_answer s 0 0) × (new ≡ old) × (new_paths ≡ old_paths)
+
+-- some unknown keys of a text are put in its order, or there was no memory
+abbrev pub PutsUnknown : List ℕ → List UnknownKey → List PlainUnknown → List ℕ → UnknownAnswer
+    → List PlainUnknown → List ℕ → Type 0
+PutsUnknown bytes keys old old_paths answer new new_paths =
+    ((listed : List NamedKey) × ListsKeys bytes keys listed
+    × PutsKeys (plain_of listed) (paths_of listed) old old_paths answer new new_paths)
+    ⊎ RefusesKeys status.NoMemory old old_paths answer new new_paths
+
+-- all unknown keys of a file are listed, or it is none, or there was no memory
 abbrev pub ListsUnknown : List ℕ → List PlainUnknown → List ℕ → UnknownAnswer
     → List PlainUnknown → List ℕ → Type 0
 ListsUnknown bytes old old_paths answer new new_paths =
-    (IsUtf8 bytes × IsShallow bytes × (settings : FileSettings) × ReadsOverDefaults bytes settings
-    × PutsUnknown (map unknown_view settings.unknown.items) old old_paths answer new new_paths)
-    ⊎ ((known : Known) × RefusesFile bytes known
-    × (answer ≡ record { status = known.status; count = 0; length = 0 })
-    × (new ≡ old) × (new_paths ≡ old_paths))
+    (IsText bytes × (keys : List UnknownKey) × ReportsAllUnknown bytes keys
+    × PutsUnknown bytes keys old old_paths answer new new_paths)
+    ⊎ (((s : Status) × IsNoFile bytes s × RefusesKeys s old old_paths answer new new_paths)
+    ⊎ RefusesKeys status.NoMemory old old_paths answer new new_paths)

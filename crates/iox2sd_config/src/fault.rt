@@ -1,18 +1,20 @@
 //! What is wrong with a file of settings, as plain values.
-ghost use Rattle.std.specs.Prelude.{◌≡◌, ◌++◌, IfOk, string_bytes, take, map};
-ghost use Rattle.iox2_config_file.specs.Faults.{reason_text};
+ghost use Rattle.std.specs.Prelude.{◌≡◌, ◌++◌, IfOk, map, option_map, string_bytes, take};
+ghost use Rattle.config_report.specs.Findings.{finding_view};
 ghost use Rattle.iox2_config_file.specs.Read.{fault_view};
 ghost use Rattle.iox2sd_common.specs.Answers.{zero_padded};
 ghost use Rattle.iox2sd_config.specs.Faults.{section_number, type_number, kind_number, fault_status};
-ghost use Rattle.iox2sd_config.specs.Faults.{found_number, wanted_number, key_path, cut_key};
-ghost use Rattle.iox2sd_config.specs.Faults.{known_of, no_place, worded, placed, told_fault, Explains};
-ghost use Rattle.iox2sd_config.specs.Faults.{TellsDepth};
+ghost use Rattle.iox2sd_config.specs.Faults.{found_number, wanted_number, key_path, cut_key, key_of};
+ghost use Rattle.iox2sd_config.specs.Faults.{known_of, no_place, worded, line_of, column_of};
+ghost use Rattle.iox2sd_config.specs.Faults.{told_note, told_at, told_first, TellsFirst};
 
-use iox2_config_file::{ConfigFileError, Fault, Kind, Section, SettingFault, TomlType, TooDeep};
+use config_report::{Finding, Subject, check_file};
+use iox2_config_file::{Fault, Kind, Section, SettingFault, TomlType};
 use iox2_texts::bounded::SemanticStringError;
 use iox2sd_common::answers::zero_padded;
 use iox2sd_common::status::Status;
 use std::alloc::{AllocError, Global};
+use toml_positions::Position;
 
 /// What is wrong with a file, and with which key.
 #[repr(C)]
@@ -31,6 +33,11 @@ pub struct PlainFault {
     /// boolean. 4: a path. 5: the name of a file. 6: what is done where a buffer is full. 7: how a
     /// data segment grows. 8: a duration.
     pub wanted: u32,
+    /// The line where the key begins, or where the text is no file of settings, from 1; 0 where
+    /// there is no position.
+    pub line: usize,
+    /// The column, in bytes from 1; 0 where there is no position.
+    pub column: usize,
     /// The first bytes of the path of the key, and then zeros.
     pub key: [u8; 80],
     /// How many bytes the path of the key has; 0 where nothing is wrong with a key.
@@ -164,6 +171,8 @@ impl PlainFault {
             table: 0,
             found: 0,
             wanted: 0,
+            line: 0,
+            column: 0,
             key: [0; 80],
             key_length: 0,
             reason: cut(reason.as_bytes()),
@@ -172,67 +181,90 @@ impl PlainFault {
     }
 }
 
-/// What is wrong with a value, in words.
-fn reason_of(alloc: Global, fault: Fault) -> Result<String, AllocError>
-    ensures { IfOk result (λ reason. string_bytes reason ≡ reason_text fault) }
+/// The line of a position, or 0.
+pub(crate) fn line_of(position: Option<Position>) -> usize
+    ensures { result ≡ line_of position }
 {
-    format!(in alloc; "{fault}")
+    match position {
+        Some(Position { line, .. }) => line,
+        None => 0,
+    }
 }
 
-/// What is wrong with the value at the path of a key in a table, and the same in words.
-fn placed(fault: Fault, section: Section, path: &[u8], reason: &[u8]) -> PlainFault
-    ensures { known_of result ≡ placed fault section path.now reason.now }
+/// The column of a position, or 0.
+pub(crate) fn column_of(position: Option<Position>) -> usize
+    ensures { result ≡ column_of position }
 {
+    match position {
+        Some(Position { column, .. }) => column,
+        None => 0,
+    }
+}
+
+/// The key that a finding is about, or nothing.
+pub(crate) fn key_of(finding: &Finding) -> &str
+    ensures { result.now ≡ key_of (finding_view finding.now).key }
+{
+    match &finding.key {
+        Some(key) => key.as_str(),
+        None => "",
+    }
+}
+
+/// What is found in a file, with its status, and the table, the type and the kind of the value.
+fn told(status: Status, table: u32, found: u32, wanted: u32, finding: &Finding) -> PlainFault
+    ensures { known_of result ≡ told_note status table found wanted (finding_view finding.now) }
+{
+    let key = key_of(finding).as_bytes();
+    let reason = finding.message.as_bytes();
     PlainFault {
-        status: fault_status(fault).code(),
-        table: section_number(section),
-        found: found_number(fault),
-        wanted: wanted_number(fault),
-        key: cut(path),
-        key_length: path.len(),
+        status: status.code(),
+        table,
+        found,
+        wanted,
+        line: line_of(finding.position),
+        column: column_of(finding.position),
+        key: cut(key),
+        key_length: key.len(),
         reason: cut(reason),
         reason_length: reason.len(),
     }
 }
 
-/// What is wrong with the value of a key.
-pub(crate) fn plain_fault(alloc: Global, fault: &SettingFault) -> Result<PlainFault, AllocError>
-    ensures { IfOk result (λ plain. known_of plain ≡ told_fault (fault_view fault.now)) }
+/// What is wrong with the value of a key that begins at this position.
+pub(crate) fn plain_fault(
+    alloc: Global,
+    fault: &SettingFault,
+    position: Option<Position>,
+) -> Result<PlainFault, AllocError>
+    ensures { IfOk result (λ plain. known_of plain ≡ told_at position (fault_view fault.now)) }
 {
-    let path = key_path(alloc, fault.section, fault.key)?;
-    let reason = reason_of(alloc, fault.fault)?;
-    Ok(placed(
-        fault.fault,
-        fault.section,
-        path.as_bytes(),
-        reason.as_bytes(),
+    let finding = Subject::Fault(fault).finding(alloc, position)?;
+    Ok(told(
+        fault_status(fault.fault),
+        section_number(fault.section),
+        found_number(fault.fault),
+        wanted_number(fault.fault),
+        &finding,
     ))
 }
 
-/// Where a text is too deep, or that there was no memory to say it.
-pub(crate) fn deep_fault(alloc: Global, first: TooDeep) -> PlainFault
-    ensures { TellsDepth first (known_of result) }
+/// The first of some findings, with this status.
+fn first_told(status: Status, findings: &[Finding]) -> PlainFault
+    ensures { known_of result ≡ told_first status (map finding_view findings.now) }
 {
-    let Ok(reason) = format!(in alloc; "{first}") else {
-        return PlainFault::of(Status::NoMemory);
-    };
-    PlainFault::with_reason(Status::TooDeep, reason.as_str())
+    match findings {
+        [] => PlainFault::of(status),
+        [first, ..] => told(status, 0, 0, 0, first),
+    }
 }
 
-/// Why a text gives no settings, or that there was no memory to say it.
-pub(crate) fn explained(alloc: Global, error: &ConfigFileError) -> PlainFault
-    ensures { Explains error.now (known_of result) }
+/// Why bytes are no file of settings, with the status, or that there was no memory to say it.
+pub(crate) fn unread(alloc: Global, bytes: &[u8], status: Status) -> PlainFault
+    ensures { TellsFirst bytes.now status (known_of result) }
 {
-    let said = match error {
-        ConfigFileError::Syntax(e) => match format!(in alloc; "{e}") {
-            Ok(reason) => Ok(PlainFault::with_reason(Status::NotToml, reason.as_str().trim_end())),
-            Err(e) => Err(e),
-        },
-        ConfigFileError::Setting(fault) => plain_fault(alloc, fault),
-        ConfigFileError::NoMemory(_) => Err(AllocError),
-    };
-    match said {
-        Ok(fault) => fault,
+    match check_file(alloc, bytes) {
+        Ok(found) => first_told(status, found.list.as_slice()),
         Err(_) => PlainFault::of(Status::NoMemory),
     }
 }

@@ -5,6 +5,8 @@
 
 pub mod config;
 pub mod fault;
+mod order;
 pub mod read;
+mod text;
 pub mod unknown;
 pub mod write;

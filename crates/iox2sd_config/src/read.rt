@@ -1,19 +1,27 @@
 //! The text of a file of settings: its settings, or what is wrong with it.
-ghost use Rattle.std.specs.Prelude.{◌≡◌, ◌++◌, IsUtf8, IfOk, IfErr, map};
-ghost use Rattle.iox2_config_file.specs.Answers.{ReadsOverDefaults};
+ghost use Rattle.std.specs.Prelude.{◌≡◌, ℕ, List, IfOk, IsSome, map, OnOk};
+ghost use Rattle.config_report.specs.Notes.{fault_position};
+ghost use Rattle.iox2_config_file.specs.Answers.{IsUnparsed};
 ghost use Rattle.iox2_config_file.specs.Read.{fault_view};
 ghost use Rattle.iox2sd_config.specs.Faults.{known_of, told_fault};
-ghost use Rattle.iox2sd_config.specs.Files.{IsShallow, RefusesText, ListsFaultsOf};
-ghost use Rattle.iox2sd_config.specs.Files.{RefusesFile, ReportsFaults, Answers, known_answer};
-ghost use Rattle.iox2sd_config.specs.Files.{read_answer, refused_answer, ListsFaults, PutsFaults};
+ghost use Rattle.iox2sd_config.specs.Files.{Answers, IsText, ListsFaults, PutsFaults, PutsListed};
+ghost use Rattle.iox2sd_config.specs.Files.{ReadsContents, ReadsInto, RefusesFile, ReportsFile};
+ghost use Rattle.iox2sd_config.specs.Files.{Settles, fault_place, known_answer};
+ghost use Rattle.iox2sd_config.specs.Files.{read_answer, refused_answer};
+ghost use Rattle.iox2sd_config.specs.Order.{IsInOrder};
+ghost use Rattle.toml.specs.Parse.{parse_document};
 
 use crate::config::{PlainConfig, config_of};
-use crate::fault::{PlainFault, deep_fault, explained, plain_fault};
-use iox2_config_file::{FileSettings, SettingFault, read_config, report_all, too_deep};
+use crate::fault::{PlainFault, plain_fault, unread};
+use crate::order::place_at;
+use crate::text::{text_of, unparsed};
+use config_report::{fault_positions, position_at};
+use iox2_config::config::Config;
+use iox2_config_file::{ConfigFileError, FileContents, SettingFault, read_all, report_all};
 use iox2sd_common::answers::{CountAnswer, count, put};
 use iox2sd_common::status::Status;
 use std::alloc::{AllocError, Global};
-use std::str;
+use toml_positions::Position;
 
 /// What reading a file gave.
 #[repr(C)]
@@ -23,7 +31,7 @@ pub struct ConfigAnswer {
     pub status: u32,
     /// How many keys no setting has; 0 where the status is not that of `Done`.
     pub unknown: usize,
-    /// The first fault.
+    /// The first fault, in the order of the file.
     pub fault: PlainFault,
 }
 
@@ -52,32 +60,116 @@ impl ConfigAnswer {
     }
 }
 
-/// The settings of a text of UTF-8, or its first fault. How deep it is is looked at before anything
-/// is built of it.
-fn read_text(alloc: Global, text: &str) -> Result<FileSettings, PlainFault>
-    ensures shallow { IfOk result (λ settings. IsShallow text.now) }
-    ensures ok { IfOk result (ReadsOverDefaults text.now) }
-    ensures err { IfErr result (λ fault. RefusesText text.now (known_of fault)) }
+/// Where a fault stands among others.
+fn place(fault: &PlainFault) -> (usize, usize)
+    ensures { result ≡ fault_place fault.now }
 {
-    if let Some(place) = too_deep(text.as_bytes()) {
-        return Err(deep_fault(alloc, place));
+    place_at(fault.line, fault.column)
+}
+
+/// Some faults as plain values, each at its position.
+fn plain_faults(
+    alloc: Global,
+    faults: &[SettingFault],
+    positions: &[Option<Position>],
+) -> Result<Vec<PlainFault>, AllocError>
+    ensures { IfOk result (λ plain. (bytes : List ℕ)
+        → positions.now ≡ map (fault_position bytes) (map fault_view faults.now)
+        → map known_of plain.items ≡ map (told_fault bytes) (map fault_view faults.now)) }
+{
+    let mut plain = Vec::new(alloc);
+    let mut i = 0;
+    for fault in faults {
+        let position = position_at(positions, i);
+        plain.push(plain_fault(alloc, fault, position)?)?;
+        i += 1;
     }
-    match read_config(alloc, text) {
-        Ok(settings) => Ok(settings),
-        Err(error) => Err(explained(alloc, &error)),
+    Ok(plain)
+}
+
+/// Puts faults in the order of the file.
+fn put_in_order(faults: &mut Vec<PlainFault>) -> Result<(), AllocError>
+    ensures { OnOk result (IsInOrder fault_place faults.old.items faults.new.items) }
+{
+    faults.sort_by_key(|fault| place(fault))?;
+    Ok(())
+}
+
+/// Some faults of a text as plain values, in the order of the file.
+fn listed_faults(
+    alloc: Global,
+    text: &str,
+    faults: &[SettingFault],
+) -> Result<Vec<PlainFault>, AllocError>
+    requires { IsSome (parse_document text.now) }
+    ensures { IfOk result (λ listed. ListsFaults text.now faults.now listed.items) }
+{
+    let positions = fault_positions(alloc, text, faults)?;
+    let mut plain = plain_faults(alloc, faults, positions.as_slice())?;
+    put_in_order(&mut plain)?;
+    Ok(plain)
+}
+
+/// Writes the settings of a file to a struct, unless it has a fault.
+fn settle(contents: &FileContents, listed: &[PlainFault], place: &mut PlainConfig) -> ConfigAnswer
+    ensures { Settles contents.now listed.now place.old (known_answer result) place.new }
+{
+    match listed {
+        [] => {
+            *place = config_of(&contents.config);
+            ConfigAnswer::read(contents.unknown.len())
+        }
+        [first, ..] => ConfigAnswer::refused(*first),
     }
 }
 
-/// The settings of a file, or its first fault.
-pub(crate) fn read(alloc: Global, text: &[u8]) -> Result<FileSettings, PlainFault>
-    ensures utf8 { IfOk result (λ settings. IsUtf8 text.now) }
-    ensures shallow { IfOk result (λ settings. IsShallow text.now) }
-    ensures ok { IfOk result (ReadsOverDefaults text.now) }
-    ensures err { IfErr result (λ fault. RefusesFile text.now (known_of fault)) }
+/// Writes the settings of a file of these contents to a struct, unless it has a fault.
+#[inline(never)]
+fn read_contents(
+    alloc: Global,
+    text: &str,
+    contents: &FileContents,
+    place: &mut PlainConfig,
+) -> ConfigAnswer
+    requires { IsSome (parse_document text.now) }
+    ensures { ReadsContents text.now contents.now place.old (known_answer result) place.new }
 {
-    match str::from_utf8(text) {
-        Ok(text) => read_text(alloc, text),
-        Err(_) => Err(PlainFault::of(Status::NotUtf8)),
+    match listed_faults(alloc, text, contents.faults.as_slice()) {
+        Ok(listed) => settle(contents, listed.as_slice(), place),
+        Err(_) => ConfigAnswer::refused(PlainFault::of(Status::NoMemory)),
+    }
+}
+
+/// Why a text is not read, or that there was no memory to say it.
+fn unparsed_fault(alloc: Global, text: &str, error: &ConfigFileError) -> PlainFault
+    requires { IsText text.now }
+    ensures { IsUnparsed text.now error.now → RefusesFile text.now (known_of result) }
+{
+    match error {
+        ConfigFileError::Syntax(_) => unread(alloc, text.as_bytes(), Status::NotToml),
+        _ => PlainFault::of(Status::NoMemory),
+    }
+}
+
+/// Reads a text into a struct.
+fn read_text(alloc: Global, text: &str, place: &mut PlainConfig) -> ConfigAnswer
+    requires { IsText text.now }
+    ensures { ReadsInto text.now place.old (known_answer result) place.new }
+{
+    let default = Config::default();
+    match read_all(alloc, text, &default) {
+        Ok(contents) => read_contents(alloc, text, &contents, place),
+        Err(error) => ConfigAnswer::refused(unparsed_fault(alloc, text, &error)),
+    }
+}
+
+/// Reads a file into a struct.
+fn read_into(alloc: Global, bytes: &[u8], place: &mut PlainConfig) -> ConfigAnswer
+    ensures { ReadsInto bytes.now place.old (known_answer result) place.new }
+{
+    match text_of(bytes) {
+        Ok(text) => read_text(alloc, text, place),
+        Err(status) => ConfigAnswer::refused(unread(alloc, bytes, status)),
     }
 }
 
@@ -85,9 +177,9 @@ pub(crate) fn read(alloc: Global, text: &[u8]) -> Result<FileSettings, PlainFaul
 /// default.
 ///
 /// Refused are, in this order, NULL (`Null`); a text that is not UTF-8 (`NotUtf8`), is too deep
-/// (`TooDeep`) or no TOML (`NotToml`); and the first key, in the order of the settings, whose value
-/// is not allowed, with its status. Want of memory (`NoMemory`) is refused at any point. Then the
-/// struct is as it was.
+/// (`TooDeep`) or no TOML (`NotToml`), with the position where it is found; and the first key, in
+/// the order of the file, whose value is not allowed, with its status and its position. Want of
+/// memory (`NoMemory`) is refused at any point. Then the struct is as it was.
 #[unsafe(no_mangle)]
 pub extern "C" fn iox2sd_config_read_at(
     alloc: Global,
@@ -96,73 +188,52 @@ pub extern "C" fn iox2sd_config_read_at(
 ) -> ConfigAnswer
     ensures { Answers text.now out.old (known_answer result) out.new }
 {
-    let [place, ..] = out else {
-        return ConfigAnswer::refused(PlainFault::of(Status::Null));
-    };
-    match read(alloc, text) {
-        Ok(settings) => {
-            *place = config_of(&settings.config);
-            ConfigAnswer::read(settings.unknown.len())
-        }
-        Err(fault) => ConfigAnswer::refused(fault),
+    match out {
+        [] => ConfigAnswer::refused(PlainFault::of(Status::Null)),
+        [place, ..] => read_into(alloc, text, place),
     }
 }
 
-/// All faults as plain values.
-fn plain_faults(alloc: Global, faults: &[SettingFault]) -> Result<Vec<PlainFault>, AllocError>
-    ensures { IfOk result (λ plain.
-        map known_of plain.items ≡ map told_fault (map fault_view faults.now)) }
+/// Writes faults to the front of the array, where they fit.
+fn put_faults(listed: &[PlainFault], out: &mut [PlainFault]) -> CountAnswer
+    ensures { PutsFaults listed.now out.old result out.new }
 {
-    let mut plain = Vec::new(alloc);
-    for fault in faults {
-        let fault = plain_fault(alloc, fault)?;
-        if plain.push(fault).is_err() {
-            return Err(AllocError);
-        }
-    }
-    Ok(plain)
-}
-
-/// Writes all faults to the front of the array, where they fit.
-fn put_faults(alloc: Global, faults: &[SettingFault], out: &mut [PlainFault]) -> CountAnswer
-    ensures { PutsFaults (map fault_view faults.now) out.old result out.new }
-{
-    let Ok(plain) = plain_faults(alloc, faults) else {
-        return count(Status::NoMemory, 0);
-    };
-    if put(plain.as_slice(), out) {
-        count(Status::Done, faults.len())
+    if put(listed, out) {
+        count(Status::Done, listed.len())
     } else {
-        count(Status::BufferTooShort, faults.len())
+        count(Status::BufferTooShort, listed.len())
     }
 }
 
-/// Writes all faults of a text of UTF-8, where they fit.
+/// Writes some faults of a text in its order, where they fit.
+fn put_listed(
+    alloc: Global,
+    text: &str,
+    faults: &[SettingFault],
+    out: &mut [PlainFault],
+) -> CountAnswer
+    requires { IsSome (parse_document text.now) }
+    ensures { PutsListed text.now faults.now out.old result out.new }
+{
+    match listed_faults(alloc, text, faults) {
+        Ok(listed) => put_faults(listed.as_slice(), out),
+        Err(_) => count(Status::NoMemory, 0),
+    }
+}
+
+/// Writes all faults of a text, where they fit.
 fn report_faults(alloc: Global, text: &str, out: &mut [PlainFault]) -> CountAnswer
-    ensures { ReportsFaults text.now out.old result out.new }
+    requires { IsText text.now }
+    ensures { ReportsFile text.now out.old result out.new }
 {
     match report_all(alloc, text) {
-        Ok(faults) => put_faults(alloc, faults.as_slice(), out),
-        Err(error) => CountAnswer {
-            status: explained(alloc, &error).status,
-            cause: 0,
-            count: 0,
-        },
+        Ok(faults) => put_listed(alloc, text, faults.as_slice(), out),
+        Err(error) => count(unparsed(&error), 0),
     }
 }
 
-/// The same, where the text is not too deep.
-fn list_faults(alloc: Global, text: &str, out: &mut [PlainFault]) -> CountAnswer
-    ensures { ListsFaultsOf text.now out.old result out.new }
-{
-    if let Some(_) = too_deep(text.as_bytes()) {
-        return count(Status::TooDeep, 0);
-    }
-    report_faults(alloc, text, out)
-}
-
-/// Writes all faults of a file to the front of the array, in the order of the settings, where they
-/// fit, and returns how many there are; the other elements stay as they were.
+/// Writes all faults of a file to the front of the array, in the order of the file, where they fit,
+/// and returns how many there are; the other elements stay as they were.
 ///
 /// Refused are, in this order, a text that is not UTF-8 (`NotUtf8`), is too deep (`TooDeep`) or no
 /// TOML (`NotToml`), and too short an array (`BufferTooShort`), with the length that it needs. Want
@@ -173,10 +244,10 @@ pub extern "C" fn iox2sd_config_faults_at(
     text: &[u8],
     out: &mut [PlainFault],
 ) -> CountAnswer
-    ensures { ListsFaults text.now out.old result out.new }
+    ensures { ReportsFile text.now out.old result out.new }
 {
-    match str::from_utf8(text) {
-        Ok(text) => list_faults(alloc, text, out),
-        Err(_) => count(Status::NotUtf8, 0),
+    match text_of(text) {
+        Ok(text) => report_faults(alloc, text, out),
+        Err(status) => count(status, 0),
     }
 }

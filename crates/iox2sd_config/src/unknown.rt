@@ -1,15 +1,26 @@
 //! The keys of a file that no setting has.
-ghost use Rattle.std.specs.Prelude.{◌≡◌, ◌++◌, IfOk, map, flat_map, string_bytes};
+ghost use Rattle.std.specs.Prelude.{◌≡◌, ℕ, List, IfOk, IsSome, OnOk, map, option_map, string_bytes};
+ghost use Rattle.config_report.specs.Findings.{finding_view};
+ghost use Rattle.config_report.specs.Notes.{unknown_position};
+ghost use Rattle.iox2_config_file.specs.Proposals.{proposal_view};
 ghost use Rattle.iox2_config_file.specs.Unknown.{unknown_view};
-ghost use Rattle.iox2sd_config.specs.Unknown.{told_unknown, unknown_path, meant_path};
-ghost use Rattle.iox2sd_config.specs.Unknown.{unknown_answer, PutsUnknown, ListsUnknown};
+ghost use Rattle.iox2sd_config.specs.Files.{IsText};
+ghost use Rattle.iox2sd_config.specs.Order.{IsInOrder};
+ghost use Rattle.iox2sd_config.specs.Unknown.{likeness_number, meant_number, meant_path, named_place};
+ghost use Rattle.iox2sd_config.specs.Unknown.{named_view, paths_of, plain_of, told_key, told_key_at};
+ghost use Rattle.iox2sd_config.specs.Unknown.{told_unknown, unknown_answer, ListsKeys, ListsUnknown};
+ghost use Rattle.iox2sd_config.specs.Unknown.{PutsKeys, PutsUnknown};
+ghost use Rattle.toml.specs.Parse.{parse_document};
 
-use crate::fault::{cut, key_path, section_number};
-use crate::read::read;
-use iox2_config_file::UnknownKey;
+use crate::fault::{column_of, cut, key_of, key_path, line_of, section_number};
+use crate::order::place_at;
+use crate::text::{text_of, unparsed};
+use config_report::{Finding, Subject, position_at, unknown_positions};
+use iox2_config_file::{Likeness, Proposal, UnknownKey, report_unknown};
 use iox2sd_common::answers::put;
 use iox2sd_common::status::Status;
 use std::alloc::{AllocError, Global};
+use toml_positions::Position;
 
 /// A key of a file that no setting has.
 #[repr(C)]
@@ -17,12 +28,33 @@ use std::alloc::{AllocError, Global};
 pub struct PlainUnknown {
     /// The table in which it stands, as of a fault.
     pub table: u32,
+    /// How the known key that was probably meant is like it. 0: none is. 1: it is the same but for
+    /// `-`, `_` and case. 2: it is the same, in another table. 3: its path stands in quotes. 4: it
+    /// is the nearest one.
+    pub likeness: u32,
+    /// The line where it begins, from 1; 0 where there is no position.
+    pub line: usize,
+    /// The column, in bytes from 1; 0 where there is no position.
+    pub column: usize,
     /// How many bytes the path of the key has among all paths.
     pub key_length: usize,
     /// The first bytes of the path of the known key that was probably meant, and then zeros.
     pub meant: [u8; 80],
-    /// How many bytes this path has; 0 where no known key is near.
+    /// How many bytes this path has; 0 where there is none.
     pub meant_length: usize,
+    /// The first bytes of what is wrong and was probably meant, in words, and then zeros.
+    pub reason: [u8; 256],
+    /// How many bytes the words have.
+    pub reason_length: usize,
+}
+
+/// An unknown key as a plain value, and its path as TOML writes it.
+#[derive(Drop)]
+pub(crate) struct NamedKey {
+    /// The plain value.
+    plain: PlainUnknown,
+    /// The path.
+    path: String,
 }
 
 /// How many keys of a file no setting has.
@@ -48,86 +80,205 @@ fn answer(status: Status, count: usize, length: usize) -> UnknownAnswer
     }
 }
 
-/// The path of the known key that was probably meant, or nothing.
-fn meant_path(alloc: Global, key: &UnknownKey) -> Result<String, AllocError>
-    ensures { IfOk result (λ path. string_bytes path ≡ meant_path (unknown_view key.now)) }
+/// The number of how a known key is like one that is not known.
+fn likeness_number(likeness: Likeness) -> u32
+    ensures { result ≡ likeness_number likeness }
 {
-    match key.meant {
+    match likeness {
+        Likeness::Spelling => 1,
+        Likeness::OtherTable => 2,
+        Likeness::Quoted => 3,
+        Likeness::Near => 4,
+    }
+}
+
+/// The same of what was probably meant, or 0.
+fn meant_number(meant: Option<Proposal>) -> u32
+    ensures { result ≡ meant_number (option_map proposal_view meant) }
+{
+    match meant {
+        Some(meant) => likeness_number(meant.likeness),
+        None => 0,
+    }
+}
+
+/// The path of the known key that was probably meant, or nothing.
+fn meant_path(alloc: Global, meant: Option<Proposal>) -> Result<String, AllocError>
+    ensures { IfOk result (λ path.
+        string_bytes path ≡ meant_path (option_map proposal_view meant)) }
+{
+    match meant {
         Some(meant) => key_path(alloc, meant.section, meant.key),
         None => Ok(String::new(alloc)),
     }
 }
 
-/// An unknown key as a plain value.
-fn plain_key(alloc: Global, key: &UnknownKey) -> Result<PlainUnknown, AllocError>
-    ensures { IfOk result (λ plain. plain ≡ told_unknown (unknown_view key.now)) }
+/// An unknown key as a plain value, by what is found of it and what was probably meant.
+fn told_key(key: &UnknownKey, meant: &str, finding: &Finding) -> PlainUnknown
+    requires { meant.now ≡ meant_path (option_map proposal_view key.now.meant) }
+    ensures { result ≡ told_key key.now.section (option_map proposal_view key.now.meant)
+        (finding_view finding.now) }
 {
-    let path = key_path(alloc, key.section, key.key.as_str())?;
-    let meant = meant_path(alloc, key)?;
-    Ok(PlainUnknown {
+    let reason = finding.message.as_bytes();
+    PlainUnknown {
         table: section_number(key.section),
-        key_length: path.len(),
+        likeness: meant_number(key.meant),
+        line: line_of(finding.position),
+        column: column_of(finding.position),
+        key_length: key_of(finding).len(),
         meant: cut(meant.as_bytes()),
         meant_length: meant.len(),
-    })
+        reason: cut(reason),
+        reason_length: reason.len(),
+    }
 }
 
-/// All unknown keys as plain values.
-fn plain_keys(alloc: Global, keys: &[UnknownKey]) -> Result<Vec<PlainUnknown>, AllocError>
-    ensures { IfOk result (λ plain. plain.items ≡ map told_unknown (map unknown_view keys.now)) }
+/// An unknown key that begins at this position.
+fn named_key(
+    alloc: Global,
+    key: &UnknownKey,
+    position: Option<Position>,
+) -> Result<NamedKey, AllocError>
+    ensures { IfOk result (λ named.
+        named_view named ≡ told_key_at position (unknown_view key.now)) }
+{
+    let finding = Subject::Unknown(key).finding(alloc, position)?;
+    let path = String::from_str(alloc, key_of(&finding))?;
+    let meant = meant_path(alloc, key.meant)?;
+    let plain = told_key(key, meant.as_str(), &finding);
+    Ok(NamedKey { plain, path })
+}
+
+/// Where an unknown key stands among others.
+fn place(key: &NamedKey) -> (usize, usize)
+    ensures { result ≡ named_place key.now }
+{
+    place_at(key.plain.line, key.plain.column)
+}
+
+/// Some unknown keys, each at its position.
+fn named_keys(
+    alloc: Global,
+    keys: &[UnknownKey],
+    positions: &[Option<Position>],
+) -> Result<Vec<NamedKey>, AllocError>
+    ensures { IfOk result (λ named. (bytes : List ℕ)
+        → positions.now ≡ map (unknown_position bytes) (map unknown_view keys.now)
+        → map named_view named.items ≡ map (told_unknown bytes) (map unknown_view keys.now)) }
+{
+    let mut named = Vec::new(alloc);
+    let mut i = 0;
+    for key in keys {
+        let position = position_at(positions, i);
+        named.push(named_key(alloc, key, position)?)?;
+        i += 1;
+    }
+    Ok(named)
+}
+
+/// Puts unknown keys in the order of the file.
+fn put_in_order(keys: &mut Vec<NamedKey>) -> Result<(), AllocError>
+    ensures { OnOk result (IsInOrder named_place keys.old.items keys.new.items) }
+{
+    keys.sort_by_key(|key| place(key))?;
+    Ok(())
+}
+
+/// Some unknown keys of a text, in the order of the file.
+fn listed_keys(alloc: Global, text: &str, keys: &[UnknownKey]) -> Result<Vec<NamedKey>, AllocError>
+    requires { IsSome (parse_document text.now) }
+    ensures { IfOk result (λ listed. ListsKeys text.now keys.now listed.items) }
+{
+    let positions = unknown_positions(alloc, text, keys)?;
+    let mut named = named_keys(alloc, keys, positions.as_slice())?;
+    put_in_order(&mut named)?;
+    Ok(named)
+}
+
+/// The plain values of some unknown keys.
+fn plain_of(alloc: Global, listed: &[NamedKey]) -> Result<Vec<PlainUnknown>, AllocError>
+    ensures { IfOk result (λ plain. plain.items ≡ plain_of listed.now) }
 {
     let mut plain = Vec::new(alloc);
-    for key in keys {
-        let key = plain_key(alloc, key)?;
-        if plain.push(key).is_err() {
-            return Err(AllocError);
-        }
+    for key in listed {
+        plain.push(key.plain)?;
     }
     Ok(plain)
 }
 
-/// The paths of all unknown keys, one after the other.
-fn path_texts(alloc: Global, keys: &[UnknownKey]) -> Result<String, AllocError>
-    ensures { IfOk result (λ text.
-        string_bytes text ≡ flat_map unknown_path (map unknown_view keys.now)) }
+/// The paths of some unknown keys, one after the other.
+fn paths_of(alloc: Global, listed: &[NamedKey]) -> Result<String, AllocError>
+    ensures { IfOk result (λ text. string_bytes text ≡ paths_of listed.now) }
 {
     let mut text = String::new(alloc);
-    for key in keys {
-        let path = key_path(alloc, key.section, key.key.as_str())?;
-        text.push_str(path.as_str())?;
+    for key in listed {
+        text.push_str(key.path.as_str())?;
     }
     Ok(text)
 }
 
-/// Writes all unknown keys, where they and their paths fit.
+/// Writes some unknown keys, where they and their paths fit.
 fn put_keys(
-    alloc: Global,
-    keys: &[UnknownKey],
+    plain: &[PlainUnknown],
+    text: &str,
     out: &mut [PlainUnknown],
     paths: &mut [u8],
 ) -> UnknownAnswer
-    ensures { PutsUnknown (map unknown_view keys.now) out.old paths.old result out.new paths.new }
+    ensures { PutsKeys plain.now text.now out.old paths.old result out.new paths.new }
 {
-    let Ok(plain) = plain_keys(alloc, keys) else {
-        return answer(Status::NoMemory, 0, 0);
-    };
-    let Ok(text) = path_texts(alloc, keys) else {
-        return answer(Status::NoMemory, 0, 0);
-    };
-    if text.len() > paths.len() || !put(plain.as_slice(), out) {
+    if text.len() > paths.len() || !put(plain, out) {
         return answer(Status::BufferTooShort, plain.len(), text.len());
     }
     put(text.as_bytes(), paths);
     answer(Status::Done, plain.len(), text.len())
 }
 
+/// Writes some unknown keys of a text in its order, where they and their paths fit.
+fn put_unknown(
+    alloc: Global,
+    text: &str,
+    keys: &[UnknownKey],
+    out: &mut [PlainUnknown],
+    paths: &mut [u8],
+) -> UnknownAnswer
+    requires { IsSome (parse_document text.now) }
+    ensures { PutsUnknown text.now keys.now out.old paths.old result out.new paths.new }
+{
+    let Ok(listed) = listed_keys(alloc, text, keys) else {
+        return answer(Status::NoMemory, 0, 0);
+    };
+    let Ok(plain) = plain_of(alloc, listed.as_slice()) else {
+        return answer(Status::NoMemory, 0, 0);
+    };
+    let Ok(names) = paths_of(alloc, listed.as_slice()) else {
+        return answer(Status::NoMemory, 0, 0);
+    };
+    put_keys(plain.as_slice(), names.as_str(), out, paths)
+}
+
+/// Writes the unknown keys of a text, where they and their paths fit.
+fn list_unknown(
+    alloc: Global,
+    text: &str,
+    out: &mut [PlainUnknown],
+    paths: &mut [u8],
+) -> UnknownAnswer
+    requires { IsText text.now }
+    ensures { ListsUnknown text.now out.old paths.old result out.new paths.new }
+{
+    match report_unknown(alloc, text) {
+        Ok(keys) => put_unknown(alloc, text, keys.as_slice(), out, paths),
+        Err(error) => answer(unparsed(&error), 0, 0),
+    }
+}
+
 /// Writes the keys of a file that no setting has to the front of an array, in the order of the
-/// tables and of the keys in each, and their paths, one after the other, to the front of a buffer,
-/// where all of them fit.
+/// file, and their paths, one after the other, to the front of a buffer, where all of them fit. It
+/// does so whether values are allowed or not.
 ///
-/// Refused are, in this order, what `iox2sd_config_read_at` refuses but NULL, with the status of
-/// the first fault, and too short an array or buffer (`BufferTooShort`), with the lengths that they
-/// need. Want of memory (`NoMemory`) is refused at any point. Then both are as they were.
+/// Refused are, in this order, a text that is not UTF-8 (`NotUtf8`), is too deep (`TooDeep`) or no
+/// TOML (`NotToml`), and too short an array or buffer (`BufferTooShort`), with the lengths that
+/// they need. Want of memory (`NoMemory`) is refused at any point. Then both are as they were.
 #[unsafe(no_mangle)]
 pub extern "C" fn iox2sd_config_unknown_at(
     alloc: Global,
@@ -137,12 +288,8 @@ pub extern "C" fn iox2sd_config_unknown_at(
 ) -> UnknownAnswer
     ensures { ListsUnknown text.now out.old paths.old result out.new paths.new }
 {
-    match read(alloc, text) {
-        Ok(settings) => put_keys(alloc, settings.unknown.as_slice(), out, paths),
-        Err(fault) => UnknownAnswer {
-            status: fault.status,
-            count: 0,
-            length: 0,
-        },
+    match text_of(text) {
+        Ok(text) => list_unknown(alloc, text, out, paths),
+        Err(status) => answer(status, 0, 0),
     }
 }

@@ -1,13 +1,11 @@
-use Rattle.std.proofs.Common.{inl}
+use Rattle.std.proofs.Common.{inl, inr, refl}
 use Rattle.iox2sd_config.proofs.unknown.iox2sd_config_unknown_at.Goals as goal
 
+pub list_unknown-requires : goal.list_unknown-requires
+list_unknown-requires c = rw c.in-Ok.ensures.same c.in-Ok.ensures.ok
+
 pub returns-in-Ok : goal.returns-in-Ok
-returns-in-Ok c =
-    let read = c.in-Ok in
-    inl (
-      read.ensures.utf8,
-      read.ensures.shallow,
-      read.settings,
-      read.ensures.ok,
-      rw c.as_slice.ensures.value at c.put_keys.ensures,
-    )
+returns-in-Ok c = rw c.in-Ok.ensures.same at c.list_unknown.ensures
+
+pub returns-in-Err : goal.returns-in-Err
+returns-in-Err c = inr (inl (c.in-Err.status, c.in-Err.ensures.err, (c.answer.ensures, refl, refl)))

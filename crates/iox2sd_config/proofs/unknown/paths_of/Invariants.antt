@@ -1,0 +1,8 @@
+use Rattle.std.proofs.Common.{◌≡◌, ◌++◌, drop}
+use Rattle.std.specs.Prelude.{string_bytes}
+use Rattle.iox2sd_config.specs.Unknown.{paths_of}
+use Rattle.iox2sd_config.proofs.unknown.paths_of.Given as goal
+
+abbrev pub invariant-loop-key : goal.invariant-loop-key
+invariant-loop-key l =
+    string_bytes l.text ++ paths_of (drop l.key-index l.listed) ≡ paths_of l.listed

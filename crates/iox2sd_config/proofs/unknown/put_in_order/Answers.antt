@@ -1,0 +1,12 @@
+use Rattle.std.proofs.Common.{rules}
+use Rattle.std.proofs.lemmas.List.Sorted.{answers_always}
+use Rattle.iox2sd_config.specs.Unknown.{named_place}
+use Rattle.iox2sd_config.proofs.unknown.put_in_order.Goals as goal
+
+pub returns : goal.returns
+returns c =
+    let sorted = c.in_ok-sort_by_key.ensures in (
+      sorted.permutation,
+      sorted.sorted named_place (answers_always _ _ _ (λ f a r q k. search rules)),
+      sorted.stable named_place (answers_always _ _ _ (λ f a r q k. search rules)),
+    )
