@@ -4,10 +4,10 @@
 // It prints:
 //     services are in /run/my/services
 //     a publisher needs memory for 66 samples
-//     unknown: defaults.event.max-listener, meant is defaults.event.max-listeners
+//     6:1: defaults.event.max-listener: this table has no such key, defaults.event.max-listeners may be meant
 //     refused: a value of another type is wanted
-//       global.creation-timeout: is an integer, and a table of `secs` and `nanos` is wanted
-//       defaults.event.max-nodes: is below 0
+//       2:3: global.creation-timeout: is an integer, and a table of `secs` and `nanos` is wanted
+//       4:1: defaults.event.max-nodes: is below 0
 #include <iostream>
 
 #include "iox2sd_config.hpp"
@@ -26,10 +26,7 @@ bool report(const Result<ConfigFile, ConfigError>& file) {
     std::cout << "services are in " << file->config.service_dir().value() << '\n'
               << "a publisher needs memory for "
               << samples.required_amount_of_samples_per_data_segment().value() << " samples\n";
-    for (const UnknownKey& unknown : file->unknown) {
-        std::cout << "unknown: " << unknown.key << (unknown.meant.empty() ? "" : ", meant is ")
-                  << unknown.meant << '\n';
-    }
+    for (const UnknownKey& unknown : file->unknown) std::cout << unknown << '\n';
     return true;
 }
 
@@ -40,7 +37,7 @@ int main(int count, char** arguments) {
     const auto good = Config::from_toml("[global]\nroot-path = '/run/my'\n"
                                         "[defaults.publish-subscribe]\nmax-subscribers = 16\n"
                                         "[defaults.event]\nmax-listener = 3\n");
-    const auto bad = Config::from_toml("[global]\ncreation-timeout = 5\n"
+    const auto bad = Config::from_toml("[global]\n  creation-timeout = 5\n"
                                        "[defaults.event]\nmax-nodes = -1\n");
     return report(good) && !report(bad) ? 0 : 1;
 }

@@ -56,6 +56,15 @@ enum class SettingKind : std::uint32_t {
     Duration = IOX2SD_KIND_DURATION,  ///< A table of the integers `secs` and `nanos`.
 };
 
+/// How a known key is like one that no setting has.
+enum class Likeness : std::uint32_t {
+    None = IOX2SD_LIKENESS_NONE,
+    Spelling = IOX2SD_LIKENESS_SPELLING,  ///< The same but for `-`, `_` and the case of letters.
+    OtherTable = IOX2SD_LIKENESS_OTHER_TABLE,  ///< The same, and a key of another table.
+    Quoted = IOX2SD_LIKENESS_QUOTED,           ///< Its path stands in quotes.
+    Near = IOX2SD_LIKENESS_NEAR,               ///< The nearest key of the table.
+};
+
 namespace detail {
 
 /// The bytes at the front of an array, of which there may be more than it holds.
@@ -85,10 +94,28 @@ inline iox2sd_config_text as_c(const Path& path) noexcept {
     return as_c<PathContent>(path);
 }
 
+/// What is said of a file, as "FILE:LINE:COLUMN: KEY: WORDS", without what is not known of it.
+inline Text<4608> said(std::string_view file, std::size_t line, std::size_t column,
+                       std::string_view key, std::string_view words) noexcept {
+    const Digits at_line(line), at_column(column);
+    const bool has_position = line != 0;
+    return Text<4608>::joined({file, file.empty() || !has_position ? "" : ":",
+                               has_position ? at_line.view() : "", has_position ? ":" : "",
+                               has_position ? at_column.view() : "",
+                               file.empty() && !has_position ? "" : ": ", key,
+                               key.empty() ? "" : ": ", words});
+}
+
 }  // namespace detail
 
-/// What is wrong with a file, and with which key.
+/// What is wrong with a file, where, and with which key.
 struct ConfigFault {
+    /// The file, or nothing of a text; it lasts as long as its `ConfigError`.
+    std::string_view file;
+    /// Where the key begins, or where the text is no file of settings, from 1; 0 where there is no
+    /// position.
+    std::size_t line;
+    std::size_t column;  ///< In bytes, from 1; 0 where there is no position.
     Status status;
     ConfigTable table;   ///< The table of the key.
     TomlType found;      ///< The type of its value, with `WrongType`.
@@ -96,17 +123,17 @@ struct ConfigFault {
     Text<80> key;        ///< The path of the key, as "defaults.event.deadline".
     Text<256> reason;    ///< What is wrong, in words.
 
-    IOX2SD_FIELDS(status, table, found, wanted, key, reason);
+    IOX2SD_FIELDS(file, line, column, status, table, found, wanted, key, reason);
 
-    /// The key, where there is one, and what is wrong.
-    Text<338> text() const noexcept {
-        if (key.empty()) return Text<338>::joined({reason});
-        return Text<338>::joined({key, ": ", reason});
-    }
+    /// "FILE:LINE:COLUMN: KEY: REASON", without what there is not.
+    Text<4608> text() const noexcept { return detail::said(file, line, column, key, reason); }
 
-    /// The fault that the C header gives.
-    static ConfigFault from_c(const iox2sd_config_fault& c) noexcept {
-        return {Status{c.status},
+    /// The fault that the C header gives, of a file.
+    static ConfigFault from_c(const iox2sd_config_fault& c, std::string_view file = {}) noexcept {
+        return {file,
+                c.line,
+                c.column,
+                Status{c.status},
                 ConfigTable{c.table},
                 TomlType{c.found},
                 SettingKind{c.wanted},
@@ -121,14 +148,15 @@ IOX2SD_WRITTEN(ConfigFault);
 struct ConfigError {
     /// `NoFile`; `NotUtf8`; `NotToml`; that of the first fault; `NoMemory`.
     Status status;
-    /// Every fault, in the order of the settings; one without a key where the text is no TOML.
+    /// Every fault, in the order of the file; one without a key where the text is no TOML.
     List<ConfigFault> faults;
     int system_error = 0;  ///< With `NoFile`, the system's number of the error.
+    List<char> file;       ///< The path of the file, or nothing of a text.
 
-    /// The first fault in words, or what the status says.
-    Text<338> text() const noexcept {
+    /// The first fault with its position, or what the status says of the file.
+    Text<4608> text() const noexcept {
         if (!faults.empty()) return faults.front().text();
-        return Text<338>::joined({iox2sd::text(status)});
+        return detail::said({file.data(), file.size()}, 0, 0, {}, iox2sd::text(status));
     }
 };
 IOX2SD_WRITTEN(ConfigError);
@@ -153,12 +181,21 @@ IOX2SD_WRITTEN(ConfigWriteError);
 
 /// A key of a file that no setting has.
 struct UnknownKey {
+    std::string_view file;  ///< The file, or nothing of a text, which lasts as long as `key`.
+    std::size_t line;       ///< Where it begins, from 1; 0 where there is no position.
+    std::size_t column;     ///< In bytes, from 1; 0 where there is no position.
     ConfigTable table;
-    std::string_view key;  ///< Its path, which lasts as long as its `ConfigFile`.
-    Text<80> meant;        ///< The path of the known key that was probably meant, or nothing.
+    std::string_view key;  ///< Its path as TOML writes it, which lasts as long as its `ConfigFile`.
+    Likeness likeness;     ///< How the known key that was probably meant is like it.
+    Text<80> meant;        ///< The path of that key, or nothing.
+    Text<256> reason;      ///< What is wrong and was probably meant, in words.
 
-    IOX2SD_FIELDS(table, key, meant);
+    IOX2SD_FIELDS(file, line, column, table, key, likeness, meant, reason);
+
+    /// "FILE:LINE:COLUMN: KEY: REASON", without what there is not, and cut past 4608 bytes.
+    Text<4608> text() const noexcept { return detail::said(file, line, column, key, reason); }
 };
+IOX2SD_WRITTEN(UnknownKey);
 
 /// The texts of the settings.
 struct ConfigTexts {
@@ -244,6 +281,13 @@ struct Config {
     Result<Path> node_dir() const noexcept { return below(texts.node_directory); }
 
 private:
+    /// The settings of the text of a file, which is named here, or of a text alone.
+    static Result<ConfigFile, ConfigError> from_text(std::string_view text,
+                                                     List<char> file) noexcept;
+
+    /// That a file was not read.
+    static ConfigError no_file(std::string_view path, int system_error) noexcept;
+
     Result<Path> below(const Path& directory) const noexcept {
         Path path = texts.root_path;
         return path.add_path_entry(directory).transform([&path]() noexcept { return path; });
@@ -253,24 +297,29 @@ private:
 /// What stands in a file.
 struct ConfigFile {
     Config config;
-    /// The keys that no setting has, in the order of the tables and of the keys in each.
+    /// The keys that no setting has, in the order of the file.
     List<UnknownKey> unknown;
     List<char> paths;  ///< The paths of the unknown keys.
+    List<char> file;   ///< The path of the file, or nothing of a text.
 };
 
 namespace detail {
 
-/// Every fault of a text, of which the first was found.
-inline ConfigError config_error(std::string_view text, const iox2sd_config_fault& first) noexcept {
+/// Every fault of the text of a file, of which the first was found.
+inline ConfigError config_error(std::string_view text, List<char> file,
+                                const iox2sd_config_fault& first) noexcept {
+    const std::string_view named(file.data(), file.size());
     auto found = List<iox2sd_config_fault>::written_by(
         [text](iox2sd_config_fault* out, std::size_t capacity) {
             return iox2sd_config_faults(bytes(text), text.size(), out, capacity);
         });
     const bool has_keys = found && !found->empty();
     const iox2sd_config_fault* const faults = has_keys ? found->data() : &first;
-    auto made = List<ConfigFault>::of(faults, has_keys ? found->size() : 1, ConfigFault::from_c);
-    if (!made) return {made.status(), {}};
-    return {Status{first.status}, std::move(made).value()};
+    auto made = List<ConfigFault>::of(
+        faults, has_keys ? found->size() : 1,
+        [named](const iox2sd_config_fault& c) noexcept { return ConfigFault::from_c(c, named); });
+    if (!made) return {made.status(), {}, 0, std::move(file)};
+    return {Status{first.status}, std::move(made).value(), 0, std::move(file)};
 }
 
 /// The unknown keys of a text, and their paths.
@@ -335,43 +384,65 @@ struct OpenFile {
 
 }  // namespace detail
 
-inline Result<ConfigFile, ConfigError> Config::from_toml(std::string_view text) noexcept {
+inline Result<ConfigFile, ConfigError> Config::from_text(std::string_view text,
+                                                         List<char> file) noexcept {
     iox2sd_config made{};
     const iox2sd_config_answer answer =
         iox2sd_config_read(detail::bytes(text), text.size(), &made);
-    if (answer.status != IOX2SD_STATUS_DONE) return detail::config_error(text, answer.fault);
+    if (answer.status != IOX2SD_STATUS_DONE) {
+        return detail::config_error(text, std::move(file), answer.fault);
+    }
     List<char> paths;
     const auto keys = detail::unknown_keys(text, paths);
-    if (!keys) return ConfigError{keys.status(), {}};
+    if (!keys) return ConfigError{keys.status(), {}, 0, std::move(file)};
+    const std::string_view named(file.data(), file.size());
     const char* path = paths.data();
     auto unknown = List<UnknownKey>::of(
-        keys->data(), keys->size(), [&path](const iox2sd_unknown_key& key) {
+        keys->data(), keys->size(), [&path, named](const iox2sd_unknown_key& key) noexcept {
             const std::string_view own(path, key.key_length);
             path += key.key_length;
-            return UnknownKey{ConfigTable{key.table}, own,
-                              detail::front<80>(key.meant, key.meant_length)};
+            return UnknownKey{named,
+                              key.line,
+                              key.column,
+                              ConfigTable{key.table},
+                              own,
+                              Likeness{key.likeness},
+                              detail::front<80>(key.meant, key.meant_length),
+                              detail::front<256>(key.reason, key.reason_length)};
         });
-    if (!unknown) return ConfigError{unknown.status(), {}};
-    return ConfigFile{from_c(made), std::move(unknown).value(), std::move(paths)};
+    if (!unknown) return ConfigError{unknown.status(), {}, 0, std::move(file)};
+    return ConfigFile{from_c(made), std::move(unknown).value(), std::move(paths), std::move(file)};
+}
+
+inline Result<ConfigFile, ConfigError> Config::from_toml(std::string_view text) noexcept {
+    return from_text(text, {});
 }
 
 template <class File, class>
 Result<ConfigFile, ConfigError> Config::from_toml_file(const File& path) noexcept {
     const char* const name = path.c_str();
-    if (std::string_view(name) != detail::native(path)) {
-        return ConfigError{Status::NoFile, {}, EINVAL};
-    }
+    if (std::string_view(name) != detail::native(path)) return no_file(name, EINVAL);
     return from_toml_file(name);
+}
+
+inline ConfigError Config::no_file(std::string_view path, int system_error) noexcept {
+    auto file = List<char>::of(path.data(), path.size(), [](char byte) noexcept { return byte; });
+    if (!file) return ConfigError{file.status(), {}, 0, {}};
+    return ConfigError{Status::NoFile, {}, system_error, std::move(file).value()};
 }
 
 inline Result<ConfigFile, ConfigError> Config::from_toml_file(const char* path) noexcept {
     const detail::OpenFile open(path);
-    if (open.file == nullptr) return ConfigError{Status::NoFile, {}, errno};
+    ConfigError unread = no_file(path, open.file == nullptr ? errno : 0);
+    if (open.file == nullptr || unread.status != Status::NoFile) return unread;
     detail::FileBytes bytes(open.file);
     const auto text = List<char>::of_range(bytes, [](char byte) { return byte; });
-    if (std::ferror(open.file) != 0) return ConfigError{Status::NoFile, {}, errno};
-    if (!text) return ConfigError{text.status(), {}};
-    return from_toml(*text);
+    if (std::ferror(open.file) != 0) {
+        unread.system_error = errno;
+        return unread;
+    }
+    if (!text) return ConfigError{text.status(), {}, 0, std::move(unread.file)};
+    return from_text(*text, std::move(unread.file));
 }
 
 }  // namespace iox2sd

@@ -79,32 +79,53 @@ void texts() {
 }
 
 void unknown_keys() {
-    auto file = Config::from_toml("[defaults.publish-subscribe]\nmax-publisher = 3\n[other]\n");
-    CHECK(file.has_value() && file->unknown.size() == 2);
+    auto file = Config::from_toml("[defaults.publish-subscribe]\n  max-publisher = 3\n[other]\n"
+                                  "[global]\nPREFIX = 1\n'node.directory' = 1\n"
+                                  "[global.node]\ncreation-timeout = 1\n");
+    CHECK(file.has_value() && file->unknown.size() == 5);
     const ConfigFile moved = std::move(file).value();
-    CHECK(moved.unknown[0] == UnknownKey{ConfigTable::Root, "other", Text<80>()});
-    CHECK(moved.unknown[1].table == ConfigTable::PublishSubscribe);
-    CHECK(moved.unknown[1].key == "defaults.publish-subscribe.max-publisher");
-    CHECK(moved.unknown[1].meant == "defaults.publish-subscribe.max-publishers");
+    const List<UnknownKey>& keys = moved.unknown;
+    CHECK(keys[0].table == ConfigTable::PublishSubscribe && keys[0].file.empty());
+    CHECK(keys[0].line == 2 && keys[0].column == 3 && keys[0].likeness == Likeness::Near);
+    CHECK(keys[0].key == "defaults.publish-subscribe.max-publisher");
+    CHECK(keys[0].meant == "defaults.publish-subscribe.max-publishers");
+    CHECK(keys[0].reason == "this table has no such key, "
+                            "defaults.publish-subscribe.max-publishers may be meant");
+    CHECK(written(keys[0]) == "2:3: defaults.publish-subscribe.max-publisher: " +
+                                  string(keys[0].reason.view()));
+    CHECK(keys[1].table == ConfigTable::Root && keys[1].key == "other" && keys[1].meant.empty());
+    CHECK(keys[1].line == 3 && keys[1].column == 2 && keys[1].likeness == Likeness::None);
+    CHECK(written(keys[1]) == "3:2: other: this table has no such key");
+    CHECK(keys[2].likeness == Likeness::Spelling && keys[2].meant == "global.prefix");
+    CHECK(keys[3].likeness == Likeness::Quoted && keys[3].key == "global.\"node.directory\"");
+    CHECK(keys[4].likeness == Likeness::OtherTable && keys[4].table == ConfigTable::Node);
+    CHECK(keys[4] != keys[3] && keys[4] == UnknownKey(keys[4]));
 }
 
 void faults() {
     const auto refused = Config::from_toml("[defaults.event]\nmax-nodes = -1\n"
-                                           "[global]\ncreation-timeout = 5\nother = 1\n");
-    CHECK(!refused && refused.status() == Status::WrongType);
+                                           "[global]\n  creation-timeout = 5\nother = 1\n");
+    CHECK(!refused && refused.status() == Status::BelowZero);
     const List<ConfigFault>& all = refused.error().faults;
-    CHECK(all.size() == 2 && refused.error().system_error == 0);
-    CHECK(all[0].status == Status::WrongType && all[0].table == ConfigTable::Global);
-    CHECK(all[0].found == TomlType::Integer && all[0].wanted == SettingKind::Duration);
-    CHECK(written(all[0]) == "global.creation-timeout: is an integer, and a table of `secs` and "
-                             "`nanos` is wanted");
-    CHECK(all[1].status == Status::BelowZero && all[1].wanted == SettingKind::Number);
-    CHECK(written(all[1]) == "defaults.event.max-nodes: is below 0" && all[0] != all[1]);
+    CHECK(all.size() == 2 && refused.error().system_error == 0 && refused.error().file.empty());
+    CHECK(all[0].status == Status::BelowZero && all[0].wanted == SettingKind::Number);
+    CHECK(all[0].line == 2 && all[0].column == 1 && all[0].file.empty());
+    CHECK(written(all[0]) == "2:1: defaults.event.max-nodes: is below 0" && all[0] != all[1]);
+    CHECK(all[1].status == Status::WrongType && all[1].table == ConfigTable::Global);
+    CHECK(all[1].found == TomlType::Integer && all[1].wanted == SettingKind::Duration);
+    CHECK(all[1].line == 4 && all[1].column == 3);
+    CHECK(written(all[1]) == "4:3: global.creation-timeout: is an integer, and a table of `secs` "
+                             "and `nanos` is wanted");
+    CHECK(written(refused.error()) == written(all[0]));
     const auto no_toml = Config::from_toml("[global\n");
     CHECK(no_toml.status() == Status::NotToml && no_toml.error().faults.size() == 1);
-    CHECK(written(no_toml.error().faults[0]).find("line 1") != string::npos);
+    CHECK(no_toml.error().faults[0].line == 1 && no_toml.error().faults[0].key.empty());
+    CHECK(written(no_toml.error()).find("1:8: ") == 0);
     CHECK(Config::from_toml("\xff").status() == Status::NotUtf8);
-    CHECK(Config::from_toml("\xff").error().faults.size() == 1);
+    CHECK(written(Config::from_toml("a = 1\n \xff").error()) == "2:2: the file is no UTF-8");
+    const string large = "[global]\nprefix = 1\n" + string(131072, '#');
+    CHECK(Config::from_toml(large).error().faults[0].line == 0);
+    CHECK(written(Config::from_toml(large).error()).find("global.prefix: is an integer") == 0);
 }
 
 void writing() {
@@ -137,12 +158,25 @@ void files() {
     const auto read =
         of_file("[global]\nprefix = 'own_'\n" + string(5000, '#') + "\nprefx = 1\n");
     CHECK(read.has_value() && read->config.texts.prefix == "own_" && read->unknown.size() == 1);
-    CHECK(read->unknown[0].meant == "global.prefix");
+    CHECK(read->unknown[0].meant == "global.prefix" && read->unknown[0].line == 4);
+    const std::string_view file(read->file.data(), read->file.size());
+    CHECK(file.find("/tmp/iox2sd_config_") == 0 && read->unknown[0].file == file);
+    CHECK(written(read->unknown[0]) ==
+          string(file) + ":4:1: global.prefx: " + string(read->unknown[0].reason.view()));
+    const auto faulty = of_file("[global]\n  prefix = 1\n" + string(5000, '#'));
+    const ConfigFault& fault = faulty.error().faults[0];
+    CHECK(fault.file.find("/tmp/iox2sd_config_") == 0 && fault.line == 2 && fault.column == 3);
+    CHECK(fault.file == std::string_view(faulty.error().file.data(), faulty.error().file.size()));
+    CHECK(written(faulty.error()) ==
+          string(fault.file) + ":2:3: global.prefix: " + string(fault.reason.view()));
+    const auto large = of_file("[global]\nprefix = 1\n" + string(131072, '#'));
+    CHECK(written(large.error()).find(": global.prefix: is an integer") != string::npos);
     // No byte ends a file.
     CHECK(of_file("prefix = 1\n" + string(1, '\0')).status() == Status::NotToml);
     CHECK(of_file("prefix = 1\n\xff").status() == Status::NotUtf8);
     const auto missing = Config::from_toml_file("/nowhere/iceoryx2.toml");
     CHECK(missing.status() == Status::NoFile && missing.error().system_error == ENOENT);
+    CHECK(written(missing.error()) == "/nowhere/iceoryx2.toml: the file cannot be read");
     const auto folder = Config::from_toml_file("/tmp");
     CHECK(folder.status() == Status::NoFile && folder.error().system_error == EISDIR);
     const std::filesystem::path no_path = "/nowhere/iceoryx2.toml";

@@ -89,6 +89,8 @@ NUMBERS(SettingKind, IS(None, KIND_NONE) IS(Table, KIND_TABLE) IS(Number, KIND_N
         IS(Flag, KIND_FLAG) IS(Path, KIND_PATH) IS(NameOfFile, KIND_FILE_NAME)
         IS(Backpressure, KIND_BACKPRESSURE) IS(Allocation, KIND_ALLOCATION)
         IS(Duration, KIND_DURATION))
+NUMBERS(Likeness, IS(None, LIKENESS_NONE) IS(Spelling, LIKENESS_SPELLING)
+        IS(OtherTable, LIKENESS_OTHER_TABLE) IS(Quoted, LIKENESS_QUOTED) IS(Near, LIKENESS_NEAR))
 
 /// Each status, with what it says.
 #define STATUSES(S)                                                                                \
@@ -191,6 +193,7 @@ void enumerators() {
     numbers<ConfigTable>(IOX2SD_TABLE_ROOT, 9);
     numbers<TomlType>(IOX2SD_TOML_NONE, 8);
     numbers<SettingKind>(IOX2SD_KIND_NONE, 9);
+    numbers<Likeness>(IOX2SD_LIKENESS_NONE, 5);
     // Some numbers are those of no status. C has a text for each status.
     std::size_t statuses = 0;
     for (std::uint32_t number = 0; number < 1000; ++number) {

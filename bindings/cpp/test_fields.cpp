@@ -169,13 +169,13 @@ void settings() {
 }
 
 void config_files() {
-    ConfigFault fault{Status::WrongType, ConfigTable::Event, TomlType::Float, SettingKind::Number,
-                      {}, {}};
-    EACH_COUNTS(fault, a, b, c, d, e, f);
+    ConfigFault fault{"file", 1, 2, Status::WrongType, ConfigTable::Event, TomlType::Float,
+                      SettingKind::Number, {}, {}};
+    EACH_COUNTS(fault, a, b, c, d, e, f, g, h, i);
     ConfigWriteError unwritten{Status::BadDuration, SettingsField::Deadline, {}};
     EACH_COUNTS(unwritten, status, field, written_key);
-    UnknownKey unknown{ConfigTable::Event, "key", {}};
-    EACH_COUNTS(unknown, table, unknown_key, meant);
+    UnknownKey unknown{"file", 1, 2, ConfigTable::Event, "key", Likeness::Near, {}, {}};
+    EACH_COUNTS(unknown, file, line, column, table, unknown_key, likeness, meant, reason);
     Config config = Config::from_toml("").value().config;
     EACH_COUNTS(config.texts, a, b, c, d, e, f, g, h, i, j, k, l, m, n, o, p);
     EACH_COUNTS(config, global, texts, samples, events, requests, boards);
