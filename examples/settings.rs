@@ -1,9 +1,9 @@
 //! Settings of a file: what it sets, what of it is unknown, and what is wrong.
 //
 // It prints:
-//     unknown: global.prefx: global.prefix may be meant
+//     2:1: global.prefx: this table has no such key, global.prefix may be meant
 //     2 publishers of 18 samples each, 4 subscribers
-//     refused: defaults.publish-subscribe.max-subscribers: is below 0
+//     refused: 4:1: defaults.publish-subscribe.max-subscribers: is below 0
 #![forbid(unsafe_code)]
 
 use iox2sd::prelude::*;
@@ -19,7 +19,7 @@ max-subscribers = 4
 fn main() -> Result<(), Box<dyn Error>> {
     let file = Config::from_toml(FILE)?;
     for key in &file.unknown {
-        println!("unknown: {key}");
+        println!("{key}");
     }
     let settings = file.config.defaults.publish_subscribe;
     let (publishers, subscribers) = (settings.max_publishers, settings.max_subscribers);

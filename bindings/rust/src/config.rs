@@ -22,10 +22,11 @@ pub use choices::{AllocationStrategy, BackpressureStrategy, DataSegmentType, Eve
 pub use global::{Global, Node, Service};
 pub use patterns::{Blackboard, Event, PatternSettings, PublishSubscribe, RequestResonse};
 pub use toml::{
-    ConfigCreationError, ConfigError, ConfigFault, ConfigFile, ConfigFileError, ConfigWriteError,
+    ConfigCreationError, ConfigError, ConfigFault, ConfigFile, ConfigFileError, ConfigTextFault,
+    ConfigWriteError,
 };
-pub use toml::{Fault, UnknownKey};
-pub use toml_kinds::{SettingKind, TomlType};
+pub use toml::{Fault, Position, UnknownKey};
+pub use toml_kinds::{Likeness, SettingKind, TomlType};
 
 use crate::library;
 use crate::paths::{FileName, FilePath, Path};

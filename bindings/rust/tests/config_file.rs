@@ -6,8 +6,8 @@ mod common;
 
 use iox2sd::config::{
     AllocationStrategy, BackpressureStrategy, Blackboard, Config, ConfigError, ConfigFault,
-    ConfigFileError, ConfigWriteError, Defaults, Event, Fault, PublishSubscribe, RequestResonse,
-    SettingKind, TomlType,
+    ConfigFileError, ConfigWriteError, Defaults, Event, Fault, Likeness, Position,
+    PublishSubscribe, RequestResonse, SettingKind, TomlType,
 };
 use iox2sd::paths::{FileName, Path};
 use iox2sd::semantic_string::SemanticStringError::{ExceedsMaximumLength, InvalidContent};
@@ -18,6 +18,11 @@ use std::{env, fs, process};
 
 fn config(text: &str) -> Config {
     Config::from_toml(text).unwrap().config
+}
+
+/// The line and the column of a position, 0 where there is none.
+fn numbers(position: Option<Position>) -> (usize, usize) {
+    position.map_or((0, 0), |position| (position.line, position.column))
 }
 
 fn faults(text: &str) -> Vec<ConfigFault> {
@@ -207,7 +212,11 @@ fn each_fault_is_told_with_its_key() {
         let found = faults(text);
         assert_eq!(found.len(), 1, "{text}");
         assert_eq!((found[0].key.as_str(), found[0].fault), (key, fault));
-        assert_eq!(found[0].to_string(), format!("{key}: {}", found[0].reason));
+        assert_eq!(found[0].file, None);
+        assert_eq!(
+            found[0].to_string(),
+            format!("1:1: {key}: {}", found[0].reason)
+        );
     }
     let long = "x".repeat(256);
     let path = format!("global.root-path = '{long}'\nglobal.prefix = '{long}'\n");
@@ -277,37 +286,86 @@ fn a_text_that_is_nested_too_deeply_is_refused() {
         "a = ".to_string() + &"[".repeat(100_000),
     ] {
         match Config::from_toml(&text) {
-            Err(ConfigError::TooDeep(reason)) => assert!(reason.contains("line 1"), "{reason}"),
+            Err(ConfigError::TooDeep(fault)) => {
+                assert_eq!(fault.position.unwrap().line, 1);
+                assert!(fault.reason.contains("more than 32 deep"), "{fault}");
+            }
             other => panic!("{other:?}"),
         }
     }
 }
 
 #[test]
-fn all_faults_are_told_in_the_order_of_the_settings() {
-    let text = "[defaults.blackboard]\nmax-nodes = 1.5\nmax-readers = true\n[global]\nprefix = 1\n";
+fn all_faults_are_told_in_the_order_of_the_file() {
+    let text =
+        "[defaults.blackboard]\nmax-nodes = 1.5\n  max-readers = true\n[global]\nprefix = 1\n";
     let refused = Config::from_toml(text).unwrap_err();
-    let lines = "global.prefix: is an integer, and a string with the name of a file is wanted\n\
-                 defaults.blackboard.max-readers: is a boolean, and an integer is wanted\n\
-                 defaults.blackboard.max-nodes: is a float, and an integer is wanted";
+    let lines = "2:1: defaults.blackboard.max-nodes: is a float, and an integer is wanted\n\
+                 3:3: defaults.blackboard.max-readers: is a boolean, and an integer is wanted\n\
+                 5:1: global.prefix: is an integer, and a string with the name of a file is wanted";
     assert_eq!(refused.to_string(), lines);
-    let ConfigError::NotToml(reason) = Config::from_toml("[global]\nprefix\n").unwrap_err() else {
+    let places: Vec<_> = faults(text)
+        .iter()
+        .map(|fault| numbers(fault.position))
+        .collect();
+    assert_eq!(places, [(2, 1), (3, 3), (5, 1)]);
+    let ConfigError::NotToml(fault) = Config::from_toml("[global]\nprefix\n").unwrap_err() else {
         panic!();
     };
-    assert!(reason.contains("line 2"), "{reason}");
+    assert_eq!(
+        (fault.file.as_ref(), numbers(fault.position)),
+        (None, (2, 7))
+    );
+    assert_eq!(fault.to_string(), format!("2:7: {}", fault.reason));
+}
+
+#[test]
+fn a_text_past_128_kib_has_no_positions() {
+    let faulty = "[global]\nprefix = 1\nother = 1\n#";
+    for (size, found) in [(131_072, (2, 1)), (131_073, (0, 0))] {
+        let text = faulty.to_string() + &"x".repeat(size - faulty.len());
+        let fault = &faults(&text)[0];
+        assert_eq!(numbers(fault.position), found);
+        assert_eq!(
+            fault.to_string().starts_with("global.prefix: "),
+            found.0 == 0
+        );
+    }
 }
 
 #[test]
 fn unknown_keys_come_with_what_was_meant() {
-    let text = "[defaults.publish-subscribe]\nmax-publisher = 3\n[global]\nnothing-like-it = 1\n";
+    let text = "[defaults.publish-subscribe]\n  max-publisher = 3\n[global]\n\
+                nothing-like-it = 1\nPREFIX = 1\n'node.directory' = 1\n\
+                [global.node]\ncreation-timeout = 1\n";
     let file = Config::from_toml(text).unwrap();
     let told: Vec<_> = file.unknown.iter().map(ToString::to_string).collect();
     let expected = [
-        "global.nothing-like-it",
-        "defaults.publish-subscribe.max-publisher: \
+        "2:3: defaults.publish-subscribe.max-publisher: this table has no such key, \
          defaults.publish-subscribe.max-publishers may be meant",
+        "4:1: global.nothing-like-it: this table has no such key",
+        "5:1: global.PREFIX: this table has no such key, global.prefix may be meant",
+        "6:1: global.\"node.directory\": this table has no such key, \
+         global.node.directory without the quotes may be meant",
+        "8:1: global.node.creation-timeout: this table has no such key, it belongs to [global]",
     ];
     assert_eq!(told, expected);
+    let meant: Vec<_> = file
+        .unknown
+        .iter()
+        .map(|key| (key.meant.as_deref(), key.likeness))
+        .collect();
+    let expected = [
+        (
+            Some("defaults.publish-subscribe.max-publishers"),
+            Some(Likeness::Near),
+        ),
+        (None, None),
+        (Some("global.prefix"), Some(Likeness::Spelling)),
+        (Some("global.node.directory"), Some(Likeness::Quoted)),
+        (Some("global.creation-timeout"), Some(Likeness::OtherTable)),
+    ];
+    assert_eq!(meant, expected);
     assert_eq!(file.config, Config::default());
 }
 
@@ -335,11 +393,26 @@ fn files_are_read() {
     let file = Config::from_toml_file(&path).unwrap();
     assert_eq!(file.config.global.prefix, "own_");
     fs::write(&path, "max").unwrap();
+    match Config::from_toml_file(&path).unwrap_err() {
+        ConfigFileError::Content(ConfigError::NotToml(fault)) => {
+            assert_eq!(fault.file.as_ref(), Some(&path));
+            assert_eq!(numbers(fault.position), (1, 4));
+        }
+        other => panic!("{other:?}"),
+    }
+    let shown = path.display();
+    fs::write(&path, "[global]\n  prefix = 1\nother = 1\n").unwrap();
     let refused = Config::from_toml_file(&path).unwrap_err();
-    assert!(matches!(
-        refused,
-        ConfigFileError::Content(ConfigError::NotToml(_))
-    ));
+    assert!(refused
+        .to_string()
+        .starts_with(&format!("{shown}:2:3: global.prefix: is an integer")));
+    fs::write(&path, "[global]\n  other = 1\n").unwrap();
+    let unknown = &Config::from_toml_file(&path).unwrap().unknown[0];
+    assert_eq!(unknown.file.as_ref(), Some(&path));
+    assert_eq!(
+        unknown.to_string(),
+        format!("{shown}:2:3: global.other: this table has no such key")
+    );
     fs::write(&path, b"\xff").unwrap();
     let refused: Box<dyn Error> = Config::from_toml_file(&path).unwrap_err().into();
     assert!(refused.to_string().contains("UTF-8"));

@@ -1,7 +1,7 @@
 //! The file of the settings, `iceoryx2.toml`: read, judged and written.
 
 use super::{Blackboard, Config, Defaults, Event, Global, PublishSubscribe, RequestResonse};
-use super::{SettingKind, TomlType};
+use super::{Likeness, SettingKind, TomlType};
 use crate::display::{error_by_path, padded};
 use crate::library;
 use crate::paths::FilePath;
@@ -12,7 +12,7 @@ use std::error::Error;
 use std::fmt;
 use std::fs;
 use std::io::{self, ErrorKind, Read};
-use std::path::PathBuf;
+use std::path::{self, PathBuf};
 
 /// What stands in a file of settings.
 ///
@@ -21,7 +21,11 @@ use std::path::PathBuf;
 ///
 /// let file = Config::from_toml("[defaults.event]\nmax-node = 3\n")?;
 /// assert_eq!(file.config, Config::default());
-/// assert_eq!(file.unknown[0].to_string(), "defaults.event.max-node: defaults.event.max-nodes may be meant");
+/// assert_eq!(
+///     file.unknown[0].to_string(),
+///     "2:1: defaults.event.max-node: this table has no such key, \
+///      defaults.event.max-nodes may be meant"
+/// );
 /// # Ok::<(), iox2sd::config::ConfigError>(())
 /// ```
 #[derive(Clone, Debug, PartialEq, Eq)]
@@ -29,8 +33,53 @@ use std::path::PathBuf;
 pub struct ConfigFile {
     /// The settings, where each key that the file does not have has its default.
     pub config: Config,
-    /// The keys that no setting has, in the order of the tables and of the keys in each.
+    /// The keys that no setting has, in the order of the file.
     pub unknown: Vec<UnknownKey>,
+}
+
+/// Where something stands in a file: its line and its column.
+///
+/// ```
+/// use iox2sd::config::Config;
+///
+/// let file = Config::from_toml("[global]\n  other = 1\n")?;
+/// let position = file.unknown[0].position.unwrap();
+/// assert_eq!((position.line, position.column), (2, 3));
+/// assert_eq!(position.to_string(), "2:3");
+/// # Ok::<(), iox2sd::config::ConfigError>(())
+/// ```
+#[derive(Clone, Copy, Debug, PartialEq, Eq, PartialOrd, Ord, Hash)]
+#[non_exhaustive]
+pub struct Position {
+    /// The line, from 1.
+    pub line: usize,
+    /// The column, in bytes from 1.
+    pub column: usize,
+}
+
+impl Position {
+    /// The position that the library gives, 0 where there is none.
+    fn of(line: usize, column: usize) -> Option<Self> {
+        (line != 0).then_some(Position { line, column })
+    }
+}
+
+impl fmt::Display for Position {
+    fn fmt(&self, f: &mut fmt::Formatter<'_>) -> fmt::Result {
+        padded(f, format_args!("{}:{}", self.line, self.column))
+    }
+}
+
+/// The file and the position, in front of what is said there.
+fn position_text(file: Option<&path::Path>, position: Option<Position>) -> String {
+    let file = file.map(|file| file.display().to_string());
+    let position = position.map(|position| position.to_string());
+    let known: Vec<_> = file.into_iter().chain(position).collect();
+    if known.is_empty() {
+        String::new()
+    } else {
+        known.join(":") + ": "
+    }
 }
 
 /// A key of a file that no setting has.
@@ -39,28 +88,34 @@ pub struct ConfigFile {
 /// use iox2sd::config::Config;
 ///
 /// let file = Config::from_toml("global = { prefx = 'a' }\nother = 1\n")?;
-/// assert_eq!(file.unknown[0].key, "other");
-/// assert_eq!(file.unknown[0].meant, None);
-/// assert_eq!(file.unknown[1].meant.as_deref(), Some("global.prefix"));
+/// assert_eq!(file.unknown[0].meant.as_deref(), Some("global.prefix"));
+/// assert_eq!(file.unknown[1].key, "other");
+/// assert_eq!(file.unknown[1].meant, None);
 /// # Ok::<(), iox2sd::config::ConfigError>(())
 /// ```
 #[derive(Clone, Debug, PartialEq, Eq)]
 #[non_exhaustive]
 pub struct UnknownKey {
-    /// The path of the key.
+    /// The file; none of a text.
+    pub file: Option<PathBuf>,
+    /// Where the key begins; none in a file of more than 128 KiB.
+    pub position: Option<Position>,
+    /// The path of the key, as TOML writes it.
     pub key: String,
     /// The path of the known key that was probably meant: the same key but for `-`, `_` and case, or
     /// else the same key of another table, the one whose path stands in quotes, or the nearest one.
     pub meant: Option<String>,
+    /// How that key is like this one.
+    pub likeness: Option<Likeness>,
+    /// What is wrong and was probably meant, in words.
+    pub reason: String,
 }
 
-/// The key, and what was probably meant.
+/// `FILE:LINE:COLUMN: KEY: REASON`, without what there is not.
 impl fmt::Display for UnknownKey {
     fn fmt(&self, f: &mut fmt::Formatter<'_>) -> fmt::Result {
-        match &self.meant {
-            Some(meant) => padded(f, format_args!("{}: {meant} may be meant", self.key)),
-            None => f.pad(&self.key),
-        }
+        let at = position_text(self.file.as_deref(), self.position);
+        padded(f, format_args!("{at}{}: {}", self.key, self.reason))
     }
 }
 
@@ -122,7 +177,7 @@ impl Fault {
     }
 }
 
-/// What is wrong with the value of a key, and which key it is.
+/// What is wrong with the value of a key, where, and which key it is.
 ///
 /// ```
 /// use iox2sd::config::{Config, ConfigError};
@@ -131,10 +186,15 @@ impl Fault {
 /// let ConfigError::Faults(faults) = Config::from_toml(text).unwrap_err() else { panic!() };
 /// assert_eq!(faults[0].key, "defaults.publish-subscribe.backpressure-strategy");
 /// assert_eq!(faults[0].reason, "is not \"RetryUntilDelivered\" or \"DiscardData\"");
+/// assert_eq!(faults[0].position.unwrap().line, 2);
 /// ```
 #[derive(Clone, Debug, PartialEq, Eq)]
 #[non_exhaustive]
 pub struct ConfigFault {
+    /// The file; none of a text.
+    pub file: Option<PathBuf>,
+    /// Where the key begins; none in a file of more than 128 KiB.
+    pub position: Option<Position>,
     /// The path of the key.
     pub key: String,
     /// What is wrong with its value.
@@ -143,10 +203,39 @@ pub struct ConfigFault {
     pub reason: String,
 }
 
-/// The key, and what is wrong with its value.
+/// `FILE:LINE:COLUMN: KEY: REASON`, without what there is not.
 impl fmt::Display for ConfigFault {
     fn fmt(&self, f: &mut fmt::Formatter<'_>) -> fmt::Result {
-        padded(f, format_args!("{}: {}", self.key, self.reason))
+        let at = position_text(self.file.as_deref(), self.position);
+        padded(f, format_args!("{at}{}: {}", self.key, self.reason))
+    }
+}
+
+/// Why a text is no file of settings, and where.
+///
+/// ```
+/// use iox2sd::config::{Config, ConfigError};
+///
+/// let refused = Config::from_toml("[global]\nprefix\n").unwrap_err();
+/// let ConfigError::NotToml(fault) = refused else { panic!() };
+/// assert_eq!(fault.position.unwrap().line, 2);
+/// ```
+#[derive(Clone, Debug, PartialEq, Eq)]
+#[non_exhaustive]
+pub struct ConfigTextFault {
+    /// The file; none of a text.
+    pub file: Option<PathBuf>,
+    /// Where it was found.
+    pub position: Option<Position>,
+    /// What is wrong, in words.
+    pub reason: String,
+}
+
+/// `FILE:LINE:COLUMN: REASON`, without what there is not.
+impl fmt::Display for ConfigTextFault {
+    fn fmt(&self, f: &mut fmt::Formatter<'_>) -> fmt::Result {
+        let at = position_text(self.file.as_deref(), self.position);
+        padded(f, format_args!("{at}{}", self.reason))
     }
 }
 
@@ -159,20 +248,20 @@ impl fmt::Display for ConfigFault {
 /// let refused = Config::from_toml(text).unwrap_err();
 /// assert_eq!(
 ///     refused.to_string(),
-///     "defaults.event.max-listeners: is a boolean, and an integer is wanted\n\
-///      defaults.event.max-nodes: is below 0"
+///     "2:1: defaults.event.max-nodes: is below 0\n\
+///      3:1: defaults.event.max-listeners: is a boolean, and an integer is wanted"
 /// );
 /// assert!(matches!(Config::from_toml("max"), Err(ConfigError::NotToml(_))));
 /// ```
 #[derive(Clone, Debug, PartialEq, Eq)]
 #[non_exhaustive]
 pub enum ConfigError {
-    /// It is no TOML, with the line and the column in words.
-    NotToml(String),
-    /// Its tables and arrays are nested too deeply, with the line and the column in words. Dotted
-    /// keys nest too. This is found before anything else.
-    TooDeep(String),
-    /// Values are not allowed: all of them, in the order of the settings.
+    /// It is no TOML.
+    NotToml(ConfigTextFault),
+    /// Its tables and arrays are nested too deeply. Dotted keys nest too. This is found before
+    /// anything else.
+    TooDeep(ConfigTextFault),
+    /// Values are not allowed: all of them, in the order of the file.
     Faults(Vec<ConfigFault>),
     /// There was no memory.
     NoMemory,
@@ -182,7 +271,7 @@ pub enum ConfigError {
 impl fmt::Display for ConfigError {
     fn fmt(&self, f: &mut fmt::Formatter<'_>) -> fmt::Result {
         match self {
-            ConfigError::NotToml(reason) | ConfigError::TooDeep(reason) => f.pad(reason),
+            ConfigError::NotToml(fault) | ConfigError::TooDeep(fault) => fault.fmt(f),
             ConfigError::NoMemory => f.pad("no memory"),
             ConfigError::Faults(faults) => {
                 let lines: Vec<_> = faults.iter().map(ToString::to_string).collect();
@@ -193,6 +282,24 @@ impl fmt::Display for ConfigError {
 }
 
 impl Error for ConfigError {}
+
+impl ConfigError {
+    /// The same of the text of a file.
+    fn of_file(mut self, path: &path::Path) -> Self {
+        match &mut self {
+            ConfigError::NotToml(fault) | ConfigError::TooDeep(fault) => {
+                fault.file = Some(path.to_path_buf());
+            }
+            ConfigError::Faults(faults) => {
+                for fault in faults {
+                    fault.file = Some(path.to_path_buf());
+                }
+            }
+            ConfigError::NoMemory => {}
+        }
+        self
+    }
+}
 
 /// Why a file gives no settings.
 ///
@@ -314,22 +421,29 @@ fn front(bytes: &[u8], length: usize) -> String {
     String::from_utf8_lossy(&bytes[..length.min(bytes.len())]).into_owned()
 }
 
+/// Why a text is no file of settings.
+fn text_fault(fault: &sys::iox2sd_config_fault) -> ConfigTextFault {
+    ConfigTextFault {
+        file: None,
+        position: Position::of(fault.line, fault.column),
+        reason: front(&fault.reason, fault.reason_length),
+    }
+}
+
 /// Why a text with this first fault gives no settings.
 fn refusal(text: &str, first: &sys::iox2sd_config_fault) -> ConfigError {
     match first.status {
         sys::IOX2SD_STATUS_NO_MEMORY => return ConfigError::NoMemory,
-        sys::IOX2SD_STATUS_NOT_TOML => {
-            return ConfigError::NotToml(front(&first.reason, first.reason_length))
-        }
-        sys::IOX2SD_STATUS_TOO_DEEP => {
-            return ConfigError::TooDeep(front(&first.reason, first.reason_length))
-        }
+        sys::IOX2SD_STATUS_NOT_TOML => return ConfigError::NotToml(text_fault(first)),
+        sys::IOX2SD_STATUS_TOO_DEEP => return ConfigError::TooDeep(text_fault(first)),
         _ => {}
     }
     let Ok(faults) = library::config_faults(text) else {
         return ConfigError::NoMemory;
     };
     let fault = |fault: &sys::iox2sd_config_fault| ConfigFault {
+        file: None,
+        position: Position::of(fault.line, fault.column),
         key: front(&fault.key, fault.key_length),
         fault: Fault::of(fault),
         reason: front(&fault.reason, fault.reason_length),
@@ -348,9 +462,14 @@ fn unknown(text: &str) -> Result<Vec<UnknownKey>, ConfigError> {
     let key = |key: &sys::iox2sd_unknown_key| {
         let (path, others) = rest.split_at(key.key_length);
         rest = others;
+        let is_meant = key.likeness != 0;
         UnknownKey {
+            file: None,
+            position: Position::of(key.line, key.column),
             key: path.to_string(),
-            meant: (key.meant_length != 0).then(|| front(&key.meant, key.meant_length)),
+            meant: is_meant.then(|| front(&key.meant, key.meant_length)),
+            likeness: is_meant.then(|| Likeness::of_c(&key.likeness)),
+            reason: front(&key.reason, key.reason_length),
         }
     };
     Ok(keys.iter().map(key).collect())
@@ -396,7 +515,7 @@ impl Config {
     ///
     /// let file = Config::from_toml_file("config/iceoryx2.toml")?;
     /// for key in &file.unknown {
-    ///     eprintln!("unknown key {key}");
+    ///     eprintln!("{key}");
     /// }
     /// # Ok::<(), iox2sd::config::ConfigFileError>(())
     /// ```
@@ -408,7 +527,11 @@ impl Config {
             path: path.to_path_buf(),
             error,
         })?;
-        Ok(Config::from_toml(&text)?)
+        let mut read = Config::from_toml(&text).map_err(|error| error.of_file(path))?;
+        for key in &mut read.unknown {
+            key.file = Some(path.to_path_buf());
+        }
+        Ok(read)
     }
 
     /// The settings of a file, as iceoryx2 reads them: unknown keys are not listed.

@@ -52,3 +52,22 @@ choices! {
         Duration = IOX2SD_KIND_DURATION;
     }
 }
+
+choices! {
+    /// How a known key is like one that no setting has.
+    ///
+    /// ```
+    /// use iox2sd::config::Likeness;
+    /// assert_eq!(Likeness::OtherTable.to_string(), "OtherTable");
+    /// ```
+    Likeness of u32 in "config" {
+        /// It is the same but for `-`, `_` and the case of letters.
+        Spelling = IOX2SD_LIKENESS_SPELLING;
+        /// It is the same, and a key of another table.
+        OtherTable = IOX2SD_LIKENESS_OTHER_TABLE;
+        /// Its path stands in quotes.
+        Quoted = IOX2SD_LIKENESS_QUOTED;
+        /// It is the nearest key of the table.
+        Near = IOX2SD_LIKENESS_NEAR;
+    }
+}
