@@ -1,4 +1,5 @@
-"""Reads a file of settings, and prints its faults, or what its settings cost.
+"""Reads a file of settings, and prints its faults with their positions, or its unknown keys and what
+its settings cost.
 
     settings.py FILE
 """
@@ -12,7 +13,7 @@ try:
 except (BadConfigError, OSError) as refusal:
     sys.exit(str(refusal))
 for key in file.unknown:
-    print(f"unknown key {key}")
+    print(key)
 settings = file.config.defaults.publish_subscribe
 print(Capacities.of(settings))
 print(f"{settings.required_amount_of_samples_per_data_segment()} samples of each publisher")

@@ -20,7 +20,7 @@ from . import _native
 from ._values import readable
 from .attributes import Attribute, AttributeSet, AttributeSpecifier, AttributeVerifier
 from .config import (
-    Config, ConfigFile, Defaults, GlobalConfig, NodeConfig, ServiceConfig, UnknownKey,
+    Config, ConfigFile, Defaults, GlobalConfig, Likeness, NodeConfig, ServiceConfig, UnknownKey,
 )
 from .details import (
     ClientDetails, DataSegmentType, Details, ListenerDetails, NotifierDetails, PortDetails,
@@ -87,7 +87,7 @@ __all__ = [
     "EventStaticConfig", "Expected", "FileName", "FilePath", "FixedSettings", "ForeignHandleError",
     "GlobalConfig", "GreaterAlignmentError", "HasServiceError", "IllegalByteError",
     "IllegalHashError", "IncompatibleError", "InternalServiceName", "IsLockedError", "Layout",
-    "ListenerDetails", "LogCaller", "LogCommand", "LogReply", "LogToken", "LogWriter",
+    "Likeness", "ListenerDetails", "LogCaller", "LogCommand", "LogReply", "LogToken", "LogWriter",
     "MessageTypeDetails", "MessagingPattern", "MissingKeyError", "MissingPairError", "NodeConfig",
     "NodeNotRegisteredError", "NoFileNameError", "NoMemoryError", "NoNodeError", "NoOpenCallError",
     "NoOrder", "NoServiceError", "NotifierDetails", "NoTomlIntegerError", "NotUtf8Error",

@@ -13,9 +13,10 @@ from typing import Any, Optional, Union, cast
 
 from . import _native
 from ._arguments import Checked, shown, utf8, wrong_type
-from ._values import Value
+from ._values import Choice, Value
 from .errors import (
     BadConfigError, ConfigFault, IllegalByteError, NotUtf8Error, RefusedError, Status, check,
+    positioned,
 )
 from .settings import (
     LIBRARY, BlackboardSettings, Duration, EventSettings, PublishSubscribeSettings,
@@ -151,7 +152,7 @@ class Config(Checked):
         file can have `IllegalByteError` and `NotUtf8Error`.
         """
         with open(_system_path(path, "Config.from_toml_file"), "rb") as file:
-            return _read_file(file.read())
+            return _read_file(file.read(), os.fspath(path))
 
     def to_toml(self) -> str:
         """The settings as the text of a file, each below a comment with what it is and its default.
@@ -179,18 +180,41 @@ def _system_path(path: object, what: str) -> str:
     return plain_path
 
 
+class Likeness(Choice):
+    """How a known key is like one that no setting has."""
+
+    SPELLING = 1
+    """It is the same but for `-`, `_` and the case of letters."""
+    OTHER_TABLE = 2
+    """It is the same, and a key of another table."""
+    QUOTED = 3
+    """Its path stands in quotes."""
+    NEAR = 4
+    """It is the nearest key of the table."""
+
+
 @dataclass(frozen=True, slots=True)
 class UnknownKey(Value):
     """A key of a file that no setting has."""
 
+    file: Optional[str]
+    """The path of the file, or None of a text."""
+    line: Optional[int]
+    """The line where it begins, from 1, or None in a file of more than 128 KiB."""
+    column: Optional[int]
+    """The column, in bytes from 1, or None."""
     key: str
-    """Its path, as `defaults.event.max-node`."""
+    """Its path as TOML writes it, as `defaults.event.max-node`."""
     meant: Optional[str]
     """The path of the known key that was probably meant: the same key but for `-`, `_` and case, or
     else the same key of another table, the one whose path stands in quotes, or the nearest one."""
+    likeness: Optional[Likeness]
+    """How that key is like this one."""
+    reason: str
+    """What is wrong and was probably meant, in words."""
 
     def __str__(self) -> str:
-        return f"{self.key}: {self.meant} may be meant" if self.meant else self.key
+        return positioned(self.file, self.line, self.column, self.key, self.reason)
 
 
 @dataclass(frozen=True, slots=True)
@@ -199,7 +223,7 @@ class ConfigFile(Value):
 
     config: Config
     unknown: "tuple[UnknownKey, ...]"
-    """The keys that no setting has, in the order of the tables and of the keys in each."""
+    """The keys that no setting has, in the order of the file."""
 
 
 def _config(c: Any) -> Config:
@@ -234,8 +258,8 @@ def _plain_config(config: Config) -> Any:
     return made
 
 
-def _refused(text: bytes, first: Any) -> RefusedError:
-    """Why a text with this first fault gives no settings."""
+def _refused(text: bytes, file: Optional[str], first: Any) -> RefusedError:
+    """Why the text of a file with this first fault gives no settings."""
     found, front = [first], _native.front
     if first.key_length != 0:
         count = _native.config_faults_at(text, len(text), None, 0).count
@@ -243,31 +267,40 @@ def _refused(text: bytes, first: Any) -> RefusedError:
         if _native.config_faults_at(text, len(text), faults, count).status == _native.DONE:
             found = list(faults)
     return BadConfigError(tuple(
-        ConfigFault(front(c.key, c.key_length), front(c.reason, c.reason_length), Status(c.status))
+        ConfigFault(
+            file, c.line or None, c.column or None, front(c.key, c.key_length),
+            front(c.reason, c.reason_length), Status(c.status),
+        )
         for c in found
     ))
 
 
-def _unknown(text: bytes) -> "tuple[UnknownKey, ...]":
-    """The unknown keys of a text that gives settings."""
+def _unknown(text: bytes, file: Optional[str]) -> "tuple[UnknownKey, ...]":
+    """The unknown keys of the text of a file that gives settings."""
     needed = _native.config_unknown_at(text, len(text), None, 0, None, 0)
     keys = (_native.UnknownKey * needed.count)()
     paths = (ctypes.c_uint8 * needed.length)()
     answer = _native.config_unknown_at(text, len(text), keys, needed.count, paths, needed.length)
     check(answer.status, "Config.from_toml")
-    found, place, whole = [], 0, bytes(paths)
+    found, at, whole, front = [], 0, bytes(paths), _native.front
     for key in keys:
-        path = whole[place : place + key.key_length].decode()
-        found.append(UnknownKey(path, _native.front(key.meant, key.meant_length) or None))
-        place += key.key_length
+        path = whole[at : at + key.key_length].decode()
+        found.append(UnknownKey(
+            file, key.line or None, key.column or None, path,
+            front(key.meant, key.meant_length) or None,
+            Likeness(key.likeness) if key.likeness else None,
+            front(key.reason, key.reason_length),
+        ))
+        at += key.key_length
     return tuple(found)
 
 
-def _read_file(text: bytes) -> ConfigFile:
+def _read_file(text: bytes, file: Optional[str] = None) -> ConfigFile:
+    """The settings and the unknown keys of the text of a file, or of a text alone."""
     made = _native.Config()
     answer = _native.config_read_at(text, len(text), made, 1)
     if answer.status == Status.NO_MEMORY.value:
         check(answer.status, "Config.from_toml")
     if answer.status != _native.DONE:
-        raise _refused(text, answer.fault)
-    return ConfigFile(_config(made), _unknown(text))
+        raise _refused(text, file, answer.fault)
+    return ConfigFile(_config(made), _unknown(text, file))

@@ -252,10 +252,24 @@ class BadLineError(RefusedError, ValueError, status=Status.BAD_LINE):
         self.replies = replies
 
 
+def positioned(file: "str | None", line: "int | None", column: "int | None", *words: str) -> str:
+    """What is said of a file, as `FILE:LINE:COLUMN: KEY: REASON`, without what there is not."""
+    at = ":".join(str(part) for part in (file, line, column) if part is not None)
+    return ": ".join(part for part in (at, *words) if part)
+
+
 @dataclass(frozen=True, slots=True)
 class ConfigFault(Value):
-    """What is wrong with the text of a file of settings."""
+    """What is wrong with the text of a file of settings, and where."""
 
+    file: "str | None"
+    """The path of the file, or None of a text."""
+    line: "int | None"
+    """The line where the key begins, or where the text is no file of settings, from 1, or None where
+    there is no position: in a file of more than 128 KiB.
+    """
+    column: "int | None"
+    """The column, in bytes from 1, or None."""
     key: str
     """The path of the key whose value is not allowed, or nothing where the text is no TOML."""
     reason: str
@@ -264,12 +278,12 @@ class ConfigFault(Value):
     """The error that the value, or the text, is."""
 
     def __str__(self) -> str:
-        return f"{self.key}: {self.reason}" if self.key else self.reason
+        return positioned(self.file, self.line, self.column, self.key, self.reason)
 
 
 class BadConfigError(RefusedError, ValueError):
     """The text of a file gives no settings: it is no UTF-8 or no TOML, or values are not allowed.
-    `faults` has all that is wrong, in the order of the settings, and `status` the first cause.
+    `faults` has all that is wrong, in the order of the file, and `status` the first cause.
     """
 
     def __init__(self, faults: "tuple[ConfigFault, ...]") -> None:

@@ -8,7 +8,7 @@ from pathlib import Path as SystemPath
 
 import iox2sd
 from iox2sd import (
-    BadConfigError, Config, ConfigFault, ConfigFile, FileName, Status, UnknownKey, _native,
+    BadConfigError, Config, ConfigFault, ConfigFile, FileName, Likeness, Status, UnknownKey, _native,
 )
 
 from . import TestCase
@@ -46,21 +46,29 @@ class ConfigFiles(TestCase):
 
     def test_faults(self):
         refused = self.refused(
-            "[defaults.blackboard]\nmax-nodes = 1.5\nmax-readers = -1\n[global]\nprefix = 1\n"
+            "[defaults.blackboard]\nmax-nodes = 1.5\n  max-readers = -1\n[global]\nprefix = 1\n"
         )
         wanted = [
-            ("global.prefix", "is an integer, and a string with the name of a file is wanted",
+            (None, 2, 1, "defaults.blackboard.max-nodes", "is a float, and an integer is wanted",
              Status.WRONG_TYPE),
-            ("defaults.blackboard.max-readers", "is below 0", Status.BELOW_ZERO),
-            ("defaults.blackboard.max-nodes", "is a float, and an integer is wanted",
-             Status.WRONG_TYPE),
+            (None, 3, 3, "defaults.blackboard.max-readers", "is below 0", Status.BELOW_ZERO),
+            (None, 5, 1, "global.prefix",
+             "is an integer, and a string with the name of a file is wanted", Status.WRONG_TYPE),
         ]
         self.assertEqual(refused.faults, tuple(ConfigFault(*fault) for fault in wanted))
         self.assertIs(refused.status, Status.WRONG_TYPE)
-        lines = "\n".join(f"{key}: {reason}" for key, reason, _ in wanted)
+        lines = "\n".join(f"{row}:{column}: {key}: {reason}"
+                          for _, row, column, key, reason, _ in wanted)
         self.assertEqual(str(refused), lines)
         for made in (copy.copy(refused), pickle.loads(pickle.dumps(refused))):
             self.assertEqual((made.faults, str(made)), (refused.faults, lines))
+
+    def test_a_text_past_128_kib_has_no_positions(self):
+        faulty = "[global]\nprefix = 1\n#"
+        for more, place in ((131_072 - len(faulty), (2, 1)), (131_073 - len(faulty), (None, None))):
+            fault = self.refused(faulty + "x" * more).faults[0]
+            self.assertEqual((fault.line, fault.column), place)
+        self.assertEqual(str(fault), f"global.prefix: {fault.reason}")
 
     def test_what_an_array_has_no_room_for_is_cut_off(self):
         array = (ctypes.c_uint8 * 80)(*b"x" * 80)
@@ -70,8 +78,10 @@ class ConfigFiles(TestCase):
     def test_no_toml(self):
         refused = self.refused("[global]\nprefix\n")
         self.assertEqual((refused.status, len(refused.faults)), (Status.NOT_TOML, 1))
-        self.assertEqual(refused.faults[0].key, "")
-        self.assertIn("line 2", str(refused))
+        fault = refused.faults[0]
+        self.assertEqual((fault.file, fault.line, fault.column, fault.key), (None, 2, 7, ""))
+        self.assertEqual(str(refused), f"2:7: {fault.reason}")
+        self.assertNotIn("\n", fault.reason)
 
     def test_texts_that_are_too_deep(self):
         """A thread with a stack of 256 KiB reads them."""
@@ -91,14 +101,31 @@ class ConfigFiles(TestCase):
 
     def test_unknown_keys(self):
         file = Config.from_toml(
-            "[defaults.publish-subscribe]\nmax-publisher = 3\n[global]\n'\u00e4' = 1\n"
+            "[defaults.publish-subscribe]\n  max-publisher = 3\n[global]\n'\u00e4' = 1\n"
+            "max_nodes = 1\n'node.directory' = 'a'\n[other]\n"
         )
-        meant = "defaults.publish-subscribe.max-publishers"
-        wanted = {"global.\u00e4": None, "defaults.publish-subscribe.max-publisher": meant}
-        self.assertEqual(file.unknown, tuple(UnknownKey(*one) for one in wanted.items()))
-        self.assertEqual(str(file.unknown[0]), "global.\u00e4")
-        self.assertEqual(str(file.unknown[1]), f"{file.unknown[1].key}: {meant} may be meant")
+        none, table = "this table has no such key", "defaults.publish-subscribe"
+        wanted = (
+            (2, 3, f"{table}.max-publisher", f"{table}.max-publishers", Likeness.NEAR,
+             f"{none}, {table}.max-publishers may be meant"),
+            (4, 1, 'global."\u00e4"', None, None, none),
+            (5, 1, "global.max_nodes", None, None, none),
+            (6, 1, 'global."node.directory"', "global.node.directory", Likeness.QUOTED,
+             f"{none}, global.node.directory without the quotes may be meant"),
+            (7, 2, "other", None, None, none),
+        )
+        self.assertEqual(file.unknown, tuple(UnknownKey(None, *one) for one in wanted))
+        for found, (line, column, key, *_, reason) in zip(file.unknown, wanted):
+            self.assertEqual(str(found), f"{line}:{column}: {key}: {reason}")
         self.assertEqual(file.config, Config())
+
+    def test_how_a_known_key_is_like_an_unknown_one(self):
+        file = Config.from_toml("[global.service]\ncreation-timeout = 1\nDATA_SEGMENT_SUFFIX = 1\n")
+        found = [(one.meant, one.likeness) for one in file.unknown]
+        self.assertEqual(found, [
+            ("global.creation-timeout", Likeness.OTHER_TABLE),
+            ("global.service.data-segment-suffix", Likeness.SPELLING),
+        ])
 
     def test_numbers_that_toml_lacks(self):
         board = iox2sd.BlackboardSettings(max_readers=2**63)
@@ -115,9 +142,19 @@ class ConfigFiles(TestCase):
             path.write_text(ALL.to_toml())
             for given in (path, str(path)):
                 self.assertEqual(Config.from_toml_file(given).config, ALL)
-            path.write_bytes(b"\xff")
+            path.write_text("[global]\n prefix = 1\n  prefx = 1\n")
+            refused = self.raised(BadConfigError, Config.from_toml_file, path)
+            fault = refused.faults[0]
+            self.assertEqual((fault.file, fault.line, fault.column), (str(path), 2, 2))
+            self.assertEqual(str(refused), f"{path}:2:2: global.prefix: {fault.reason}")
+            path.write_text("[global]\n  prefx = 1\n")
+            key = Config.from_toml_file(path).unknown[0]
+            self.assertEqual((key.file, key.line, key.column), (str(path), 2, 3))
+            self.assertEqual(str(key), f"{path}:2:3: global.prefx: {key.reason}")
+            path.write_bytes(b"a = 1\n \xff")
             status = iox2sd.NotUtf8Error.status
-            self.raised(BadConfigError, Config.from_toml_file, path, status=status)
+            refused = self.raised(BadConfigError, Config.from_toml_file, path, status=status)
+            self.assertEqual(str(refused), f"{path}:2:2: the file is no UTF-8")
             self.assertRaises(FileNotFoundError, Config.from_toml_file, path.with_name("none"))
 
     def test_paths_that_no_file_has(self):

@@ -128,7 +128,7 @@ class Declarations(TestCase):
             "PATTERN": iox2sd.MessagingPattern, "ROLE": iox2sd.Role,
             "SEGMENT": iox2sd.DataSegmentType, "VARIANT": iox2sd.TypeVariant,
             "BACKPRESSURE": iox2sd.BackpressureStrategy, "ALLOCATION": iox2sd.AllocationStrategy,
-            "TEXT": iox2sd.DefaultText,
+            "TEXT": iox2sd.DefaultText, "LIKENESS": iox2sd.Likeness,
         }
         for front, kind in kinds.items():
             for member in kind:

@@ -30,7 +30,7 @@ it is locked
 """
 
 SETTINGS = """\
-unknown key defaults.publish-subscribe.max-publisher: \
+FILE:5:1: defaults.publish-subscribe.max-publisher: this table has no such key, \
 defaults.publish-subscribe.max-publishers may be meant
 Capacities(nodes=20, first=2, second=10)
 42 samples of each publisher
@@ -68,8 +68,8 @@ OF_FILES = {
     "[global]\nroot-path = '/run/robot'\n"
     "[defaults.publish-subscribe]\nmax-subscribers = 10\nmax-publisher = 3\n": (0, SETTINGS, ""),
     "[defaults.event]\nmax-nodes = -1\nmax-listeners = 1.5\n":
-    (1, "", "defaults.event.max-listeners: is a float, and an integer is wanted\n"
-     "defaults.event.max-nodes: is below 0\n"),
+    (1, "", "FILE:2:1: defaults.event.max-nodes: is below 0\n"
+     "FILE:3:1: defaults.event.max-listeners: is a float, and an integer is wanted\n"),
 }
 """The status of the program settings.py of files, and what it prints of them."""
 
@@ -107,7 +107,8 @@ class Examples(unittest.TestCase):
                 file.write(text)
                 file.flush()
                 ended = self.run_program(program, file.name)
-                self.assertEqual((ended.returncode, ended.stdout, ended.stderr), expected)
+                printed = (text.replace(file.name, "FILE") for text in (ended.stdout, ended.stderr))
+                self.assertEqual((ended.returncode, *printed), expected)
         ended = self.run_program(program, "/nowhere")
         self.assertEqual((ended.returncode, ended.stdout), (1, ""))
         self.assertIn("No such file", ended.stderr)

@@ -27,6 +27,8 @@ PORTS = (publisher(1), subscriber(1), LISTENER, NOTIFIER, SERVER, CLIENT, READER
 EVENT = iox2sd.EventStaticConfig.new()
 
 
+UNKNOWN = iox2sd.UnknownKey("file", 1, 2, "key", "meant", iox2sd.Likeness.NEAR, "reason")
+
 VALUES: "list[Any]" = [
     *(kind(1, 2, 3, 4) for kind in details.UniquePortId.__args__),  # type: ignore[attr-defined]
     NODE, iox2sd.UniqueServiceId(1, 2, 3, 4), iox2sd.ContainerHandle(7, iox2sd.Role.NODE, 1, 2),
@@ -39,9 +41,9 @@ VALUES: "list[Any]" = [
     iox2sd.TooManyConfigurations(9),
     iox2sd.TooManyOpenCalls(9),
     iox2sd.UnexpectedLine(9, iox2sd.Expected.REPLY),
-    iox2sd.ConfigFault("key", "reason", iox2sd.Status.BELOW_ZERO),
-    iox2sd.UnknownKey("key", "meant"),
-    iox2sd.ConfigFile(iox2sd.Config(), (iox2sd.UnknownKey("key", None),)),
+    iox2sd.ConfigFault("file", 1, 2, "key", "reason", iox2sd.Status.BELOW_ZERO),
+    UNKNOWN,
+    iox2sd.ConfigFile(iox2sd.Config(), (UNKNOWN,)),
     *PORTS, TYPE, MESSAGE, pair("key", "value"), iox2sd.Layout(8, 4), iox2sd.Places(8, 16),
     iox2sd.Duration(1, 2), iox2sd.EventId(1),
     iox2sd.EventSettings(deadline=iox2sd.Duration(1, 2), notifier_dead_event=iox2sd.EventId(3)),
