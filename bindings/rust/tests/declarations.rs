@@ -175,7 +175,7 @@ fn each_enumerator_has_the_number_of_its_name() {
             }
         }
     }
-    // Roles, patterns, strategies, kinds of segments, types of TOML and kinds of values, variants
-    // and parts of messages, causes, and settings.
-    assert_eq!(count, 9 + 4 + 2 + 3 + 2 + 7 + 8 + 2 + 3 + 5 + 25);
+    // Roles, patterns, strategies, kinds of segments, types of TOML and kinds of values, likenesses
+    // of keys, variants and parts of messages, causes, and settings.
+    assert_eq!(count, 9 + 4 + 2 + 3 + 2 + 7 + 8 + 4 + 2 + 3 + 5 + 25);
 }

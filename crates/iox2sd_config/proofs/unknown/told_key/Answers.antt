@@ -11,8 +11,8 @@ use Rattle.iox2sd_config.proofs.unknown.told_key.Goals as goal
 
 -- the plain value of these fields
 of_fields : (s : Section) (meant : Option Proposed) (n : Note) (table likeness line column : ℕ)
-    (key path cut_path reason cut_words : List ℕ) → cut_path ≡ cut_key path
-    → cut_words ≡ cut_reason reason → table ≡ section_number s → likeness ≡ meant_number meant
+    (key path cut reason words : List ℕ) → cut ≡ cut_key path → words ≡ cut_reason reason
+    → table ≡ section_number s → likeness ≡ meant_number meant
     → line ≡ line_of n.position → column ≡ column_of n.position → key ≡ key_of n.key
     → path ≡ meant_path meant → reason ≡ n.message
     → ◌≡◌ {A = PlainUnknown} (record {
@@ -21,12 +21,12 @@ of_fields : (s : Section) (meant : Option Proposed) (n : Note) (table likeness l
       line = line;
       column = column;
       key_length = length key;
-      meant = cut_path;
+      meant = cut;
       meant_length = length path;
-      reason = cut_words;
+      reason = words;
       reason_length = length reason;
     }) (told_key s meant n)
-of_fields s meant n table likeness line column key path cut_path reason cut_words a b c d e f g h i =
+of_fields s meant n table likeness line column key path cut reason words a b c d e f g h i =
     rw (a, b, c, d, e, f, g, h, i) refl
 
 pub returns : goal.returns
