@@ -7,7 +7,7 @@ use Rattle.std.specs.declared.vec.IntoIter.{IntoIter}
 use Rattle.std.specs.declared.io.Error.{Error}
 use Rattle.std.specs.declared.io.ErrorKind.TheVariants.{OutOfMemory}
 use Rattle.service_drawing.specs.declared.arguments.Asked.{Asked}
-use Rattle.service_drawing.specs.declared.arguments.Asked.TheVariants.{Drawing, Settings, DefaultSettings, Help, Version}
+use Rattle.service_drawing.specs.declared.arguments.Asked.TheVariants.{Drawing, Help, Version}
 use Rattle.service_drawing.specs.declared.arguments.Form.TheVariants.{Text, Svg}
 use Rattle.service_drawing.specs.declared.fault.Fault.{Fault}
 use Rattle.service_drawing.specs.declared.streams.Written.{Written}
@@ -20,16 +20,13 @@ words_of words = map string_bytes (into_iter_items words)
 -- the words are no request that the program knows
 abbrev pub IsNoRequest : List (List ℕ) → Type 0
 IsNoRequest words =
-    (words ≢ []) × (words ≢ codes "svg" ∷ []) × (words ≢ codes "config" ∷ [])
-    × (words ≢ codes "config" ∷ codes "default" ∷ []) × (words ≢ codes "--help" ∷ [])
+    (words ≢ []) × (words ≢ codes "svg" ∷ []) × (words ≢ codes "--help" ∷ [])
     × (words ≢ codes "--version" ∷ [])
 
 -- what the words after the program's name ask for
 abbrev pub Asks : List (List ℕ) → Result Asked Fault → Type 0
 Asks words (Ok (Drawing Text)) = words ≡ []
 Asks words (Ok (Drawing Svg)) = words ≡ codes "svg" ∷ []
-Asks words (Ok Settings) = words ≡ codes "config" ∷ []
-Asks words (Ok DefaultSettings) = words ≡ codes "config" ∷ codes "default" ∷ []
 Asks words (Ok Help) = words ≡ codes "--help" ∷ []
 Asks words (Ok Version) = words ≡ codes "--version" ∷ []
 Asks words (Err BadArgument) = IsNoRequest words
@@ -48,7 +45,6 @@ AsksFor (Err why) other = ⊥
 -- what is asked for is made of what is read
 abbrev pub IsRead : Result Asked Fault → Type 0
 IsRead (Ok (Drawing form)) = Unit {0}
-IsRead (Ok Settings) = Unit {0}
 IsRead asked = ⊥
 
 -- this text, or there is no memory for it

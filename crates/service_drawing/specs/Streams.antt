@@ -6,14 +6,13 @@ use Rattle.std.specs.declared.alloc.Global.{Global}
 use Rattle.std.specs.declared.io.Error.{Error}
 use Rattle.std.specs.declared.vec.IntoIter.{IntoIter}
 use Rattle.service_drawing.specs.Arguments.{AsksFor, IsRead, IsTextOrNoMemory}
-use Rattle.config_report.specs.Report.{HasReport, IsRefusal, HasDefaults}
 use Rattle.iox2_config.specs.declared.config.Config.{Config}
 use Rattle.service_drawing.specs.Causes.{IsCause}
 use Rattle.service_drawing.specs.Descriptions.{IsDescription, StopsReading}
 use Rattle.service_drawing.specs.Fronts.{IsOver, IsNotOver}
 use Rattle.service_drawing.specs.Reasons.{IsReason}
 use Rattle.service_drawing.specs.declared.arguments.Asked.{Asked}
-use Rattle.service_drawing.specs.declared.arguments.Asked.TheVariants.{Drawing, Settings, DefaultSettings, Help, Version}
+use Rattle.service_drawing.specs.declared.arguments.Asked.TheVariants.{Drawing, Help, Version}
 use Rattle.service_drawing.specs.declared.arguments.TheConstants.{HELP, VERSION}
 use Rattle.service_drawing.specs.declared.fault.Fault.{Fault}
 use Rattle.service_drawing.specs.declared.fault.Fault.TheVariants.{BadArgument, BadLine, BadSettings, NoEnd, NoMemory}
@@ -52,7 +51,7 @@ bad_line_text line cause prefix form =
 abbrev pub fault_text : Fault → List ℕ
 fault_text (BadLine line cause prefix form) = bad_line_text line cause prefix.now form.now
 fault_text BadArgument =
-    codes "bad argument: expected svg, config, config default, --help, --version, or no argument"
+    codes "bad argument: expected svg, --help, --version, or no argument"
     ++ 10 ∷ []
 fault_text (BadSettings lines) = string_bytes lines
 fault_text NoEnd = codes "bad settings: no line end follows the line config\n"
@@ -95,29 +94,11 @@ Draws bytes (Ok written) =
 Draws bytes (Err (BadLine line cause prefix form)) = IsBadLine line cause bytes
 Draws bytes (Err fault) = IsNotOver bytes fault
 
--- what is said of the bytes of a file of settings
-abbrev pub Tells : List ℕ → Result Written Fault → Type 0
-Tells bytes (Ok written) =
-    HasReport bytes (string_bytes written.text) (string_bytes written.warnings)
-Tells bytes (Err (BadSettings lines)) = IsRefusal bytes (string_bytes lines)
-Tells bytes (Err NoEnd) = ⊥
-Tells bytes (Err (BadLine line cause prefix form)) = ⊥
-Tells bytes (Err BadArgument) = ⊥
-Tells bytes (Err NoMemory) = Unit {0}
-
--- the file of the default settings, or there is no memory for it
-abbrev pub IsDefaultFile : Result Written Fault → Type 0
-IsDefaultFile (Ok written) =
-    HasDefaults (string_bytes written.text) × (string_bytes written.warnings ≡ [])
-IsDefaultFile (Err fault) = fault ≡ NoMemory
-
--- what is answered: the bytes that the reader gives, if they are known, are drawn or looked at as
--- a file of settings, or the text that was asked for is answered unless there is no memory for it
+-- what is answered: the bytes that the reader gives, if they are known, are drawn, or the text
+-- that was asked for is answered unless there is no memory for it
 abbrev pub Answers : Option (List ℕ) → Result Asked Fault → Result Written Fault → Type 0
 Answers given (Err fault) end = end ≡ Err fault
 Answers given (Ok (Drawing form)) end = IfSome given (λ bytes. Draws bytes end)
-Answers given (Ok Settings) end = IfSome given (λ bytes. Tells bytes end)
-Answers given (Ok DefaultSettings) end = IsDefaultFile end
 Answers given (Ok Help) end = IsTextOrNoMemory HELP.now end
 Answers given (Ok Version) end = IsTextOrNoMemory VERSION.now end
 
@@ -141,7 +122,7 @@ status_of (Err NoEnd) = 1
 status_of (Err NoMemory) = 2
 
 -- what was asked for was answered or there was a fault: that is the status, the writers got what
--- fits it, and for a drawing and for settings the input was read to its end
+-- fits it, and for a drawing the input was read to its end
 pub record Reported (arguments : Result (IntoIter (String Global) Global) Error) (status : ℕ)
     (given left out_old out_new err_old err_new : Option (List ℕ)) : Type 0 where
   pub asked : Result Asked Fault

@@ -21,10 +21,6 @@ pub(crate) enum Form {
 pub(crate) enum Asked {
     /// To draw the description that is read.
     Drawing(Form),
-    /// To say what the file of settings that is read says.
-    Settings,
-    /// To write the file of the default settings.
-    DefaultSettings,
     /// To say how the program is used.
     Help,
     /// To say the version.
@@ -33,25 +29,19 @@ pub(crate) enum Asked {
 
 /// How the program is used.
 pub(crate) const HELP: &str = "usage: iox2-describe [svg | --help | --version] < DESCRIPTION
-       iox2-describe config < iceoryx2.toml
-       iox2-describe config default > iceoryx2.toml
 
 Reads the description of one service from standard input, and writes what the service is: its
 name, hash text and files, its settings, where the parts of its messages lie, the memory of its
 ports, and its attributes. Settings of its own may stand in front of it, between a line config and
 a line end.
 
-  svg             write a picture of the messages, an SVG document
-  config          read a file of settings instead, and write what is wrong with it, or all settings
-                  with the directories, files and chunks that follow; keys that no setting has are
-                  named on standard error
-  config default  write the file of the default settings, and read nothing
-  --help          write this text and read nothing
-  --version       write the version and read nothing
+  svg        write a picture of the messages, an SVG document
+  --help     write this text and read nothing
+  --version  write the version and read nothing
 
 docs/DESCRIBE.md has the lines of descriptions, docs/CONFIG.md the settings. The status is 0 after
-a drawing, settings or a file, 1 after a bad argument, line or setting, 2 where memory was refused,
-3 where reading or writing failed.
+a drawing, 1 after a bad argument, line or setting, 2 where memory was refused, 3 where reading or
+writing failed.
 ";
 
 /// The version of the program, and that of the iceoryx2 whose layer it draws.
@@ -78,16 +68,10 @@ fn asked_in(words: Args) -> Result<Asked, Fault>
     let Some(word) = words.next() else {
         return Ok(Asked::Drawing(Form::Text));
     };
-    let Some(second) = words.next() else {
-        return asked_by_word(word.as_str());
-    };
     if words.next().is_some() {
         return Err(Fault::BadArgument);
     }
-    match (word.as_str(), second.as_str()) {
-        ("config", "default") => Ok(Asked::DefaultSettings),
-        _ => Err(Fault::BadArgument),
-    }
+    asked_by_word(word.as_str())
 }
 
 /// What one word requests.
@@ -96,7 +80,6 @@ fn asked_by_word(word: &str) -> Result<Asked, Fault>
 {
     match word {
         "svg" => Ok(Asked::Drawing(Form::Svg)),
-        "config" => Ok(Asked::Settings),
         "--help" => Ok(Asked::Help),
         "--version" => Ok(Asked::Version),
         _ => Err(Fault::BadArgument),

@@ -25,8 +25,7 @@ pub(crate) enum Fault {
         prefix: &'static str,
         form: &'static str,
     },
-    /// The file of settings, or the block of settings in front of a description, is bad: what is
-    /// wrong with it, in lines.
+    /// The block of settings in front of a description is bad: what is wrong with it, in lines.
     BadSettings(String),
     /// No line `end` follows the line `config`.
     NoEnd,
@@ -160,7 +159,7 @@ pub(crate) fn write_fault<E: Sink>(errors: &mut E, fault: &Fault) -> io::Result<
         } => write_bad_line(errors, *line, *cause, prefix, form),
         Fault::BadArgument => write_whole(
             errors,
-            b"bad argument: expected svg, config, config default, --help, --version, or no argument\n",
+            b"bad argument: expected svg, --help, --version, or no argument\n",
         ),
         Fault::BadSettings(lines) => write_whole(errors, lines.as_bytes()),
         Fault::NoEnd => write_whole(

@@ -5,7 +5,7 @@ ghost use Rattle.line_streams.specs.Streams.{Fails, IsFlushed, ReadFails};
 ghost use Rattle.service_drawing.specs.Arguments.{IsRead, IsTextOrNoMemory};
 ghost use Rattle.service_drawing.specs.Fronts.{IsOver};
 ghost use Rattle.service_drawing.specs.Streams.{status_of, output_text, error_text};
-ghost use Rattle.service_drawing.specs.Streams.{Draws, Tells, IsDefaultFile, Answers, Reported};
+ghost use Rattle.service_drawing.specs.Streams.{Draws, Answers, Reported};
 
 use crate::arguments::{Asked, Form, HELP, VERSION, asked_by};
 use crate::base::{Over, base_of};
@@ -13,7 +13,6 @@ use crate::fault::{Fault, bad_line, write_fault};
 use crate::reading::read_description;
 use crate::svg::write_svg;
 use crate::text::write_text;
-use config_report::{ReportError, default_file, report_file};
 use line_streams::{Sink, Source, read_all, write_whole};
 use std::alloc::Global;
 use std::env::Args;
@@ -25,17 +24,6 @@ use std::io::Error;
 struct Written {
     text: String,
     warnings: String,
-}
-
-/// A text without warnings.
-fn without_warnings(alloc: Global, text: String) -> Written
-    ensures text { string_bytes result.text ≡ string_bytes text }
-    ensures warnings { string_bytes result.warnings ≡ [] }
-{
-    Written {
-        text,
-        warnings: String::new(alloc),
-    }
 }
 
 /// What a description is drawn as, or why it is not drawn.
@@ -65,30 +53,6 @@ fn drawn_over(alloc: Global, form: Form, bytes: &[u8], over: Over<'_>) -> Result
             text: out,
             warnings: over.warnings,
         }),
-        Err(_) => Err(Fault::NoMemory),
-    }
-}
-
-/// What a file of settings says, or what is wrong with it.
-fn told(alloc: Global, bytes: &[u8]) -> Result<Written, Fault>
-    ensures { Tells bytes.now result }
-{
-    match report_file(alloc, bytes) {
-        Ok(report) => Ok(Written {
-            text: report.text,
-            warnings: report.warnings,
-        }),
-        Err(ReportError::Refused(lines)) => Err(Fault::BadSettings(lines)),
-        Err(ReportError::NoMemory) => Err(Fault::NoMemory),
-    }
-}
-
-/// The file of the default settings.
-fn default_settings(alloc: Global) -> Result<Written, Fault>
-    ensures { IsDefaultFile result }
-{
-    match default_file(alloc) {
-        Ok(text) => Ok(without_warnings(alloc, text)),
         Err(_) => Err(Fault::NoMemory),
     }
 }
@@ -147,11 +111,6 @@ fn answer<R: Source>(
             Ok(bytes) => Ok(drawn(alloc, form, &bytes)),
             Err(_) => Ok(Err(Fault::NoMemory)),
         },
-        Ok(Asked::Settings) => match read_all(alloc, input)? {
-            Ok(bytes) => Ok(told(alloc, &bytes)),
-            Err(_) => Ok(Err(Fault::NoMemory)),
-        },
-        Ok(Asked::DefaultSettings) => Ok(default_settings(alloc)),
         Ok(Asked::Help) => Ok(text_of(alloc, HELP)),
         Ok(Asked::Version) => Ok(text_of(alloc, VERSION)),
         Err(fault) => Ok(Err(fault)),
@@ -163,7 +122,10 @@ fn text_of(alloc: Global, text: &str) -> Result<Written, Fault>
     ensures { IsTextOrNoMemory text.now result }
 {
     match String::from_str(alloc, text) {
-        Ok(text) => Ok(without_warnings(alloc, text)),
+        Ok(text) => Ok(Written {
+            text,
+            warnings: String::new(alloc),
+        }),
         Err(_) => Err(Fault::NoMemory),
     }
 }
@@ -196,16 +158,14 @@ fn run<R: Source, W: Sink, E: Sink>(
 
 /// Draws the description of a service that the reader gives, writes the drawing to `output`, and
 /// answers the status of the program: as text without arguments, and as an SVG document with the
-/// one argument `svg`. With `config` it writes what the file of settings says that the reader
-/// gives. With `config default`, `--help` or `--version` it reads nothing and writes the file of
-/// the default settings, how it is used, or the version. The first argument is the program's name.
+/// one argument `svg`. With `--help` or `--version` it reads nothing and writes how it is used, or
+/// the version. The first argument is the program's name.
 ///
-/// - 0: the whole input was read, is a description or a file of settings, and the drawing or the
-///   settings were written; to `errors` a line for each key of the file that no setting has, and
-///   else nothing.
+/// - 0: the whole input was read, is a description, and the drawing was written; to `errors` a line
+///   for each key of the settings in front of it that no setting has, and else nothing.
 /// - 1: an argument, a line or a setting is bad. Nothing was written to `output`, and to `errors`
 ///   the number of the first line that no description has there, why it is bad and what was
-///   expected, or what is wrong with the file of settings.
+///   expected, or what is wrong with the settings in front.
 /// - 2: memory was refused. Nothing was written to `output`, and `no memory` to `errors`.
 /// - 3: a read, a write or a flush failed, for any cause. Nothing was written after it.
 pub fn describe_streams<R: Source, W: Sink, E: Sink>(

@@ -4,7 +4,6 @@ pub(super) mod own;
 pub(super) mod parts;
 pub(super) mod pictures;
 pub(super) mod request_response;
-pub(super) mod settings;
 
 /// A dynamic payload, an opener that is compatible, and a required key that is missing.
 pub(super) const PUBLISH_SUBSCRIBE: (&str, &str) = (

@@ -23,5 +23,3 @@ mod refusals;
 mod reports;
 #[cfg(test)]
 mod running;
-#[cfg(test)]
-mod settings;

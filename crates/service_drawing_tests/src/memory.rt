@@ -3,7 +3,6 @@
 
 use super::expected::own::OWN;
 use super::expected::pictures::{COLORS, PICTURE};
-use super::expected::settings::{SETTINGS, UNKNOWN};
 use super::expected::{EVENT, PUBLISH_SUBSCRIBE};
 use super::running::arguments;
 use service_drawing::describe_streams;
@@ -51,28 +50,6 @@ fn a_text_is_whole_or_none(rt: HostRuntime) {
     draws_all_or_nothing(&rt, &["iox2-describe"], PUBLISH_SUBSCRIBE);
     draws_all_or_nothing(&rt, &["iox2-describe"], EVENT);
     draws_all_or_nothing(&rt, &["iox2-describe"], OWN);
-}
-
-/// Settings are written with all warnings, or memory is refused and nothing is written.
-#[test]
-fn settings_are_whole_or_none(rt: HostRuntime) {
-    let Ok((status, output, errors)) = run(rt.alloc(), &["iox2-describe", "config"], SETTINGS)
-    else {
-        assert!(rt; may_be_refused(&rt));
-        return;
-    };
-    if status == 2 {
-        assert!(rt; may_be_refused(&rt));
-        assert_eq!(rt;
-            (output.len(), errors.as_slice()),
-            (0, b"no memory\n".as_slice())
-        );
-    } else {
-        assert_eq!(rt;
-            (status, output.len() > 2000, errors.as_slice()),
-            (0, true, UNKNOWN.as_bytes())
-        );
-    }
 }
 
 #[test]

@@ -134,13 +134,12 @@ fn spare_lines(rt: HostRuntime) -> Result<(), Fail> {
 
 #[test]
 fn bad_arguments(rt: HostRuntime) {
-    let error =
-        "bad argument: expected svg, config, config default, --help, --version, or no argument\n";
+    let error = "bad argument: expected svg, --help, --version, or no argument\n";
     let alloc = rt.alloc();
     let words: [&[&str]; 9] = [
         &["iox2-describe", "default"],
-        &["iox2-describe", "config", "svg"],
-        &["iox2-describe", "config", "default", "default"],
+        &["iox2-describe", "config"],
+        &["iox2-describe", "config", "default"],
         &["iox2-describe", "SVG"],
         &["iox2-describe", "svg", "svg"],
         &["iox2-describe", "--help", "svg"],

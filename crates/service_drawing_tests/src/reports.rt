@@ -74,25 +74,19 @@ fn lines_with_a_prefix(rt: HostRuntime) {
 
 /// How the program is used.
 const HELP: &str = "usage: iox2-describe [svg | --help | --version] < DESCRIPTION
-       iox2-describe config < iceoryx2.toml
-       iox2-describe config default > iceoryx2.toml
 
 Reads the description of one service from standard input, and writes what the service is: its
 name, hash text and files, its settings, where the parts of its messages lie, the memory of its
 ports, and its attributes. Settings of its own may stand in front of it, between a line config and
 a line end.
 
-  svg             write a picture of the messages, an SVG document
-  config          read a file of settings instead, and write what is wrong with it, or all settings
-                  with the directories, files and chunks that follow; keys that no setting has are
-                  named on standard error
-  config default  write the file of the default settings, and read nothing
-  --help          write this text and read nothing
-  --version       write the version and read nothing
+  svg        write a picture of the messages, an SVG document
+  --help     write this text and read nothing
+  --version  write the version and read nothing
 
 docs/DESCRIBE.md has the lines of descriptions, docs/CONFIG.md the settings. The status is 0 after
-a drawing, settings or a file, 1 after a bad argument, line or setting, 2 where memory was refused,
-3 where reading or writing failed.
+a drawing, 1 after a bad argument, line or setting, 2 where memory was refused, 3 where reading or
+writing failed.
 ";
 
 #[test]

@@ -4,10 +4,14 @@
 #[cfg(test)]
 mod contradictions;
 #[cfg(test)]
+mod expected;
+#[cfg(test)]
 mod failing;
 #[cfg(test)]
 mod reports;
 #[cfg(test)]
 mod running;
+#[cfg(test)]
+mod shown;
 #[cfg(test)]
 mod words;

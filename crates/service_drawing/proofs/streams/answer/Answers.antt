@@ -1,5 +1,5 @@
-use Rattle.service_drawing.specs.declared.arguments.Asked.TheVariants.{Drawing, Settings, Help, Version}
-use Rattle.service_drawing.specs.Streams.{Draws, Tells}
+use Rattle.service_drawing.specs.declared.arguments.Asked.TheVariants.{Drawing, Help, Version}
+use Rattle.service_drawing.specs.Streams.{Draws}
 use Rattle.service_drawing.proofs.Answered.{answers_for, true_of_given}
 use Rattle.service_drawing.proofs.streams.answer.Goals as goal
 
@@ -22,11 +22,3 @@ returns-in-Ok-Version-clause-told g c =
     answers_for _ c.args.asked c.in-Ok-Version.field-0 Version c.text_of-in-Ok-Version.result
     c.in-Ok-Version.is
     (rw c.in-Ok-Version.is at c.in-Ok-Version.field-0-is) c.text_of-in-Ok-Version.ensures
-
-pub returns-in-Ok-2-clause-told : goal.returns-in-Ok-2-clause-told
-returns-in-Ok-2-clause-told g c =
-    answers_for _ c.args.asked c.in-Ok-Settings.field-0 Settings c.told.result c.in-Ok-Settings.is
-    (rw c.in-Ok-Settings.is at c.in-Ok-Settings.field-0-is)
-    (true_of_given (λ bytes. Tells bytes c.told.result) _ c.in-Ok-2.bytes.items _
-    (rw c.in-Ok-2.is at c.in_ok-bytes-in-Ok-Settings.ensures.bytes) c.deref-in-Ok-2.ensures.value
-    c.told.ensures)

@@ -1,7 +1,7 @@
-//! A file of settings, and what is written of it.
+//! A file of settings, and what is shown of it.
 
 /// A file with two settings that differ from the defaults, and two keys that no setting has.
-pub(crate) const SETTINGS: &str = "size = 1
+pub(crate) const OWN: &str = "size = 1
 
 [global]
 prefix = 'own_'
@@ -12,8 +12,8 @@ max-publisher = 3
 ";
 
 /// What is said of the keys that no setting has.
-pub(crate) const UNKNOWN: &str = "1:1: warning: size: this table has no such key
-8:1: warning: defaults.publish-subscribe.max-publisher: this table has no such key, defaults.publish-subscribe.max-publishers may be meant
+pub(crate) const UNKNOWN: &str = "own.toml:1:1: warning: size: this table has no such key
+own.toml:8:1: warning: defaults.publish-subscribe.max-publisher: this table has no such key, defaults.publish-subscribe.max-publishers may be meant
 ";
 
 /// What follows from the file, below its settings. A publisher may have 2 samples taken, and each

@@ -1,0 +1,3 @@
+//! What is written, worked out by hand.
+
+pub(super) mod shown;
