@@ -3,6 +3,7 @@ use Rattle.std.specs.Prelude.{◌≡◌, ◌≢◌, ◌==◌, ◌⊎◌, ℕ, Li
 use Rattle.std.specs.List.{before_first, IsDistinct}
 use Rattle.std.specs.Fmt.{decimal}
 use Rattle.std.specs.Duration.{as_nanos}
+use Rattle.iox2_config.specs.Defaults.{default_publish_subscribe, default_event, default_request_response, default_blackboard}
 use Rattle.iox2_config.specs.declared.config.Config.{Config}
 use Rattle.iox2_config.specs.declared.config.defaults.Defaults.{Defaults}
 use Rattle.iox2_config.specs.declared.config.choices.BackpressureStrategy.TheVariants.{RetryUntilDelivered, DiscardData}
@@ -13,6 +14,7 @@ use Rattle.iox2_config.specs.declared.config.publish_subscribe.PublishSubscribe.
 use Rattle.iox2_config.specs.declared.config.request_response.RequestResonse.{RequestResonse}
 use Rattle.iox2_config.specs.declared.hash.input.PatternKind.{PatternKind}
 use Rattle.iox2_config.specs.declared.hash.input.PatternKind.TheVariants as kind
+use Rattle.iox2_config_file.specs.Settings.{Setting, publish_subscribe_settings, event_settings, request_response_settings, blackboard_settings}
 use Rattle.service_drawing.specs.Lines.{HasMany}
 use Rattle.service_drawing.specs.declared.reading.cause.Reason.{Reason}
 use Rattle.service_drawing.specs.declared.reading.cause.Reason.TheVariants.{InternalName, UnknownSetting, SetTwice, OtherForm}
@@ -45,16 +47,17 @@ MayBecome (Backpressure old) (Backpressure strategy) = Unit {0}
 MayBecome (Allocation old) (Allocation strategy) = Unit {0}
 MayBecome old value = ⊥
 
+-- the byte, or an underscore in the place of a dash
+abbrev pub underscore_for : ℕ → ℕ
+underscore_for b = cond (nat_eq b 45) 95 b
+
+-- the names of settings: their keys in a file of settings, with underscores
+abbrev pub names_of : List Setting → List (List ℕ)
+names_of settings = map (λ x. map underscore_for x.key) settings
+
 -- the names of the settings of a publish-subscribe service
 abbrev pub publish_subscribe_names : List (List ℕ)
-publish_subscribe_names =
-    codes "max_subscribers" ∷ codes "max_publishers" ∷ codes "max_nodes"
-    ∷ codes "subscriber_max_buffer_size"
-    ∷ codes "subscriber_max_borrowed_samples" ∷ codes "publisher_max_loaned_samples"
-    ∷ codes "publisher_history_size"
-    ∷ codes "enable_safe_overflow" ∷ codes "backpressure_strategy"
-    ∷ codes "subscriber_expired_connection_buffer"
-    ∷ codes "publisher_allocation_strategy" ∷ []
+publish_subscribe_names = names_of (publish_subscribe_settings default_publish_subscribe)
 
 -- the values of a publish-subscribe service
 abbrev pub publish_subscribe_values : PublishSubscribe → List Value
@@ -69,11 +72,7 @@ publish_subscribe_values s =
 
 -- the names of the settings of an event service
 abbrev pub event_names : List (List ℕ)
-event_names =
-    codes "max_listeners" ∷ codes "max_notifiers" ∷ codes "max_nodes" ∷ codes "event_id_max_value"
-    ∷ codes "deadline"
-    ∷ codes "notifier_created_event" ∷ codes "notifier_dropped_event" ∷ codes "notifier_dead_event"
-    ∷ []
+event_names = names_of (event_settings default_event)
 
 -- the values of an event service
 abbrev pub event_values : Event → List Value
@@ -85,16 +84,7 @@ event_values s =
 
 -- the names of the settings of a request-response service
 abbrev pub request_response_names : List (List ℕ)
-request_response_names =
-    codes "enable_safe_overflow_for_requests" ∷ codes "enable_safe_overflow_for_responses"
-    ∷ codes "max_active_requests_per_client" ∷ codes "max_response_buffer_size"
-    ∷ codes "max_servers"
-    ∷ codes "max_clients" ∷ codes "max_nodes" ∷ codes "max_borrowed_responses_per_pending_response"
-    ∷ codes "max_loaned_requests" ∷ codes "server_max_loaned_responses_per_request"
-    ∷ codes "client_backpressure_strategy" ∷ codes "server_backpressure_strategy"
-    ∷ codes "client_expired_connection_buffer" ∷ codes "server_expired_connection_buffer"
-    ∷ codes "enable_fire_and_forget_requests" ∷ codes "client_allocation_strategy"
-    ∷ codes "server_allocation_strategy" ∷ []
+request_response_names = names_of (request_response_settings default_request_response)
 
 -- the values of a request-response service
 abbrev pub request_response_values : RequestResonse → List Value
@@ -112,8 +102,7 @@ request_response_values s =
 
 -- the names of the settings of a blackboard service
 abbrev pub blackboard_names : List (List ℕ)
-blackboard_names =
-    codes "max_readers" ∷ codes "max_nodes" ∷ []
+blackboard_names = names_of (blackboard_settings default_blackboard)
 
 -- the values of a blackboard service
 abbrev pub blackboard_values : Blackboard → List Value

@@ -4,21 +4,61 @@ ghost use Rattle.service_drawing.specs.Settings.{listed, MayBecome};
 ghost use Rattle.std.specs.Option.{option_map};
 ghost use Rattle.service_drawing.specs.declared.settings.value.Value.{Value};
 
-/// The name and the value of the setting of a number, among settings that are listed by their
-/// numbers. The name is that of the field.
-macro_rules! row {
-    ($settings:ident, $index:ident; $($number:literal => $field:ident: $kind:ident;)*) => {
+/// The names of all settings of a table. The name of a setting is that of its field.
+macro_rules! names_of {
+    (
+        $number:literal => $first:ident: $key:literal, $kind:ident $($optional:ident)?,
+            $about:literal;
+        $(
+            $numbers:literal => $field:ident: $keys:literal, $kinds:ident $($optionals:ident)?,
+                $abouts:literal;
+        )*
+    ) => {
+        concat!(stringify!($first), $(", ", stringify!($field)),*)
+    };
+}
+
+/// The name and the value of the setting of a number.
+macro_rules! row_of {
+    ($settings:ident, $index:ident, $(
+        $number:literal => $field:ident: $key:literal, $kind:ident $($optional:ident)?,
+            $about:literal;
+    )*) => {
         match $index {
-            $($number => Some((stringify!($field), Value::$kind($settings.$field))),)*
+            $($number => Some((
+                stringify!($field),
+                value_of!($kind $($optional)?, $settings.$field),
+            )),)*
             _ => None,
         }
     };
 }
 
-mod blackboard;
-mod event;
-mod publish_subscribe;
-mod request_response;
+/// Sets the setting of a number, and returns whether there is one that may have the value.
+macro_rules! set_in {
+    ($settings:ident, $index:ident, $value:ident, $(
+        $number:literal => $field:ident: $key:literal, $kind:ident $($optional:ident)?,
+            $about:literal;
+    )*) => {{
+        match ($index, $value) {
+            $(($number, value_of!($kind $($optional)?, new)) => $settings.$field = new,)*
+            _ => return false,
+        }
+        true
+    }};
+}
+
+/// The value of a setting of this kind.
+macro_rules! value_of {
+    (Number, $($held:tt)*) => { Value::Number($($held)*) };
+    (Flag, $($held:tt)*) => { Value::Switch($($held)*) };
+    (Number optional, $($held:tt)*) => { Value::Perhaps($($held)*) };
+    (Duration optional, $($held:tt)*) => { Value::Deadline($($held)*) };
+    (Backpressure, $($held:tt)*) => { Value::Backpressure($($held)*) };
+    (Allocation, $($held:tt)*) => { Value::Allocation($($held)*) };
+}
+
+mod patterns;
 mod value;
 
 pub(crate) use value::Value;
