@@ -27,17 +27,20 @@ fn is_alone(line: &str) -> bool {
 
 /// What the lines of a log, all of them whole, are judged to be where no reply is refused.
 fn verdict_of_lines(lines: &str) -> Said {
-    let all = lines.split_terminator('\n');
-    let next = all.clone().count().saturating_add(1);
-    let services = all.clone().filter(|line| is_service(line)).count();
-    let calls = all
-        .clone()
+    let count = lines.split_terminator('\n').count();
+    let next = count.saturating_add(1);
+    let services = lines
+        .split_terminator('\n')
+        .filter(|line| is_service(line))
+        .count();
+    let calls = lines
+        .split_terminator('\n')
         .filter(|line| is_begin(line) || is_alone(line))
         .count();
     if services == 0 {
         return Said::BadLine(next, Expected::Service);
     }
-    match all.last() {
+    match lines.split_terminator('\n').last() {
         Some(line) if is_alone(line) => Said::BadLine(next, Expected::Reply),
         _ => Said::Conforms(calls, services),
     }
