@@ -1,4 +1,5 @@
 pub mod Building
+pub mod Complete
 pub mod Counting
 pub mod Distances
 pub mod Filling

@@ -1,4 +1,5 @@
 pub mod Answers
+pub mod Complete
 pub mod Depth
 pub mod Faults
 pub mod Proposals

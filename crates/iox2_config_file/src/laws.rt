@@ -1,5 +1,6 @@
 //! Laws of files of settings that no single call carries, and how values are copied.
 ghost use Rattle.std.specs.Prelude.{◌≡◌, [], IfOk, IfErr, IsOkAnd};
+ghost use Rattle.iox2_config_file.specs.Complete.{TableIsComplete};
 ghost use Rattle.iox2_config_file.specs.ReadBack.{AreSame, IsNoMemory};
 
 use crate::error::ConfigFileError;
@@ -26,6 +27,12 @@ pub fn what_is_written_is_read_back(
     let text = write_config(alloc, config)?;
     Ok(read_config(alloc, text.as_str()))
 }
+
+/// The table of settings is complete: two configurations that are equal in each of its rows are
+/// equal in all fields, durations by their nanoseconds.
+pub fn table_is_complete()
+    ensures { TableIsComplete }
+{}
 
 /// What a setting holds, a key of a table, what its value may be and what it is, what is wrong with
 /// it, and why a configuration gives no text.
