@@ -1,4 +1,4 @@
--- The table of settings has a row for each field of a configuration: settings are made of their rows.
+-- The table of settings has a row for each field: settings are made of their rows.
 use Rattle.std.proofs.Common.{◌≡◌, ◌∙◌, ap, refl, sym, ℕ, Bool, true, List, [], Option, Some, None}
 use Rattle.std.specs.Duration.{as_nanos}
 use Rattle.std.specs.Prelude.{option_map}
@@ -115,7 +115,8 @@ publish_subscribe_from xs = record {
   publisher_allocation_strategy = allocation_of (held_at xs 10);
 }
 
-publish_subscribe_back : (s : PublishSubscribe) → publish_subscribe_from (publish_subscribe_settings s) ≡ s
+publish_subscribe_back : (s : PublishSubscribe)
+    → publish_subscribe_from (publish_subscribe_settings s) ≡ s
 unfolding publish_subscribe_from allocation_of backpressure_of flag_of number_of
 publish_subscribe_back s = refl
 
@@ -173,7 +174,8 @@ request_response_from xs = record {
   server_allocation_strategy = allocation_of (held_at xs 16);
 }
 
-request_response_back : (s : RequestResonse) → request_response_from (request_response_settings s) ≡ s
+request_response_back : (s : RequestResonse)
+    → request_response_from (request_response_settings s) ≡ s
 unfolding request_response_from allocation_of backpressure_of flag_of number_of
 request_response_back s = refl
 
