@@ -297,7 +297,7 @@ done
 if has g++; then
     if [ -x ../crates/iox2_conform/out/iox2_conform ]; then
         run "the logs of a registry without a lock conform, and its faults are found" \
-            lockfree/run 3000
+            env CARGO_TARGET_DIR="$work/rust" lockfree/run 3000
     else
         echo "not found: iox2_conform, so no logs of a registry without a lock are judged"
     fi
@@ -475,7 +475,7 @@ if has cargo; then
     if has_cargo clippy; then run "cargo clippy" crate clippy --all-targets -- --deny warnings
     run "cargo clippy, pedantic" crate clippy --lib --examples -- --deny warnings --deny clippy::pedantic; fi
     if has_cargo fmt; then
-        for manifest in rust against against/stand_in; do
+        for manifest in rust against against/stand_in lockfree/rust; do
             run "cargo fmt $manifest" cargo fmt --check --manifest-path $manifest/Cargo.toml
         done
     fi

@@ -31,8 +31,8 @@ namespace lockfree {
 /// Where a thread is interrupted now and then, for as long as others need for some calls.
 inline void interrupted() {
 #ifdef LOCKFREE_SLOW
-    thread_local std::uint32_t passes = 0;
-    if (++passes % 5 == 0) std::this_thread::sleep_for(std::chrono::microseconds(20));
+    static std::atomic<std::uint32_t> passes{0};
+    if (passes.fetch_add(1, std::memory_order_relaxed) % 5 == 0) std::this_thread::sleep_for(std::chrono::microseconds(20));
 #endif
 }
 
