@@ -144,6 +144,34 @@ fn at_most_64_calls_are_open() {
     assert_eq!(open(65), Ok(Verdict::TooManyOpenCalls { line: 66 }));
 }
 
+/// So many times a node is registered again before or after it is removed as a dead one, which
+/// doubles the configurations.
+fn doubled(times: usize) -> String {
+    let nodes = 0..14;
+    let first: String = nodes
+        .map(|k| format!("register 1.0.0.{k}\n= handle {k} {k}\n"))
+        .collect();
+    let twice = (0..times).map(|k| {
+        let (begins, handle) = (
+            format!("A> dead 1.0.0.{k}\nB> register 1.0.0.{k}\n"),
+            k + 14,
+        );
+        format!("{begins}A< has-owners\nB< handle {handle} {handle}\n")
+    });
+    SERVICE.to_string() + &first + &twice.collect::<String>()
+}
+
+#[test]
+fn at_most_4096_configurations_are_followed() {
+    let most = check_log(&doubled(12));
+    assert_eq!(most, Ok(Verdict::Conforms { calls: 38 }));
+    let Ok(Verdict::TooManyConfigurations { line }) = check_log(&doubled(13)) else {
+        panic!("more than 4,096 configurations");
+    };
+    // One of the four lines of the last node, of which two end calls.
+    assert!((78..=81).contains(&line), "{line}");
+}
+
 #[test]
 fn verdicts_differ_by_each_field() {
     let one = told(&[2], "list", &[1], &[2]);
