@@ -79,7 +79,7 @@ fn scripts_and_logs() {
     on_stack(|| {
         let mut service = Recorder::with_capacities(&Config::default().defaults.event, 7).unwrap();
         assert_eq!(service.nodes().len(), 0);
-        assert!(check_log(service.log()).unwrap().conforms());
+        assert!(check_log(&service.log()).unwrap().conforms());
         assert!(!check_log("service event 7 1 0 0\nnodes\n= locked\n")
             .unwrap()
             .conforms());

@@ -218,7 +218,7 @@ fn random_calls_are_those_of_a_script() {
             let conforms = Verdict::Conforms {
                 calls: calls.count(),
             };
-            assert_eq!(check_log(walk.service.log()), Ok(conforms));
+            assert_eq!(check_log(&walk.service.log()), Ok(conforms));
             seen += &walk.replies;
         }
     }
