@@ -214,11 +214,17 @@ fn random_calls_are_those_of_a_script() {
             let walk = walk(kind, &mut random, steps);
             let replies = script::run(&walk.script);
             assert_eq!(replies.as_ref(), Ok(&walk.replies), "{}", walk.script);
-            let calls = walk.replies.lines().filter(|reply| *reply != "no-handle");
-            let conforms = Verdict::Conforms {
-                calls: calls.count(),
-            };
-            assert_eq!(check_log(&walk.service.log()), Ok(conforms));
+            // A handle of the other kind is not owned, and has no line in a log.
+            let log = walk.service.log();
+            let written: Vec<_> = log
+                .lines()
+                .filter_map(|line| line.strip_prefix("A< "))
+                .collect();
+            let owned = |reply: &&str| !["no-handle", "not-owned"].contains(reply);
+            let expected = walk.replies.lines().filter(owned);
+            assert!(expected.eq(written.iter().copied().filter(owned)), "{log}");
+            let calls = written.len();
+            assert_eq!(check_log(&log), Ok(Verdict::Conforms { calls }));
             seen += &walk.replies;
         }
     }
