@@ -35,12 +35,13 @@ typedef struct iox2sd_conform_answer {
  * Errors: IOX2SD_STATUS_NULL. IOX2SD_STATUS_NO_MEMORY. IOX2SD_STATUS_BUFFER_TOO_SHORT, with `line`,
  * `calls` and `length` as they would be with a longer buffer; then `out` is as it was, and a call
  * with a longer buffer judges the log again from its start. Then of the first line that does not
- * conform: IOX2SD_STATUS_NO_RUN where no run of the machine gives its reply; at the end of a group
- * of calls that overlapped, IOX2SD_STATUS_NO_ORDER where no order of them gives their replies, and
- * IOX2SD_STATUS_TOO_MANY_STATES where their orders lead to more than 64 states;
- * IOX2SD_STATUS_NO_SERVICE_LINE, IOX2SD_STATUS_NO_COMMAND_LINE, IOX2SD_STATUS_NO_REPLY_LINE,
- * IOX2SD_STATUS_NO_GROUP_LINE and IOX2SD_STATUS_NO_GROUP_END where it is not what is expected, or
- * has no newline, or the log ends before it. */
+ * conform: IOX2SD_STATUS_NO_ORDER where no order of the calls explains its reply;
+ * IOX2SD_STATUS_TOO_MANY_CONFIGURATIONS where orders lead to more than 4,096 configurations, and
+ * IOX2SD_STATUS_TOO_MANY_OPEN_CALLS where more than 64 calls of a service are open;
+ * IOX2SD_STATUS_NO_SERVICE_LINE, IOX2SD_STATUS_NO_CALL_LINE, IOX2SD_STATUS_NO_REPLY_LINE,
+ * IOX2SD_STATUS_CALLER_IS_BUSY, IOX2SD_STATUS_NO_OPEN_CALL, IOX2SD_STATUS_CALLER_IS_DEAD,
+ * IOX2SD_STATUS_UNKNOWN_CALLER, IOX2SD_STATUS_NO_NEWLINE and IOX2SD_STATUS_CARRIAGE_RETURN where it
+ * is not what is expected, or the log ends before it. */
 IOX2SD_CHECKED iox2sd_conform_answer iox2sd_conform_run(const uint8_t *log, size_t length,
                                                         uint8_t *out, size_t capacity);
 IOX2SD_CHECKED iox2sd_conform_answer iox2sd_conform_run_str(const char *log, uint8_t *out,
