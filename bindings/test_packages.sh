@@ -95,6 +95,11 @@ ignores() {
             diff - "$work/replay/stdout" || return 1
     done
 }
+has_witness() {
+    printf 'service event 7 1 0 0\nnodes\n= list\n' | "$prefix/bin/iox2-conform" --witness |
+        diff - <(printf 'conforms, 1 calls on 1 service\nservice 7\n3\n')
+}
+run "archive: iox2-conform --witness" has_witness
 for program in replay describe conform; do
     run "archive: iox2-$program" repeats $program
 done
