@@ -51,6 +51,7 @@ const BAD_ARGUMENT: &str = "bad argument: iox2-conform --help says how it is use
 /// - 1: the log does not conform.
 /// - 2: an argument or a line is bad, or a bound on open calls or configurations was passed.
 /// - 3: memory was refused, or a read, a write or a flush failed.
+#[tactic(auto, using(crate::proofs::Apart::help_is_no_check))]
 fn conform_streams<R: Source, W: Sink, E: Sink>(
     alloc: Global,
     arguments: io::Result<Args>,
