@@ -22,7 +22,7 @@ const REPORTED: [(&[u8], &str); 14] = [
         "1:1: warning: size: this table has no such key\n",
     ),
     (
-        b"global.root-path = \"\"\"\n[defaults]\nsize = 1\"\"\"\nsize = 2",
+        b"global.root-path = \"\"\"/\n[defaults]\nsize = 1\"\"\"\nsize = 2",
         "4:1: warning: size: this table has no such key\n",
     ),
     (
