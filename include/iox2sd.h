@@ -163,7 +163,9 @@ enum iox2sd_status_number {
     IOX2SD_STATUS_UNKNOWN_CALLER = 99, /* A caller died that has begun no call. */
     IOX2SD_STATUS_NO_NEWLINE = 100,    /* The last line has no newline. */
     /* A line that is not what is expected ends in a carriage return. */
-    IOX2SD_STATUS_CARRIAGE_RETURN = 101
+    IOX2SD_STATUS_CARRIAGE_RETURN = 101,
+    /* A line gives a state that the service cannot have before its first call. */
+    IOX2SD_STATUS_NO_STATE_LINE = 102
 };
 typedef uint32_t iox2sd_status;
 

@@ -40,8 +40,8 @@ typedef struct iox2sd_conform_answer {
  * IOX2SD_STATUS_TOO_MANY_OPEN_CALLS where more than 64 calls of a service are open;
  * IOX2SD_STATUS_NO_SERVICE_LINE, IOX2SD_STATUS_NO_CALL_LINE, IOX2SD_STATUS_NO_REPLY_LINE,
  * IOX2SD_STATUS_CALLER_IS_BUSY, IOX2SD_STATUS_NO_OPEN_CALL, IOX2SD_STATUS_CALLER_IS_DEAD,
- * IOX2SD_STATUS_UNKNOWN_CALLER, IOX2SD_STATUS_NO_NEWLINE and IOX2SD_STATUS_CARRIAGE_RETURN where it
- * is not what is expected, or the log ends before it. */
+ * IOX2SD_STATUS_UNKNOWN_CALLER, IOX2SD_STATUS_NO_NEWLINE, IOX2SD_STATUS_CARRIAGE_RETURN and
+ * IOX2SD_STATUS_NO_STATE_LINE where it is not what is expected, or the log ends before it. */
 IOX2SD_CHECKED iox2sd_conform_answer iox2sd_conform_run(const uint8_t *log, size_t length,
                                                         uint8_t *out, size_t capacity);
 IOX2SD_CHECKED iox2sd_conform_answer iox2sd_conform_run_str(const char *log, uint8_t *out,

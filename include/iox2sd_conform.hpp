@@ -128,7 +128,7 @@ struct [[nodiscard]] LogVerdict {
     /// `TooManyConfigurations`, where orders of the calls lead to more than 4,096, and with
     /// `TooManyOpenCalls`, where more than 64 calls of a service are open; else `NoServiceLine`,
     /// `NoCallLine`, `NoReplyLine`, `CallerIsBusy`, `NoOpenCall`, `CallerIsDead`, `UnknownCaller`,
-    /// `NoNewline` or `CarriageReturn`, as the line is not what is expected.
+    /// `NoNewline`, `CarriageReturn` or `NoStateLine`, as the line is not what is expected.
     Status status;
     std::size_t line;   ///< The number of that line, from 1 on; else 0.
     std::size_t calls;  ///< The calls of a log that conforms; else 0.

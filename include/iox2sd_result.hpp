@@ -107,6 +107,7 @@ enum class Status : std::uint32_t {
     UnknownCaller = IOX2SD_STATUS_UNKNOWN_CALLER,
     NoNewline = IOX2SD_STATUS_NO_NEWLINE,
     CarriageReturn = IOX2SD_STATUS_CARRIAGE_RETURN,
+    NoStateLine = IOX2SD_STATUS_NO_STATE_LINE,
 };
 
 namespace detail {

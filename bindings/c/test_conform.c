@@ -175,6 +175,8 @@ static void bad_lines(void) {
         {SERVICE "A> nodes\nA!\nA< list\n", "a caller that has not died",
          IOX2SD_STATUS_CALLER_IS_DEAD, 4},
         {SERVICE "A!\n", "a caller that has begun a call", IOX2SD_STATUS_UNKNOWN_CALLER, 2},
+        {SERVICE "state nodes 3\nstate nodes 4\n", "a state of the service",
+         IOX2SD_STATUS_NO_STATE_LINE, 3},
     };
 #undef SERVICE
     for (size_t at = 0; at < sizeof rows / sizeof *rows; at++) {

@@ -56,6 +56,7 @@ void bad_lines() {
     expects("A!\n", Status::UnknownCaller, 2);
     expects("nodes\n= list", Status::NoNewline, 3);
     expects("nodes\r\n", Status::CarriageReturn, 2);
+    expects("state nodes 3\nstate nodes 4\n", Status::NoStateLine, 3);
     std::string open;
     for (int caller = 0; caller < 65; ++caller) open += "c" + std::to_string(caller) + "> nodes\n";
     expects(open, Status::TooManyOpenCalls, 66);

@@ -166,7 +166,8 @@ NUMBERS(Likeness, IS(None, LIKENESS_NONE) IS(Spelling, LIKENESS_SPELLING)
     S(CallerIsDead, CALLER_IS_DEAD, "a caller that has not died is expected")                      \
     S(UnknownCaller, UNKNOWN_CALLER, "a caller that has begun a call is expected")                 \
     S(NoNewline, NO_NEWLINE, "a newline is expected at the end of the line")                       \
-    S(CarriageReturn, CARRIAGE_RETURN, "no carriage return is expected before the newline")
+    S(CarriageReturn, CARRIAGE_RETURN, "no carriage return is expected before the newline")        \
+    S(NoStateLine, NO_STATE_LINE, "a state of the service is expected")
 
 #define OF_HEADER(name, NAME, words) IS(name, STATUS_##NAME)
 NUMBERS(Status, STATUSES(OF_HEADER))

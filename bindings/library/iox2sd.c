@@ -148,6 +148,7 @@ const char *iox2sd_status_str(iox2sd_status status) {
         case IOX2SD_STATUS_NO_NEWLINE: return "a newline is expected at the end of the line";
         case IOX2SD_STATUS_CARRIAGE_RETURN:
             return "no carriage return is expected before the newline";
+        case IOX2SD_STATUS_NO_STATE_LINE: return "a state of the service is expected";
         default: return "unknown status";
     }
 }

@@ -85,6 +85,7 @@ class Status(Choice):
     UNKNOWN_CALLER = 99
     NO_NEWLINE = 100
     CARRIAGE_RETURN = 101
+    NO_STATE_LINE = 102
 
     def __str__(self) -> str:
         """The library's text."""

@@ -31,6 +31,8 @@ class Expected(Choice):
     """A newline at the end of the line."""
     NO_CARRIAGE_RETURN = Status.CARRIAGE_RETURN.value
     """No carriage return before the newline."""
+    STATE = Status.NO_STATE_LINE.value
+    """A state that the service can have before its first call."""
 
 
 @dataclass(frozen=True, slots=True)

@@ -27,7 +27,8 @@ NO_CLASS = {
     "it is a fault of a BadConfigError": "NOT_TOML WRONG_TYPE BELOW_ZERO NO_DURATION TOO_DEEP",
     "the system's own errors are raised": "NO_FILE",
     "it is a verdict on a log": "NO_ORDER NO_SERVICE_LINE NO_CALL_LINE NO_REPLY_LINE"
-    " TOO_MANY_CONFIGURATIONS TOO_MANY_OPEN_CALLS UNKNOWN_CALLER NO_NEWLINE CARRIAGE_RETURN",
+    " TOO_MANY_CONFIGURATIONS TOO_MANY_OPEN_CALLS UNKNOWN_CALLER NO_NEWLINE CARRIAGE_RETURN"
+    " NO_STATE_LINE",
 }
 """The statuses that no call of the package meets, by the reason."""
 
@@ -137,7 +138,7 @@ class Declarations(TestCase):
         self.assertEqual(
             [iox2sd.Status(member.value).name for member in iox2sd.Expected],
             "NO_SERVICE_LINE NO_CALL_LINE NO_REPLY_LINE CALLER_IS_BUSY NO_OPEN_CALL CALLER_IS_DEAD"
-            " UNKNOWN_CALLER NO_NEWLINE CARRIAGE_RETURN".split(),
+            " UNKNOWN_CALLER NO_NEWLINE CARRIAGE_RETURN NO_STATE_LINE".split(),
         )
         for name in ("DONE", "DONE_LOCKED", "BUFFER_TOO_SHORT"):
             self.assertEqual(headers.STATUSES[name], getattr(_native, name))

@@ -80,6 +80,7 @@ class Logs(unittest.TestCase):
             SERVICE + "A!\n": UnexpectedLine(2, Expected.KNOWN_CALLER),
             SERVICE + "nodes\n= list": UnexpectedLine(3, Expected.NEWLINE),
             SERVICE + "nodes\r\n": UnexpectedLine(2, Expected.NO_CARRIAGE_RETURN),
+            SERVICE + "state nodes 3\nstate nodes 4\n": UnexpectedLine(3, Expected.STATE),
             SERVICE + "".join(f"c{k}> nodes\n" for k in range(65)): TooManyOpenCalls(66),
         }
         for log, verdict in cases.items():

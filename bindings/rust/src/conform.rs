@@ -145,6 +145,8 @@ choices! {
         Newline = IOX2SD_STATUS_NO_NEWLINE;
         /// No carriage return before the newline.
         NoCarriageReturn = IOX2SD_STATUS_CARRIAGE_RETURN;
+        /// A state that the service can have before its first call.
+        State = IOX2SD_STATUS_NO_STATE_LINE;
     }
 }
 

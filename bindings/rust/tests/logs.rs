@@ -56,6 +56,7 @@ fn a_line_is_not_what_is_expected() {
         ("A!\n", 2, Expected::KnownCaller),
         ("nodes\n= list\nnodes\n= list", 5, Expected::Newline),
         ("nodes\r\n", 2, Expected::NoCarriageReturn),
+        ("state nodes 3\nstate nodes 4\n", 3, Expected::State),
     ];
     for (rest, line, expected) in cases {
         let found = check_log(&(SERVICE.to_string() + rest));

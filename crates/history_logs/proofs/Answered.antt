@@ -8,9 +8,10 @@ use Rattle.histories.specs.declared.event.Event.{Event}
 use Rattle.histories.specs.declared.event.Event.TheVariants.{Begin, End, Crash}
 use Rattle.histories.specs.Histories.{IsOpen, StandsAt}
 use Rattle.histories.proofs.Events.{stands_cases, stands_within}
+use Rattle.iox2_dynamic.specs.Service as dynamic
 use Rattle.line_streams.specs.Spelling.{HasNo}
 use Rattle.log_lines.specs.Lines.{IsLine, Line, line_text}
-use Rattle.log_lines.specs.Lines.Line.{service, call, reply, begin, end, crash}
+use Rattle.log_lines.specs.Lines.Line.{service, call, reply, begin, end, crash, given}
 use Rattle.service_conformance.specs.declared.conformance.seen_reply.SeenReply.{SeenReply}
 use Rattle.service_conformance.specs.Calls.{Call, answered}
 use Rattle.service_conformance.specs.Seen.{seen_text}
@@ -25,7 +26,7 @@ use Rattle.history_logs.specs.declared.logs.callers.CallerState.{CallerState}
 use Rattle.history_logs.specs.declared.logs.callers.CallerState.TheVariants as caller
 use Rattle.history_logs.proofs.Kept.{kept_new, kept_step}
 use Rattle.history_logs.proofs.Orderly.{open_new}
-use Rattle.history_logs.specs.Seen.{Service, calls_answered, unseen, with_begin, with_crash, with_end}
+use Rattle.history_logs.specs.Seen.{Service, calls_answered, started, unseen, with_begin, with_crash, with_end}
 
 -- so it is above a line: the events stand in these lines, and replies where their calls end,
 -- whatever follows
@@ -264,6 +265,10 @@ module _ (text : List ℕ) (count : ℕ) where
       subst (λ (l : List Service). All Next l) (sym is)
       (All-set Next ss at t p (all_later ss all))
 
+  placed_started : (s : Service) (start : dynamic.Service) → Next s → Next (started s start)
+  placed_started s start p =
+      record { long = p.long; rising = p.rising; upto = p.upto; answers = p.answers }
+
   placed_dies : (ss new : List Service) (state : Option CallerState) → All Now ss
       → Dies ss (count + 1) state new → All Next new
   placed_dies ss new None all d = absurd d
@@ -320,6 +325,11 @@ module _ (text : List ℕ) (count : ℕ) where
       same_service a b e = cc
   placed_step old new (crash name) kept all g is there =
       placed_dies old.services new.services (old.callers name) all g.1
+  placed_step old new (given number what) kept all g is there =
+      set_next old.services new.services g.0 (started g.1 g.2) all
+      (placed_started g.1 g.2
+      (later g.1 (all_at Now old.services g.0 g.1 all g.4.there)))
+      (ap (λ (x : Log). x.services) g.6)
 
 -- what is kept from line to line
 record ReadOn (text : List ℕ) (count : ℕ) (log : Log) : Type 0 where

@@ -32,6 +32,7 @@ pub end_is : (s : Service) (number line : ℕ) (r : SeenReply) (c n : Call) (add
     → es ≡ s.events ++ End number ∷ [] → ps ≡ s.places ++ line ∷ []
     → (made : Service) → made ≡ record {
       line = s.line;
+      start = s.start;
       calls = set s.calls number n;
       adds = s.adds;
       given = set s.given number given;

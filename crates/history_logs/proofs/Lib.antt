@@ -1,3 +1,5 @@
+pub mod Starting
+pub mod Empty
 pub mod Above
 pub mod Answered
 pub mod Answering

@@ -5,7 +5,7 @@ use Rattle.line_streams.specs.Spelling.{HasNo}
 use Rattle.line_streams.proofs.Places.{has_one}
 use Rattle.log_lines.specs.Laws.{IsAlike}
 use Rattle.log_lines.specs.Lines.{IsLine, Line, line_text}
-use Rattle.log_lines.specs.Lines.Line.{service, call, reply, begin, end, crash}
+use Rattle.log_lines.specs.Lines.Line.{service, call, reply, begin, end, crash, given}
 use Rattle.log_lines.proofs.OneReading.{one_way}
 use Rattle.history_logs.specs.Placed.{Answers, IsLineAt}
 
@@ -45,18 +45,21 @@ same_answer l (service x) words same a = absurd a
 same_answer l (call n c) words same a = absurd a
 same_answer l (begin n m c) words same a = absurd a
 same_answer l (crash n) words same a = absurd a
+same_answer l (given n s) words same a = absurd a
 same_answer (service x) (reply w) words same a = absurd same
 same_answer (call n c) (reply w) words same a = absurd same
 same_answer (reply v) (reply w) words same a = same ∙ a
 same_answer (begin n m c) (reply w) words same a = absurd same
 same_answer (end n v) (reply w) words same a = absurd same
 same_answer (crash n) (reply w) words same a = absurd same
+same_answer (given n s) (reply w) words same a = absurd same
 same_answer (service x) (end m w) words same a = absurd same
 same_answer (call n c) (end m w) words same a = absurd same
 same_answer (reply v) (end m w) words same a = absurd same
 same_answer (begin n k c) (end m w) words same a = absurd same
 same_answer (end n v) (end m w) words same a = same.1 ∙ a
 same_answer (crash n) (end m w) words same a = absurd same
+same_answer (given n s) (end m w) words same a = absurd same
 
 -- what the line answers that was read from the text
 pub answer_read : (text : List ℕ) (l line : Line) (words : List ℕ) → IsLine l

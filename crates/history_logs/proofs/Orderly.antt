@@ -8,12 +8,13 @@ use Rattle.histories.specs.declared.event.Event.TheVariants.{Begin, End, Crash}
 use Rattle.histories.specs.Histories.{IsHistory, IsOpen, MayFollow, begins, begun}
 use Rattle.histories.proofs.Events.{open_begin_now, open_begin_still, open_end_still, sound_begin, sound_end, sound_none, stands_cases, stands_within}
 use Rattle.histories.proofs.Verdicts.{begun_none, counts_begin, counts_crash, counts_end, next_of, numbered_more, numbered_none}
+use Rattle.iox2_dynamic.specs.Service as dynamic
 use Rattle.service_conformance.specs.declared.conformance.seen_reply.SeenReply.{SeenReply}
 use Rattle.service_conformance.specs.Calls.{Call}
 use Rattle.service_descriptions.specs.declared.replay.lines.service_line.ServiceLine.{ServiceLine}
 use Rattle.history_logs.specs.declared.logs.service.LogCall.{LogCall}
 use Rattle.history_logs.specs.Good.{IsOrderly}
-use Rattle.history_logs.specs.Seen.{Service, calls_answered, unseen, with_begin, with_crash, with_end}
+use Rattle.history_logs.specs.Seen.{Service, calls_answered, started, unseen, with_begin, with_crash, with_end}
 
 -- one more in both lists
 pub both : {X Y : Type 0} (xs : List X) (ys : List Y) (x : X) (y : Y) → length xs ≡ length ys
@@ -43,6 +44,21 @@ orderly_new line = record {
   counts = begun_none;
   sound = sound_none;
   numbered = numbered_none;
+}
+
+pub orderly_started : (s : Service) (start : dynamic.Service) → IsOrderly s
+    → IsOrderly (started s start)
+orderly_started s start o = record {
+  all = record {
+    adds = o.all.adds;
+    given = o.all.given;
+    begins = o.all.begins;
+    places = o.all.places;
+  };
+  history = o.history;
+  counts = o.counts;
+  sound = o.sound;
+  numbered = o.numbered;
 }
 
 pub length_answered : (calls : List Call) (number : ℕ) (r : SeenReply)

@@ -4,7 +4,8 @@ use Rattle.std.specs.Prelude.{IsTrue, slice_get}
 use Rattle.std.proofs.lemmas.List.Elements.{All-nil}
 use Rattle.log_lines.specs.Laws.{IsAlike}
 use Rattle.log_lines.specs.Lines.{IsLine, Line, is_note, line_text}
-use Rattle.log_lines.specs.Lines.Line.{service, call, reply, begin, end, crash}
+use Rattle.log_lines.specs.Lines.Line.{service, call, reply, begin, end, crash, given}
+use Rattle.log_lines.specs.States.{State}
 use Rattle.log_lines.proofs.OneReading.{one_way}
 use Rattle.service_conformance.specs.declared.conformance.seen_reply.SeenReply.{SeenReply}
 use Rattle.service_descriptions.specs.declared.replay.lines.service_line.ServiceLine.{ServiceLine}
@@ -15,13 +16,15 @@ use Rattle.history_logs.specs.declared.logs.verdict.Expected.{Expected}
 use Rattle.history_logs.specs.declared.logs.verdict.Expected.TheVariants as expected
 use Rattle.history_logs.specs.Good.{HasNoNext, IsBadLine, IsKept, Takes, TakesLine, TakesNext, TakesReply, is_service, waiting}
 use Rattle.history_logs.specs.Logs.{EndsInReturn, IsBadText, IsWrong}
-use Rattle.history_logs.specs.Reading.{Dies, Does, GoesOn, IsNamed, IsNew, IsRefused, Log, MayBegin, RefusesBegin, RefusesDeath, RefusesEnd, Says}
+use Rattle.history_logs.specs.Reading.{Dies, Does, GoesOn, IsNamed, IsNew, IsRefused, Log, MayBegin, RefusesBegin, RefusesDeath, RefusesEnd, Says, StartsAs}
 use Rattle.history_logs.specs.Seen.{Service}
+use Rattle.history_logs.proofs.Named.{one_named}
 
 -- what was read, where no call waits any more
 pub kept_taken : (log : Log) → IsKept log → IsKept (record log { waits = None })
 kept_taken log k = record {
   orderly = k.orderly;
+  numbers = k.numbers;
   opened = k.opened;
   apart = k.apart;
   waits = λ at c e. absurd (cc);
@@ -97,29 +100,42 @@ dies_not old new k (Some caller.Dead) e bars dies = dies
 dies_not old new k (Some (caller.Calls b m)) e bars dies = bars
 
 -- a line that is refused does not go on, and no line of its text does
-refused_not : (log : Log) (k : ℕ) (l m : Line) (new : Log) (e : Expected) → log.waits ≡ None
-    → IsRefused log l e → IsAlike l m → ¬ (GoesOn log k m new)
-refused_not log k (service a) (service b) new e none bars same g =
+refused_not : (log : Log) (k : ℕ) (l m : Line) (new : Log) (e : Expected) → IsKept log
+    → log.waits ≡ None → IsRefused log l e → IsAlike l m → ¬ (GoesOn log k m new)
+refused_not log k (service a) (service b) new e kept none bars same g =
     bars.1 (subst (λ (x : ServiceLine). IsNew x.number log.services) (sym same) g.1)
-refused_not log k (call a c) (call b d) new e none bars same g =
+refused_not log k (call a c) (call b d) new e kept none bars same g =
     bars.1 g.0 g.1 (subst (λ (x : Option ℕ). IsNamed x log.services g.0 g.1) (sym same) g.3)
-refused_not log k (reply v) (reply w) new e none bars same g =
+refused_not log k (reply v) (reply w) new e kept none bars same g =
     let waits = g.4 in absurd (cc)
-refused_not log k (begin a n c) (begin b o d) new e none bars same g =
+refused_not log k (begin a n c) (begin b o d) new e kept none bars same g =
     elim bars as (λ _. ⊥) [
       | inl h ↦ h.1 g.0 g.1
           (subst (λ (x : Option ℕ). IsNamed x log.services g.0 g.1) (sym same.0) g.3)
       | inr h ↦ begins_not (log.callers n) e
           (subst (λ (x : List ℕ). MayBegin (log.callers x)) (sym same.1) g.4) h.1
     ]
-refused_not log k (end a v) (end b w) new e none bars same g =
+refused_not log k (end a v) (end b w) new e kept none bars same g =
     ends_not v (log.callers a) e g.0 g.1 g.3 bars
     (ap (λ (x : List ℕ). log.callers x) same.0 ∙ g.5)
     (subst (λ (x : List ℕ). Says x g.3) (sym same.1) g.7)
-refused_not log k (crash a) (crash b) new e none bars same g =
+refused_not log k (crash a) (crash b) new e kept none bars same g =
     dies_not log.services new.services k (log.callers a) e bars
     (subst (λ (x : List ℕ). Dies log.services k (log.callers x) new.services) (sym same) g.1)
-refused_not _ _ _ _ _ _ none bars same g = absurd same
+refused_not log k (given a what) (given b other) new e kept none bars same g =
+    elim bars as (λ _. ⊥) [
+      | inl h ↦ h.1 g.0 g.1
+          (subst (λ (x : Option ℕ). IsNamed x log.services g.0 g.1) (sym same.0) g.4)
+      | inr h ↦
+          let f = h.1 in
+          let is : g.1 ≡ f.1 =
+          one_named a log.services g.0 f.0 g.1 f.1 kept.numbers
+          (subst (λ (x : Option ℕ). IsNamed x log.services g.0 g.1) (sym same.0) g.4) f.2 in
+          f.3 g.2
+          (subst (λ (x : State). StartsAs f.1 x g.2) (sym same.1)
+          (subst (λ (x : Service). StartsAs x other g.2) is g.5))
+    ]
+refused_not _ _ _ _ _ _ kept none bars same g = absurd same
 
 -- below a call that waits only a reply goes on
 below_not : (log : Log) (k : ℕ) (text : List ℕ) (l : Line) (new : Log) → log.waits ≢ None
@@ -131,6 +147,7 @@ below_not log k text (reply words) new some lacks is g = lacks words g.3 g.6 (sy
 below_not log k text (begin number name c) new some lacks is g = some g.2
 below_not log k text (end name words) new some lacks is g = some g.4
 below_not log k text (crash name) new some lacks is g = some g.0
+below_not log k text (given number what) new some lacks is g = some g.3
 
 -- without a service only one goes on
 first_not : (log : Log) (k : ℕ) (l : Line) (new : Log) → IsKept log → log.waits ≡ None
@@ -147,6 +164,8 @@ first_not log k (end name words) new kept none empty not g =
 first_not log k (crash name) new kept none empty not g =
     subst (λ (state : Option CallerState). Dies log.services k state new.services)
     (kept.none empty name) g.1
+first_not log k (given number what) new kept none empty not g =
+    empty_get log.services g.0 g.1 empty g.4.there
 
 service_not : (log : Log) (k : ℕ) (text : List ℕ) (l : Line) (new : Log) → IsKept log
     → log.waits ≡ None → log.services ≡ []
@@ -163,6 +182,8 @@ service_not log k text (end a w) new kept none empty bars p is g =
     first_not log k (end a w) new kept none empty refl g
 service_not log k text (crash a) new kept none empty bars p is g =
     first_not log k (crash a) new kept none empty refl g
+service_not log k text (given n s) new kept none empty bars p is g =
+    first_not log k (given n s) new kept none empty refl g
 
 pub bad_not : (log : Log) (k : ℕ) (text : List ℕ) (e : Expected) → IsKept log
     → IsBadLine log text e → HasNoNext log k text
@@ -174,7 +195,7 @@ bad_not log k text e kept bad l new p is g =
         | inr (inl c) ↦ c.2 l p is
         | inr (inr c) ↦
             let d = c.1 in
-            refused_not log k d.0 l new e b.0 d.3 (one_way d.0 l d.1 p (d.2 ∙ sym is)) g
+            refused_not log k d.0 l new e kept b.0 d.3 (one_way d.0 l d.1 p (d.2 ∙ sym is)) g
       ]
     ]
 
@@ -217,6 +238,7 @@ first_new log (reply w) e empty is bars = absurd (cc)
 first_new log (begin n a c) e empty is bars = absurd (cc)
 first_new log (end a w) e empty is bars = absurd (cc)
 first_new log (crash a) e empty is bars = absurd (cc)
+first_new log (given n s) e empty is bars = absurd (cc)
 
 -- a line of a log, where it is that of a service or one is above
 pub taken : (old new : Log) (k : ℕ) (text : List ℕ) (l : Line) (found : Option Expected)
@@ -238,6 +260,7 @@ not_service (reply w) line bars same = same
 not_service (begin n a c) line bars same = same
 not_service (end a w) line bars same = same
 not_service (crash a) line bars same = same
+not_service (given n s) line bars same = same
 
 -- another line where no service is above
 pub wrong_first : (old : Log) (text : List ℕ) (l : Line) → IsLine l → text ≡ line_text l

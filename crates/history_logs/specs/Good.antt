@@ -1,8 +1,10 @@
 -- What reading a log finds.
-use Rattle.std.specs.Prelude.{◌≡◌, ◌≢◌, ◌⊎◌, ℕ, ◌+◌, ◌<◌, ◌≤◌, List, [], ◌++◌, All, Bool, true, false, Option, Some, None, IsTrue, codes, length, slice_get}
+use Rattle.std.specs.Prelude.{◌≡◌, ◌≢◌, ◌⊎◌, ℕ, ◌+◌, ◌<◌, ◌≤◌, List, [], ◌++◌, All, AllPairs, Bool, true, false, Option, Some, None, IsTrue, codes, length, map, slice_get}
 use Rattle.histories.specs.Frontier.{IsSound}
 use Rattle.histories.specs.Histories.{IsHistory, IsOpen, begins, begun}
+use Rattle.iox2_dynamic.specs.Service as dynamic
 use Rattle.log_lines.specs.Lines.{IsLine, Line, is_note, line_text}
+use Rattle.log_lines.specs.States.{State}
 use Rattle.log_lines.specs.Lines.Line.{reply, service}
 use Rattle.service_conformance.specs.declared.conformance.seen_reply.SeenReply.{SeenReply}
 use Rattle.history_logs.specs.declared.logs.callers.CallerState.TheVariants as caller
@@ -10,8 +12,8 @@ use Rattle.history_logs.specs.declared.logs.service.LogCall.{LogCall}
 use Rattle.history_logs.specs.declared.logs.verdict.Expected.TheVariants as expected
 use Rattle.history_logs.specs.declared.logs.verdict.Expected.{Expected}
 use Rattle.history_logs.specs.Logs.{EndsInReturn, HasGood, IsBad, IsBadText, IsWrong, LacksReply, calls_in}
-use Rattle.history_logs.specs.Reading.{GoesOn, HasRead, Log, Says}
-use Rattle.history_logs.specs.Seen.{HasAll, Service}
+use Rattle.history_logs.specs.Reading.{GoesOn, HasRead, Log, Says, StartsAs}
+use Rattle.history_logs.specs.Seen.{HasAll, Service, started}
 
 -- Each call of the service has its role, its handle and its line, and each event its line. What
 -- happened is a history, in which so many calls begin as the service has.
@@ -27,10 +29,20 @@ abbrev pub IsOpenOn : List Service → ℕ → ℕ → Type 0
 IsOpenOn services at number =
     (s : Service) × (slice_get services at ≡ Some s) × IsOpen s.events number
 
--- What holds of all that is read: the calls that callers have open are open, each is that of one
--- caller, a call that waits for its reply is on a service, and without one no caller is known.
+-- the number of a service
+abbrev pub number_of : Service → ℕ
+number_of s = s.line.number
+
+-- no two of them are the same
+abbrev pub Apart : List ℕ → Type 0
+Apart numbers = AllPairs (λ (one other : ℕ). one ≢ other) numbers
+
+-- What holds of all that is read: the services have numbers of their own, the calls that callers
+-- have open are open, each is that of one caller, a call that waits for its reply is on a service,
+-- and without one no caller is known.
 pub record IsKept (log : Log) : Type 0 where
   pub orderly : All IsOrderly log.services
+  pub numbers : Apart (map number_of log.services)
   pub opened : (name : List ℕ) (at number : ℕ)
       → log.callers name ≡ Some (caller.Calls at number) → IsOpenOn log.services at number
   pub apart : (one other : List ℕ) (at number : ℕ)
@@ -124,3 +136,10 @@ pub record IsReadTo (bytes : List ℕ) (services : List Service) (bad : Option (
   pub orderly : All IsOrderly services
   pub few : calls_in log ≤ length bytes
   pub ends : EndsSo log count rest bad
+
+-- what is given of a service does this to it
+abbrev pub Starts : Service → State → Bool → Service → Type 0
+Starts old what true new =
+    (start : dynamic.Service) × StartsAs old what start × (new ≡ started old start)
+Starts old what false new =
+    ((start : dynamic.Service) → ¬ (StartsAs old what start)) × (new ≡ old)

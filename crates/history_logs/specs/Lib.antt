@@ -1,8 +1,9 @@
 -- Promises: what was seen of services, what the lines of a log are, what it is judged to be, what
--- is written of it, and in which order calls took effect.
+-- holds of all logs, what is written of it, and in which order calls took effect.
 pub mod Seen
 pub mod Reading
 pub mod Logs
+pub mod Laws
 pub mod Good
 pub mod Placed
 pub mod Reports

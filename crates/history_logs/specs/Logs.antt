@@ -17,7 +17,7 @@ use Rattle.log_lines.specs.Lines.{IsLine, Line, is_note, line_text}
 use Rattle.service_conformance.specs.Calls.{Call, AreRepliesOf, WindowStep}
 use Rattle.service_conformance.specs.declared.conformance.seen_reply.SeenReply.{SeenReply}
 use Rattle.service_descriptions.specs.declared.replay.lines.service_line.ServiceLine.{ServiceLine}
-use Rattle.service_descriptions.specs.Script.{IsServiceLine, first_state, service_line}
+use Rattle.service_descriptions.specs.Script.{IsServiceLine, service_line}
 use Rattle.history_logs.specs.declared.logs.verdict.Configuration.{Configuration}
 use Rattle.history_logs.specs.declared.logs.verdict.Expected.{Expected}
 use Rattle.history_logs.specs.declared.logs.verdict.Expected.TheVariants as expected
@@ -47,9 +47,9 @@ pub record HasGood (bytes : List ℕ) (count : ℕ) (log : Log) (rest : List ℕ
 abbrev pub StepOf : Service → dynamic.Service → ℕ → dynamic.Service → Type 0
 StepOf s = WindowStep 0 s.calls
 
--- the new service of its line
+-- what the service is before its first call
 abbrev pub news : Service → List dynamic.Service
-news s = (first_state s.line).service ∷ []
+news s = s.start ∷ []
 
 -- an order of the calls on it explains all that was seen of the service
 abbrev pub IsSeenRightly : Service → Type 0

@@ -1,17 +1,22 @@
 -- What the lines of a log are.
 use Rattle.std.specs.Prelude.{◌≡◌, ◌≢◌, ◌⊎◌, ℕ, ◌+◌, ◌<◌, List, [], ◌∷◌, ◌++◌, All, Option, Some, None, IsTrue, length, slice_get}
 use Rattle.std.specs.List.{slice_set}
+use Rattle.iox2_dynamic.specs.Service as dynamic
 use Rattle.line_streams.specs.Spelling.{HasNo}
 use Rattle.log_lines.specs.Lines.{IsLine, Line, is_note, line_text}
-use Rattle.log_lines.specs.Lines.Line.{service, call, reply, begin, end, crash}
+use Rattle.log_lines.specs.Lines.Line.{service, call, reply, begin, end, crash, given}
+use Rattle.log_lines.specs.States.{State}
+use Rattle.log_lines.specs.States.State.{nodes, ports, entry}
 use Rattle.service_conformance.specs.declared.conformance.seen_reply.SeenReply.{SeenReply}
+use Rattle.service_conformance.specs.Given.{GivesNode, GivesNodes, GivesPort, GivesPorts}
 use Rattle.service_conformance.specs.Seen.{IsSeen, seen_text}
+use Rattle.service_descriptions.specs.declared.replay.machine.command.Command.TheVariants as command
 use Rattle.history_logs.specs.declared.logs.callers.CallerState.{CallerState}
 use Rattle.history_logs.specs.declared.logs.callers.CallerState.TheVariants as caller
 use Rattle.history_logs.specs.declared.logs.service.LogCall.{LogCall}
 use Rattle.history_logs.specs.declared.logs.verdict.Expected.{Expected}
 use Rattle.history_logs.specs.declared.logs.verdict.Expected.TheVariants as expected
-use Rattle.history_logs.specs.Seen.{HasAll, Service, called, unseen, with_begin, with_crash, with_end}
+use Rattle.history_logs.specs.Seen.{HasAll, Service, called, started, unseen, with_begin, with_crash, with_end}
 
 -- What was read: the services, what each caller does (`None` where it has begun no call), and the
 -- call alone that waits for its reply, with the index of its service.
@@ -61,6 +66,18 @@ Dies old line (Some (caller.Calls at number)) new =
     (s : Service) × (slice_get old at ≡ Some s)
     × (new ≡ slice_set old at (with_crash s number line))
 
+-- What is given of a service that was in use leads from one to another.
+abbrev pub Gives : dynamic.Service → State → dynamic.Service → Type 0
+Gives old (nodes used locked) new = GivesNodes old used locked new
+Gives old (ports r used) new = GivesPorts old r used new
+Gives old (entry slot ticket (command.Register id)) new = GivesNode old slot ticket id new
+Gives old (entry slot ticket (command.Add details)) new = GivesPort old slot ticket details new
+Gives old (entry slot ticket _) new = ⊥
+
+-- no call on the service was seen, and with this given it is so before its first one
+abbrev pub StartsAs : Service → State → dynamic.Service → Type 0
+StartsAs s what start = (s.calls ≡ []) × Gives s.start what start
+
 -- A line, which has this number, may come next, and leads to what was read then. Below a call alone
 -- its reply comes. A caller begins a call where it has none open, and ends the one that is.
 abbrev pub GoesOn : Log → ℕ → Line → Log → Type 0
@@ -91,6 +108,10 @@ GoesOn old k (end name words) new =
 GoesOn old k (crash name) new =
     (old.waits ≡ None) × Dies old.services k (old.callers name) new.services
     × Sets old.callers name caller.Dead new.callers × (new.waits ≡ None)
+GoesOn old k (given number what) new =
+    (at : ℕ) × (s : Service) × (start : dynamic.Service) × (old.waits ≡ None)
+    × IsNamed number old.services at s × StartsAs s what start
+    × (new ≡ record old { services = slice_set old.services at (started s start) })
 
 -- the first lines of a log, so many, are this text, and this was read of them
 pub data HasRead : List ℕ → ℕ → Log → Type 0 where
@@ -126,9 +147,15 @@ RefusesDeath None e = e ≡ expected.KnownCaller
 RefusesDeath (Some caller.Dead) e = e ≡ expected.LiveCaller
 RefusesDeath _ e = ⊥
 
+-- on one of them, no service is so that this may be given of it
+abbrev pub NoneStarts : Option ℕ → List Service → State → Type 0
+NoneStarts number services what =
+    (at : ℕ) × (s : Service) × IsNamed number services at s
+    × ((start : dynamic.Service) → ¬ (StartsAs s what start))
+
 -- The line may not come next, and this is expected in its place: where it is a service with the
--- number of another, or a call on none of the services, a line of these; else what its caller is to
--- do, or the words of a reply.
+-- number of another, or one on none of the services, a line of these; else what its caller is to
+-- do, the words of a reply, or a state that the service can have.
 abbrev pub IsRefused : Log → Line → Expected → Type 0
 IsRefused log (service l) e = (e ≡ expected.Call) × (¬ (IsNew l.number log.services))
 IsRefused log (call number c) e = (e ≡ expected.Call) × IsNameless number log.services
@@ -138,6 +165,9 @@ IsRefused log (begin number name c) e =
     ⊎ (HasNamed number log.services × RefusesBegin (log.callers name) e)
 IsRefused log (end name words) e = RefusesEnd words (log.callers name) e
 IsRefused log (crash name) e = RefusesDeath (log.callers name) e
+IsRefused log (given number what) e =
+    ((e ≡ expected.Call) × IsNameless number log.services)
+    ⊎ ((e ≡ expected.State) × NoneStarts number log.services what)
 
 -- None: the line comes next. Some: it may not, and what was seen of the services stays.
 abbrev pub Does : Log → ℕ → Line → Option Expected → Log → Type 0

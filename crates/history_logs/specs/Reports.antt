@@ -78,6 +78,7 @@ expected_text expected.KnownCaller =
     codes ": a caller that has begun a call is expected" ++ 10 ∷ []
 expected_text expected.Newline =
     codes ": a newline is expected at the end of the line" ++ 10 ∷ []
+expected_text expected.State = codes ": a state of the service is expected" ++ 10 ∷ []
 expected_text expected.NoCarriageReturn =
     codes ": no carriage return is expected before the newline" ++ 10 ∷ []
 

@@ -7,6 +7,7 @@ use Rattle.iox2_container.specs.declared.container.role.Role.{Role}
 use Rattle.iox2_container.specs.declared.container.role.Role.TheVariants as role
 use Rattle.iox2_container.specs.Handle.{Handle}
 use Rattle.iox2_dynamic.specs.Details.{role_of}
+use Rattle.iox2_dynamic.specs.Service as dynamic
 use Rattle.log_lines.specs.Commands.{NamedCommand}
 use Rattle.log_lines.specs.Commands.NamedCommand.{numbered, deregister, release}
 use Rattle.service_conformance.specs.declared.conformance.seen_reply.SeenReply.{SeenReply}
@@ -15,14 +16,16 @@ use Rattle.service_conformance.specs.Calls.{Call, answered, call_of}
 use Rattle.service_conformance.specs.Seen.{seen_text}
 use Rattle.history_logs.specs.declared.logs.service.LogCall.{LogCall}
 use Rattle.service_descriptions.specs.declared.replay.lines.service_line.ServiceLine.{ServiceLine}
+use Rattle.service_descriptions.specs.Script.{first_state}
 use Rattle.service_descriptions.specs.declared.replay.machine.command.Command.{Command}
 use Rattle.service_descriptions.specs.declared.replay.machine.command.Command.TheVariants as command
 
--- A service of a log, and what was seen of it: its calls by their begins, each with the role of the
--- entry that its command adds, if it adds one, the handle that its reply gave, if it gave one, and
+-- A service of a log, what it is before its first call, and what was seen of it: its calls by their
+-- begins, each with the role of the entry that its command adds, if it adds one, the handle that its reply gave, if it gave one, and
 -- the line in which it begins; and the events, each with its line.
 pub record Service : Type 0 where
   pub line : ServiceLine
+  pub start : dynamic.Service
   pub calls : List Call
   pub adds : List (Option Role)
   pub given : List (Option Handle)
@@ -41,6 +44,7 @@ pub record HasAll (s : Service) : Type 0 where
 abbrev pub unseen : ServiceLine → Service
 unseen line = record {
   line = line;
+  start = (first_state line).service;
   calls = [];
   adds = [];
   given = [];
@@ -91,6 +95,7 @@ given_in s _ _ = None
 abbrev pub with_begin : Service → LogCall → ℕ → Service
 with_begin s c line = record {
   line = s.line;
+  start = s.start;
   calls = s.calls ++ c.seen ∷ [];
   adds = s.adds ++ c.adds ∷ [];
   given = s.given ++ None ∷ [];
@@ -120,3 +125,7 @@ with_crash s number line = record s {
   events = s.events ++ Crash number ∷ [];
   places = s.places ++ line ∷ [];
 }
+
+-- the service, where this is what it is before its first call
+abbrev pub started : Service → dynamic.Service → Service
+started s start = record s { start = start }

@@ -6,6 +6,7 @@ use Rattle.history_logs.specs.Seen.{Service}
 abbrev pub service_of : service.Inside → Service
 service_of c = record {
   line = c.line;
+  start = c.start;
   calls = c.calls.items;
   adds = c.adds.items;
   given = c.given.items;

@@ -1,5 +1,6 @@
-//! How what a line should have been is compared and copied.
+//! What holds of all logs, and how what a line should have been is compared and copied.
 ghost use Rattle.std.specs.Prelude.{◌≡◌, ◌↔◌, IsTrue, IsOkAnd};
+ghost use Rattle.history_logs.specs.Laws.{EmptyStatesChangeNothing};
 
 use crate::logs::Expected;
 use std::alloc::AllocError;
@@ -15,3 +16,9 @@ pub fn expected_goes_by_variant(
 {
     (one == other, one.clone())
 }
+
+/// A line that gives an empty registry, of which no ticket was used, leaves what was read as it
+/// was. So a log with such lines is judged as one without.
+pub fn empty_states_change_nothing()
+    ensures { EmptyStatesChangeNothing }
+{}

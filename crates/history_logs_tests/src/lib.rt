@@ -26,6 +26,8 @@ mod scripts;
 #[cfg(test)]
 mod services;
 #[cfg(test)]
+mod states;
+#[cfg(test)]
 mod streams;
 #[cfg(test)]
 mod texts;

@@ -23,7 +23,7 @@ static SHOWN: [(&str, &str); 3] = [
     ),
 ];
 
-static EXPECTED: [(Expected, &str); 9] = [
+static EXPECTED: [(Expected, &str); 10] = [
     (Expected::Service, "Service"),
     (Expected::Call, "Call"),
     (Expected::Reply, "Reply"),
@@ -31,6 +31,7 @@ static EXPECTED: [(Expected, &str); 9] = [
     (Expected::OpenCall, "OpenCall"),
     (Expected::LiveCaller, "LiveCaller"),
     (Expected::KnownCaller, "KnownCaller"),
+    (Expected::State, "State"),
     (Expected::Newline, "Newline"),
     (Expected::NoCarriageReturn, "NoCarriageReturn"),
 ];

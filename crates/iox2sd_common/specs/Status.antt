@@ -76,6 +76,7 @@ code status.CallerIsDead = 98
 code status.UnknownCaller = 99
 code status.NoNewline = 100
 code status.CarriageReturn = 101
+code status.NoStateLine = 102
 
 -- the status of a number
 abbrev pub ReadsStatus : ℕ → Option Status → Type 0
@@ -157,6 +158,7 @@ status_text status.CallerIsDead = codes "a caller that has not died is expected"
 status_text status.UnknownCaller = codes "a caller that has begun a call is expected"
 status_text status.NoNewline = codes "a newline is expected at the end of the line"
 status_text status.CarriageReturn = codes "no carriage return is expected before the newline"
+status_text status.NoStateLine = codes "a state of the service is expected"
 
 -- the number at the end of a call that makes something or is refused
 abbrev pub end_code : {A : Type 0} → Result A Status → ℕ

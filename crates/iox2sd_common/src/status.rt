@@ -148,6 +148,8 @@ pub enum Status {
     NoNewline = 100,
     /// A carriage return stands before the newline of a line of a log.
     CarriageReturn = 101,
+    /// A line of a log gives a state that its service cannot have before its first call.
+    NoStateLine = 102,
 }
 
 impl Status {
@@ -236,6 +238,7 @@ impl Status {
             Status::UnknownCaller => "a caller that has begun a call is expected",
             Status::NoNewline => "a newline is expected at the end of the line",
             Status::CarriageReturn => "no carriage return is expected before the newline",
+            Status::NoStateLine => "a state of the service is expected",
         }
     }
 }
@@ -316,6 +319,7 @@ pub fn status_of(number: u32) -> Option<Status>
         99 => Some(Status::UnknownCaller),
         100 => Some(Status::NoNewline),
         101 => Some(Status::CarriageReturn),
+        102 => Some(Status::NoStateLine),
         _ => None,
     }
 }

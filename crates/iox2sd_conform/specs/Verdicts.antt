@@ -23,6 +23,7 @@ expected_status expected.LiveCaller = status.CallerIsDead
 expected_status expected.KnownCaller = status.UnknownCaller
 expected_status expected.Newline = status.NoNewline
 expected_status expected.NoCarriageReturn = status.CarriageReturn
+expected_status expected.State = status.NoStateLine
 
 -- the status of a verdict
 abbrev pub verdict_status : Verdict → Status

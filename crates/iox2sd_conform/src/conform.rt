@@ -42,6 +42,7 @@ fn expected_status(expected: Expected) -> Status
         Expected::KnownCaller => Status::UnknownCaller,
         Expected::Newline => Status::NoNewline,
         Expected::NoCarriageReturn => Status::CarriageReturn,
+        Expected::State => Status::NoStateLine,
     }
 }
 
@@ -87,7 +88,7 @@ fn conforming_calls(verdict: &Verdict) -> usize
 /// conform: by the first line with a reply that no order explains (`NoOrder`) or with which a bound
 /// is passed (`TooManyConfigurations`, `TooManyOpenCalls`), or else by the first line that is not
 /// what is expected (`NoServiceLine`, `NoCallLine`, `NoReplyLine`, `CallerIsBusy`, `NoOpenCall`,
-/// `CallerIsDead`, `UnknownCaller`, `NoNewline`, `CarriageReturn`).
+/// `CallerIsDead`, `UnknownCaller`, `NoNewline`, `CarriageReturn`, `NoStateLine`).
 #[unsafe(no_mangle)]
 pub extern "C" fn iox2sd_conform_run_at(alloc: Global, log: &[u8], out: &mut [u8]) -> ConformAnswer
     ensures { Answers log.now out.old result out.new }

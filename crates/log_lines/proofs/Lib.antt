@@ -1,4 +1,5 @@
 pub mod Names
 pub mod Splits
+pub mod States
 pub mod OneReading
 pub mod Parts

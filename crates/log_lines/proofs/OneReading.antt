@@ -14,10 +14,13 @@ use Rattle.service_descriptions.proofs.OneReading.{one_service}
 use Rattle.log_lines.specs.Commands.{HasText, NamedCommand, command_text}
 use Rattle.log_lines.specs.Commands.NamedCommand.{numbered, deregister, release}
 use Rattle.log_lines.specs.Laws.{IsAlike, LinesAreReadOneWay, NotesAreNoLines}
-use Rattle.log_lines.specs.Lines.{IsCaller, IsLine, Line, begin_text, is_note, line_text, number_text}
-use Rattle.log_lines.specs.Lines.Line.{service, call, reply, begin, end, crash}
+use Rattle.log_lines.specs.Lines.{IsCaller, IsLine, Line, begin_text, given_text, is_note, line_text, number_text}
+use Rattle.log_lines.specs.Lines.Line.{service, call, reply, begin, end, crash, given}
+use Rattle.log_lines.specs.States.{HasState, State, state_text}
 use Rattle.log_lines.proofs.Names.{first_letter}
-use Rattle.log_lines.proofs.Splits.{Comes, Tells, begin_comes, comes_same, crash_comes, end_comes, kind, kind_begin, kind_call, number_comes, of_line, of_text, one_kind}
+use Rattle.log_lines.proofs.Parts.{given_no_begin, given_no_command}
+use Rattle.log_lines.proofs.Splits.{Comes, Tells, begin_comes, comes_same, crash_comes, end_comes, kind, kind_begin, kind_call, number_comes, kind_given, of_line, of_text, one_kind}
+use Rattle.log_lines.proofs.States.{same_state}
 
 -- the numbers before two texts that are the same are, and so is what follows them
 pub one_number : (m n : ℕ) (x y : List ℕ) → m < 2 ^ 64 → n < 2 ^ 64
@@ -78,7 +81,34 @@ same_kind (end a v) (end b w) p q e k =
 same_kind (crash a) (crash b) p q e k =
     (comes_same (line_text (crash a)) a (codes "!") b (codes "!") (crash_comes a p)
     (subst (λ (t : List ℕ). Comes t b (codes "!")) (sym e) (crash_comes b q))).0
-same_kind _ _ p q e k = absurd (omega (arith, k, kind_call, kind_begin))
+same_kind (given None s) (given None t) p q e k = (
+  refl,
+  same_state s t p.1 q.1
+      (append_cancel_left (codes "state ") (state_text s) (state_text t) e),
+)
+same_kind (given (Some m) s) (given (Some n) t) p q e k =
+    let same = one_number m n (given_text s) (given_text t) p.0 q.0 e in (
+      ap (λ (i : ℕ). Some i) same.0,
+      same_state s t p.1 q.1
+          (append_cancel_left (codes "state ") (state_text s) (state_text t) same.1),
+    )
+same_kind (given (Some m) s) (call (Some n) c) p q e k =
+    absurd (given_no_command (given_text s) (state_text s) refl c q.1
+    (one_number m n (given_text s) (command_text c) p.0 q.0 e).1)
+same_kind (call (Some m) c) (given (Some n) s) p q e k =
+    absurd (given_no_command (given_text s) (state_text s) refl c p.1
+    (sym (one_number m n (command_text c) (given_text s) p.0 q.0 e).1))
+same_kind (given (Some m) s) (begin (Some n) caller c) p q e k =
+    absurd (given_no_begin (given_text s) (state_text s) refl caller c q.1 q.2
+    (one_number m n (given_text s) (begin_text caller c) p.0 q.0 e).1)
+same_kind (begin (Some m) caller c) (given (Some n) s) p q e k =
+    absurd (given_no_begin (given_text s) (state_text s) refl caller c p.1 p.2
+    (sym (one_number m n (begin_text caller c) (given_text s) p.0 q.0 e).1))
+same_kind (given None s) (begin None a c) p q e k = absurd (omega (arith, k))
+same_kind (begin None a c) (given None s) p q e k = absurd (omega (arith, k))
+same_kind (given None s) (reply w) p q e k = absurd (omega (arith, k))
+same_kind (reply w) (given None s) p q e k = absurd (omega (arith, k))
+same_kind _ _ p q e k = absurd (omega (arith, k, kind_call, kind_begin, kind_given))
 
 pub one_way : LinesAreReadOneWay
 one_way a b p q e =
@@ -91,8 +121,9 @@ pub numbered_none : (line rest : List ℕ) (n : ℕ) → n < 2 ^ 64 → line ≡
     → ((c : NamedCommand) → HasText c → rest ≢ command_text c)
     → ((caller : List ℕ) (c : NamedCommand) → IsCaller caller → HasText c
     → rest ≢ begin_text caller c)
+    → ((s : State) → HasState s → rest ≢ given_text s)
     → (l : Line) → IsLine l → line ≢ line_text l
-numbered_none line rest n h is alone begun l p e =
+numbered_none line rest n h is alone begun gives l p e =
     cases l p (sym is ∙ e)
     (one_kind (line_text l) (kind l) 2 (of_line l p) (record {
       front = decimal n;
@@ -106,6 +137,9 @@ numbered_none line rest n h is alone begun l p e =
     cases (call (Some m) c) q f k = alone c q.1 (one_number n m rest (command_text c) h q.0 f).1
     cases (begin (Some m) caller c) q f k =
         begun caller c q.1 q.2 (one_number n m rest (begin_text caller c) h q.0 f).1
+    cases (given (Some m) s) q f k =
+        gives s q.1 (one_number n m rest (given_text s) h q.0 f).1
+    cases (given None s) q f k = absurd (omega (arith, k))
     cases (service m) q f k = absurd (omega (arith, k))
     cases (call None c) q f k = absurd (omega (arith, k))
     cases (reply words) q f k = absurd (omega (arith, k))
@@ -160,3 +194,7 @@ notes_are_none (end caller words) p note =
     (end_comes caller words p) p.some note
 notes_are_none (crash caller) p note =
     letter_no_note (line_text (crash caller)) caller (codes "!") (crash_comes caller p) p.some note
+notes_are_none (given None s) p note = absurd (cc)
+notes_are_none (given (Some n) s) p note =
+    letter_no_note (line_text (given (Some n) s)) (decimal n) (58 ∷ 32 ∷ given_text s)
+    (number_comes n (given_text s) p.0) (decimal_nonempty n p.0) note

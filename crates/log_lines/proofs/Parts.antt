@@ -12,8 +12,9 @@ use Rattle.service_descriptions.specs.OneWay.{role_one}
 use Rattle.service_descriptions.specs.Script.{IsServiceLine, service_line}
 use Rattle.log_lines.specs.Commands.{HasText, IsHandle, NamedCommand, command_text, handle_text}
 use Rattle.log_lines.specs.Commands.NamedCommand.{numbered, deregister, release}
-use Rattle.log_lines.specs.Lines.{IsCaller, IsLine, Line, begin_text, line_text, number_text}
-use Rattle.log_lines.specs.Lines.Line.{service, call, reply, begin, end, crash}
+use Rattle.log_lines.specs.Lines.{IsCaller, IsLine, Line, begin_text, given_text, line_text, number_text}
+use Rattle.log_lines.specs.States.{HasState, State, state_text}
+use Rattle.log_lines.specs.Lines.Line.{service, call, reply, begin, end, crash, given}
 use Rattle.log_lines.proofs.Splits.{Comes, Tells, begin_comes, comes_same, crash_comes, end_comes, of_text, one_kind}
 
 -- no text of a removal that names its handle
@@ -174,12 +175,52 @@ pub plain_none : (text : List ℕ) → ((words : List ℕ) → text ≢ codes "=
     → ((c : NamedCommand) → HasText c → text ≢ command_text c)
     → ((caller : List ℕ) (c : NamedCommand) → IsCaller caller → HasText c
     → text ≢ begin_text caller c)
+    → ((s : State) → HasState s → text ≢ given_text s)
     → (l : Line) → IsLine l → text ≢ line_text l
-plain_none text a b c d f g h (service l) p e = b l p e
-plain_none text a b c d f g h (call None x) p e = g x p.1 e
-plain_none text a b c d f g h (call (Some n) x) p e = c n (command_text x) p.0 e
-plain_none text a b c d f g h (reply words) p e = a words e
-plain_none text a b c d f g h (begin None caller x) p e = h caller x p.1 p.2 e
-plain_none text a b c d f g h (begin (Some n) caller x) p e = c n (begin_text caller x) p.0 e
-plain_none text a b c d f g h (end caller words) p e = d caller words p e
-plain_none text a b c d f g h (crash caller) p e = f caller p e
+plain_none text a b c d f g h i (service l) p e = b l p e
+plain_none text a b c d f g h i (call None x) p e = g x p.1 e
+plain_none text a b c d f g h i (call (Some n) x) p e = c n (command_text x) p.0 e
+plain_none text a b c d f g h i (reply words) p e = a words e
+plain_none text a b c d f g h i (begin None caller x) p e = h caller x p.1 p.2 e
+plain_none text a b c d f g h i (begin (Some n) caller x) p e = c n (begin_text caller x) p.0 e
+plain_none text a b c d f g h i (end caller words) p e = d caller words p e
+plain_none text a b c d f g h i (crash caller) p e = f caller p e
+plain_none text a b c d f g h i (given None s) p e = i s p.1 e
+plain_none text a b c d f g h i (given (Some n) s) p e = c n (given_text s) p.0 e
+
+-- what is given is no command, and no begin of a call
+pub given_no_command : (text rest : List ℕ) → text ≡ codes "state " ++ rest
+    → (d : NamedCommand) → HasText d → text ≢ command_text d
+given_no_command text rest is d p e =
+    let k =
+    one_kind text 5 1 (record {
+      front = codes "state";
+      back = codes " " ++ rest;
+      comes = record { whole = is; letters = refl; ends = λ h. absurd (cc) };
+      is = refl;
+    }) (subst (λ (t : List ℕ). Tells t 1) (sym e) (of_text d p)) in
+    absurd (omega (arith, k))
+
+pub given_no_begin : (text rest : List ℕ) → text ≡ codes "state " ++ rest → (caller : List ℕ)
+    (d : NamedCommand) → IsCaller caller → HasText d → text ≢ begin_text caller d
+given_no_begin text rest is caller d p q e =
+    let k =
+    one_kind text 5 3 (record {
+      front = codes "state";
+      back = codes " " ++ rest;
+      comes = record { whole = is; letters = refl; ends = λ h. absurd (cc) };
+      is = refl;
+    }) (record {
+      front = caller;
+      back = codes "> " ++ command_text d;
+      comes = subst (λ (t : List ℕ). Comes t caller (codes "> " ++ command_text d)) (sym e)
+          (begin_comes caller d p);
+      is = refl;
+    }) in
+    absurd (omega (arith, k))
+
+pub given_none : (text rest : List ℕ) → text ≡ codes "state " ++ rest
+    → ((s : State) → HasState s → rest ≢ state_text s) → (s : State) → HasState s
+    → text ≢ given_text s
+given_none text rest is none s p e =
+    none s p (append_cancel_left (codes "state ") rest (state_text s) (sym is ∙ e))

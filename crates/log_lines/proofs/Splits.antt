@@ -7,8 +7,9 @@ use Rattle.service_descriptions.specs.declared.replay.machine.command.Command.Th
 use Rattle.service_descriptions.specs.Lines.{HasLine, line_of}
 use Rattle.log_lines.specs.Commands.{HasText, NamedCommand, command_text}
 use Rattle.log_lines.specs.Commands.NamedCommand.{numbered, deregister, release}
-use Rattle.log_lines.specs.Lines.{IsCaller, IsLine, IsNameByte, Line, are_letters, begin_text, line_text, number_text}
-use Rattle.log_lines.specs.Lines.Line.{service, call, reply, begin, end, crash}
+use Rattle.log_lines.specs.Lines.{IsCaller, IsLine, IsNameByte, Line, are_letters, begin_text, given_text, line_text, number_text}
+use Rattle.log_lines.specs.States.{State, state_text}
+use Rattle.log_lines.specs.Lines.Line.{service, call, reply, begin, end, crash, given}
 use Rattle.log_lines.proofs.Names.{name_same, number_letters}
 
 -- the text begins with these letters and digits, and this follows them
@@ -28,7 +29,8 @@ mark bytes = get_or bytes 0 0
 
 -- which line the letters and digits at its front and what follows them tell: a service (0), a call
 -- without a number (1) or with one (2), alone or begun, the begin of a call without a number (3), a
--- reply (4), the end of a call (6), or that the caller died (7)
+-- reply (4), what is given of a service without a number (5) or with one (2), the end of a call (6),
+-- or that the caller died (7)
 abbrev pub class : List ℕ → List ℕ → ℕ
 class front back =
     if mark back == 62 then 3
@@ -36,7 +38,7 @@ class front back =
     else if mark back == 33 then 7
     else if mark back == 61 then 4
     else if mark back == 58 then 2
-    else if mark front == 115 then 0
+    else if mark front == 115 then (if get_or front 1 0 == 116 then 5 else 0)
     else 1
 
 -- the text begins so, and tells this line
@@ -144,6 +146,15 @@ pub crash_comes : (caller : List ℕ) → IsCaller caller
 crash_comes caller p =
     record { whole = refl; letters = p.letters; ends = λ e. absurd (cc) }
 
+-- what is given tells that it is
+pub of_given : (s : State) → Tells (given_text s) 5
+of_given s = record {
+  front = codes "state";
+  back = codes " " ++ state_text s;
+  comes = record { whole = refl; letters = refl; ends = λ e. absurd (cc) };
+  is = refl;
+}
+
 -- which line it is
 abbrev pub kind : Line → ℕ
 kind (service l) = 0
@@ -154,6 +165,8 @@ kind (begin None caller c) = 3
 kind (begin (Some n) caller c) = 2
 kind (end caller words) = 6
 kind (crash caller) = 7
+kind (given None s) = 5
+kind (given (Some n) s) = 2
 
 pub of_line : (l : Line) → IsLine l → Tells (line_text l) (kind l)
 of_line (service l) p = record {
@@ -199,6 +212,17 @@ of_line (crash caller) p = record {
   comes = crash_comes caller p;
   is = refl;
 }
+of_line (given None s) p = of_given s
+of_line (given (Some n) s) p = record {
+  front = decimal n;
+  back = 58 ∷ 32 ∷ given_text s;
+  comes = number_comes n (given_text s) p.0;
+  is = refl;
+}
+
+pub kind_given : (n : Option ℕ) (s : State) → (2 ≤ kind (given n s)) × (kind (given n s) ≤ 5)
+kind_given None s = (omega arith, omega arith)
+kind_given (Some n) s = (omega arith, omega arith)
 
 pub kind_call : (n : Option ℕ) (c : NamedCommand) → (1 ≤ kind (call n c)) × (kind (call n c) ≤ 2)
 kind_call None c = (omega arith, omega arith)

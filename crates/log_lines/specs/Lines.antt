@@ -7,6 +7,7 @@ use Rattle.service_descriptions.specs.Script.{IsServiceLine, service_line}
 use Rattle.log_lines.specs.declared.line.LogLine.{LogLine}
 use Rattle.log_lines.specs.declared.line.LogLine.TheVariants as spelled
 use Rattle.log_lines.specs.Commands.{HasText, NamedCommand, command_text, named}
+use Rattle.log_lines.specs.States.{HasState, State, state_seen, state_text}
 
 -- whether a line is a note: it is empty, or begins with a number sign
 abbrev pub is_note : List ℕ → Bool
@@ -46,9 +47,13 @@ HasNumber (Some number) = number < 2 ^ 64
 abbrev pub begin_text : List ℕ → NamedCommand → List ℕ
 begin_text caller command = caller ++ (codes "> " ++ command_text command)
 
+-- what is given of a service
+abbrev pub given_text : State → List ℕ
+given_text s = codes "state " ++ state_text s
+
 -- A line that says something: a service; a call alone, on the service of a number or on the only
 -- one; the words of its reply; the begin of a caller's call; its end, with the words of the reply;
--- or that the caller died.
+-- that the caller died; or what is given of a service that was in use.
 pub data Line : Type 0 where
   service : ServiceLine → Line
   call : Option ℕ → NamedCommand → Line
@@ -56,6 +61,7 @@ pub data Line : Type 0 where
   begin : Option ℕ → (caller : List ℕ) → NamedCommand → Line
   end : (caller words : List ℕ) → Line
   crash : (caller : List ℕ) → Line
+  given : Option ℕ → State → Line
 
 -- its text
 abbrev pub line_text : Line → List ℕ
@@ -65,6 +71,7 @@ line_text (reply words) = codes "= " ++ words
 line_text (begin number caller command) = name_text number ++ begin_text caller command
 line_text (end caller words) = caller ++ (codes "< " ++ words)
 line_text (crash caller) = caller ++ codes "!"
+line_text (given number s) = name_text number ++ given_text s
 
 -- its parts have texts
 abbrev pub IsLine : Line → Type 0
@@ -74,6 +81,7 @@ IsLine (reply words) = Unit {0}
 IsLine (begin number caller command) = HasNumber number × IsCaller caller × HasText command
 IsLine (end caller words) = IsCaller caller
 IsLine (crash caller) = IsCaller caller
+IsLine (given number s) = HasNumber number × HasState s
 
 -- the line that was read
 abbrev pub line_seen : LogLine → Line
@@ -83,7 +91,8 @@ line_seen (spelled.Reply words) = reply words.now
 line_seen (spelled.Begin number caller command) = begin number caller.now (named command)
 line_seen (spelled.End caller words) = end caller.now words.now
 line_seen (spelled.Crash caller) = crash caller.now
+line_seen (spelled.State number s) = given number (state_seen s)
 
--- the line is a call, alone or the begin of one, with this number, and this text after it
-abbrev pub IsCallOf : Option ℕ → List ℕ → Line → Type 0
-IsCallOf number rest line = IsLine line × (line_text line ≡ name_text number ++ rest)
+-- the line is one on a service, with this number, and this text after it
+abbrev pub IsLineOf : Option ℕ → List ℕ → Line → Type 0
+IsLineOf number rest line = IsLine line × (line_text line ≡ name_text number ++ rest)

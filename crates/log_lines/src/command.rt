@@ -22,10 +22,10 @@ pub enum LogCommand {
 }
 
 /// A slot, or a ticket.
-const NUMBER: Number = Number(u64::MAX);
+pub(crate) const NUMBER: Number = Number(u64::MAX);
 
 /// The role of ports whose name begins the bytes, and what follows it.
-fn role_before(bytes: &[u8]) -> Option<(Role, &[u8])>
+pub(crate) fn role_before(bytes: &[u8]) -> Option<(Role, &[u8])>
     ensures { Reads role_phrase.Fits role_phrase.text
         (option_map (λ found. (found.0, found.1.now)) result) bytes.now }
 {

@@ -6,6 +6,8 @@ pub mod laws;
 mod line;
 mod name;
 mod service;
+mod state;
 
 pub use command::LogCommand;
 pub use line::{LogLine, is_note, read_log_line};
+pub use state::LogState;

@@ -3,11 +3,13 @@ ghost use Rattle.std.specs.Prelude.{◌≡◌, ◌≢◌, ◌++◌, ℕ, List, O
 ghost use Rattle.std.specs.Option.{option_map};
 ghost use Rattle.line_streams.specs.Spelling.{Reads};
 ghost use Rattle.log_lines.specs.Commands.{HasText, NamedCommand, command_text};
-ghost use Rattle.log_lines.specs.Lines.{HasNumber, IsCaller, IsLine, IsCallOf, begin_text, is_note, line_seen, line_text};
+ghost use Rattle.log_lines.specs.States.{HasState, State};
+ghost use Rattle.log_lines.specs.Lines.{HasNumber, IsCaller, IsLine, IsLineOf, begin_text, given_text, is_note, line_seen, line_text};
 
 use super::command::{LogCommand, read_command};
 use super::name::{is_caller, number_front, split_name};
 use super::service::service_of;
+use super::state::{LogState, read_state};
 use line_streams::after_word;
 use service_descriptions::replay::ServiceLine;
 use std::alloc::{AllocError, Global};
@@ -28,6 +30,8 @@ pub enum LogLine<'a> {
     End(&'a [u8], &'a [u8]),
     /// The caller died.
     Crash(&'a [u8]),
+    /// What is given of a service that was in use: its number or none, and what it is.
+    State(Option<u64>, LogState),
 }
 
 /// Whether a line says nothing: it is empty, or begins with `#`.
@@ -47,7 +51,7 @@ fn call_of<'a>(
     rest: &'a [u8],
 ) -> Result<Option<LogLine<'a>>, AllocError>
     requires { HasNumber number }
-    ensures some { IfOk result (λ found. IfSome found (λ line. IsCallOf number rest.now
+    ensures some { IfOk result (λ found. IfSome found (λ line. IsLineOf number rest.now
         (line_seen line))) }
     ensures alone { IfOk result (λ found. IfNone found ((command : NamedCommand)
         → HasText command → rest.now ≢ command_text command)) }
@@ -67,6 +71,32 @@ fn call_of<'a>(
     }
     match read_command(alloc, text)? {
         Some(command) => Ok(Some(LogLine::Begin(number, caller, command))),
+        None => Ok(None),
+    }
+}
+
+/// The state or the call whose text this is, after the number of its service.
+fn on_service<'a>(
+    alloc: Global,
+    number: Option<u64>,
+    rest: &'a [u8],
+) -> Result<Option<LogLine<'a>>, AllocError>
+    requires { HasNumber number }
+    ensures some { IfOk result (λ found. IfSome found (λ line. IsLineOf number rest.now
+        (line_seen line))) }
+    ensures alone { IfOk result (λ found. IfNone found ((command : NamedCommand)
+        → HasText command → rest.now ≢ command_text command)) }
+    ensures begun { IfOk result (λ found. IfNone found ((caller : List ℕ)
+        (command : NamedCommand) → IsCaller caller → HasText command
+        → rest.now ≢ begin_text caller command)) }
+    ensures given { IfOk result (λ found. IfNone found ((s : State) → HasState s
+        → rest.now ≢ given_text s)) }
+{
+    let Some(text) = after_word(rest, b"state ") else {
+        return call_of(alloc, number, rest);
+    };
+    match read_state(alloc, text)? {
+        Some(state) => Ok(Some(LogLine::State(number, state))),
         None => Ok(None),
     }
 }
@@ -101,8 +131,10 @@ fn end_of(line: &[u8]) -> Option<LogLine<'_>>
 /// The lines are those of services, the commands of scripts, `= WORDS`, `CALLER> COMMAND`,
 /// `CALLER< WORDS` and `CALLER!`. A caller's name is one to sixteen ASCII letters and digits.
 /// Before a command or a caller that begins one, `7: ` says that it is on the service with this
-/// number. Removals may also be `deregister SLOT TICKET` and `release ROLE SLOT TICKET`. No line
-/// has two readings.
+/// number. Removals may also be `deregister SLOT TICKET` and `release ROLE SLOT TICKET`. What is
+/// given of a service that was in use is `state nodes USED`, `state nodes USED locked`,
+/// `state ROLE USED`, `state SLOT TICKET register NODE` and `state SLOT TICKET add ROLE PORT NODE`,
+/// also with `7: ` before it. No line has two readings.
 pub fn read_log_line(alloc: Global, line: &[u8]) -> Result<Option<LogLine<'_>>, AllocError>
     ensures { IfOk result (λ found. Reads IsLine line_text (option_map line_seen found) line.now) }
 {
@@ -113,7 +145,7 @@ pub fn read_log_line(alloc: Global, line: &[u8]) -> Result<Option<LogLine<'_>>, 
         return Ok(Some(LogLine::Service(service)));
     }
     if let Some((number, rest)) = number_front(line) {
-        return match call_of(alloc, Some(number), rest)? {
+        return match on_service(alloc, Some(number), rest)? {
             Some(found) => Ok(Some(found)),
             None => Ok(None),
         };
@@ -121,7 +153,7 @@ pub fn read_log_line(alloc: Global, line: &[u8]) -> Result<Option<LogLine<'_>>, 
     if let Some(found) = end_of(line) {
         return Ok(Some(found));
     }
-    match call_of(alloc, None, line)? {
+    match on_service(alloc, None, line)? {
         Some(found) => Ok(Some(found)),
         None => Ok(None),
     }

@@ -19,3 +19,4 @@ pub mod Seen
 pub mod Calls
 pub mod Fixed
 pub mod Alone
+pub mod Given

@@ -9,7 +9,6 @@ ghost use Rattle.histories.specs.Histories.{StandsAt};
 ghost use Rattle.history_windows.specs.Windows.{IsStop, IsVerdict, IsWindowOf};
 ghost use Rattle.log_lines.specs.Lines.{IsLine, Line, line_seen, line_text};
 ghost use Rattle.service_conformance.specs.Calls.{Call};
-ghost use Rattle.service_descriptions.specs.Script.{first_state};
 ghost use Rattle.history_logs.specs.Good.{IsOrderly};
 ghost use Rattle.history_logs.specs.Judging.{AreBelow, AreJudged, AreLines, AreLinesTo, Explores};
 ghost use Rattle.history_logs.specs.Judging.{IsFoundOf, IsRefusedIn, IsToldAt, IsToldOf, earlier};
@@ -18,13 +17,11 @@ ghost use Rattle.history_logs.specs.Placed.{Answers, IsLineAt, IsPlaced};
 
 use super::service::LogService;
 use super::verdict::{Configuration, Refusal, Verdict};
-use histories::{Config, Event};
+use histories::{Config, Event, Machine};
 use history_windows::{Cut, Verdict as Found, Window, judge_windows};
-use iox2_dynamic::dynamic_config::MessagingPatternSettings;
 use line_streams::before_byte;
 use log_lines::{LogLine, read_log_line};
 use service_conformance::conformance::{Calls, ServiceCheck, possible_replies};
-use service_descriptions::replay::ServiceLine;
 use std::alloc::{AllocError, Global};
 
 /// Whether the call of the slot waits.
@@ -144,7 +141,7 @@ fn words_of<'a>(line: &LogLine<'a>) -> &'a [u8]
         LogLine::Reply(words) => words,
         LogLine::End(_, words) => words,
         LogLine::Service(_) | LogLine::Call(_, _) => b"",
-        LogLine::Begin(_, _, _) | LogLine::Crash(_) => b"",
+        LogLine::Begin(_, _, _) | LogLine::Crash(_) | LogLine::State(_, _) => b"",
     }
 }
 
@@ -274,20 +271,16 @@ fn told_of(
     }
 }
 
-/// A new service of its line.
-fn new_service(alloc: Global, line: &ServiceLine) -> ServiceCheck
-    ensures { result ≡ (first_state line.now).service }
-{
-    let settings = MessagingPatternSettings::new(line.pattern, line.first, line.second);
-    ServiceCheck::new(alloc, &settings, line.max_nodes, line.number)
-}
-
-/// The new service of its line alone.
-fn first_states(alloc: Global, line: &ServiceLine) -> Result<Vec<ServiceCheck>, AllocError>
-    ensures { IfOk result (λ states. states.items ≡ (first_state line.now).service ∷ []) }
+/// What the service is before its first call, alone.
+fn first_states(
+    alloc: Global,
+    machine: &Calls<'_>,
+    service: &LogService,
+) -> Result<Vec<ServiceCheck>, AllocError>
+    ensures { IfOk result (λ states. states.items ≡ news service.now) }
 {
     let mut states = Vec::new(alloc);
-    states.push(new_service(alloc, line))?;
+    states.push(machine.copied(service.start())?)?;
     Ok(states)
 }
 
@@ -308,7 +301,7 @@ pub(super) fn explore(
         first: 0,
         calls: service.calls(),
     };
-    let states = first_states(alloc, service.line())?;
+    let states = first_states(alloc, &machine, service)?;
     let found = judge_windows(alloc, &machine, &states, service.events(), cut)?;
     told_of(alloc, log, service, found)
 }

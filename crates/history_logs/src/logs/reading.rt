@@ -3,6 +3,8 @@ ghost use Rattle.std.specs.Prelude.{◌≡◌, ◌≢◌, ◌<◌, ℕ, List, []
 ghost use Rattle.log_lines.specs.Commands.{HasText, named as named_command};
 ghost use Rattle.log_lines.specs.Lines.Line.{service as service_line, call as call_line};
 ghost use Rattle.log_lines.specs.Lines.Line.{begin as begin_line, end as end_line, crash as crash_line};
+ghost use Rattle.log_lines.specs.Lines.Line.{given as given_line};
+ghost use Rattle.log_lines.specs.States.{state_seen};
 ghost use Rattle.history_logs.specs.Fields.{callers_of, log_of};
 ghost use Rattle.log_lines.specs.Lines.{IsLine, Line, line_seen, line_text};
 ghost use Rattle.history_logs.specs.Good.{IsKept, IsReadTo, SaysIn, Takes, TakesLine};
@@ -15,7 +17,7 @@ use super::callers::{CallerState, Callers, refuses_begin};
 use super::service::{LogCall, LogService};
 use super::verdict::Expected;
 use line_streams::{after_word, before_byte};
-use log_lines::{LogCommand, LogLine, is_note, read_log_line};
+use log_lines::{LogCommand, LogLine, LogState, is_note, read_log_line};
 use service_conformance::conformance::{SeenReply, read_reply};
 use service_descriptions::replay::ServiceLine;
 use std::alloc::{AllocError, Global};
@@ -108,6 +110,27 @@ impl Reading {
         }
         self.services.push(LogService::new(alloc, line))?;
         Ok(None)
+    }
+
+    /// What is given of a service that was in use. Returns what is expected instead, if it may not
+    /// come.
+    fn given(
+        &mut self,
+        number: Option<u64>,
+        given: LogState,
+    ) -> Result<Option<Expected>, AllocError>
+        requires { self.old.waits ≡ None }
+        ensures { IfOk result (λ found. (k : ℕ) → Does (log_of self.old) k
+            (given_line number (state_seen given)) found (log_of self.new)) }
+    {
+        let Some(at) = service_named(&self.services, number) else {
+            return Ok(Some(Expected::Call));
+        };
+        let may = self.services[at].give(given)?;
+        if may {
+            return Ok(None);
+        }
+        Ok(Some(Expected::State))
     }
 
     /// A call alone. Returns what is expected instead, if it may not come.
@@ -257,6 +280,7 @@ impl Reading {
             }
             LogLine::End(caller, words) => self.end(alloc, caller, words, line),
             LogLine::Crash(caller) => self.crash(alloc, caller, line),
+            LogLine::State(number, given) => self.given(number, given),
         }
     }
 

@@ -200,6 +200,7 @@ fn expected_text(expected: Expected) -> &'static [u8]
         Expected::LiveCaller => b": a caller that has not died is expected\n",
         Expected::KnownCaller => b": a caller that has begun a call is expected\n",
         Expected::Newline => b": a newline is expected at the end of the line\n",
+        Expected::State => b": a state of the service is expected\n",
         Expected::NoCarriageReturn => b": no carriage return is expected before the newline\n",
     }
 }

@@ -1,14 +1,20 @@
 //! What was seen of a service.
 ghost use Rattle.std.specs.Prelude.{◌≡◌, ◌<◌, OnOk, IfOk, Some, None, get_or, length};
 ghost use Rattle.log_lines.specs.Commands.{HasText, named};
+ghost use Rattle.log_lines.specs.States.{state_seen};
+ghost use Rattle.service_conformance.specs.Given.{Becomes};
 ghost use Rattle.service_descriptions.specs.Lines.{command_of};
+ghost use Rattle.service_descriptions.specs.Script.{first_state};
+ghost use Rattle.history_logs.specs.Good.{Starts};
+ghost use Rattle.history_logs.specs.Reading.{Gives};
 ghost use Rattle.history_logs.specs.Seen.{HasAll, called, given_by, given_in, handle_in, handle_named};
 ghost use Rattle.history_logs.specs.Seen.{role_added, unseen, with_begin, with_crash, with_end};
 
 use histories::Event;
 use iox2_container::container::{ContainerHandle, Role};
-use log_lines::LogCommand;
-use service_conformance::conformance::{SeenCall, SeenReply};
+use iox2_dynamic::dynamic_config::MessagingPatternSettings;
+use log_lines::{LogCommand, LogState};
+use service_conformance::conformance::{SeenCall, SeenReply, ServiceCheck};
 use service_descriptions::replay::{LineCommand, ServiceLine};
 use std::alloc::{AllocError, Global};
 use std::marker::Model;
@@ -20,12 +26,14 @@ pub(super) struct LogCall {
     pub(super) adds: Option<Role>,
 }
 
-/// A service of a log, and what was seen of it: its calls by their begins, the roles of the entries
+/// A service of a log, what it is before its first call, and what was seen of it: its calls by
+/// their begins, the roles of the entries
 /// that they add, the handles that their replies gave, the line in which each begins, what
 /// happened, and the line of each event.
 #[derive(Drop)]
 pub(super) struct LogService {
     line: ServiceLine,
+    start: ServiceCheck,
     calls: Vec<SeenCall>,
     adds: Vec<Option<Role>>,
     given: Vec<Option<ContainerHandle>>,
@@ -54,13 +62,36 @@ fn added(command: &LineCommand) -> Option<Role>
     }
 }
 
+/// A new service of its line.
+fn new_service(alloc: Global, line: &ServiceLine) -> ServiceCheck
+    ensures { result ≡ (first_state line.now).service }
+{
+    let settings = MessagingPatternSettings::new(line.pattern, line.first, line.second);
+    ServiceCheck::new(alloc, &settings, line.max_nodes, line.number)
+}
+
+/// This is given of a service that was in use. Returns whether it can be so.
+fn give(start: &mut ServiceCheck, given: LogState) -> Result<bool, AllocError>
+    ensures { IfOk result (λ yes.
+        Becomes (Gives start.old (state_seen given)) start.old yes start.new) }
+{
+    match given {
+        LogState::Nodes(used, locked) => Ok(start.give_nodes(used, locked)),
+        LogState::Ports(role, used) => Ok(start.give_ports(role, used)),
+        LogState::Node(slot, ticket, id) => start.give_node(slot, ticket, id),
+        LogState::Port(slot, ticket, port) => start.give_port(slot, ticket, port.details()),
+    }
+}
+
 impl LogService {
     /// A service of which nothing was seen.
     pub(super) fn new(alloc: Global, line: ServiceLine) -> Self
         ensures { result ≡ unseen line }
     {
+        let start = new_service(alloc, &line);
         LogService {
             line,
+            start,
             calls: Vec::new(alloc),
             adds: Vec::new(alloc),
             given: Vec::new(alloc),
@@ -75,6 +106,24 @@ impl LogService {
         ensures { result.now ≡ self.now.line }
     {
         &self.line
+    }
+
+    /// What it is before its first call.
+    pub(super) fn start(&self) -> &ServiceCheck
+        ensures { result.now ≡ self.now.start }
+    {
+        &self.start
+    }
+
+    /// This is given of the service. Returns whether it can be so, before a call on it was seen.
+    /// Where memory was refused, the service is not to be used any more.
+    pub(super) fn give(&mut self, given: LogState) -> Result<bool, AllocError>
+        ensures { IfOk result (λ yes. Starts self.old (state_seen given) yes self.new) }
+    {
+        if !self.calls.is_empty() {
+            return Ok(false);
+        }
+        give(&mut self.start, given)
     }
 
     /// The calls, by their begins.

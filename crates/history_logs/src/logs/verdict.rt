@@ -20,6 +20,8 @@ pub enum Expected {
     LiveCaller,
     /// A caller that has begun a call.
     KnownCaller,
+    /// A state that the service can have before its first call.
+    State,
     /// A newline at the end of the line.
     Newline,
     /// No carriage return before the newline.

@@ -13,6 +13,8 @@ ghost use Rattle.service_conformance.specs.Dead.{stays, without_node, without_po
 ghost use Rattle.service_conformance.specs.Entries.{MayGive, Refuses, StandsAt};
 ghost use Rattle.service_conformance.specs.Words.{IsNextHandle, TellsHandle, handle_words};
 
+mod given;
+
 use super::placed::{Placed, copied, details_of, free_position, position_with, put, slots_of};
 use super::possible::NextHandle;
 use super::same::{Same, are_same};

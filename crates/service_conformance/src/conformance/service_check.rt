@@ -9,6 +9,7 @@ ghost use Rattle.service_conformance.specs.Quiet.{ports_at_rest, quiet};
 ghost use Rattle.service_conformance.specs.Sides.{ports_at, side_of};
 
 mod following;
+mod given;
 mod replies_possible;
 mod reply_told;
 mod seeing;

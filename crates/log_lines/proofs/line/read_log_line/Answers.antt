@@ -8,6 +8,7 @@ returns-in-None c =
     numbered_none c.args.line.now number.rest.now number.number number.ensures.some.0
     number.ensures.some.1 (rw c.in-None.is at c.in_ok-found.ensures.alone)
     (rw c.in-None.is at c.in_ok-found.ensures.begun)
+    (rw c.in-None.is at c.in_ok-found.ensures.given)
 
 pub returns-in-None-2 : goal.returns-in-None-2
 returns-in-None-2 c =
@@ -16,3 +17,4 @@ returns-in-None-2 c =
     c.in_default-end_of.ensures.ended c.in_default-end_of.ensures.died
     (rw c.in-None-2.is at c.in_ok-found-2.ensures.alone)
     (rw c.in-None-2.is at c.in_ok-found-2.ensures.begun)
+    (rw c.in-None-2.is at c.in_ok-found-2.ensures.given)

@@ -1,7 +1,6 @@
 use Rattle.std.proofs.Common.{◌≡◌, ◌<◌, ◌∙◌, ◌∷◌, [], List, length, ap, sym, subst, arith}
 use Rattle.histories.specs.declared.event.Event.{Event}
 use Rattle.histories.specs.Histories.{IsHistory}
-use Rattle.service_descriptions.specs.Script.{first_state}
 use Rattle.history_logs.specs.Logs.{news}
 use Rattle.history_logs.proofs.LinesAt.{if_ok}
 use Rattle.history_logs.proofs.Found.{explored, verdict_of, whole_of}
@@ -20,8 +19,7 @@ pub told_of-requires : goal.told_of-requires
 told_of-requires c =
     let s = c.args.service.now in
     let states : c.deref.result.now ≡ news s =
-    c.deref.ensures.value
-    ∙ (c.in_ok-states.ensures ∙ ap (λ l. (first_state l).service ∷ []) c.line.ensures) in
+    c.deref.ensures.value ∙ c.in_ok-states.ensures in
     record {
       orderly = c.requires.orderly;
       placed = c.requires.placed;
@@ -34,8 +32,7 @@ returns c =
     let s = c.args.service.now in
     let found = c.in_ok-found.found in
     let states : c.deref.result.now ≡ news s =
-    c.deref.ensures.value
-    ∙ (c.in_ok-states.ensures ∙ ap (λ l. (first_state l).service ∷ []) c.line.ensures) in
+    c.deref.ensures.value ∙ c.in_ok-states.ensures in
     if_ok _ _ c.told_of.result c.told_of.ensures (λ told is.
     explored s c.args.cut found told
     (verdict_of s c.calls.result.now c.deref.result.now c.events.result.now found c.calls.ensures

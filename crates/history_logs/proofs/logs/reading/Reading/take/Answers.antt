@@ -1,7 +1,8 @@
 use Rattle.std.proofs.Common.{ap}
 use Rattle.log_lines.specs.Commands.{named}
 use Rattle.log_lines.specs.Lines.{line_seen}
-use Rattle.log_lines.specs.Lines.Line.{service, begin, end, crash}
+use Rattle.log_lines.specs.States.{state_seen}
+use Rattle.log_lines.specs.Lines.Line.{service, begin, end, crash, given}
 use Rattle.history_logs.proofs.Refused.{ok_at, ok_is}
 use Rattle.history_logs.proofs.logs.reading.Reading.take.Goals as goal
 
@@ -28,3 +29,9 @@ returns-in-Crash c =
     let arm = c.in-Crash in
     ok_is c.crash.result _ _ (line_seen c.args.read) (crash arm.caller.now) c.args.line
     (ap line_seen arm.is) c.crash.ensures
+
+pub returns-in-State : goal.returns-in-State
+returns-in-State c =
+    let arm = c.in-State in
+    ok_at c.given.result _ _ (line_seen c.args.read) (given arm.number (state_seen arm.given))
+    c.args.line (ap line_seen arm.is) c.given.ensures

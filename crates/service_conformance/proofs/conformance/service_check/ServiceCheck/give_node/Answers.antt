@@ -1,0 +1,32 @@
+use Rattle.iox2_dynamic.specs.Service.{IsService}
+use Rattle.service_conformance.specs.Given.{with_nodes}
+use Rattle.service_conformance.specs.ServiceFields.{service_of}
+use Rattle.service_conformance.proofs.Given.{err_by, gives_node, if_ok, kept_by}
+use Rattle.service_conformance.proofs.conformance.service_check.ServiceCheck.give_node.Goals as goal
+
+pub invariant_of-self : goal.invariant_of-self
+invariant_of-self c =
+    let s = service_of c.self.inside in
+    kept_by _ (λ r. IsService (with_nodes s r)) c.give_entry.result s.nodes.registry
+    c.give_entry.new.self c.give_entry.ensures.gives c.give_entry.ensures.err
+    (λ yes b. (gives_node s c.self.invariant c.args.slot c.args.ticket c.args.id yes
+    c.give_entry.new.self b).1)
+    c.self.invariant
+
+pub returns-clause-gives : goal.returns-clause-gives
+returns-clause-gives c =
+    let s = service_of c.self.inside in
+    rw (← c.self.view_is)
+    (if_ok _ _ c.give_entry.result c.give_entry.ensures.gives
+    (λ yes b. (gives_node s c.self.invariant c.args.slot c.args.ticket c.args.id yes
+    c.give_entry.new.self b).0))
+
+pub returns-clause-err : goal.returns-clause-err
+returns-clause-err c =
+    let s = service_of c.self.inside in
+    rw (← c.self.view_is)
+    (err_by (λ r. with_nodes s r) c.give_entry.result s.nodes.registry c.give_entry.new.self
+    c.give_entry.ensures.err)
+
+pub returns-clause-kept : goal.returns-clause-kept
+returns-clause-kept c = invariant_of-self c

@@ -1,0 +1,95 @@
+use Rattle.std.proofs.Common.{◌<◌, ◌∙◌, refl, rules, subst, sym}
+use Rattle.iox2_dynamic.specs.Details.{node_of}
+use Rattle.iox2_dynamic.specs.PortsState.Side.{First, Second}
+use Rattle.iox2_dynamic.specs.Service.{IsService, Service, entries_of_node}
+use Rattle.service_conformance.specs.Given.{with_ports}
+use Rattle.service_conformance.specs.ServiceFields.{service_of}
+use Rattle.service_conformance.specs.Sides.{ports_at}
+use Rattle.service_conformance.proofs.Given.{err_by, gives_port, has_moved, if_ok, kept_by, no_node, no_side}
+use Rattle.service_conformance.proofs.conformance.service_check.ServiceCheck.give_port.Goals as goal
+
+pub returns-then-not-has_node-clause-gives : goal.returns-then-not-has_node-clause-gives
+returns-then-not-has_node-clause-gives c =
+    rw (← c.self.view_is) (
+      no_node (service_of c.self.inside) c.self.invariant c.args.slot c.args.ticket
+          c.args.details
+          (λ h.
+          let t =
+          c.has_node.ensures.no
+          (has_moved (service_of c.self.inside) c.args.self.now (node_of c.args.details)
+          c.node_id.result c.self.view_is (sym c.node_id.ensures) h) in
+          let f = c.if-not-has_node.true in
+          absurd (cc)),
+      refl,
+    )
+
+pub returns-in_default-clause-gives : goal.returns-in_default-clause-gives
+returns-in_default-clause-gives c =
+    rw (← c.self.view_is) (
+      λ new g.
+          no_side (service_of c.self.inside) c.role.result c.in_default.ensures.none g.0
+          (c.role.ensures ∙ g.1),
+      refl,
+    )
+
+pub invariant_of-self : goal.invariant_of-self
+invariant_of-self c =
+    let s = service_of c.self.inside in
+    kept_by _ (λ r. IsService (with_ports First s r)) c.give_entry.result (ports_at s First).registry
+    c.give_entry.new.self c.give_entry.ensures.gives c.give_entry.ensures.err
+    (λ yes b. (gives_port s c.self.invariant First c.args.slot c.args.ticket c.args.details yes
+    c.give_entry.new.self (sym c.role.ensures ∙ rw c.if-first.true at c.in-Some.ensures.some)
+    (has_moved c.args.self.now s c.node_id.result (node_of c.args.details)
+    (sym c.self.view_is) c.node_id.ensures (c.has_node.ensures.yes (search rules))) b).1)
+    c.self.invariant
+
+pub returns-then-first-clause-gives : goal.returns-then-first-clause-gives
+returns-then-first-clause-gives c =
+    let s = service_of c.self.inside in
+    rw (← c.self.view_is)
+    (if_ok _ _ c.give_entry.result c.give_entry.ensures.gives
+    (λ yes b. (gives_port s c.self.invariant First c.args.slot c.args.ticket c.args.details yes
+    c.give_entry.new.self (sym c.role.ensures ∙ rw c.if-first.true at c.in-Some.ensures.some)
+    (has_moved c.args.self.now s c.node_id.result (node_of c.args.details)
+    (sym c.self.view_is) c.node_id.ensures (c.has_node.ensures.yes (search rules))) b).0))
+
+pub returns-then-first-clause-err : goal.returns-then-first-clause-err
+returns-then-first-clause-err c =
+    let s = service_of c.self.inside in
+    rw (← c.self.view_is)
+    (err_by (λ r. with_ports First s r) c.give_entry.result (ports_at s First).registry c.give_entry.new.self
+    c.give_entry.ensures.err)
+
+pub returns-then-first-clause-kept : goal.returns-then-first-clause-kept
+returns-then-first-clause-kept c = invariant_of-self c
+
+pub invariant_of-self-2 : goal.invariant_of-self-2
+invariant_of-self-2 c =
+    let s = service_of c.self.inside in
+    kept_by _ (λ r. IsService (with_ports Second s r)) c.give_entry-2.result (ports_at s Second).registry
+    c.give_entry-2.new.self c.give_entry-2.ensures.gives c.give_entry-2.ensures.err
+    (λ yes b. (gives_port s c.self.invariant Second c.args.slot c.args.ticket c.args.details yes
+    c.give_entry-2.new.self (sym c.role.ensures ∙ rw c.if-first.false at c.in-Some.ensures.some)
+    (has_moved c.args.self.now s c.node_id.result (node_of c.args.details)
+    (sym c.self.view_is) c.node_id.ensures (c.has_node.ensures.yes (search rules))) b).1)
+    c.self.invariant
+
+pub returns-clause-gives : goal.returns-clause-gives
+returns-clause-gives c =
+    let s = service_of c.self.inside in
+    rw (← c.self.view_is)
+    (if_ok _ _ c.give_entry-2.result c.give_entry-2.ensures.gives
+    (λ yes b. (gives_port s c.self.invariant Second c.args.slot c.args.ticket c.args.details yes
+    c.give_entry-2.new.self (sym c.role.ensures ∙ rw c.if-first.false at c.in-Some.ensures.some)
+    (has_moved c.args.self.now s c.node_id.result (node_of c.args.details)
+    (sym c.self.view_is) c.node_id.ensures (c.has_node.ensures.yes (search rules))) b).0))
+
+pub returns-clause-err : goal.returns-clause-err
+returns-clause-err c =
+    let s = service_of c.self.inside in
+    rw (← c.self.view_is)
+    (err_by (λ r. with_ports Second s r) c.give_entry-2.result (ports_at s Second).registry c.give_entry-2.new.self
+    c.give_entry-2.ensures.err)
+
+pub returns-clause-kept : goal.returns-clause-kept
+returns-clause-kept c = invariant_of-self-2 c
