@@ -92,7 +92,10 @@ none_waits : (log : Log) → log.waits ≡ None → (at : ℕ) (c : LogCall)
 none_waits log none at c e = absurd (cc)
 
 kept_service : (old : Log) (line : ServiceLine) → IsKept old → old.waits ≡ None
-    → IsNew line.number old.services → IsKept (record old { services = old.services ++ unseen line ∷ [] })
+    → IsNew line.number old.services → IsKept (record old {
+      services = old.services ++ unseen
+          line ∷ [];
+    })
 kept_service old line k none new = record {
   orderly = All-push IsOrderly old.services (unseen line) k.orderly (orderly_new line);
   numbers = numbers_new old.services line k.numbers new;

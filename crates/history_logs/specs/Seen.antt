@@ -21,8 +21,9 @@ use Rattle.service_descriptions.specs.declared.replay.machine.command.Command.{C
 use Rattle.service_descriptions.specs.declared.replay.machine.command.Command.TheVariants as command
 
 -- A service of a log, what it is before its first call, and what was seen of it: its calls by their
--- begins, each with the role of the entry that its command adds, if it adds one, the handle that its reply gave, if it gave one, and
--- the line in which it begins; and the events, each with its line.
+-- begins, each with the role of the entry that its command adds, if it adds one, the handle that
+-- its reply gave, if it gave one, and the line in which it begins; and the events, each with its
+-- line.
 pub record Service : Type 0 where
   pub line : ServiceLine
   pub start : dynamic.Service

@@ -29,8 +29,8 @@ mark bytes = get_or bytes 0 0
 
 -- which line the letters and digits at its front and what follows them tell: a service (0), a call
 -- without a number (1) or with one (2), alone or begun, the begin of a call without a number (3), a
--- reply (4), what is given of a service without a number (5) or with one (2), the end of a call (6),
--- or that the caller died (7)
+-- reply (4), what is given of a service without a number (5) or with one (2), the end of a call
+-- (6), or that the caller died (7)
 abbrev pub class : List ℕ → List ℕ → ℕ
 class front back =
     if mark back == 62 then 3

@@ -78,7 +78,8 @@ pub same_state : (s t : State) → HasState s → HasState t → state_text s �
 same_state (nodes a l) (nodes b m) p q e =
     let same =
     same_number a b (locked_word l) (locked_word m) p q (word_ends l) (word_ends m)
-    (append_cancel_left (codes "nodes ") (decimal a ++ locked_word l) (decimal b ++ locked_word m) e)
+    (append_cancel_left (codes "nodes ") (decimal a ++ locked_word l) (decimal b ++ locked_word
+    m) e)
     in
     ap (λ n. nodes n l) same.0 ∙ ap (λ k. nodes b k) (word_one l m same.1)
 same_state (ports r a) (ports s b) p q e =

@@ -82,7 +82,8 @@ stands_only {T} r slot ticket details k =
     }
   where
     unlocked : (b : Bool) → r.locked ≡ b → r.locked ≡ false
-    unlocked true e = absurd (push_some r.entries (placed slot ticket details) (k.locked_is_empty e))
+    unlocked true e = absurd (push_some r.entries (placed slot ticket details)
+        (k.locked_is_empty e))
     unlocked false e = e
 
 -- the registry with one more entry, by the fields
@@ -342,7 +343,8 @@ if_ok P Q (Ok v) h f = f v h
 if_ok P Q (Err e) h f = h
 
 -- so it is also where memory was refused, and nothing has changed
-pub kept_by : {A E T : Type 0} (P : A → Type 0) (Is : T → Type 0) (result : Result A E) (old new : T)
+pub kept_by : {A E T : Type 0} (P : A → Type 0) (Is : T → Type 0) (result : Result A E) (old new
+    : T)
     → IfOk result P → OnErr result (new ≡ old) → ((v : A) → P v → Is new) → Is old → Is new
 kept_by P Is (Ok v) old new h e f i = f v h
 kept_by P Is (Err x) old new h e f i = subst Is (sym e) i

@@ -35,7 +35,8 @@ returns-in_default-clause-gives c =
 pub invariant_of-self : goal.invariant_of-self
 invariant_of-self c =
     let s = service_of c.self.inside in
-    kept_by _ (λ r. IsService (with_ports First s r)) c.give_entry.result (ports_at s First).registry
+    kept_by _ (λ r. IsService (with_ports First s r)) c.give_entry.result (ports_at s
+    First).registry
     c.give_entry.new.self c.give_entry.ensures.gives c.give_entry.ensures.err
     (λ yes b. (gives_port s c.self.invariant First c.args.slot c.args.ticket c.args.details yes
     c.give_entry.new.self (sym c.role.ensures ∙ rw c.if-first.true at c.in-Some.ensures.some)
@@ -57,7 +58,8 @@ pub returns-then-first-clause-err : goal.returns-then-first-clause-err
 returns-then-first-clause-err c =
     let s = service_of c.self.inside in
     rw (← c.self.view_is)
-    (err_by (λ r. with_ports First s r) c.give_entry.result (ports_at s First).registry c.give_entry.new.self
+    (err_by (λ r. with_ports First s r) c.give_entry.result (ports_at s First).registry
+    c.give_entry.new.self
     c.give_entry.ensures.err)
 
 pub returns-then-first-clause-kept : goal.returns-then-first-clause-kept
@@ -66,7 +68,8 @@ returns-then-first-clause-kept c = invariant_of-self c
 pub invariant_of-self-2 : goal.invariant_of-self-2
 invariant_of-self-2 c =
     let s = service_of c.self.inside in
-    kept_by _ (λ r. IsService (with_ports Second s r)) c.give_entry-2.result (ports_at s Second).registry
+    kept_by _ (λ r. IsService (with_ports Second s r)) c.give_entry-2.result (ports_at s
+    Second).registry
     c.give_entry-2.new.self c.give_entry-2.ensures.gives c.give_entry-2.ensures.err
     (λ yes b. (gives_port s c.self.invariant Second c.args.slot c.args.ticket c.args.details yes
     c.give_entry-2.new.self (sym c.role.ensures ∙ rw c.if-first.false at c.in-Some.ensures.some)
@@ -88,7 +91,8 @@ pub returns-clause-err : goal.returns-clause-err
 returns-clause-err c =
     let s = service_of c.self.inside in
     rw (← c.self.view_is)
-    (err_by (λ r. with_ports Second s r) c.give_entry-2.result (ports_at s Second).registry c.give_entry-2.new.self
+    (err_by (λ r. with_ports Second s r) c.give_entry-2.result (ports_at s Second).registry
+    c.give_entry-2.new.self
     c.give_entry-2.ensures.err)
 
 pub returns-clause-kept : goal.returns-clause-kept
