@@ -219,7 +219,7 @@ static void static_texts(void) {
             CHECK(strcmp(text, "unknown status") == 0);
         }
     }
-    CHECK(known == 67 && strcmp(iox2sd_status_str(UINT32_MAX), "unknown status") == 0);
+    CHECK(known == 72 && strcmp(iox2sd_status_str(UINT32_MAX), "unknown status") == 0);
     for (uint64_t i = 0; i < 9; i++) CHECK(strcmp(iox2sd_role_str(i), roles[i]) == 0);
     CHECK(strcmp(iox2sd_role_str(9), "unknown role") == 0);
     CHECK(strcmp(iox2sd_role_str(IOX2SD_ROLE_NONE), "unknown role") == 0);
