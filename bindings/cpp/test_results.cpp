@@ -214,8 +214,9 @@ void words() {
            "color=blue: " + no_pair));
     CHECK((streamed(AttributeVerificationError{Status::MissingKey, color, {}}) ==
            "color: " + no_key));
-    CHECK(streamed(Config::from_toml("[global\n").error()).find("line 1") != string::npos);
-    CHECK(streamed(Config::from_toml_file("/nowhere").error()) == text(Status::NoFile));
+    CHECK(streamed(Config::from_toml("[global\n").error()).rfind("1:8: ", 0) == 0);
+    CHECK((streamed(Config::from_toml_file("/nowhere").error()) ==
+           "/nowhere: " + string(text(Status::NoFile))));
     // The longest words are cut, and none is refused.
     const AttributeKey longest_key = AttributeKey::create(string(64, 'k')).value();
     const AttributeValue longest = AttributeValue::create(string(256, 'v')).value();
@@ -269,9 +270,8 @@ void temporaries() {
     LENT(List<int>, .cend());
     LENT(ScriptRun, .replies());
     LENT(LogVerdict, .report());
-    LENT(LogVerdict, .seen());
-    LENT(LogVerdict, .states());
-    LENT(Recorder, .log());
+    LENT(LogVerdict, .words());
+    LENT(LogVerdict, .configurations());
     LENT(Recorder, .service());
     LENT(Service, .as_c());
     // So does a member of the value of a temporary result: `service.nodes()->begin()`.
