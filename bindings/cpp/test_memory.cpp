@@ -15,7 +15,7 @@ bool is_refused() { return refused_request >= 0 && refused_request-- == 0; }
 
 }  // namespace
 
-void* operator new(std::size_t size, const std::nothrow_t&) noexcept {
+[[gnu::noinline]] void* operator new(std::size_t size, const std::nothrow_t&) noexcept {
     return is_refused() ? nullptr : std::malloc(size);
 }
 
