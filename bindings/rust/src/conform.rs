@@ -18,7 +18,7 @@ use crate::plain::Plain;
 use crate::sys;
 use std::collections::BTreeSet;
 use std::error::Error;
-use std::fmt;
+use std::{fmt, iter};
 
 mod recorder;
 
@@ -275,37 +275,33 @@ fn at_line(f: &mut fmt::Formatter<'_>, line: usize, status: u32) -> fmt::Result 
 impl Refusal {
     /// What the lines of a report say, which stand below its first one.
     fn of(line: usize, report: &str) -> Self {
-        let lines: Vec<_> = report.split_terminator('\n').skip(1).collect();
+        let mut lines = report.split_terminator('\n').skip(1);
+        let mut next = || lines.next().unwrap_or_default();
         Refusal {
             line,
-            words: after("seen: ", lines[0]).to_string(),
-            window: number(after("window: from line ", lines[1])),
-            configurations: lines[2..]
-                .chunks_exact(LINES_OF_A_CONFIGURATION)
-                .map(Configuration::of)
-                .collect(),
+            words: after("seen: ", next()).to_string(),
+            window: number(after("window: from line ", next())),
+            configurations: iter::from_fn(|| Configuration::next(&mut lines)).collect(),
         }
     }
 }
 
 impl Configuration {
-    fn of(lines: &[&str]) -> Self {
-        Configuration {
-            made: match after("made: ", lines[0]) {
+    /// That of the next lines.
+    fn next<'a>(lines: &mut impl Iterator<Item = &'a str>) -> Option<Self> {
+        Some(Configuration {
+            made: match after("made: ", lines.next()?) {
                 "none" => Vec::new(),
                 some => ids(after("lines", some), |line| line.parse().ok()),
             },
-            possible: after("possible: ", lines[1]).to_string(),
-            nodes: ids(after("nodes:", lines[2]), |id| id.parse().ok()),
-            ports: ids(after("ports:", lines[3]), |id| {
+            possible: after("possible: ", lines.next()?).to_string(),
+            nodes: ids(after("nodes:", lines.next()?), |id| id.parse().ok()),
+            ports: ids(after("ports:", lines.next()?), |id| {
                 u128::from_str_radix(id, 16).ok()
             }),
-        }
+        })
     }
 }
-
-/// How many lines of a report are about one configuration.
-const LINES_OF_A_CONFIGURATION: usize = 4;
 
 /// What stands in a line behind these words.
 fn after<'a>(front: &str, line: &'a str) -> &'a str {
