@@ -311,7 +311,7 @@ if has nm; then
     run "libiox2sd exports the functions of the headers alone" same_exports
 fi
 
-# ---- The same programs in each language ----
+# ---- The same programs in each language, where there is an iceoryx2.toml ----
 
 # The first of the programs of a name is what the others are compared with.
 alike() {
@@ -330,7 +330,7 @@ compiled() {
     has "$1" || return 0
     run "$1 $2.$3 compiles" "$1" "$4" "${warnings[@]}" -O2 -I../include "../examples/$2.$3" \
         out/libiox2sd.a -o "$work/caller" &&
-        run "$1 $2.$3 prints the same as the others" alike "$2" "$work/caller"
+        run "$1 $2.$3 prints the same as the others" alike "$2" env -C ../docs "$work/caller"
 }
 
 # Runs a program in a package of its own in a folder outside, which depends on the crate at a path.
@@ -347,13 +347,13 @@ iox2sd = { path = "$2" }
 name = "$1"
 path = "$1.rs"
 END
-    CARGO_TARGET_DIR=$work/rust env -u IOX2SD_LIB_DIR cargo run --quiet --offline --jobs 1 \
-        --manifest-path "$work/package/Cargo.toml"
+    CARGO_TARGET_DIR=$work/rust env -C ../docs -u IOX2SD_LIB_DIR cargo run --quiet --offline \
+        --jobs 1 --manifest-path "$work/package/Cargo.toml"
 }
 
 of_python() {
-    PYTHONDONTWRITEBYTECODE=1 PYTHONPATH=python IOX2SD_LIBRARY=$PWD/out/libiox2sd.so.2 \
-        python3 "../examples/$1.py"
+    PYTHONDONTWRITEBYTECODE=1 PYTHONPATH=$PWD/python IOX2SD_LIBRARY=$PWD/out/libiox2sd.so.2 \
+        env -C ../docs python3 "../examples/$1.py"
 }
 
 for name in short first; do
@@ -463,7 +463,7 @@ installation
 
 if has cargo; then
     run "cargo test" crate_tests
-    for example in first discovery factory; do
+    for example in discovery factory; do
         run "cargo run --example $example" crate run --quiet --example "$example"
     done
     run "cargo check and cargo doc pass without the library" without_library

@@ -54,7 +54,7 @@ tar xzf "$work"/dist/iox2sd-*-linux-gnu.tar.gz -C "$work/any where"
 version=$(cd "$work/any where" && echo iox2sd-* | sed 's/^iox2sd-\([0-9.]*\)-.*/\1/')
 mv "$work/any where"/iox2sd-* "$work/prefix"
 prefix=$work/prefix
-mkdir "$work/c" && cd "$work/c" && cp "$work"/examples/short.* .
+mkdir "$work/c" && cd "$work/c" && cp "$work"/examples/short.* "$prefix/share/doc/iox2sd/iceoryx2.toml" .
 c_static() { gcc -std=c99 "-I$prefix/include" short.c "$prefix/lib/libiox2sd.a" -o c && prints "$work/short" ./c; }
 cpp_static() {
     g++ -std=c++17 "-I$prefix/include" short.cpp "$prefix/lib/libiox2sd.a" -o cpp &&
@@ -152,7 +152,7 @@ fi
 
 by_cargo() {
     mkdir -p "$work/rust/src" && tar xzf "$work"/dist/iox2sd-*-rust.tar.gz -C "$work/rust" &&
-        cp "$work/examples/short.rs" "$work/rust/src/main.rs" &&
+        cp "$work/examples/short.rs" "$work/rust/src/main.rs" && cp iceoryx2.toml "$work/rust" &&
         printf '[package]\nname = "mine"\nedition = "2021"\n[dependencies]\niox2sd = { path = "%s" }\n' \
             "$(basename "$work"/rust/iox2sd-*)" > "$work/rust/Cargo.toml" &&
         (cd "$work/rust" && env -u IOX2SD_LIB_DIR cargo run --quiet --offline) > "$work/printed" &&

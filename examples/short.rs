@@ -1,11 +1,10 @@
-use iox2sd::dynamic_config::event;
 use iox2sd::prelude::*;
+
 fn main() -> Result<(), Box<dyn std::error::Error>> {
-    let ports = event::DynamicConfigSettings {
-        number_of_listeners: 2,
-        number_of_notifiers: 2,
-    };
-    let mut service = DynamicConfig::new(ports, 1, 7)?;
+    let file = Config::from_toml_file("iceoryx2.toml")?;
+    let (name, id) = ("My/Event".parse()?, UniqueServiceId::new(1, 0, 0, 2));
+    let description = StaticConfig::new_event(&name, &file.config, id)?;
+    let mut service = DynamicConfig::with_capacities(&description, 7)?;
     let node = service.register_node_id(UniqueNodeId::new(1, 0, 0, 1).ok_or("no node")?)?;
     println!("slot {} of service {}", node.slot(), node.service());
     if service.deregister_node_id(node)? == DeregisterNodeState::NoMoreOwners {

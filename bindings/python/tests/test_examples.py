@@ -74,9 +74,9 @@ OF_FILES = {
 """The status of the program settings.py of files, and what it prints of them."""
 
 LAST = "DeregisterNodeState.NO_MORE_OWNERS\n"
-FIRST = f"""\
-(UniqueNodeId(process=1, seconds=0, nanoseconds=0, counter=1),)
-{LAST}JtFig-6tUnCFgFtxiQEiaa2kw30
+SHORT = """\
+slot 0 of service 7
+it is locked
 """
 
 
@@ -84,7 +84,8 @@ class Examples(unittest.TestCase):
     def run_program(self, *arguments):
         environment = os.environ | {"PYTHONPATH": str(PACKAGE), "PYTHONDONTWRITEBYTECODE": "1"}
         command = [sys.executable, "-W", "error", *arguments]
-        return subprocess.run(command, capture_output=True, text=True, env=environment)
+        folder = PROJECT / "docs"  # It has an iceoryx2.toml.
+        return subprocess.run(command, capture_output=True, text=True, env=environment, cwd=folder)
 
     def printed(self, *arguments):
         ended = self.run_program(*arguments)
@@ -114,7 +115,7 @@ class Examples(unittest.TestCase):
         self.assertIn("No such file", ended.stderr)
 
     def test_programs_of_the_pages(self):
-        pages = {PROJECT / "docs" / "PYTHON.md": FIRST, PACKAGE / "README.md": LAST}
+        pages = {PROJECT / "docs" / "PYTHON.md": SHORT, PACKAGE / "README.md": LAST}
         for page, expected in pages.items():
             program = re.search(r"```python\n(.*?)```", page.read_text(), re.DOTALL).group(1)
             with self.subTest(page=page):
