@@ -1,6 +1,5 @@
 """Writes the pages: one for each crate and one for its definitions, an index, and all names."""
 
-import json
 import re
 import shutil
 from collections import defaultdict
@@ -15,14 +14,20 @@ NAMED = {"fn": "function", "const": "constant"}
 KINDS = {"trait": "Traits", "struct": "Types", "enum": "Types", "type": "Other names of types",
          "const": "Constants", "fn": "Functions"}
 TITLE = "service_descriptions"
+SEARCH = """<script>
+document.querySelector("input").addEventListener("input", ({target}) => {
+    const word = target.value.toLowerCase();
+    for (const row of document.querySelectorAll(".names li"))
+        row.hidden = !row.textContent.toLowerCase().includes(word);
+});
+</script>"""
 
 
 class Pages:
     """The pages of one project, by their file names."""
 
-    def __init__(self, project, tests, words, top):
+    def __init__(self, project, words, top):
         self.project = project
-        self.tests = tests
         self.words = words
         self.parts = Parts(project)
         self.names = []
@@ -42,7 +47,7 @@ class Pages:
         self.files["index.html"] = self.index_page()
 
     def page(self, title, body, now=""):
-        """A whole page with the head, the search and the list of crates."""
+        """A whole page with the head and the list of crates."""
         crates = "".join(
             f'<li><a href="{name}.html"{" aria-current=page" if name == now else ""}>{name}</a>'
             for name in self.project.crates
@@ -51,20 +56,15 @@ class Pages:
             '<!doctype html>\n<html lang="en"><head><meta charset="utf-8">'
             '<meta name="viewport" content="width=device-width, initial-scale=1">'
             f"<title>{escape(title)}</title>"
-            '<link rel="stylesheet" href="style.css"><script src="names.js" defer></script>'
-            '<script src="search.js" defer></script></head><body>'
-            f'<header><a class="home" href="index.html">{TITLE}</a>'
-            '<div class="search"><input id="search" type="search" autocomplete="off" '
-            'placeholder="Search a name" aria-label="Search a name">'
-            '<ul id="found" aria-live="polite"></ul></div></header>'
-            f'<nav aria-label="Crates"><details open id="crates"><summary>Crates</summary>'
-            f'<ul>{crates}</ul></details><p><a href="names.html">All names</a></nav>'
+            '<link rel="stylesheet" href="style.css"></head><body>'
+            f'<header><a href="index.html">{TITLE}</a><a href="names.html">All names</a></header>'
+            f'<nav aria-label="Crates"><details open><summary>Crates</summary><ul>{crates}</ul>'
+            "</details></nav>"
             f"<main><h1>{escape(title)}</h1>\n{body}</main></body></html>\n"
         )
 
-    def remember(self, name, kind, crate, href, doc):
-        about = first_sentence(doc).replace("`", "")
-        self.names.append([name, NAMED.get(kind, kind), crate, href, about])
+    def remember(self, name, kind, crate, href):
+        self.names.append([name, NAMED.get(kind, kind), crate, href])
 
     def home(self, shown):
         """The module of a type beside which its crate has another one of that name, or nothing."""
@@ -118,7 +118,7 @@ class Pages:
         anchor = ".".join(module.path)
         title = f"<h2 id=\"{anchor}\">Module <code>{escape(name)}</code></h2>" if name else ""
         if name:
-            self.remember(name, "module", crate.name, f"{crate.name}.html#{anchor}", module.doc)
+            self.remember(name, "module", crate.name, f"{crate.name}.html#{anchor}")
         doc = self.parts.prose(module.doc, module) if name else ""
         sections = defaultdict(list)
         for shown in items:
@@ -132,12 +132,11 @@ class Pages:
     def shown(self, crate, shown):
         item, module = shown.item, shown.module
         if item.kind == "fn":
-            tests = self.tests.of_function(item.name)
-            return self.function(crate, item, module, module.scope, shown.anchor, "", tests)
+            return self.function(crate, item, module, module.scope, shown.anchor, "")
         href = f"{crate.name}.html#{shown.anchor}"
         owner = self.home(shown)
         title = f"{owner}::{item.name}" if owner else item.name
-        self.remember(title, item.kind, crate.name, href, item.doc)
+        self.remember(title, item.kind, crate.name, href)
         derived = [a for a in item.attributes if a.startswith(("#[derive", "#[repr"))]
         head = "\n".join(derived + [item.signature])
         body = [f'<section class="item" id="{shown.anchor}">'
@@ -184,18 +183,14 @@ class Pages:
         return f'<p>Implements:</p><ul class="implemented">{"".join(rows)}</ul>' if rows else ""
 
     def method(self, crate, shown, method, module, scope):
-        owners = [shown.item.name] + [
-            s.item.name for s in crate.shown.values()
-            if s.item.kind == "type" and f"= {shown.item.name}<" in s.item.signature]
         anchor = f"{shown.anchor}.{method.name}"
         home = self.home(shown)
         owner = f"{home}::{shown.item.name}" if home else shown.item.name
-        tests = self.tests.of_method(owners, method, home)
-        return self.function(crate, method, module, scope, anchor, owner, tests)
+        return self.function(crate, method, module, scope, anchor, owner)
 
-    def function(self, crate, function, module, scope, anchor, owner, tests):
+    def function(self, crate, function, module, scope, anchor, owner):
         title = f"{owner}::{function.name}" if owner else function.name
-        self.remember(title, function.kind, crate.name, f"{crate.name}.html#{anchor}", function.doc)
+        self.remember(title, function.kind, crate.name, f"{crate.name}.html#{anchor}")
         parts = self.parts
         return (
             f'<section class="item" id="{anchor}">'
@@ -203,7 +198,7 @@ class Pages:
             f'<pre class="signature">{parts.code(function.signature, module)}</pre>'
             f"{parts.prose(function.doc, module)}{parts.clauses(function, scope)}"
             f"{parts.named([function], scope)}"
-            f"{parts.edits(self.turned(function, module, owner))}{parts.called(tests)}</section>\n"
+            f"{parts.edits(self.turned(function, module, owner))}</section>\n"
         )
 
     def turned(self, function, module, owner):
@@ -231,7 +226,7 @@ class Pages:
                 body.append(f'<h2 id="{module}">{module}</h2><p>{about}</p>')
             anchor = f"{module}.{found.name}"
             href = self.parts.definition_link(found)
-            self.remember(found.name, "definition", crate.name, href, found.comment)
+            self.remember(found.name, "definition", crate.name, href)
             body.append(
                 f'<section class="item" id="{escape(anchor)}"><h4><a href="#{escape(anchor)}">'
                 f"{breakable(found.name)}</a></h4><p>{self.parts.inline(found.comment, None)}</p>"
@@ -242,8 +237,9 @@ class Pages:
         rows = "".join(
             f'<li><a href="{escape(href)}"><code>{escape(name)}</code></a> '
             f"<small>{kind} of {crate}</small>"
-            for name, kind, crate, href, _ in sorted(self.names, key=lambda n: n[0].lower()))
-        return self.page("All names", f'<ul class="names">{rows}</ul>')
+            for name, kind, crate, href in sorted(self.names, key=lambda n: n[0].lower()))
+        return self.page("All names", f'<input type="search" placeholder="Search a name" '
+                         f'aria-label="Search a name"><ul class="names">{rows}</ul>{SEARCH}')
 
     def index_page(self):
         rows = "".join(
@@ -270,9 +266,7 @@ class Pages:
         folder.mkdir(parents=True, exist_ok=True)
         for name, text in self.files.items():
             (folder / name).write_text(text)
-        (folder / "names.js").write_text(f"const NAMES = {json.dumps(self.names)};\n")
-        for name in ("style.css", "search.js"):
-            shutil.copy(Path(__file__).parent / name, folder / name)
+        shutil.copy(Path(__file__).parent / "style.css", folder)
 
 
 def scope_in(module, block):

@@ -1,8 +1,7 @@
-"""Writes the parts of a page: code and doc text with links, clauses, edits and tests."""
+"""Writes the parts of a page: code and doc text with links, clauses and edits."""
 
 import html
 import re
-from collections import defaultdict
 
 WORD = re.compile(r"[^\W\d][\w']*(?:\.[^\W\d][\w']*)*")
 NAME = re.compile(r"(?:\w+::)*\w+")
@@ -170,16 +169,3 @@ class Parts:
                        for e in edits)
         return (f"<details class=more><summary>{plural(len(edits), 'must-fail edit')}"
                 f"</summary><ul>{rows}</ul></details>")
-
-    def called(self, tests):
-        if not tests:
-            return ""
-        by_file = defaultdict(list)
-        for name, file in sorted(set(tests)):
-            by_file[file].append(name)
-        rows = "".join(f"<li><code>{breakable(file)}</code>: "
-                       + ", ".join(f"<code>{breakable(name)}</code>" for name in names)
-                       for file, names in by_file.items())
-        count = plural(len(set(tests)), "test")
-        return (f"<details class=more><summary>Called by {count}</summary><ul>{rows}</ul>"
-                "</details>")

@@ -115,13 +115,13 @@ def expand_use(path):
 
 
 def read_modules(top, crate, file, path, public, parent):
-    """The module in a file, and those below it; those for tests alone in crates of tests alone."""
+    """The module in a file, and those below it, but for tests."""
     source = read_source(str(file), file.read_text())
     where = str(file.relative_to(top))
     module = Module(crate, path, where, source.doc, source.items, public, parent)
     folder = file.parent if file.stem in ("lib", "main") else file.parent / file.stem
     for item in source.items:
-        if item.kind == "mod" and (crate.endswith("_tests") or not item.is_for_tests):
+        if item.kind == "mod" and not item.is_for_tests:
             below = folder / f"{item.name}.rt"
             if below.exists():
                 module.children[item.name] = read_modules(
@@ -179,9 +179,8 @@ class Project:
     def __init__(self, top):
         lines = (top / "crates.txt").read_text().splitlines()
         lines = [line.split("#")[0].strip() for line in lines]
-        crates = [read_crate(top, line) for line in lines if line]
-        self.crates = {crate.name: crate for crate in crates if not crate.name.endswith("_tests")}
-        self.tests = [crate for crate in crates if crate.name.endswith("_tests")]
+        crates = [read_crate(top, line) for line in lines if line and "_tests" not in line.split(":")[0]]
+        self.crates = {crate.name: crate for crate in crates}
         self.definitions = {
             (d.crate, d.module, d.name): d for c in self.crates.values() for d in c.definitions
         }
