@@ -13,14 +13,14 @@ use Rattle.iox2_config.specs.declared.config.node.Node.{Node}
 use Rattle.iox2_config.specs.declared.config.publish_subscribe.PublishSubscribe.{PublishSubscribe}
 use Rattle.iox2_config.specs.declared.config.request_response.RequestResonse.{RequestResonse}
 use Rattle.iox2_config.specs.declared.config.service.Service.{Service}
-use Rattle.iox2sd_settings.specs.declared.settings.BlackboardSettings.{BlackboardSettings}
-use Rattle.iox2sd_settings.specs.declared.settings.EventSettings.{EventSettings}
-use Rattle.iox2sd_settings.specs.declared.settings.GlobalSettings.{GlobalSettings as PlainGlobal}
-use Rattle.iox2sd_settings.specs.declared.settings.OptionalDuration.{OptionalDuration}
-use Rattle.iox2sd_settings.specs.declared.settings.OptionalEventId.{OptionalEventId}
-use Rattle.iox2sd_settings.specs.declared.settings.PlainDuration.{PlainDuration}
-use Rattle.iox2sd_settings.specs.declared.settings.PublishSubscribeSettings.{PublishSubscribeSettings}
-use Rattle.iox2sd_settings.specs.declared.settings.RequestResponseSettings.{RequestResponseSettings}
+use Rattle.iox2sd_common.specs.declared.settings.BlackboardSettings.{BlackboardSettings}
+use Rattle.iox2sd_common.specs.declared.settings.EventSettings.{EventSettings}
+use Rattle.iox2sd_common.specs.declared.settings.GlobalSettings.{GlobalSettings as PlainGlobal}
+use Rattle.iox2sd_common.specs.declared.settings.OptionalDuration.{OptionalDuration}
+use Rattle.iox2sd_common.specs.declared.settings.OptionalEventId.{OptionalEventId}
+use Rattle.iox2sd_common.specs.declared.settings.PlainDuration.{PlainDuration}
+use Rattle.iox2sd_common.specs.declared.settings.PublishSubscribeSettings.{PublishSubscribeSettings}
+use Rattle.iox2sd_common.specs.declared.settings.RequestResponseSettings.{RequestResponseSettings}
 
 -- the number of what a sender does where a receiver's buffer is full
 abbrev pub backpressure_number : BackpressureStrategy → ℕ

@@ -1,10 +1,10 @@
 //! The settings that services get where nothing else is said, as plain values.
 ghost use Rattle.std.specs.Prelude.{◌≡◌};
-ghost use Rattle.iox2sd_settings.specs.Settings.{backpressure_number, allocation_number, told_span};
-ghost use Rattle.iox2sd_settings.specs.Settings.{told_duration, told_event_id, told_global};
-ghost use Rattle.iox2sd_settings.specs.Settings.{told_global_with};
-ghost use Rattle.iox2sd_settings.specs.Settings.{told_publish_subscribe, told_event};
-ghost use Rattle.iox2sd_settings.specs.Settings.{told_request_response, told_blackboard};
+ghost use Rattle.iox2sd_common.specs.Settings.{backpressure_number, allocation_number, told_span};
+ghost use Rattle.iox2sd_common.specs.Settings.{told_duration, told_event_id, told_global};
+ghost use Rattle.iox2sd_common.specs.Settings.{told_global_with};
+ghost use Rattle.iox2sd_common.specs.Settings.{told_publish_subscribe, told_event};
+ghost use Rattle.iox2sd_common.specs.Settings.{told_request_response, told_blackboard};
 
 use iox2_config::config::{
     AllocationStrategy, BackpressureStrategy, Blackboard, Event, Global, Node, PublishSubscribe,

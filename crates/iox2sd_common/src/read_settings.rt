@@ -1,21 +1,21 @@
 //! Settings that a caller filled: which field is invalid, if one is.
 ghost use Rattle.std.specs.Prelude.{◌≡◌};
-ghost use Rattle.iox2sd_settings.specs.Settings.{told_blackboard};
-ghost use Rattle.iox2sd_settings.specs.ReadSettings.{field_number, field_status, field_answer};
-ghost use Rattle.iox2sd_settings.specs.ReadSettings.{no_field, refusal_answer};
-ghost use Rattle.iox2sd_settings.specs.ReadSettings.{ReadsBackpressure, ReadsAllocation};
-ghost use Rattle.iox2sd_settings.specs.ReadSettings.{ReadsDuration, ReadsDeadline, ReadsEventId};
-ghost use Rattle.iox2sd_settings.specs.ReadSettings.{ReadsPublishSubscribe, ReadsEvent};
-ghost use Rattle.iox2sd_settings.specs.ReadSettings.{ReadsRequestResponse, ReadsGlobal};
+ghost use Rattle.iox2sd_common.specs.Settings.{told_blackboard};
+ghost use Rattle.iox2sd_common.specs.ReadSettings.{field_number, field_status, field_answer};
+ghost use Rattle.iox2sd_common.specs.ReadSettings.{no_field, refusal_answer};
+ghost use Rattle.iox2sd_common.specs.ReadSettings.{ReadsBackpressure, ReadsAllocation};
+ghost use Rattle.iox2sd_common.specs.ReadSettings.{ReadsDuration, ReadsDeadline, ReadsEventId};
+ghost use Rattle.iox2sd_common.specs.ReadSettings.{ReadsPublishSubscribe, ReadsEvent};
+ghost use Rattle.iox2sd_common.specs.ReadSettings.{ReadsRequestResponse, ReadsGlobal};
 
 use super::settings::{
     BlackboardSettings, EventSettings, GlobalSettings, OptionalDuration, OptionalEventId,
     PlainDuration, PublishSubscribeSettings, RequestResponseSettings,
 };
+use crate::status::Status;
 use iox2_config::config::{
     AllocationStrategy, BackpressureStrategy, Blackboard, Event, PublishSubscribe, RequestResonse,
 };
-use iox2sd_common::status::Status;
 use std::time::Duration;
 
 /// A field of settings that may be invalid.
@@ -116,7 +116,7 @@ pub enum Refusal {
 }
 
 impl From<Status> for Refusal {
-    ghost use Rattle.iox2sd_settings.specs.declared.read_settings.Refusal.{Refusal};
+    ghost use Rattle.iox2sd_common.specs.declared.read_settings.Refusal.{Refusal};
 
     ghost from_gives = { λ status refusal. refusal ≡ Refusal.Cause status };
 
@@ -126,7 +126,7 @@ impl From<Status> for Refusal {
 }
 
 impl From<Field> for Refusal {
-    ghost use Rattle.iox2sd_settings.specs.declared.read_settings.Refusal.{Refusal};
+    ghost use Rattle.iox2sd_common.specs.declared.read_settings.Refusal.{Refusal};
 
     ghost from_gives = { λ field refusal. refusal ≡ Refusal.Invalid field };
 

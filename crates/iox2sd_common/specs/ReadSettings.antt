@@ -8,21 +8,21 @@ use Rattle.iox2_config.specs.declared.config.choices.BackpressureStrategy.{Backp
 use Rattle.iox2_config.specs.declared.config.event.Event.{Event}
 use Rattle.iox2_config.specs.declared.config.publish_subscribe.PublishSubscribe.{PublishSubscribe}
 use Rattle.iox2_config.specs.declared.config.request_response.RequestResonse.{RequestResonse}
-use Rattle.iox2sd_settings.specs.Settings.{allocation_number, backpressure_number, told_blackboard, told_publish_subscribe, told_request_response}
+use Rattle.iox2sd_common.specs.Settings.{allocation_number, backpressure_number, told_blackboard, told_publish_subscribe, told_request_response}
 use Rattle.iox2sd_common.specs.Status.{code}
-use Rattle.iox2sd_settings.specs.declared.read_settings.Field.{Field}
-use Rattle.iox2sd_settings.specs.declared.read_settings.Field.TheVariants as field
-use Rattle.iox2sd_settings.specs.declared.read_settings.FieldAnswer.{FieldAnswer}
-use Rattle.iox2sd_settings.specs.declared.read_settings.Refusal.{Refusal}
-use Rattle.iox2sd_settings.specs.declared.read_settings.Refusal.TheVariants as refusal
-use Rattle.iox2sd_settings.specs.declared.settings.BlackboardSettings.{BlackboardSettings}
-use Rattle.iox2sd_settings.specs.declared.settings.EventSettings.{EventSettings}
-use Rattle.iox2sd_settings.specs.declared.settings.GlobalSettings.{GlobalSettings}
-use Rattle.iox2sd_settings.specs.declared.settings.OptionalDuration.{OptionalDuration}
-use Rattle.iox2sd_settings.specs.declared.settings.OptionalEventId.{OptionalEventId}
-use Rattle.iox2sd_settings.specs.declared.settings.PlainDuration.{PlainDuration}
-use Rattle.iox2sd_settings.specs.declared.settings.PublishSubscribeSettings.{PublishSubscribeSettings}
-use Rattle.iox2sd_settings.specs.declared.settings.RequestResponseSettings.{RequestResponseSettings}
+use Rattle.iox2sd_common.specs.declared.read_settings.Field.{Field}
+use Rattle.iox2sd_common.specs.declared.read_settings.Field.TheVariants as field
+use Rattle.iox2sd_common.specs.declared.read_settings.FieldAnswer.{FieldAnswer}
+use Rattle.iox2sd_common.specs.declared.read_settings.Refusal.{Refusal}
+use Rattle.iox2sd_common.specs.declared.read_settings.Refusal.TheVariants as refusal
+use Rattle.iox2sd_common.specs.declared.settings.BlackboardSettings.{BlackboardSettings}
+use Rattle.iox2sd_common.specs.declared.settings.EventSettings.{EventSettings}
+use Rattle.iox2sd_common.specs.declared.settings.GlobalSettings.{GlobalSettings}
+use Rattle.iox2sd_common.specs.declared.settings.OptionalDuration.{OptionalDuration}
+use Rattle.iox2sd_common.specs.declared.settings.OptionalEventId.{OptionalEventId}
+use Rattle.iox2sd_common.specs.declared.settings.PlainDuration.{PlainDuration}
+use Rattle.iox2sd_common.specs.declared.settings.PublishSubscribeSettings.{PublishSubscribeSettings}
+use Rattle.iox2sd_common.specs.declared.settings.RequestResponseSettings.{RequestResponseSettings}
 use Rattle.iox2sd_common.specs.declared.status.Status.{Status}
 use Rattle.iox2sd_common.specs.declared.status.Status.TheVariants as status
 
