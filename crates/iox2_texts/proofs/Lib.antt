@@ -2,6 +2,5 @@ pub mod Callable
 pub mod ListingLemmas
 pub mod Multiple
 pub mod PathLemmas
-pub mod Merging
 pub mod TextLemmas
 pub mod VerifyLemmas

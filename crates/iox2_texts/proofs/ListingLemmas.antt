@@ -74,10 +74,6 @@ pair_tie p q e =
     let values = texts_ties p.value q.value in
     grind (arith, bytes_decides p.key q.key, bytes_decides p.value q.value)
 
--- and so are two of which neither is below the other
-pub level : (p q : Pair) → is_lt (pair_cmp p q) ≡ false → is_lt (pair_cmp q p) ≡ false → p ≡ q
-level p q above below = grind (arith, pair_tie, pair_cmp_total.antisymm)
-
 -- rising lists with the same pairs are one
 pub listing_unique : (xs ys : List Pair) → IsSorted pair_cmp xs → IsSorted pair_cmp ys
     → IsPermutation xs ys

@@ -1,5 +1,5 @@
 -- What a verifier requires, and what a set lacks.
-use Rattle.std.specs.Prelude.{◌≡◌, ◌≢◌, ℕ, List, Contains, All, take, slice_get, Some}
+use Rattle.std.specs.Prelude.{◌≡◌, ◌≢◌, ℕ, List, Option, Contains, All, take, slice_get, Some, None}
 use Rattle.std.specs.declared.cmp.Ordering.TheVariants.{Less}
 use Rattle.iox2_texts.specs.Pair.{Pair, pair_cmp}
 use Rattle.iox2_texts.specs.Attribute.{ContainsKey}
@@ -26,3 +26,17 @@ abbrev pub IsFirstMissing : List (List ℕ) → List Pair → List ℕ → Type 
 IsFirstMissing keys pairs missing =
     (i : ℕ) × (slice_get keys i ≡ Some missing) × (¬ (ContainsKey pairs missing))
     × All (ContainsKey pairs) (take i keys)
+
+-- the element at the index has the property, and none before it has
+abbrev pub IsFirst : {X : Type 0} → (X → Type 0) → List X → ℕ → Type 0
+IsFirst {X} P xs i = (x : X) × (slice_get xs i ≡ Some x) × P x × All (λ y. ¬ (P y)) (take i xs)
+
+-- what a search for an element with the property answers: the index of the first, if there is one
+abbrev pub Finds : {X : Type 0} → (X → Type 0) → List X → Option ℕ → Type 0
+Finds P xs None = All (λ x. ¬ (P x)) xs
+Finds P xs (Some i) = IsFirst P xs i
+
+-- what a search for an element without the property answers
+abbrev pub Misses : {X : Type 0} → (X → Type 0) → List X → Option ℕ → Type 0
+Misses P xs None = All P xs
+Misses {X} P xs (Some i) = (x : X) × (slice_get xs i ≡ Some x) × (¬ (P x)) × All P (take i xs)

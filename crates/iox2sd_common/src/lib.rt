@@ -1,8 +1,10 @@
-//! What the exports of all libraries for C share: statuses, answers, ids as plain values,
-//! and messaging patterns as numbers.
+//! What the exports of all libraries for C share: statuses, answers, ids and settings as plain
+//! values, and messaging patterns as numbers.
 #![tactic(auto)]
 
 pub mod answers;
 pub mod id;
 pub mod pattern;
+pub mod read_settings;
+pub mod settings;
 pub mod status;

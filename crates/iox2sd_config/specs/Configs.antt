@@ -6,7 +6,7 @@ use Rattle.iox2sd_common.specs.Answers.{zero_padded}
 use Rattle.iox2sd_config.specs.declared.config.PlainConfig.{PlainConfig}
 use Rattle.iox2sd_config.specs.declared.config.PlainText.{PlainText}
 use Rattle.iox2sd_config.specs.declared.config.PlainTexts.{PlainTexts}
-use Rattle.iox2sd_settings.specs.Settings.{told_global, told_publish_subscribe, told_event, told_request_response, told_blackboard}
+use Rattle.iox2sd_common.specs.Settings.{told_global, told_publish_subscribe, told_event, told_request_response, told_blackboard}
 
 -- a text with its length
 abbrev pub told_text : List ℕ → PlainText

@@ -26,9 +26,9 @@ use Rattle.iox2sd_config.specs.declared.write.BadText.{BadText}
 use Rattle.iox2sd_config.specs.declared.write.Unfit.{Unfit}
 use Rattle.iox2sd_config.specs.declared.write.Unfit.TheVariants as unfit
 use Rattle.iox2sd_config.specs.declared.write.WriteAnswer.{WriteAnswer}
-use Rattle.iox2sd_settings.specs.ReadSettings.{field_status, field_number, ReadsPublishSubscribe, ReadsEvent, ReadsRequestResponse, ReadsBlackboard, ReadsGlobal}
-use Rattle.iox2sd_settings.specs.declared.read_settings.Field.{Field}
-use Rattle.iox2sd_settings.specs.declared.settings.GlobalSettings.{GlobalSettings as PlainGlobal}
+use Rattle.iox2sd_common.specs.ReadSettings.{field_status, field_number, ReadsPublishSubscribe, ReadsEvent, ReadsRequestResponse, ReadsBlackboard, ReadsGlobal}
+use Rattle.iox2sd_common.specs.declared.read_settings.Field.{Field}
+use Rattle.iox2sd_common.specs.declared.settings.GlobalSettings.{GlobalSettings as PlainGlobal}
 
 -- a path: at most 255 bytes from 1 to 127
 unfoldable pub IsPath : List ℕ → Type 0

@@ -4,7 +4,7 @@ ghost use Rattle.iox2sd_config.specs.Configs.{told_text, told_texts, told_config
 
 use iox2_config::config::{Config, Global};
 use iox2sd_common::answers::zero_padded;
-use iox2sd_settings::settings::{
+use iox2sd_common::settings::{
     BlackboardSettings, EventSettings, GlobalSettings, PublishSubscribeSettings,
     RequestResponseSettings, blackboard_of, event_of, global_of, publish_subscribe_of,
     request_response_of,

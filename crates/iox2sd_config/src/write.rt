@@ -15,11 +15,11 @@ use iox2_config::config::{Config, Defaults, Global, Node, Service};
 use iox2_config_file::{ConfigWriteError, write_config};
 use iox2_texts::paths::{FileName, Path};
 use iox2sd_common::answers::put;
-use iox2sd_common::status::Status;
-use iox2sd_settings::read_settings::{
+use iox2sd_common::read_settings::{
     Field, read_blackboard, read_event, read_global, read_publish_subscribe, read_request_response,
 };
-use iox2sd_settings::settings::GlobalSettings;
+use iox2sd_common::settings::GlobalSettings;
+use iox2sd_common::status::Status;
 use std::alloc;
 use std::time::Duration;
 

@@ -6,10 +6,10 @@ use Rattle.iox2sd_common.specs.declared.id.Id.{Id}
 use Rattle.iox2sd_common.specs.declared.status.Status.{Status}
 use Rattle.iox2sd_values.specs.Descriptions.{DescribesAs, Fills, FillsNamed, MakesBy, MakesNamed, MakesOf, ReadsAs}
 use Rattle.iox2sd_values.specs.Names.{ReadsAnyName}
-use Rattle.iox2sd_settings.specs.declared.read_settings.Refusal.{Refusal}
+use Rattle.iox2sd_common.specs.declared.read_settings.Refusal.{Refusal}
 use Rattle.iox2sd_values.specs.declared.descriptions.ServiceDescription.{ServiceDescription}
-use Rattle.iox2sd_settings.specs.declared.read_settings.Field.{Field}
-use Rattle.iox2sd_settings.specs.declared.read_settings.FieldAnswer.{FieldAnswer}
+use Rattle.iox2sd_common.specs.declared.read_settings.Field.{Field}
+use Rattle.iox2sd_common.specs.declared.read_settings.FieldAnswer.{FieldAnswer}
 
 -- what is made of the pattern is made of the settings
 as_read : {A : Type 0} (Reads : Result A Field → Type 0) (pattern_of : A → MessagingPattern)

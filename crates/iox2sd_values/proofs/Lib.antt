@@ -2,6 +2,5 @@ pub mod Describing
 pub mod Faults
 pub mod Legal
 pub mod Listings
-pub mod Missing
 pub mod Values
 pub mod Verdicts

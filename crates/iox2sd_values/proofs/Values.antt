@@ -1,10 +1,11 @@
 -- How many values a key has in a caller's pairs.
-use Rattle.std.proofs.Common.{◌≡◌, ℕ, ◌+◌, ◌<◌, Bool, true, false, cond, List, [], ◌∷◌, map, length, refl, arith, sym, ◌∙◌}
+use Rattle.std.proofs.Common.{◌≡◌, ℕ, ◌+◌, ◌<◌, Bool, true, false, cond, List, [], ◌∷◌, map, ◌++◌, take, length, refl, arith, ap, sym, subst, ◌∙◌}
 use Rattle.std.specs.List.{count_by, filter}
-use Rattle.std.specs.Prelude.{IsSorted}
+use Rattle.std.specs.Prelude.{IsPermutation, IsSorted}
+use Rattle.std.proofs.Math.Seq.{take-append_seam}
 use Rattle.std.proofs.lemmas.List.Recursion.{is_count_by}
 use Rattle.std.proofs.lemmas.List.{get_or-map, length-map}
-use Rattle.std.proofs.lemmas.List.Sorted.{sum_by-IsPermutation}
+use Rattle.std.proofs.lemmas.List.Sorted.{IsPermutation-map, length_permutation, sum_by-IsPermutation}
 use Rattle.std.proofs.lemmas.List.Sums.{length-filter}
 use Rattle.iox2_texts.specs.Attribute.{IsListing, has_key, values_of}
 use Rattle.iox2_texts.specs.Pair.{Pair, pair_cmp}
@@ -44,3 +45,15 @@ rise (x ∷ xs) rises = λ k d low high.
     let below : k < length (x ∷ xs) = omega (arith, inside) in
     rw (get_or-map pair_of (x ∷ xs) (k + 1) x d inside, get_or-map pair_of (x ∷ xs) k x d below)
     (rises k x low inside)
+
+-- sorted copies of pairs, at the front of a list, are a listing of them
+pub sorts : (pairs copies sorted rest : List Attribute) → copies ≡ pairs
+    → IsPermutation copies sorted
+    → IsSorted (λ a b. pair_cmp (pair_of a) (pair_of b)) sorted
+    → IsListing (map pair_of pairs) (map pair_of (take (length pairs) (sorted ++ rest)))
+sorts pairs copies sorted rest same order rises =
+    let ordered = subst (λ l. IsPermutation l sorted) same order in
+    let as_long : length sorted ≡ length pairs = length_permutation pairs sorted ordered in
+    let front : take (length pairs) (sorted ++ rest) ≡ sorted =
+    ap (λ n. take n (sorted ++ rest)) (sym as_long) ∙ take-append_seam sorted rest in
+    rw front (IsPermutation-map pair_of pairs sorted ordered, rise sorted rises)

@@ -1,25 +1,22 @@
 -- The answer on what a set lacks, told of its listing.
-use Rattle.std.proofs.Common.{◌≡◌, ◌∙◌, ℕ, ◌<◌, List, map, take, length, get_or, refl, sym, ap}
-use Rattle.std.proofs.Common.{subst}
-use Rattle.std.specs.Prelude.{◌≢◌, All, Any, Contains, IsPermutation, Some, Ok, Err, slice_get}
-use Rattle.std.specs.Prelude.{option_map}
-use Rattle.std.specs.declared.cmp.Ordering.TheVariants.{Less}
-use Rattle.std.proofs.lemmas.List.{get_or-map, length-map, take-map}
-use Rattle.std.proofs.lemmas.List.Elements.{All-map}
-use Rattle.std.proofs.lemmas.List.Sorted.{All-permutation, Contains-permutation, IsPermutation-sym}
-use Rattle.std.proofs.lemmas.Option.{get_or_from_slice_get, slice_get-map, slice_get_within}
+use Rattle.std.proofs.Common.{◌≡◌, ◌∙◌, ℕ, ◌<◌, Option, None, Some, List, [], ◌∷◌, map, length, get_or, refl, sym, ap, subst, arith}
+use Rattle.std.specs.Prelude.{◌↔◌, Any, Contains, IsPermutation, Ok, Err}
+use Rattle.std.proofs.Math.ListN.{get_or-map}
+use Rattle.std.proofs.lemmas.List.{get_or_default, length-map}
+use Rattle.std.proofs.lemmas.List.Sorted.{Contains-permutation, IsPermutation-sym}
+use Rattle.std.proofs.lemmas.Option.{get_or_from_slice_get}
 use Rattle.iox2_texts.specs.Attribute.{IsListing, ContainsKey}
-use Rattle.iox2_texts.specs.Pair.{Pair, pair_cmp}
-use Rattle.iox2_texts.specs.Verify.{Requirements}
+use Rattle.iox2_texts.specs.Pair.{Pair}
+use Rattle.iox2_texts.specs.Verify.{Finds, IsFirst, Misses}
 use Rattle.iox2_texts.specs.declared.attribute.verifier.AttributeVerificationError.TheVariants.{NonExistingKey, IncompatibleAttribute}
+use Rattle.iox2_texts.proofs.VerifyLemmas.{Contains-Any, Misses-map, Misses-same, key_fault, least_missing}
 use Rattle.iox2sd_common.specs.Answers.{place_answer}
-use Rattle.iox2sd_values.specs.Attributes.{pair_of}
-use Rattle.iox2sd_values.specs.Missing.{Has, HasKeyOf, IsFirstLack, IsLeastAt}
-use Rattle.iox2sd_values.specs.Requirements.{ComesFrom, Judges, text_of}
 use Rattle.iox2sd_common.specs.declared.answers.PlaceAnswer.{PlaceAnswer}
+use Rattle.iox2sd_common.specs.declared.status.Status.TheVariants as status
+use Rattle.iox2sd_values.specs.Attributes.{pair_of}
+use Rattle.iox2sd_values.specs.Requirements.{Judges, text_of}
 use Rattle.iox2sd_values.specs.declared.attributes.Attribute.{Attribute}
 use Rattle.iox2sd_values.specs.declared.attributes.Key.{Key}
-use Rattle.iox2sd_common.specs.declared.status.Status.TheVariants as status
 
 -- what holds of some pair holds of some in another order
 any_moved : (P : Pair → Type 0) (xs ys : List Pair) → IsPermutation xs ys → Any P xs → Any P ys
@@ -27,95 +24,132 @@ any_moved P xs ys order some =
     let there = Contains-permutation xs ys some.1 order (some.0, some.2, some.3) in
     (there.0, some.1, there.1, there.2, some.4)
 
-module _ (set required : List Attribute) (keys : List Key) (listing : List Pair)
-    (wanted : Requirements)
-    (listed : IsListing (map pair_of set) listing) (comes : ComesFrom wanted required keys) where
-  -- the listing has what the set has
-  held : (p : Pair) → Contains (map pair_of set) p → Contains listing p
-  held p has = Contains-permutation (map pair_of set) listing p listed.0 has
+-- and of some element of which it is made
+any_made : (P : Pair → Type 0) (xs : List Attribute) → Any (λ a. P (pair_of a)) xs
+    → Any P (map pair_of xs)
+any_made P xs some =
+    let (k, a, inside, is, holds) = some in (
+      k,
+      pair_of a,
+      omega (arith, inside, length-map xs pair_of),
+      get_or-map pair_of xs k a ∙ ap pair_of is,
+      holds,
+    )
 
-  -- and no more
-  only_held : (p : Pair) → Contains listing p → Contains (map pair_of set) p
-  only_held p has = Contains-permutation listing (map pair_of set) p
-      (IsPermutation-sym (map pair_of set) listing listed.0) has
+any_maker : (P : Pair → Type 0) (xs : List Attribute) → Any P (map pair_of xs)
+    → Any (λ a. P (pair_of a)) xs
+any_maker P [] some = absurd (omega (arith, some.2))
+any_maker P (x ∷ xs) some =
+    let (k, p, inside, is, holds) = some in
+    let within : k < length (x ∷ xs) = omega (arith, inside, length-map (x ∷ xs) pair_of) in
+    let a = get_or (x ∷ xs) k x in
+    let same : p ≡ pair_of a =
+    sym is ∙ get_or_default (map pair_of (x ∷ xs)) k p (pair_of x) inside
+    ∙ get_or-map pair_of (x ∷ xs) k x in
+    (k, a, within, get_or_default (x ∷ xs) k a x within, subst P same holds)
 
-  key_held : (key : List ℕ) → ContainsKey (map pair_of set) key → ContainsKey listing key
-  key_held key has = any_moved (λ p. p.key ≡ key) (map pair_of set) listing listed.0 has
+-- what is made of the element at an index
+made_at : (xs : List Attribute) (i : ℕ) (d : Attribute) → i < length xs
+    → get_or (map pair_of xs) i (pair_of (get_or xs i d)) ≡ pair_of (get_or xs i d)
+made_at xs i d inside =
+    let within : i < length (map pair_of xs) = omega (arith, inside, length-map xs pair_of) in
+    get_or_default (map pair_of xs) i (pair_of (get_or xs i d)) (pair_of d) within
+    ∙ get_or-map pair_of xs i d
 
-  only_key_held : (key : List ℕ) → ContainsKey listing key → ContainsKey (map pair_of set) key
-  only_key_held key has =
-      any_moved (λ p. p.key ≡ key) listing (map pair_of set)
-      (IsPermutation-sym (map pair_of set) listing listed.0) has
+-- a pair of a listing stands in the list
+pub is_listed : (required wanted : List Attribute) (i : ℕ) (d : Attribute)
+    → IsListing (map pair_of required) (map pair_of wanted)
+    → i < length wanted → ¬ (Finds (λ a. pair_of a ≡ pair_of (get_or wanted i d)) required None)
+is_listed required wanted i d listing inside none =
+    let item = get_or wanted i d in
+    let within : i < length (map pair_of wanted) =
+    omega (arith, inside, length-map wanted pair_of) in
+    let has : Contains (map pair_of wanted) (pair_of item) =
+    (i, within, made_at wanted i d inside) in
+    let there = Contains-permutation (map pair_of wanted) (map pair_of required) (pair_of item)
+    (IsPermutation-sym (map pair_of required) (map pair_of wanted) listing.0) has in
+    let (k, a, below, is, same) =
+    any_maker (λ p. p ≡ pair_of item) required
+    ((Contains-Any (map pair_of required) (pair_of item)).1 there) in
+    none k a below (subst (λ x. pair_of x ≡ pair_of item) (sym is) same)
 
-  all_held : All (Has (map pair_of set)) required → All (Contains listing) wanted.pairs
-  all_held has =
-      All-permutation (Contains listing) (map pair_of required) wanted.pairs comes.0.0
-      (All-map (Contains listing) pair_of required (λ k d inside. held _ (has k d inside)))
+module _ (set required wanted : List Attribute) (keys : List Key) (listing : List Pair)
+    (listed : IsListing (map pair_of set) listing)
+    (comes : IsListing (map pair_of required) (map pair_of wanted)) where
+  -- some pair of the set has the property exactly where one of the listing has it
+  in_listing : (P : Pair → Type 0) → Any (λ a. P (pair_of a)) set ↔ Any P listing
+  in_listing P = (
+    λ some. any_moved P (map pair_of set) listing listed.0 (any_made P set some),
+    λ some. any_maker P set
+        (any_moved P listing (map pair_of set)
+        (IsPermutation-sym (map pair_of set) listing listed.0) some),
+  )
 
-  keys_held : (some : List Key) → All (HasKeyOf (map pair_of set)) some
-      → All (ContainsKey listing) (map text_of some)
-  keys_held some has = All-map (ContainsKey listing) text_of some
-      (λ k d inside. key_held _ (has k d inside))
+  has_pair : (w : Attribute) → Any (λ a. pair_of a ≡ pair_of w) set ↔ Contains listing (pair_of w)
+  has_pair w =
+      let some = in_listing (λ p. p ≡ pair_of w) in let one = Contains-Any listing (pair_of w) in
+      (λ has. one.0 (some.0 has), λ has. some.1 (one.1 has))
+
+  pairs_missed : (r : Option ℕ) → Misses (λ w. Any (λ a. pair_of a ≡ pair_of w) set) wanted r
+      → Misses (Contains listing) (map pair_of wanted) r
+  pairs_missed r misses =
+      Misses-map pair_of (Contains listing) wanted r (Misses-same _ _ wanted r has_pair misses)
+
+  keys_missed : (r : Option ℕ) → Misses (λ k. Any (λ a. a.key.now ≡ text_of k) set) keys r
+      → Misses (ContainsKey listing) (map text_of keys) r
+  keys_missed r misses =
+      Misses-map text_of (ContainsKey listing) keys r
+      (Misses-same _ _ keys r (λ k. in_listing (λ p. p.key ≡ text_of k)) misses)
+
+  -- the answer where nothing more is known of it than that it tells what is required
+  abbrev Tells : PlaceAnswer → Type 0
+  Tells answer =
+      Judges (record { pairs = map pair_of wanted; keys = map text_of keys }) listing required keys
+      answer
 
   -- the least pair that the set lacks
-  pub tells_pair : (i : ℕ) (answer : PlaceAnswer) → IsLeastAt (map pair_of set) required i
-      → answer ≡ place_answer status.MissingPair i → Judges wanted listing required keys answer
-  tells_pair i answer least is =
-      let a = least.0 in let p : Pair = pair_of a in
-      let inside : i < length required = slice_get_within required i a least.1 in
-      let here : get_or (map pair_of required) i p ≡ p =
-      get_or-map pair_of required i a p inside ∙ ap pair_of
-      (get_or_from_slice_get required i a a least.1) in
-      let stands : Contains (map pair_of required) p =
-      (i, subst (λ n. i < n) (sym (length-map required pair_of)) inside, here) in
-      let NoLess : Pair → Type 0 = λ q. ¬ (Contains (map pair_of set) q) → pair_cmp q p ≢ Less in
-      let none_less : All NoLess wanted.pairs =
-      All-permutation NoLess (map pair_of required) wanted.pairs comes.0.0
-      (All-map NoLess pair_of required least.3) in (
-        Err (IncompatibleAttribute (a.key.now, a.value.now)),
-        (
-          Contains-permutation (map pair_of required) wanted.pairs p comes.0.0 stands,
-          λ has. least.2 (only_held p has),
-          λ other has none. subst NoLess has.2 (none_less has.0 other has.1)
-              (λ there. none (held other there)),
-        ),
-        (i, (a, least.1, refl, least.4), is),
+  pub tells_pair : (i at : ℕ) (d : Attribute) (answer : PlaceAnswer) → i < length wanted
+      → Misses (λ w. Any (λ a. pair_of a ≡ pair_of w) set) wanted (Some i)
+      → IsFirst (λ a. pair_of a ≡ pair_of (get_or wanted i d)) required at
+      → answer ≡ place_answer status.MissingPair at → Tells answer
+  tells_pair i at d answer inside misses first is =
+      let item = get_or wanted i d in (
+        Err (IncompatibleAttribute (item.key.now, item.value.now)),
+        least_missing (map pair_of wanted) listing i (pair_of item) comes.1
+            (sym (made_at wanted i d inside)) (pairs_missed (Some i) misses),
+        (at, first, is),
       )
 
   -- the first key that no pair of the set has
-  pub tells_key : (i : ℕ) (answer : PlaceAnswer) → All (Has (map pair_of set)) required
-      → IsFirstLack (HasKeyOf (map pair_of set)) keys i → answer ≡ place_answer status.MissingKey i
-      → Judges wanted listing required keys answer
-  tells_key i answer has first is =
-      let k = first.0 in
-      let got : slice_get wanted.keys i ≡ Some (text_of k) =
-      ap (λ l. slice_get l i) comes.1 ∙
-      (slice_get-map text_of keys i ∙ ap (option_map text_of) first.1) in
-      let before : All (ContainsKey listing) (take i wanted.keys) =
-      subst (λ (l : List (List ℕ)). All (ContainsKey listing) (take i l)) (sym comes.1)
-      (subst (All (ContainsKey listing)) (sym (take-map text_of i keys))
-      (keys_held (take i keys) first.3)) in (
+  pub tells_key : (i : ℕ) (answer : PlaceAnswer)
+      → Misses (λ w. Any (λ a. pair_of a ≡ pair_of w) set) wanted None
+      → Misses (λ k. Any (λ a. a.key.now ≡ text_of k) set) keys (Some i)
+      → answer ≡ place_answer status.MissingKey i → Tells answer
+  tells_key i answer has misses is =
+      let (k, got, lacks, before) = misses in
+      let here : get_or (map text_of keys) i (text_of k) ≡ text_of k =
+      get_or-map text_of keys i k ∙ ap text_of (get_or_from_slice_get keys i k k got) in
+      let first =
+      key_fault (map text_of keys) (map text_of keys) listing i (text_of k) (text_of k) refl
+      (sym here) refl (keys_missed (Some i) misses) in (
         Err (NonExistingKey (text_of k)),
-        (all_held has, (i, got, (λ there. first.2 (only_key_held (text_of k) there)), before)),
+        (pairs_missed None has, first),
         (
           i,
           (
             k,
-            first.1,
+            got,
             refl,
-            λ j d inside same. first.2
-                (subst (ContainsKey (map pair_of set)) same (first.3 j d inside)),
+            λ j d inside same. lacks
+                (subst (λ t. Any (λ a. a.key.now ≡ t) set) same (before j d inside)),
           ),
           is,
         ),
       )
 
   -- the set has all of it
-  pub tells_done : (answer : PlaceAnswer) → All (Has (map pair_of set)) required
-      → All (HasKeyOf (map pair_of set)) keys → answer ≡ place_answer status.Done 0
-      → Judges wanted listing required keys answer
-  tells_done answer has all is = (
-    Ok tt,
-    (all_held has, subst (All (ContainsKey listing)) (sym comes.1) (keys_held keys all)),
-    is,
-  )
+  pub tells_done : (answer : PlaceAnswer)
+      → Misses (λ w. Any (λ a. pair_of a ≡ pair_of w) set) wanted None
+      → Misses (λ k. Any (λ a. a.key.now ≡ text_of k) set) keys None
+      → answer ≡ place_answer status.Done 0 → Tells answer
+  tells_done answer has all is = (Ok tt, (pairs_missed None has, keys_missed None all), is)

@@ -1,10 +1,10 @@
 -- How many nodes and ports a service with these settings can have at a time.
 use Rattle.std.specs.Prelude.{◌≡◌, List, [], ◌∷◌}
 use Rattle.iox2_static.specs.Blackboard.{blackboard_of}
-use Rattle.iox2sd_settings.specs.declared.settings.BlackboardSettings.{BlackboardSettings}
-use Rattle.iox2sd_settings.specs.declared.settings.EventSettings.{EventSettings}
-use Rattle.iox2sd_settings.specs.declared.settings.PublishSubscribeSettings.{PublishSubscribeSettings}
-use Rattle.iox2sd_settings.specs.declared.settings.RequestResponseSettings.{RequestResponseSettings}
+use Rattle.iox2sd_common.specs.declared.settings.BlackboardSettings.{BlackboardSettings}
+use Rattle.iox2sd_common.specs.declared.settings.EventSettings.{EventSettings}
+use Rattle.iox2sd_common.specs.declared.settings.PublishSubscribeSettings.{PublishSubscribeSettings}
+use Rattle.iox2sd_common.specs.declared.settings.RequestResponseSettings.{RequestResponseSettings}
 use Rattle.iox2sd_values.specs.declared.capacities.BlackboardCapacities.{BlackboardCapacities}
 use Rattle.iox2sd_values.specs.declared.capacities.EventCapacities.{EventCapacities}
 use Rattle.iox2sd_values.specs.declared.capacities.PublishSubscribeCapacities.{PublishSubscribeCapacities}

@@ -6,7 +6,7 @@ use Rattle.iox2sd_common.specs.declared.answers.PlaceAnswer.{PlaceAnswer}
 use Rattle.iox2sd_common.specs.declared.answers.TextAnswer.{TextAnswer}
 use Rattle.iox2sd_common.specs.declared.status.Status.{Status}
 use Rattle.iox2sd_common.specs.declared.status.Status.TheVariants as status
-use Rattle.iox2sd_settings.specs.declared.read_settings.FieldAnswer.{FieldAnswer}
+use Rattle.iox2sd_common.specs.declared.read_settings.FieldAnswer.{FieldAnswer}
 use Rattle.iox2_texts.specs.Name.{MakesName}
 use Rattle.iox2sd_values.specs.Attributes.{TellsSet}
 use Rattle.iox2sd_values.specs.Texts.{ChecksName, ChecksText, MakesFileName, MakesPath}

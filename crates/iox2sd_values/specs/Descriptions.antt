@@ -8,7 +8,7 @@ use Rattle.iox2_static.specs.MessagingPattern.{kind_of}
 use Rattle.iox2_static.specs.declared.static_config.messaging_pattern.MessagingPattern.{MessagingPattern}
 use Rattle.iox2_static.specs.declared.static_config.messaging_pattern.MessagingPattern.TheVariants as pattern
 use Rattle.iox2sd_common.specs.Answers.{flag_answer, zero_padded}
-use Rattle.iox2sd_settings.specs.Settings.{told_duration, told_event_id}
+use Rattle.iox2sd_common.specs.Settings.{told_duration, told_event_id}
 use Rattle.iox2sd_common.specs.Status.{code}
 use Rattle.iox2sd_common.specs.declared.answers.FlagAnswer.{FlagAnswer}
 use Rattle.iox2sd_values.specs.declared.descriptions.BlackboardConfig.{BlackboardConfig}
@@ -25,15 +25,15 @@ use Rattle.iox2_static.specs.PublishSubscribe.{publish_subscribe_of}
 use Rattle.iox2_static.specs.RequestResponse.{request_response_of}
 use Rattle.iox2sd_common.specs.Ids.{number_of}
 use Rattle.iox2sd_values.specs.Names.{ReadsAnyName}
-use Rattle.iox2sd_settings.specs.ReadSettings.{no_field, refusal_answer, ReadsPublishSubscribe, ReadsEvent, ReadsRequestResponse, ReadsBlackboard}
-use Rattle.iox2sd_settings.specs.declared.read_settings.Refusal.{Refusal}
-use Rattle.iox2sd_settings.specs.declared.read_settings.Refusal.TheVariants as refusal
-use Rattle.iox2sd_settings.specs.declared.read_settings.Field.{Field}
-use Rattle.iox2sd_settings.specs.declared.read_settings.FieldAnswer.{FieldAnswer}
-use Rattle.iox2sd_settings.specs.declared.settings.BlackboardSettings.{BlackboardSettings}
-use Rattle.iox2sd_settings.specs.declared.settings.EventSettings.{EventSettings}
-use Rattle.iox2sd_settings.specs.declared.settings.PublishSubscribeSettings.{PublishSubscribeSettings}
-use Rattle.iox2sd_settings.specs.declared.settings.RequestResponseSettings.{RequestResponseSettings}
+use Rattle.iox2sd_common.specs.ReadSettings.{no_field, refusal_answer, ReadsPublishSubscribe, ReadsEvent, ReadsRequestResponse, ReadsBlackboard}
+use Rattle.iox2sd_common.specs.declared.read_settings.Refusal.{Refusal}
+use Rattle.iox2sd_common.specs.declared.read_settings.Refusal.TheVariants as refusal
+use Rattle.iox2sd_common.specs.declared.read_settings.Field.{Field}
+use Rattle.iox2sd_common.specs.declared.read_settings.FieldAnswer.{FieldAnswer}
+use Rattle.iox2sd_common.specs.declared.settings.BlackboardSettings.{BlackboardSettings}
+use Rattle.iox2sd_common.specs.declared.settings.EventSettings.{EventSettings}
+use Rattle.iox2sd_common.specs.declared.settings.PublishSubscribeSettings.{PublishSubscribeSettings}
+use Rattle.iox2sd_common.specs.declared.settings.RequestResponseSettings.{RequestResponseSettings}
 use Rattle.iox2sd_common.specs.declared.status.Status.{Status}
 
 -- what is fixed of a publish-subscribe service, or zeros

@@ -14,6 +14,5 @@ pub mod Satisfies
 pub mod Settings
 pub mod Texts
 pub mod Causes
--- Inner facts: which pair is wrong, and what a set lacks, as loops over the caller's arrays find it
+-- Inner facts: which pair is wrong, as a loop over the caller's array finds it
 pub mod Faults
-pub mod Missing

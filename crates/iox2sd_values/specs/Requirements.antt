@@ -4,7 +4,7 @@ use Rattle.std.specs.Prelude.{◌≡◌, ℕ, ◌+◌, ◌≤◌, List, [], Some
 use Rattle.iox2_texts.specs.Attribute.{IsListing}
 use Rattle.iox2_texts.specs.Name.{MakesName}
 use Rattle.iox2_texts.specs.Pair.{Pair}
-use Rattle.iox2_texts.specs.Verify.{Requirements}
+use Rattle.iox2_texts.specs.Verify.{IsFirst, Requirements}
 use Rattle.iox2_texts.specs.VerifyErrors.{Verifies}
 use Rattle.iox2_texts.specs.declared.attribute.verifier.AttributeVerificationError.{AttributeVerificationError}
 use Rattle.iox2_texts.specs.declared.attribute.verifier.AttributeVerificationError.TheVariants.{NonExistingKey, IncompatibleAttribute}
@@ -16,10 +16,6 @@ use Rattle.iox2sd_values.specs.declared.attributes.Attribute.{Attribute}
 use Rattle.iox2sd_values.specs.declared.attributes.Key.{Key}
 use Rattle.iox2sd_common.specs.declared.status.Status.{Status}
 use Rattle.iox2sd_common.specs.declared.status.Status.TheVariants as status
-
--- the element at the place has the property, and none before it has
-abbrev pub IsFirst : {X : Type 0} → (X → Type 0) → List X → ℕ → Type 0
-IsFirst {X} P xs i = (x : X) × (slice_get xs i ≡ Some x) × P x × All (λ y. ¬ (P y)) (take i xs)
 
 -- the key as the layer has it
 abbrev pub text_of : Key → List ℕ
@@ -75,11 +71,6 @@ abbrev pub ReadsRequirements : List Attribute → List Key → ℕ → Result Re
 ReadsRequirements required keys before made after =
     (first : Result Requirements Status) × (at : ℕ) × RequiresPairs required before first at
     × ThenKeys first keys at made after
-
--- what is required stands in these arrays
-abbrev pub ComesFrom : Requirements → List Attribute → List Key → Type 0
-ComesFrom wanted required keys =
-    IsListing (map pair_of required) wanted.pairs × (wanted.keys ≡ map text_of keys)
 
 -- the answer on a verdict: of what the set lacks, the first place in the caller's array
 abbrev pub TellsVerdict : Result (Unit {0}) AttributeVerificationError → List Attribute → List Key

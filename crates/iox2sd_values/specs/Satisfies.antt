@@ -14,10 +14,10 @@ use Rattle.iox2_static.specs.declared.static_config.setting.Setting.{Setting}
 use Rattle.iox2_static.specs.declared.static_config.setting.Setting.TheVariants as setting
 use Rattle.iox2sd_common.specs.Status.{code}
 use Rattle.iox2sd_common.specs.declared.status.Status.TheVariants as status
-use Rattle.iox2sd_settings.specs.ReadSettings.{field_answer, no_field, ReadsEvent}
-use Rattle.iox2sd_settings.specs.declared.read_settings.Field.{Field}
-use Rattle.iox2sd_settings.specs.declared.read_settings.FieldAnswer.{FieldAnswer}
-use Rattle.iox2sd_settings.specs.declared.settings.EventSettings.{EventSettings}
+use Rattle.iox2sd_common.specs.ReadSettings.{field_answer, no_field, ReadsEvent}
+use Rattle.iox2sd_common.specs.declared.read_settings.Field.{Field}
+use Rattle.iox2sd_common.specs.declared.read_settings.FieldAnswer.{FieldAnswer}
+use Rattle.iox2sd_common.specs.declared.settings.EventSettings.{EventSettings}
 use Rattle.iox2sd_values.specs.declared.descriptions.BlackboardConfig.{BlackboardConfig}
 use Rattle.iox2sd_values.specs.declared.descriptions.EventConfig.{EventConfig}
 use Rattle.iox2sd_values.specs.declared.descriptions.PublishSubscribeConfig.{PublishSubscribeConfig}

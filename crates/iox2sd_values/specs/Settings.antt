@@ -4,14 +4,14 @@ use Rattle.std.specs.Prelude.{◌≡◌, List, [], ◌∷◌, Result, Ok, Err}
 use Rattle.iox2_config.specs.Defaults.{IsDefaultGlobal}
 use Rattle.iox2_config.specs.GlobalSettings.{GlobalSettings as Global}
 use Rattle.iox2sd_common.specs.declared.status.Status.TheVariants as status
-use Rattle.iox2sd_settings.specs.ReadSettings.{field_answer, no_field, ReadsPublishSubscribe, ReadsEvent, ReadsRequestResponse, ReadsGlobal}
-use Rattle.iox2sd_settings.specs.declared.read_settings.Field.{Field}
-use Rattle.iox2sd_settings.specs.declared.read_settings.FieldAnswer.{FieldAnswer}
-use Rattle.iox2sd_settings.specs.declared.settings.EventSettings.{EventSettings}
-use Rattle.iox2sd_settings.specs.declared.settings.GlobalSettings.{GlobalSettings}
-use Rattle.iox2sd_settings.specs.declared.settings.PublishSubscribeSettings.{PublishSubscribeSettings}
-use Rattle.iox2sd_settings.specs.declared.settings.RequestResponseSettings.{RequestResponseSettings}
-use Rattle.iox2sd_settings.specs.Settings.{told_global}
+use Rattle.iox2sd_common.specs.ReadSettings.{field_answer, no_field, ReadsPublishSubscribe, ReadsEvent, ReadsRequestResponse, ReadsGlobal}
+use Rattle.iox2sd_common.specs.declared.read_settings.Field.{Field}
+use Rattle.iox2sd_common.specs.declared.read_settings.FieldAnswer.{FieldAnswer}
+use Rattle.iox2sd_common.specs.declared.settings.EventSettings.{EventSettings}
+use Rattle.iox2sd_common.specs.declared.settings.GlobalSettings.{GlobalSettings}
+use Rattle.iox2sd_common.specs.declared.settings.PublishSubscribeSettings.{PublishSubscribeSettings}
+use Rattle.iox2sd_common.specs.declared.settings.RequestResponseSettings.{RequestResponseSettings}
+use Rattle.iox2sd_common.specs.Settings.{told_global}
 
 -- the settings that a system has by default
 abbrev pub TellsGlobalDefaults : GlobalSettings → Type 0

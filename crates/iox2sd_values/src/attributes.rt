@@ -1,25 +1,21 @@
 //! Attributes without handles: a caller's arrays of keys and values.
-ghost use Rattle.std.specs.Prelude.{◌≡◌, ◌↔◌, ◌≤◌, List, [], map, not, length, slice_get, IsTrue};
-ghost use Rattle.std.specs.List.{position};
+ghost use Rattle.std.specs.Prelude.{◌≡◌, ◌↔◌, ◌≤◌, List, [], map, take, length, slice_get, IsTrue};
 ghost use Rattle.std.specs.Option.{option_copied};
 ghost use Rattle.std.specs.Result.{result_map_both};
-ghost use Rattle.std.specs.declared.cmp.Ordering.TheVariants.{Less};
 ghost use Rattle.iox2_texts.specs.Attribute.{IsListing, values_of};
-ghost use Rattle.iox2_texts.specs.Pair.{Pair, pair_cmp};
-ghost use Rattle.iox2_texts.specs.Verify.{Requirements};
+ghost use Rattle.iox2_texts.specs.Pair.{Pair};
 ghost use Rattle.iox2sd_values.specs.Attributes.{TellsSet, SortsSet, CountsValues, TellsValue};
 ghost use Rattle.iox2sd_values.specs.Attributes.{pair_of, ReadsSet, WritesValue};
 ghost use Rattle.iox2sd_values.specs.Causes.{PlaceBut, CountBut, TextBut, SetCause, AskedCause};
 ghost use Rattle.iox2sd_values.specs.Causes.{RequiredCause};
 ghost use Rattle.iox2sd_values.specs.Faults.{ChecksPairs, set_fault, required_fault};
-ghost use Rattle.iox2sd_values.specs.Missing.{Has, has_pair, has_key, IsFirstLack, IsLeastAt};
-ghost use Rattle.iox2sd_values.specs.Requirements.{ComesFrom, Judges, RequiresKeys};
-ghost use Rattle.iox2sd_values.specs.Requirements.{VerifiesSet, text_of};
+ghost use Rattle.iox2sd_values.specs.Requirements.{Judges, RequiresKeys, VerifiesSet, text_of};
 
 use super::causes::{asked_cause, required_cause, set_cause};
 use super::texts::is_name;
 use iox2_texts::attribute::{
     AttributeKey, MAX_ATTRIBUTE_KEY_LENGTH, MAX_ATTRIBUTE_VALUE_LENGTH, MAX_ATTRIBUTES,
+    Requirement, first_missing, first_that_meets,
 };
 use iox2sd_common::answers::{CountAnswer, PlaceAnswer, TextAnswer, count, no_text, place, write};
 use iox2sd_common::status::Status;
@@ -189,6 +185,22 @@ fn value_at<'a>(pairs: &[Attribute<'a>], key: &[u8], index: usize) -> Option<&'a
     None
 }
 
+/// The pairs by the bytes of their keys, and then of their values, and empty ones behind them.
+fn sorted<'a>(pairs: &[Attribute<'a>]) -> [Attribute<'a>; MAX_ATTRIBUTES]
+    requires { length pairs.now ≤ 16 }
+    ensures { IsListing (map pair_of pairs.now) (map pair_of (take (length pairs.now) result)) }
+{
+    let nothing = Attribute {
+        key: &[],
+        value: &[],
+    };
+    let mut copies = [nothing; MAX_ATTRIBUTES];
+    let front = &mut copies[..pairs.len()];
+    front.copy_from_slice(pairs);
+    front.sort_unstable();
+    copies
+}
+
 /// Writes the value at `index`, counted from 0, of those that the key has, by their bytes from the
 /// least.
 fn write_value(pairs: &[Attribute<'_>], key: &[u8], index: usize, out: &mut [u8]) -> TextAnswer
@@ -196,15 +208,8 @@ fn write_value(pairs: &[Attribute<'_>], key: &[u8], index: usize, out: &mut [u8]
     ensures { (set : List Pair) × IsListing (map pair_of pairs.now) set
         × WritesValue (slice_get (values_of set key.now) index) out.old result out.new }
 {
-    let nothing = Attribute {
-        key: &[],
-        value: &[],
-    };
-    let mut copies = [nothing; MAX_ATTRIBUTES];
-    let (sorted, _) = copies.split_at_mut(pairs.len());
-    sorted.copy_from_slice(pairs);
-    sorted.sort_unstable();
-    match value_at(sorted, key, index) {
+    let copies = sorted(pairs);
+    match value_at(&copies[..pairs.len()], key, index) {
         Some(value) => write(value, out),
         None => no_text(Status::NoSuchValue),
     }
@@ -302,68 +307,41 @@ fn check_keys(keys: &[Key<'_>], pairs: usize, at: &mut usize) -> Result<(), Stat
     Ok(())
 }
 
-/// Whether the set has the pair. Values are compared first: keys often begin alike.
-fn has_pair(set: &[Attribute<'_>], wanted: &Attribute<'_>) -> bool
-    ensures { result ≡ has_pair set.now wanted.now }
-{
-    set.iter().any(|pair| pair.value == wanted.value && pair.key == wanted.key)
-}
+/// A required pair is met by an equal one. Values are compared first: keys often begin alike.
+impl<'a, 'b> Requirement<Attribute<'b>> for Attribute<'a> {
+    ghost IsMetBy = { λ required pair. pair_of pair ≡ pair_of required };
 
-/// Whether some pair of the set has the key.
-fn has_key(set: &[Attribute<'_>], key: &Key<'_>) -> bool
-    ensures { result ≡ has_key set.now key.now }
-{
-    set.iter().any(|pair| pair.key == key.text)
-}
-
-/// The first index of a required pair that the set lacks.
-fn first_missing(set: &[Attribute<'_>], required: &[Attribute<'_>]) -> Option<usize>
-    ensures { result ≡ position (λ pair. not (has_pair set.now pair)) required.now }
-{
-    required.iter().position(|pair| !has_pair(set, pair))
-}
-
-/// Whether the set lacks the pair, and it is less than the other.
-fn is_lesser(set: &[Attribute<'_>], pair: &Attribute<'_>, other: &Attribute<'_>) -> bool
-    ensures { IsTrue result ↔ ((¬ (Has (map pair_of set.now) pair.now))
-        × (pair_cmp (pair_of pair.now) (pair_of other.now) ≡ Less)) }
-{
-    pair.cmp(other).is_lt() && !has_pair(set, pair)
-}
-
-/// The first index of the least required pair that the set lacks, where the first that it lacks has
-/// the index `first`.
-fn least_missing(set: &[Attribute<'_>], required: &[Attribute<'_>], first: usize) -> usize
-    requires { IsFirstLack (Has (map pair_of set.now)) required.now first }
-    ensures { IsLeastAt (map pair_of set.now) required.now result }
-{
-    let mut least = first;
-    for (i, pair) in required.iter().enumerate() {
-        if is_lesser(set, pair, &required[least]) {
-            least = i;
-        }
+    fn is_met_by(&self, pair: &Attribute<'b>) -> bool {
+        pair.value == self.value && pair.key == self.key
     }
-    least
 }
 
-/// The first index of a required key that no pair of the set has.
-fn missing_key(set: &[Attribute<'_>], keys: &[Key<'_>]) -> Option<usize>
-    ensures { result ≡ position (λ key. not (has_key set.now key)) keys.now }
-{
-    keys.iter().position(|key| !has_key(set, key))
+/// A required key is met by a pair that has it.
+impl<'a, 'b> Requirement<Attribute<'b>> for Key<'a> {
+    ghost IsMetBy = { λ required pair. pair.key.now ≡ text_of required };
+
+    fn is_met_by(&self, pair: &Attribute<'b>) -> bool {
+        pair.key == self.text
+    }
 }
 
 /// Whether the set has the required pairs and keys.
 fn verify(set: &[Attribute<'_>], required: &[Attribute<'_>], keys: &[Key<'_>]) -> PlaceAnswer
-    ensures { (listing : List Pair) (wanted : Requirements)
-        → IsListing (map pair_of set.now) listing
-        → ComesFrom wanted required.now keys.now
-        → Judges wanted listing required.now keys.now result }
+    requires { length required.now ≤ 16 }
+    ensures { (pairs : List Pair) × IsListing (map pair_of required.now) pairs
+        × ((listing : List Pair) → IsListing (map pair_of set.now) listing
+        → Judges (record { pairs = pairs; keys = map text_of keys.now }) listing required.now
+        keys.now result) }
 {
-    if let Some(first) = first_missing(set, required) {
-        return place(Status::MissingPair, least_missing(set, required, first));
+    let copies = sorted(required);
+    let wanted = &copies[..required.len()];
+    if let Some(i) = first_missing(wanted, set) {
+        return match first_that_meets(required, &wanted[i]) {
+            Some(at) => place(Status::MissingPair, at),
+            None => unreachable!(),
+        };
     }
-    match missing_key(set, keys) {
+    match first_missing(keys, set) {
         Some(i) => place(Status::MissingKey, i),
         None => place(Status::Done, 0),
     }

@@ -4,8 +4,8 @@ ghost use Rattle.iox2sd_values.specs.Capacities.{RequestResponseCapacitiesOf};
 ghost use Rattle.iox2sd_values.specs.Capacities.{BlackboardCapacitiesOf};
 
 use iox2_static::static_config::blackboard;
-use iox2sd_settings::read_settings::read_blackboard;
-use iox2sd_settings::settings::{
+use iox2sd_common::read_settings::read_blackboard;
+use iox2sd_common::settings::{
     BlackboardSettings, EventSettings, PublishSubscribeSettings, RequestResponseSettings,
 };
 

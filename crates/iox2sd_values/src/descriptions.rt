@@ -8,8 +8,8 @@ ghost use Rattle.iox2_static.specs.Event.{event_of};
 ghost use Rattle.iox2_static.specs.Blackboard.{blackboard_of};
 ghost use Rattle.iox2_static.specs.declared.static_config.messaging_pattern.MessagingPattern.TheVariants as pattern;
 ghost use Rattle.iox2sd_common.specs.Ids.{number_of};
-ghost use Rattle.iox2sd_settings.specs.ReadSettings.{ReadsPublishSubscribe, ReadsEvent};
-ghost use Rattle.iox2sd_settings.specs.ReadSettings.{ReadsRequestResponse, ReadsBlackboard};
+ghost use Rattle.iox2sd_common.specs.ReadSettings.{ReadsPublishSubscribe, ReadsEvent};
+ghost use Rattle.iox2sd_common.specs.ReadSettings.{ReadsRequestResponse, ReadsBlackboard};
 ghost use Rattle.iox2sd_values.specs.Causes.{FieldBut, NameCause};
 ghost use Rattle.iox2sd_values.specs.Descriptions.{told_description, ComparesPatterns};
 ghost use Rattle.iox2sd_values.specs.Descriptions.{publish_subscribe_config, event_config};
@@ -28,15 +28,15 @@ use iox2_texts::service_name::ServiceName;
 use iox2sd_common::answers::{FlagAnswer, zero_padded};
 use iox2sd_common::id::Id;
 use iox2sd_common::pattern::pattern_of;
-use iox2sd_common::status::Status;
-use iox2sd_settings::read_settings::{
+use iox2sd_common::read_settings::{
     Field, FieldAnswer, Refusal, no_field, read_blackboard, read_event, read_publish_subscribe,
     read_request_response,
 };
-use iox2sd_settings::settings::{
+use iox2sd_common::settings::{
     BlackboardSettings, EventSettings, OptionalDuration, OptionalEventId, PublishSubscribeSettings,
     RequestResponseSettings, duration_of, event_id_of,
 };
+use iox2sd_common::status::Status;
 
 /// What is fixed of a publish-subscribe service, beside the types of its messages.
 #[repr(C)]

@@ -12,9 +12,9 @@ use super::descriptions::{
 use iox2_config::types::{MessageTypeDetails, TypeDetail};
 use iox2_static::static_config::setting::Setting;
 use iox2_static::static_config::{blackboard, event, publish_subscribe, request_response};
+use iox2sd_common::read_settings::{Field, FieldAnswer, no_field, read_event};
+use iox2sd_common::settings::EventSettings;
 use iox2sd_common::status::Status;
-use iox2sd_settings::read_settings::{Field, FieldAnswer, no_field, read_event};
-use iox2sd_settings::settings::EventSettings;
 
 /// The number of a setting that C sees.
 fn setting_number(setting: Setting) -> u32

@@ -3,21 +3,21 @@
 ghost use Rattle.std.specs.Prelude.{◌≡◌};
 ghost use Rattle.iox2_config.specs.Defaults.{default_publish_subscribe, default_event};
 ghost use Rattle.iox2_config.specs.Defaults.{default_request_response, default_blackboard};
-ghost use Rattle.iox2sd_settings.specs.Settings.{told_publish_subscribe, told_event};
-ghost use Rattle.iox2sd_settings.specs.Settings.{told_request_response, told_blackboard};
+ghost use Rattle.iox2sd_common.specs.Settings.{told_publish_subscribe, told_event};
+ghost use Rattle.iox2sd_common.specs.Settings.{told_request_response, told_blackboard};
 ghost use Rattle.iox2sd_values.specs.Settings.{TellsGlobalDefaults, ChecksPublishSubscribe};
 ghost use Rattle.iox2sd_values.specs.Settings.{ChecksEvent, ChecksRequestResponse, ChecksGlobal};
 
 use iox2_config::config::{Blackboard, Event, Node, PublishSubscribe, RequestResonse, Service};
-use iox2sd_common::status::Status;
-use iox2sd_settings::read_settings::{
+use iox2sd_common::read_settings::{
     FieldAnswer, no_field, read_event, read_global, read_publish_subscribe, read_request_response,
 };
-use iox2sd_settings::settings::{
+use iox2sd_common::settings::{
     BlackboardSettings, EventSettings, GlobalSettings, PublishSubscribeSettings,
     RequestResponseSettings, blackboard_of, event_of, global_with, publish_subscribe_of,
     request_response_of,
 };
+use iox2sd_common::status::Status;
 use std::time::Duration;
 
 /// The settings that a system has by default. Those with all their texts would take too much of the

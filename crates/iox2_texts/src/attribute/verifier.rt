@@ -1,16 +1,11 @@
 //! What an opener requires of a set of attributes, and whether a set meets it.
 ghost use Rattle.std.specs.Prelude.{◌≡◌, ◌+◌, ◌<◌, ◌≤◌, ◌↔◌, [], ◌∷◌, ◌++◌, length, Some, IsTrue};
-ghost use Rattle.std.specs.Prelude.{IsOk, IfOk, All, Contains, MatchOption};
-ghost use Rattle.std.specs.Option.{option_copied};
-ghost use Rattle.std.specs.Prelude.{◌&&◌, nat_eq};
-ghost use Rattle.std.specs.List.{position};
-ghost use Rattle.std.specs.Cmp.Lexicographic.{pointwise};
-ghost use Rattle.iox2_texts.specs.Attribute.{IsListing, ContainsKey, has_key};
-ghost use Rattle.iox2_texts.specs.Pair.{IsAttributes};
-ghost use Rattle.iox2_texts.specs.Verify.{IsLeastMissing, IsFirstMissing};
+ghost use Rattle.std.specs.Prelude.{IsOk, IfOk};
+ghost use Rattle.iox2_texts.specs.Attribute.{IsListing};
 ghost use Rattle.iox2_texts.specs.VerifyErrors.{Verifies};
 
 use super::pair::Attribute;
+use super::requirement::{Requirement, first_missing};
 use super::set::{AttributeDefinitionError, AttributeSet, MAX_ATTRIBUTES};
 use super::text::{AttributeKey, AttributeValue};
 use arrayvec::ArrayVec;
@@ -181,12 +176,15 @@ impl AttributeVerifier {
         ensures { Verifies self.now attributes.now result }
     {
         let pairs = attributes.as_slice();
-        if let Some(pair) = missing_pair(self.required_attributes().as_slice(), pairs) {
+        let required = self.required_attributes().as_slice();
+        if let Some(i) = first_missing(required, pairs) {
+            let pair = &required[i];
             let missing = (pair.key().copied(), pair.value().copied());
             return Err(AttributeVerificationError::IncompatibleAttribute(missing));
         }
-        match missing_key(self.required_keys(), pairs) {
-            Some(key) => Err(AttributeVerificationError::NonExistingKey(key.copied())),
+        let keys = self.keys.as_slice();
+        match first_missing(keys, pairs) {
+            Some(i) => Err(AttributeVerificationError::NonExistingKey(keys[i].copied())),
             None => Ok(()),
         }
     }
@@ -206,74 +204,29 @@ impl AttributeVerifier {
     }
 }
 
-/// The first index at which the pair stands.
-fn index_of(pairs: &[Attribute], pair: &Attribute) -> Option<usize>
-    ensures { result ≡ position (λ p. pointwise nat_eq p.key pair.now.key
-        && pointwise nat_eq p.value pair.now.value) pairs.now }
-{
-    pairs.iter().position(|attribute| attribute == pair)
-}
-
-/// The first index at which a pair with the key stands.
-fn index_with(pairs: &[Attribute], key: &AttributeKey) -> Option<usize>
-    ensures { result ≡ position (has_key key.now) pairs.now }
-{
-    pairs.iter().position(|attribute| attribute.key() == key)
-}
-
-/// The index of a pair with the key. It is sought from `from` on, and then before.
-fn index_near(pairs: &[Attribute], from: usize, key: &AttributeKey) -> Option<usize>
-    requires { from ≤ length pairs.now }
-    ensures { MatchOption result (¬ (ContainsKey pairs.now key.now))
-        (λ index. (index < length pairs.now) × ContainsKey pairs.now key.now) }
-{
-    match index_with(&pairs[from..], key) {
-        Some(further) => Some(from + further),
-        None => index_with(&pairs[..from], key),
-    }
-}
-
-/// The least of the required pairs that are not in the set. Both rise, so each pair is sought from
-/// where the one before it was found.
-fn missing_pair<'a>(required: &'a [Attribute], pairs: &[Attribute]) -> Option<&'a Attribute>
-    requires required { IsAttributes required.now }
-    requires pairs { IsAttributes pairs.now }
-    ensures { MatchOption (option_copied result)
-        (All (Contains pairs.now) required.now)
-        (IsLeastMissing required.now pairs.now) }
-{
-    let mut from = 0;
-    for pair in required {
-        match index_of(&pairs[from..], pair) {
-            Some(further) => from += further,
-            None => return Some(pair),
-        }
-    }
-    None
-}
-
-/// The first of the required keys that no pair of the set has. Each is sought near the pair that
-/// has the key before it: where the keys rise too, one way through the pairs finds all of them.
-fn missing_key<'a>(required: &'a [AttributeKey], pairs: &[Attribute]) -> Option<&'a AttributeKey>
-    ensures { MatchOption (option_copied result)
-        (All (ContainsKey pairs.now) required.now)
-        (IsFirstMissing required.now pairs.now) }
-{
-    let mut from = 0;
-    for key in required {
-        match index_near(pairs, from, key) {
-            Some(index) => from = index,
-            None => return Some(key),
-        }
-    }
-    None
-}
-
 /// A verifier that requires nothing.
 impl Default for AttributeVerifier {
     ghost is_default = { λ v. v ≡ record { pairs = []; keys = [] } };
 
     fn default() -> Self {
         Self::new()
+    }
+}
+
+/// A required pair is met by an equal one.
+impl Requirement<Attribute> for Attribute {
+    ghost IsMetBy = { λ required pair. pair ≡ required };
+
+    fn is_met_by(&self, pair: &Attribute) -> bool {
+        pair == self
+    }
+}
+
+/// A required key is met by a pair that has it.
+impl Requirement<Attribute> for AttributeKey {
+    ghost IsMetBy = { λ required pair. pair.key ≡ required };
+
+    fn is_met_by(&self, pair: &Attribute) -> bool {
+        pair.key() == self
     }
 }

@@ -65,14 +65,17 @@ returns-in-Err-check_keys c =
       ),
     )
 
+pub verify-requires : goal.verify-requires
+verify-requires c = c.in_default-check_pairs.ensures.1
+
 pub returns : goal.returns
 returns c =
-    let set = has_listing (map pair_of c.args.pairs.now) in let wanted = has_listing
-    (map pair_of c.args.required.now) in
-    let as_long = length_permutation (map pair_of c.args.required.now) wanted.0 wanted.1.0 ∙
+    let set = has_listing (map pair_of c.args.pairs.now) in
+    let (wanted, listed, judges) = c.verify.ensures in
+    let as_long = length_permutation (map pair_of c.args.required.now) wanted listed.0 ∙
     length-map c.args.required.now pair_of in
-    let first : Requirements = record { pairs = wanted.0; keys = [] } in
-    let all : Requirements = record { pairs = wanted.0; keys = map text_of c.args.keys.now } in (
+    let first : Requirements = record { pairs = wanted; keys = [] } in
+    let all : Requirements = record { pairs = wanted; keys = map text_of c.args.keys.now } in (
       Ok set.0,
       c.check_set.new.at,
       c.in_default.ensures set.0 set.1,
@@ -82,10 +85,10 @@ returns c =
         (
           Ok first,
           c.check_pairs.new.at,
-          requires c.args.required.now c.check_set.new.at c.check_pairs.new.at (Ok tt) wanted.0
-              c.in_default-check_pairs.ensures wanted.1,
-          c.in_default-check_keys.ensures wanted.0 as_long,
+          requires c.args.required.now c.check_set.new.at c.check_pairs.new.at (Ok tt) wanted
+              c.in_default-check_pairs.ensures listed,
+          c.in_default-check_keys.ensures wanted as_long,
         ),
-        c.verify.ensures set.0 all set.1 (wanted.1, refl),
+        judges set.0 set.1,
       ),
     )

@@ -1,6 +1,6 @@
 use Rattle.iox2_static.specs.PublishSubscribe.{publish_subscribe_of}
 use Rattle.iox2_static.specs.declared.static_config.messaging_pattern.MessagingPattern.TheVariants as pattern
-use Rattle.iox2sd_settings.specs.ReadSettings.{ReadsPublishSubscribe}
+use Rattle.iox2sd_common.specs.ReadSettings.{ReadsPublishSubscribe}
 use Rattle.iox2sd_values.proofs.Describing.{filled}
 use Rattle.iox2sd_values.proofs.descriptions.describe_publish_subscribe.Goals as goal
 

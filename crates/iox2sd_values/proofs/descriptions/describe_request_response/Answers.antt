@@ -1,6 +1,6 @@
 use Rattle.iox2_static.specs.RequestResponse.{request_response_of}
 use Rattle.iox2_static.specs.declared.static_config.messaging_pattern.MessagingPattern.TheVariants as pattern
-use Rattle.iox2sd_settings.specs.ReadSettings.{ReadsRequestResponse}
+use Rattle.iox2sd_common.specs.ReadSettings.{ReadsRequestResponse}
 use Rattle.iox2sd_values.proofs.Describing.{filled}
 use Rattle.iox2sd_values.proofs.descriptions.describe_request_response.Goals as goal
 

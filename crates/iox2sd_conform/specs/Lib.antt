@@ -1,2 +1,0 @@
--- Promises: what a check of a log answers and writes.
-pub mod Verdicts

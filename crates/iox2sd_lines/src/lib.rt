@@ -1,0 +1,9 @@
+//! Lines for C: the text of a script in, the text of its replies out; or the lines of a log in, the
+//! verdict on them out.
+//!
+//! `include/iox2sd_script.h` and `include/iox2sd_conform.h` declare the exports for C and C++, and
+//! say what a caller owes.
+#![tactic(auto)]
+
+pub mod conform;
+pub mod script;

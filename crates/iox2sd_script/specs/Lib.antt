@@ -1,2 +1,0 @@
--- Promises: what a script's run answers and writes.
-pub mod Scripts
