@@ -1,5 +1,6 @@
 //! A register that is written and read.
 ghost use Rattle.std.specs.Prelude.{◌≡◌, ℕ, IfNone, IfOk, IfSome, IsTrue, slice_get};
+ghost use Rattle.histories.specs.Frontier.{IsMade};
 ghost use Rattle.histories.specs.Histories.{AreAll};
 ghost use Rattle.histories_tests.specs.Register.{Makes, MakesCall};
 
@@ -50,6 +51,17 @@ fn all_after(alloc: Global, access: &Access, value: u64) -> Result<Vec<u64>, All
     Ok(list)
 }
 
+/// Makes the call with this value, if it can be. Returns whether it did; else nothing changed.
+fn make(access: &Access, value: &mut u64) -> bool
+    ensures { IsMade (Makes access.now value.old) value.old value.new result }
+{
+    let Some(new) = after(access, *value) else {
+        return false;
+    };
+    *value = new;
+    true
+}
+
 /// No value.
 fn nothing(alloc: Global) -> Vec<u64>
     ensures { AreAll (λ _. ⊥) result.items }
@@ -78,6 +90,13 @@ impl Machine for Recorded {
         match self.calls.get(call) {
             Some(access) => all_after(self.alloc, access, *value),
             None => Ok(nothing(self.alloc)),
+        }
+    }
+
+    fn make(&self, value: &mut u64, call: usize) -> Result<bool, AllocError> {
+        match self.calls.get(call) {
+            Some(access) => Ok(make(access, value)),
+            None => Ok(false),
         }
     }
 

@@ -1,12 +1,12 @@
 -- What calls that were seen do.
-use Rattle.std.proofs.Common.{◌≡◌, ◌↔◌, ℕ, zero, suc, ◌+◌, ◌<◌, ◌⊎◌, inl, inr, true, false, Option, Some, None, Result, Ok, Err, List, [], ◌∷◌, ◌++◌, length, get_or, refl, sym, ◌∙◌, ap, subst, arith}
+use Rattle.std.proofs.Common.{◌≡◌, ◌↔◌, ℕ, zero, suc, ◌+◌, ◌<◌, ◌⊎◌, inl, inr, Bool, true, false, Option, Some, None, Result, Ok, Err, List, [], ◌∷◌, ◌++◌, length, get_or, refl, sym, ◌∙◌, ap, subst, arith}
 use Rattle.std.specs.List.{Contains, slice_get}
 use Rattle.std.specs.Prelude.{IfOk}
 use Rattle.std.specs.Global.{Vec}
 use Rattle.std.specs.declared.alloc.AllocError.{AllocError}
 use Rattle.std.proofs.lemmas.List.Elements.{All-push, All-weaker, Contains-append_left, Contains-push}
 use Rattle.std.proofs.lemmas.Option.{slice_get_within}
-use Rattle.histories.specs.Frontier.{IsIdle}
+use Rattle.histories.specs.Frontier.{IsIdle, IsMade}
 use Rattle.histories.specs.Histories.{AreAll}
 use Rattle.iox2_container.specs.Handle.{Handle}
 use Rattle.iox2_dynamic.specs.Service.{Service}
@@ -267,6 +267,13 @@ module _ (first : ℕ) (calls : List Call) (number : ℕ) where
         → IfOk found (λ f. AreAll (λ new. WindowStep first calls s number new) f.items)
     window_followed (Ok f) all = window_all f.items all
     window_followed (Err e) all = tt
+
+    pub window_made : (made : Result Bool AllocError) (new : Service)
+        → IfOk made (IsMade (CallStep call s) s new)
+        → IfOk made (IsMade (λ x. WindowStep first calls s number x) s new)
+    window_made (Ok true) new all = window_all (new ∷ []) all
+    window_made (Ok false) new same = same
+    window_made (Err e) new is = tt
 
     pub window_idle : IsIdleCall call s
         → WindowStep first calls s number s

@@ -48,6 +48,13 @@ impl<'a> Machine for Calls<'a> {
         }
     }
 
+    fn make(&self, state: &mut ServiceCheck, call: usize) -> Result<bool, AllocError> {
+        match call_at(self.calls, self.first, call) {
+            Some(made) => made.make(self.alloc, state),
+            None => Ok(false),
+        }
+    }
+
     fn is_idle(&self, state: &ServiceCheck, call: usize) -> bool {
         match call_at(self.calls, self.first, call) {
             Some(made) => made.is_idle(self.alloc, state),

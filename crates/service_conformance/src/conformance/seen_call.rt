@@ -1,5 +1,6 @@
 //! Calls that were seen.
 ghost use Rattle.std.specs.Prelude.{◌≡◌, ◌+◌, IfOk, IsTrue, OnOk};
+ghost use Rattle.histories.specs.Frontier.{IsMade};
 ghost use Rattle.histories.specs.Histories.{AreAll};
 ghost use Rattle.service_conformance.specs.Calls.{AreRepliesOf, CallStep, GivesBelow, IsIdleCall, ServesCall};
 ghost use Rattle.service_conformance.specs.Calls.{answered, at_first, call_of, unanswered};
@@ -82,6 +83,14 @@ impl SeenCall {
         state.possible_for_line(alloc, &[self.handle], &self.command)
     }
 
+    /// Makes the call in this state, with this reply. Where memory is refused, nothing changes.
+    fn make_with(&self, state: &mut ServiceCheck, reply: &Reply) -> Result<(), AllocError>
+        requires { CanServe (ServesCall self.now state.old) reply.now }
+        ensures { OnOk result (LeadsTo (ServesCall self.now state.old) reply.now state.new) }
+    {
+        state.follow_line(&[self.handle], &self.command, reply)
+    }
+
     /// The state that the call leaves with this reply.
     fn state_after(
         &self,
@@ -93,8 +102,44 @@ impl SeenCall {
         ensures { IfOk result (LeadsTo (ServesCall self.now state.now) reply.now) }
     {
         let mut next = state.copied(alloc)?;
-        next.follow_line(&[self.handle], &self.command, reply)?;
+        self.make_with(&mut next, reply)?;
         Ok(next)
+    }
+
+    /// Makes the call in this state, if the reply that was seen can be given there. Returns whether
+    /// it did; else nothing changed.
+    fn make_seen(
+        &self,
+        alloc: Global,
+        state: &mut ServiceCheck,
+        seen: &SeenReply,
+    ) -> Result<bool, AllocError>
+        ensures { IfOk result (IsMade (CallStep (answered self.now (seen_text seen.now)) state.old)
+            state.old state.new) }
+    {
+        // For the proof: what is true of every check.
+        let _pattern = state.kind();
+        let possible = self.possible(alloc, state)?;
+        let Some(reply) = state.reply_seen(possible, seen) else {
+            return Ok(false);
+        };
+        self.make_with(state, &reply)?;
+        Ok(true)
+    }
+
+    /// Makes the call in this state, if it was answered and can be made. Returns whether it did;
+    /// else nothing changed.
+    pub(super) fn make(
+        &self,
+        alloc: Global,
+        state: &mut ServiceCheck,
+    ) -> Result<bool, AllocError>
+        ensures { IfOk result (IsMade (CallStep self.now state.old) state.old state.new) }
+    {
+        match &self.seen {
+            Some(seen) => self.make_seen(alloc, state, seen),
+            None => Ok(false),
+        }
     }
 
     /// The states that the call leaves with the reply that was seen: one, or none.
