@@ -24,7 +24,8 @@ fn next_config<S: Drop>(
         × (next.base ≡ config.now.base)
         × (next.made.items ≡ config.now.made.items ++ call ∷ [])) }
 {
-    let mut made = Vec::from_slice(alloc, &config.made)?;
+    let mut made = Vec::with_capacity(alloc, config.made.len() + 1)?;
+    made.extend_from_slice(&config.made)?;
     made.push(call)?;
     Ok(Config {
         state,
@@ -135,7 +136,7 @@ fn close_round<M: Machine>(
         × Gathers (FromOne (IsUnderWay (M.Step machine.now) slots.now slot) layer.items) []
         next.items) }
 {
-    let mut next = Gathered::new(alloc);
+    let mut next = Gathered::with_room(alloc, layer.len())?;
     for config in layer {
         close_one(alloc, machine, slots, config, slot, done, &mut next)?;
     }
@@ -156,6 +157,9 @@ fn close_settled<M: Machine>(
     ensures { IfOk result (λ next. Gathers (FromOne (IsDone slot) layer.items) done.old done.new
         × IsNextLayer (M.Step machine.now) slots.now slot layer.items next.items) }
 {
+    if layer.is_empty() {
+        return Ok(layer);
+    }
     let mut next = close_round(alloc, machine, slots, layer, slot, done)?;
     settle_all(alloc, machine, slots, &mut next, true)?;
     Ok(next)
@@ -176,7 +180,7 @@ pub fn close<M: Machine>(
     ensures { IfOk result (IsCloseOutcome (M.Step machine.now) slots.now configs.items slot) }
 {
     let mut left = slots.len();
-    let mut done = Gathered::new(alloc);
+    let mut done = Gathered::with_room(alloc, configs.len())?;
     let mut layer = close_settled(alloc, machine, slots, configs, slot, &mut done)?;
     while left > 0 {
         if layer.len() > MAX_CONFIGS {

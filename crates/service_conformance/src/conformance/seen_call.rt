@@ -76,6 +76,7 @@ impl SeenCall {
     }
 
     /// The replies that the call may have in this state.
+    #[inline(always)]
     fn possible(&self, alloc: Global, state: &ServiceCheck) -> Result<Possible, AllocError>
         ensures possible { IfOk result (ArePossible state.now (ServesCall self.now state.now)) }
         ensures covered { IsCovered self.now.command }

@@ -136,6 +136,7 @@ impl ServiceCheck {
     }
 
     /// The replies that a command may have, where earlier ones gave these handles.
+    #[inline(always)]
     pub(in super::super) fn possible_for_line(
         &self,
         alloc: Global,

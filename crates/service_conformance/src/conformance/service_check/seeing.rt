@@ -24,6 +24,7 @@ impl ServiceCheck {
     }
 
     /// Of the possible replies, the one that says what was seen.
+    #[inline(always)]
     pub(in super::super) fn reply_seen(&self, possible: Possible, seen: &SeenReply) -> Option<Reply>
         ensures { Tells self.now possible (seen_text seen.now) result }
     {
