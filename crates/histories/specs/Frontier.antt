@@ -6,6 +6,8 @@ use Rattle.histories.specs.declared.event.Event.{Event}
 use Rattle.histories.specs.declared.front.Config.{Config}
 use Rattle.histories.specs.declared.front.Link.{Link}
 use Rattle.histories.specs.declared.front.Front.{Front}
+use Rattle.histories.specs.declared.left.Left.{Left}
+use Rattle.histories.specs.declared.left.Left.TheVariants as left
 use Rattle.histories.specs.Histories.{AreAll, begins, times, Explains, HasEnded, IsOpen}
 
 -- the set without the slot, and with it
@@ -46,6 +48,12 @@ Runs {S} Step slots old waiting (call ∷ calls) new rest =
 -- the call changes nothing, in whatever state it is made
 abbrev pub IsIdle : {S : Type 0} → (S → ℕ → S → Type 0) → ℕ → Type 0
 IsIdle {S} Step call = (old new : S) → Step old call new → new ≡ old
+
+-- the states that a call may leave
+abbrev pub states_in : {S : Type 0} → Left S → List S
+states_in left.Nothing = []
+states_in (left.One state) = state ∷ []
+states_in (left.All states) = states.items
 
 -- a call that leaves such states was made, and could leave no other one; or nothing changed
 abbrev pub IsMade : {S : Type 0} → (S → Type 0) → S → S → Bool → Type 0

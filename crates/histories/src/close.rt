@@ -1,10 +1,11 @@
 //! A call that ends is made.
 ghost use Rattle.std.specs.Prelude.{◌≡◌, ◌<◌, ◌≤◌, ◌++◌, ◌∷◌, [], ℕ, IfOk, OnOk, length};
 ghost use Rattle.histories.specs.Frontier.{HasSlot, IsWaiting, cleared};
-ghost use Rattle.histories.specs.Gathering.{FromOne, Gathers, IsCloseOutcome, IsDone, IsDropped, IsNext, IsNextAt, IsNextLayer, IsUnderWay, spot_of};
+ghost use Rattle.histories.specs.Gathering.{FromOne, Gathers, IsCloseOutcome, IsDone, IsDropped, IsNext, IsNextAt, IsNextIn, IsNextLayer, IsUnderWay, spot_of};
 
 use super::front::{Config, MAX_CONFIGS};
 use super::gather::{Gathered, add, copy_of};
+use super::left::Left;
 use super::machine::Machine;
 use super::sets::{has, without};
 use super::settle::settle_all;
@@ -35,6 +36,42 @@ fn next_config<S: Drop>(
     })
 }
 
+/// Adds the configuration in which the call in the slot was made and left this state.
+fn make_state<M: Machine>(
+    alloc: Global,
+    machine: &M,
+    config: &Config<M::State>,
+    slot: usize,
+    call: usize,
+    state: M::State,
+    next: &mut Gathered<M::State>,
+) -> Result<(), AllocError>
+    requires { slot < 64 }
+    ensures { OnOk result (Gathers (IsNextIn config.now slot call (state ∷ [])) next.old next.new) }
+{
+    let made = next_config(alloc, config, slot, call, state)?;
+    add(alloc, machine, next, made)
+}
+
+/// The same for each of these states.
+fn make_states<M: Machine>(
+    alloc: Global,
+    machine: &M,
+    config: &Config<M::State>,
+    slot: usize,
+    call: usize,
+    states: Vec<M::State>,
+    next: &mut Gathered<M::State>,
+) -> Result<(), AllocError>
+    requires { slot < 64 }
+    ensures { OnOk result (Gathers (IsNextIn config.now slot call states.items) next.old next.new) }
+{
+    for state in states {
+        make_state(alloc, machine, config, slot, call, state, next)?;
+    }
+    Ok(())
+}
+
 /// Adds the configurations to which the call in the slot, which waits, leads.
 fn make_call<M: Machine>(
     alloc: Global,
@@ -50,12 +87,11 @@ fn make_call<M: Machine>(
     ensures { OnOk result (Gathers (IsNextAt (M.Step machine.now) slots.now config.now slot)
         next.old next.new) }
 {
-    let found = machine.follow(&config.state, call)?;
-    for state in found {
-        let made = next_config(alloc, config, slot, call, state)?;
-        add(alloc, machine, next, made)?;
+    match machine.follow(&config.state, call)? {
+        Left::Nothing => Ok(()),
+        Left::One(state) => make_state(alloc, machine, config, slot, call, state, next),
+        Left::All(states) => make_states(alloc, machine, config, slot, call, states, next),
     }
-    Ok(())
 }
 
 /// The same, if a call has the slot and waits.

@@ -6,7 +6,8 @@ use Rattle.std.specs.Global.{Vec}
 use Rattle.std.specs.declared.alloc.AllocError.{AllocError}
 use Rattle.std.proofs.lemmas.List.Elements.{All-push, All-weaker, Contains-append_left, Contains-push}
 use Rattle.std.proofs.lemmas.Option.{slice_get_within}
-use Rattle.histories.specs.Frontier.{IsIdle, IsMade}
+use Rattle.histories.specs.declared.left.Left.{Left}
+use Rattle.histories.specs.Frontier.{IsIdle, IsMade, states_in}
 use Rattle.histories.specs.Histories.{AreAll}
 use Rattle.iox2_container.specs.Handle.{Handle}
 use Rattle.iox2_dynamic.specs.Service.{Service}
@@ -262,10 +263,10 @@ module _ (first : ℕ) (calls : List Call) (number : ℕ) where
         (λ x step. (call, has, step))
         (λ x step. subst (λ c. CallStep c s x) (one_call call step.0 has step.1) step.2)
 
-    pub window_followed : (found : Result (Vec Service) AllocError)
-        → IfOk found (λ f. AreAll (CallStep call s) f.items)
-        → IfOk found (λ f. AreAll (λ new. WindowStep first calls s number new) f.items)
-    window_followed (Ok f) all = window_all f.items all
+    pub window_followed : (found : Result (Left Service) AllocError)
+        → IfOk found (λ left. AreAll (CallStep call s) (states_in left))
+        → IfOk found (λ left. AreAll (λ new. WindowStep first calls s number new) (states_in left))
+    window_followed (Ok left) all = window_all (states_in left) all
     window_followed (Err e) all = tt
 
     pub window_made : (made : Result Bool AllocError) (new : Service)
@@ -284,11 +285,10 @@ module _ (first : ℕ) (calls : List Call) (number : ℕ) where
           (subst (λ c. CallStep c old new) (one_call call step.0 has step.1) step.2),
     )
 
-  pub window_none : LacksNumber first calls number → (s : Service) (xs : List Service)
-      → AreAll {S = Service} (λ _. ⊥) xs → AreAll (λ new. WindowStep first calls s number new) xs
-  window_none lacks s xs =
-      all_as (λ _. ⊥) (λ new. WindowStep first calls s number new) xs (λ x no. absurd no)
-      (λ x step. lacks step.0 step.1)
+  pub window_none : LacksNumber first calls number → (s : Service)
+      → AreAll (λ new. WindowStep first calls s number new) []
+  window_none lacks s =
+      all_of_none (λ new. WindowStep first calls s number new) (λ x step. lacks step.0 step.1)
 
 pub windows_agree : (first : ℕ) (calls all : List Call)
     → ((at : ℕ) → at < length calls → slice_get calls at ≡ slice_get all (first + at))

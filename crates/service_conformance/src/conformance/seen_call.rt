@@ -1,6 +1,6 @@
 //! Calls that were seen.
 ghost use Rattle.std.specs.Prelude.{◌≡◌, ◌+◌, IfOk, IsTrue, OnOk};
-ghost use Rattle.histories.specs.Frontier.{IsMade};
+ghost use Rattle.histories.specs.Frontier.{IsMade, states_in};
 ghost use Rattle.histories.specs.Histories.{AreAll};
 ghost use Rattle.service_conformance.specs.Calls.{AreRepliesOf, CallStep, GivesBelow, IsIdleCall, ServesCall};
 ghost use Rattle.service_conformance.specs.Calls.{answered, at_first, call_of, unanswered};
@@ -13,6 +13,7 @@ ghost use Rattle.service_conformance.specs.declared.conformance.possible.Possibl
 use super::possible::{Part, Possible, PossibleReplies};
 use super::seen_reply::{SeenReply, changes_nothing};
 use super::service_check::ServiceCheck;
+use histories::Left;
 use iox2_container::container::ContainerHandle;
 use service_descriptions::replay::{LineCommand, Reply};
 use std::alloc::{AllocError, Global};
@@ -149,19 +150,18 @@ impl SeenCall {
         alloc: Global,
         state: &ServiceCheck,
         seen: &SeenReply,
-    ) -> Result<Vec<ServiceCheck>, AllocError>
-        ensures { IfOk result (λ found.
-            AreAll (CallStep (answered self.now (seen_text seen.now)) state.now) found.items) }
+    ) -> Result<Left<ServiceCheck>, AllocError>
+        ensures { IfOk result (λ left.
+            AreAll (CallStep (answered self.now (seen_text seen.now)) state.now)
+            (states_in left)) }
     {
         // For the proof: what is true of every check.
         let _pattern = state.kind();
         let possible = self.possible(alloc, state)?;
-        let mut found = Vec::new(alloc);
         let Some(reply) = state.reply_seen(possible, seen) else {
-            return Ok(found);
+            return Ok(Left::Nothing);
         };
-        found.push(self.state_after(alloc, state, &reply)?)?;
-        Ok(found)
+        Ok(Left::One(self.state_after(alloc, state, &reply)?))
     }
 
     /// Adds the state that an add leaves where it gives this slot, if it is free.
@@ -212,19 +212,15 @@ impl SeenCall {
         &self,
         alloc: Global,
         state: &ServiceCheck,
-    ) -> Result<Vec<ServiceCheck>, AllocError>
-        ensures { IfOk result (λ found.
-            AreAll (CallStep (unanswered self.now) state.now) found.items) }
+    ) -> Result<Left<ServiceCheck>, AllocError>
+        ensures { IfOk result (λ left.
+            AreAll (CallStep (unanswered self.now) state.now) (states_in left)) }
     {
         // For the proof: what is true of every check.
         let _pattern = state.kind();
         match self.possible(alloc, state)? {
-            Possible::One(reply) => {
-                let mut found = Vec::new(alloc);
-                found.push(self.state_after(alloc, state, &reply)?)?;
-                Ok(found)
-            }
-            Possible::Given(part) => self.follow_add(alloc, state, part),
+            Possible::One(reply) => Ok(Left::One(self.state_after(alloc, state, &reply)?)),
+            Possible::Given(part) => Ok(Left::All(self.follow_add(alloc, state, part)?)),
         }
     }
 
@@ -233,8 +229,8 @@ impl SeenCall {
         &self,
         alloc: Global,
         state: &ServiceCheck,
-    ) -> Result<Vec<ServiceCheck>, AllocError>
-        ensures { IfOk result (λ found. AreAll (CallStep self.now state.now) found.items) }
+    ) -> Result<Left<ServiceCheck>, AllocError>
+        ensures { IfOk result (λ left. AreAll (CallStep self.now state.now) (states_in left)) }
     {
         match &self.seen {
             Some(seen) => self.follow_seen(alloc, state, seen),
