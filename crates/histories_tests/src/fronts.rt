@@ -8,7 +8,6 @@ fn orders_are_read(rt: HostRuntime) -> Result<(), Fail> {
     let alloc = rt.alloc();
     let calls = [Access::Write(1), Access::Write(2), Access::Read(1)];
     let machine = Recorded {
-        alloc,
         calls: Vec::from_slice(alloc, &calls)?,
     };
     let mut front = start(alloc, &machine, &[0])?;
@@ -46,7 +45,6 @@ fn an_open_call_keeps_its_links(rt: HostRuntime) -> Result<(), Fail> {
     let alloc = rt.alloc();
     let calls = [Access::Read(0), Access::Write(1)];
     let machine = Recorded {
-        alloc,
         calls: Vec::from_slice(alloc, &calls)?,
     };
     let mut front = start(alloc, &machine, &[0])?;

@@ -5,7 +5,7 @@ ghost use Rattle.histories.specs.Histories.{AreAll};
 ghost use Rattle.histories_tests.specs.Register.{Makes, MakesCall};
 
 use histories::{Left, Machine};
-use std::alloc::{AllocError, Global};
+use std::alloc::AllocError;
 
 /// A call on the register, with the reply that was seen.
 #[derive(Clone, Copy)]
@@ -21,7 +21,6 @@ pub enum Access {
 /// Recorded calls on the register.
 #[derive(Drop)]
 pub struct Recorded {
-    pub alloc: Global,
     pub calls: Vec<Access>,
 }
 

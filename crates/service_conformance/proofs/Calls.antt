@@ -23,11 +23,12 @@ use Rattle.service_descriptions.specs.Steps.{Serves, ServesDeregister, ServesRel
 use Rattle.service_conformance.specs.declared.conformance.possible.Part.{Part}
 use Rattle.service_conformance.specs.declared.conformance.possible.Part.TheVariants as part
 use Rattle.service_conformance.specs.declared.conformance.possible.Possible.{Possible}
+use Rattle.service_conformance.specs.declared.conformance.line_reply.LineReply.{LineReply}
 use Rattle.service_conformance.specs.declared.conformance.possible.Possible.TheVariants as possible
 use Rattle.service_conformance.specs.declared.conformance.possible.PossibleReplies.{PossibleReplies}
 use Rattle.service_conformance.specs.declared.conformance.seen_reply.SeenReply.{SeenReply}
 use Rattle.service_conformance.specs.Calls.{AreRepliesOf, Call, CallStep, GivesBelow, HasNumber, IsIdleCall, IsWithin, LacksNumber, LeadsOn, ServesCall, WindowStep, answered, unanswered}
-use Rattle.service_conformance.specs.Possible.{ArePossible, IsCovered, MayGiveIn}
+use Rattle.service_conformance.specs.Possible.{ArePossible, IsCovered, MayGiveIn, reply_in}
 use Rattle.service_conformance.specs.Quiet.{CanServe, LeadsTo, is_removal, quiet}
 use Rattle.service_conformance.specs.Seen.{changes_nothing, seen_text}
 use Rattle.service_conformance.specs.Words.{ArePossibleWords, Tells}
@@ -116,11 +117,12 @@ module _ (call : Call) (s : Service) where
           let on = step.1.2 in
           tells q (all.only q on.0 on.1 on.2) step.1.1)
 
-    pub any_one : (r : Reply) (next : Service)
-        → ArePossible s (ServesCall call s) (possible.One r)
-        → LeadsTo (ServesCall call s) r next
+    pub any_one : (one : LineReply) (next : Service)
+        → ArePossible s (ServesCall call s) (possible.One one)
+        → LeadsTo (ServesCall call s) (reply_in one) next
         → AreAll (CallStep (unanswered call) s) (next ∷ [])
-    any_one r next all leads =
+    any_one one next all leads =
+        let r = reply_in one in
         all_of_one (CallStep (unanswered call) s) next
         (rest, (r, tt, leads_on r next (all.can r (same_reply r)) leads))
         (λ other step.

@@ -4,18 +4,19 @@ ghost use Rattle.histories.specs.Frontier.{IsMade, states_in};
 ghost use Rattle.histories.specs.Histories.{AreAll};
 ghost use Rattle.service_conformance.specs.Calls.{AreRepliesOf, CallStep, GivesBelow, IsIdleCall, ServesCall};
 ghost use Rattle.service_conformance.specs.Calls.{answered, at_first, call_of, unanswered};
-ghost use Rattle.service_conformance.specs.Possible.{ArePossible, IsCovered};
+ghost use Rattle.service_conformance.specs.Possible.{ArePossible, IsCovered, reply_in};
 ghost use Rattle.service_conformance.specs.Quiet.{CanServe, LeadsTo};
 ghost use Rattle.service_conformance.specs.Seen.{changes_nothing, seen_text};
 ghost use Rattle.service_descriptions.specs.Lines.{command_of};
 ghost use Rattle.service_conformance.specs.declared.conformance.possible.Possible.TheVariants as possible;
 
+use super::line_reply::LineReply;
 use super::possible::{Part, Possible, PossibleReplies};
 use super::seen_reply::{SeenReply, changes_nothing};
 use super::service_check::ServiceCheck;
 use histories::Left;
 use iox2_container::container::ContainerHandle;
-use service_descriptions::replay::{LineCommand, Reply};
+use service_descriptions::replay::LineCommand;
 use std::alloc::{AllocError, Global};
 use std::marker::Model;
 
@@ -86,9 +87,9 @@ impl SeenCall {
     }
 
     /// Makes the call in this state, with this reply. Where memory is refused, nothing changes.
-    fn make_with(&self, state: &mut ServiceCheck, reply: &Reply) -> Result<(), AllocError>
-        requires { CanServe (ServesCall self.now state.old) reply.now }
-        ensures { OnOk result (LeadsTo (ServesCall self.now state.old) reply.now state.new) }
+    fn make_with(&self, state: &mut ServiceCheck, reply: &LineReply) -> Result<(), AllocError>
+        requires { CanServe (ServesCall self.now state.old) (reply_in reply.now) }
+        ensures { OnOk result (LeadsTo (ServesCall self.now state.old) (reply_in reply.now) state.new) }
     {
         state.follow_line(&[self.handle], &self.command, reply)
     }
@@ -98,10 +99,10 @@ impl SeenCall {
         &self,
         alloc: Global,
         state: &ServiceCheck,
-        reply: &Reply,
+        reply: &LineReply,
     ) -> Result<ServiceCheck, AllocError>
-        requires { CanServe (ServesCall self.now state.now) reply.now }
-        ensures { IfOk result (LeadsTo (ServesCall self.now state.now) reply.now) }
+        requires { CanServe (ServesCall self.now state.now) (reply_in reply.now) }
+        ensures { IfOk result (LeadsTo (ServesCall self.now state.now) (reply_in reply.now)) }
     {
         let mut next = state.copied(alloc)?;
         self.make_with(&mut next, reply)?;
@@ -131,11 +132,7 @@ impl SeenCall {
 
     /// Makes the call in this state, if it was answered and can be made. Returns whether it did;
     /// else nothing changed.
-    pub(super) fn make(
-        &self,
-        alloc: Global,
-        state: &mut ServiceCheck,
-    ) -> Result<bool, AllocError>
+    pub(super) fn make(&self, alloc: Global, state: &mut ServiceCheck) -> Result<bool, AllocError>
         ensures { IfOk result (IsMade (CallStep self.now state.old) state.old state.new) }
     {
         match &self.seen {
@@ -181,7 +178,7 @@ impl SeenCall {
         let Some(handle) = state.next_in_slot(part, slot) else {
             return Ok(());
         };
-        let next = self.state_after(alloc, state, &Reply::Handle(handle))?;
+        let next = self.state_after(alloc, state, &LineReply::Handle(handle))?;
         found.push(next)?;
         Ok(())
     }
