@@ -7,6 +7,7 @@ use Rattle.histories.specs.declared.front.Config.{Config}
 use Rattle.histories.specs.Frontier.{HasSlot, IsLighter, IsSame, LeadTo, Path, Runs, cleared, path_more, path_of}
 use Rattle.histories.specs.Gathering.{AreSettled, FromOne, Gathers, IsClosed, IsClosing, IsCopy, IsDone, IsMadeFrom, IsNext, IsNextLayer, IsSettled, IsUnderWay, Spot, ones, spot_of}
 use Rattle.histories.proofs.Bits.{bit_cases, cleared_le, cleared_same, ones_le, ones_less, ones_most, slot_64, slot_within}
+use Rattle.histories.proofs.Gathering.{gathers_none}
 use Rattle.histories.proofs.Running.{lighter_as, lighter_then, runs_as, runs_fewer, runs_lighter, runs_then}
 
 path_with : ℕ → List ℕ → Path
@@ -263,6 +264,24 @@ module _ {S : Type 0} (Step : S → ℕ → S → Type 0) (slots : List (Option 
     closing_settled configs more n.0 next slot left few n.2
         (closing_more configs done layer more n.0 slot call left few here cl f n.1),
     n.2.once,
+  )
+
+  -- of no configurations
+  pub layer_none : (layer done : List (Config S)) (slot : ℕ) → length layer ≡ 0
+      → Gathers (FromOne (IsDone slot) layer) done done × IsNextLayer Step slots slot layer layer
+  layer_none layer done slot none = (
+    gathers_none (FromOne (IsDone slot) layer) done
+        (λ k f. absurd (omega (arith, f.1.1, none))),
+    (
+      [],
+      gathers_none (FromOne (IsUnderWay Step slots slot) layer) []
+          (λ k f. absurd (omega (arith, f.1.1, none))),
+      record {
+        sound = λ one has. absurd (omega (arith, has.1, none));
+        complete = λ config has. absurd (nothing_in config has);
+        once = λ i j d less h. absurd (omega (arith, h, none));
+      },
+    ),
   )
 
   pub closing_end : (configs done layer : List (Config S)) (slot left : ℕ) → left ≡ 0

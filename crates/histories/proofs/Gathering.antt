@@ -1,5 +1,5 @@
 -- Configurations that are gathered.
-use Rattle.std.proofs.Common.{◌≡◌, Option, ℕ, ◌+◌, ◌<◌, ◌⊎◌, List, [], ◌∷◌, ◌++◌, length, take, get_or, refl, sym, ◌∙◌, ap, subst, arith, inl, inr, true, false}
+use Rattle.std.proofs.Common.{◌≡◌, Option, ℕ, zero, suc, ◌+◌, ◌<◌, ◌⊎◌, List, [], ◌∷◌, ◌++◌, length, take, get_or, refl, sym, ◌∙◌, ap, subst, arith, inl, inr, true, false}
 use Rattle.std.specs.Int.{bit_at}
 use Rattle.std.specs.List.{Contains}
 use Rattle.std.proofs.lemmas.Bool.{cases_order}
@@ -94,27 +94,45 @@ module _ {S : Type 0} where
     once = λ a. all_pairs_push (λ x y. ¬ (IsSame x y)) configs config a (λ k d h. is k d h);
   }
 
-  -- one state more that a call leaves
-  pub gathers_state : (from next : Config S) (slot call : ℕ) (states : List S) (state : S)
-      (old mid new : List (Config S)) → next.state ≡ state
+  only_state : (state x : S) (i : ℕ) → i < length (state ∷ []) → get_or (state ∷ []) i x ≡ x
+      → x ≡ state
+  only_state state x zero h is = sym is
+  only_state state x (suc i) h is = absurd (omega (arith, h))
+
+  -- the one state that a call leaves
+  pub gathers_state : (from next : Config S) (slot call : ℕ) (state : S)
+      (mid new : List (Config S)) → next.state ≡ state
       → next.waiting ≡ cleared from.waiting slot
-      → path_of next ≡ path_more (path_of from) (call ∷ [])
-      → Gathers (IsNextIn from slot call states) old mid → Gathers (IsCopy next) mid new
+      → path_of next ≡ path_more (path_of from) (call ∷ []) → Gathers (IsCopy next) mid new
+      → Gathers (IsNextIn from slot call (state ∷ [])) mid new
+  gathers_state from next slot call state mid new same waits made g =
+      gathers_as (IsCopy next) (IsNextIn from slot call (state ∷ [])) mid new
+      (λ k q. ((0, omega arith, sym (q.0 ∙ same)), q.1 ∙ waits, q.2 ∙ made))
+      (λ k r. (
+        only_state state k.state r.0.0 r.0.1 r.0.2 ∙ sym same,
+        r.1 ∙ sym waits,
+        r.2 ∙ sym made,
+      )) g
+
+  -- one state more
+  pub gathers_states : (from : Config S) (slot call : ℕ) (states : List S) (state : S)
+      (old mid new : List (Config S)) → Gathers (IsNextIn from slot call states) old mid
+      → Gathers (IsNextIn from slot call (state ∷ [])) mid new
       → Gathers (IsNextIn from slot call (states ++ state ∷ [])) old new
-  gathers_state from next slot call states state old mid new same waits made f g =
-      gathers_then (IsNextIn from slot call states) (IsCopy next)
+  gathers_states from slot call states state old mid new f g =
+      gathers_then (IsNextIn from slot call states) (IsNextIn from slot call (state ∷ []))
       (IsNextIn from slot call (states ++ state ∷ [])) old mid new
       (λ k r. elim (Contains-push_cases states state k.state r.0)
-      as (λ _. IsNextIn from slot call states k ⊎ IsCopy next k) [
+      as (λ _. IsNextIn from slot call states k ⊎ IsNextIn from slot call (state ∷ []) k) [
         | inl m ↦ inl (m, r.1, r.2)
-        | inr e ↦ inr (sym e ∙ sym same, r.1 ∙ sym waits, r.2 ∙ sym made)
+        | inr e ↦ inr ((0, omega arith, e), r.1, r.2)
       ])
       (λ k p. (Contains-append_left states (state ∷ []) k.state p.0, p.1, p.2))
       (λ k q. (
-        subst (λ x. Contains (states ++ state ∷ []) x) (sym (q.0 ∙ same))
-            (Contains-push states state),
-        q.1 ∙ waits,
-        q.2 ∙ made,
+        subst (λ x. Contains (states ++ state ∷ []) x)
+            (sym (only_state state k.state q.0.0 q.0.1 q.0.2)) (Contains-push states state),
+        q.1,
+        q.2,
       )) f g
 
   pub gathers_no_state : (from : Config S) (slot call : ℕ) (old : List (Config S))

@@ -172,6 +172,13 @@ module _ {S : Type 0} (Step : S → ℕ → S → Type 0) where
         leads = leads_join old mid new front back x.leads y.leads;
       }
 
+  -- where no call has a slot, none that waits is made
+  pub runs_nothing : (slots : List (Option ℕ)) (old new : S) (waiting rest : ℕ) (calls : List ℕ)
+      → ((slot call : ℕ) → HasSlot slots slot call → ⊥)
+      → Runs Step slots old waiting calls new rest → new ≡ old
+  runs_nothing slots old new waiting rest [] none run = run.0
+  runs_nothing slots old new waiting rest (c ∷ calls) none run = absurd (none run.0 c run.1.0)
+
   -- what comes next is judged from the states of the configurations
   pub split_anew : (links : List Link) (slots : List (Option ℕ)) (es : List Event) (olds : List S)
       (configs : List (Config S)) → IsSound es → IsQuiet es
@@ -209,13 +216,6 @@ module _ {S : Type 0} (Step : S → ℕ → S → Type 0) where
                   (subst (λ m. Explains Step rest m x.1 x.2) (sym from.2) x.4),
             ),
       )
-    where
-      runs_nothing : (slots : List (Option ℕ)) (old new : S) (waiting rest : ℕ) (calls : List ℕ)
-          → ((slot call : ℕ) → HasSlot slots slot call → ⊥)
-          → Runs Step slots old waiting calls new rest → new ≡ old
-      runs_nothing slots old new waiting rest [] none run = run.0
-      runs_nothing slots old new waiting rest (c ∷ calls) none run =
-          absurd (none run.0 c run.1.0)
 
   -- a front with new orders of no calls
   pub fresh_anew : (links : List Link) (slots : List (Option ℕ)) (configs unlinked : List (Config

@@ -1,5 +1,5 @@
 -- What an event does to a front.
-use Rattle.std.specs.Prelude.{◌≡◌, ℕ, ◌<◌, ◌⊎◌, ◌↔◌, List, [], ◌∷◌, ◌++◌, length}
+use Rattle.std.specs.Prelude.{◌≡◌, ℕ, ◌<◌, ◌⊎◌, ◌↔◌, List, [], ◌∷◌, ◌++◌, length, Bool, true, false}
 use Rattle.histories.specs.declared.event.Event.{Event}
 use Rattle.histories.specs.declared.event.Event.TheVariants.{Begin, End, Crash}
 use Rattle.histories.specs.declared.front.Advance.{Advance}
@@ -50,3 +50,22 @@ IsAdvance {M} {S} Step machine old event new result =
     → IsSound events → ((call : ℕ) → event ≡ Begin call → begins call events ≡ 0)
     → IsFrontOf (Step whole) old events olds
     → AdvancesIn (Step whole) events olds event new result
+
+-- the same slots, configurations and links
+abbrev pub IsSameFront : {S : Type 0} → Front S → Front S → Type 0
+IsSameFront old new =
+    (new.slots.items ≡ old.slots.items) × (new.configs.items ≡ old.configs.items)
+    × (new.links.items ≡ old.links.items)
+
+-- A call overlaps nothing: it begins, and is answered next. It was made, and the configurations are
+-- those after both events: there are some. Or nothing changed.
+abbrev pub IsMadeAlone : {M S : Type 0} → (M → S → ℕ → S → Type 0) → M → Front S → ℕ → Front S
+    → Bool → Type 0
+IsMadeAlone {M} {S} Step machine old call new true =
+    (whole : M) (events : List Event) (olds : List S)
+    → Agrees (Step machine) (Step whole) (events ++ Begin call ∷ [])
+    → IsSound events → begins call events ≡ 0
+    → IsFrontOf (Step whole) old events olds
+    → IsFrontOf (Step whole) new ((events ++ Begin call ∷ []) ++ End call ∷ []) olds
+    × (0 < length new.configs.items)
+IsMadeAlone Step machine old call new false = IsSameFront old new

@@ -1,12 +1,14 @@
 -- The configurations that are followed.
-use Rattle.std.specs.Prelude.{◌≡◌, ℕ, ◌+◌, ◌*◌, ◌^◌, ◌%◌, ◌<◌, ◌≤◌, ◌⊎◌, List, [], ◌∷◌, ◌++◌, length, get_or, AllPairs, Option, Some, None, bit_and, bit_or}
+use Rattle.std.specs.Prelude.{◌≡◌, ℕ, ◌+◌, ◌*◌, ◌^◌, ◌%◌, ◌<◌, ◌≤◌, ◌⊎◌, List, [], ◌∷◌, ◌++◌, length, get_or, AllPairs, Bool, true, false, Option, Some, None, bit_and, bit_or}
 use Rattle.std.specs.Int.{bit_at, bit_not, w64}
 use Rattle.std.specs.List.{Contains}
 use Rattle.histories.specs.declared.event.Event.{Event}
 use Rattle.histories.specs.declared.front.Config.{Config}
 use Rattle.histories.specs.declared.front.Link.{Link}
 use Rattle.histories.specs.declared.front.Front.{Front}
-use Rattle.histories.specs.Histories.{begins, times, Explains, HasEnded, IsOpen}
+use Rattle.histories.specs.declared.left.Left.{Left}
+use Rattle.histories.specs.declared.left.Left.TheVariants as left
+use Rattle.histories.specs.Histories.{AreAll, begins, times, Explains, HasEnded, IsOpen}
 
 -- the set without the slot, and with it
 unfoldable pub cleared : ℕ → ℕ → ℕ
@@ -46,6 +48,17 @@ Runs {S} Step slots old waiting (call ∷ calls) new rest =
 -- the call changes nothing, in whatever state it is made
 abbrev pub IsIdle : {S : Type 0} → (S → ℕ → S → Type 0) → ℕ → Type 0
 IsIdle {S} Step call = (old new : S) → Step old call new → new ≡ old
+
+-- the states that a call may leave
+abbrev pub states_in : {S : Type 0} → Left S → List S
+states_in left.Nothing = []
+states_in (left.One state) = state ∷ []
+states_in (left.All states) = states.items
+
+-- a call that leaves such states was made, and could leave no other one; or nothing changed
+abbrev pub IsMade : {S : Type 0} → (S → Type 0) → S → S → Bool → Type 0
+IsMade Left old new true = AreAll Left (new ∷ [])
+IsMade Left old new false = new ≡ old
 
 -- the same calls wait, but for some that change nothing, which wait in the second set alone
 abbrev pub IsLighter : {S : Type 0} → (S → ℕ → S → Type 0) → List (Option ℕ) → ℕ → ℕ → Type 0

@@ -8,7 +8,7 @@ use Rattle.histories.specs.declared.front.Advance.TheVariants as advance
 use Rattle.histories.specs.declared.front.Config.{Config}
 use Rattle.histories.specs.declared.front.Front.{Front}
 use Rattle.histories.specs.declared.front.Link.{Link}
-use Rattle.histories.specs.Frontier.{HasSlot, IsLighter, IsSame, IsWaiting, LeadTo, Path, Runs, cleared, no_path, order_of, path_more, path_of, put, read}
+use Rattle.histories.specs.Frontier.{HasSlot, IsLighter, IsMade, IsSame, IsWaiting, LeadTo, Path, Runs, cleared, no_path, order_of, path_more, path_of, put, read}
 
 -- one of the configurations is the same
 abbrev pub HasSame : {S : Type 0} → List (Config S) → Config S → Type 0
@@ -114,6 +114,13 @@ pub record AreSettled {S : Type 0} (Step : S → ℕ → S → Type 0) (slots : 
       → (one : Config S) × Contains settled one × (one.state ≡ config.state)
       × IsLighter Step slots one.waiting config.waiting
   pub once : AllPairs (λ a b. ¬ (IsSame a b)) settled
+
+-- the call was made in the configuration, and could leave no other state; or nothing changed
+abbrev pub IsMadeIn : {S : Type 0} → (S → ℕ → S → Type 0) → Config S → ℕ → Config S → Bool → Type 0
+IsMadeIn Step old call new true =
+    IsMade (Step old.state call) old.state new.state true
+    × (path_of new ≡ path_more (path_of old) (call ∷ []))
+IsMadeIn Step old call new false = new ≡ old
 
 -- the call in the slot, which waits, is made, and leaves one of the states
 abbrev pub IsNextIn : {S : Type 0} → Config S → ℕ → ℕ → List S → Spot S → Type 0

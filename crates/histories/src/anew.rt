@@ -5,7 +5,6 @@ ghost use Rattle.histories.specs.Splitting.{BeginsAnew};
 use super::front::{Config, Front};
 use super::machine::Machine;
 use super::slots::are_free;
-use std::alloc::Global;
 
 /// The configurations, of orders of no calls.
 fn unlink<S>(configs: &mut [Config<S>])
@@ -19,13 +18,13 @@ fn unlink<S>(configs: &mut [Config<S>])
 
 /// Begins anew with the states that the calls have left, where no call is open, and drops the
 /// links. Returns whether it did.
-pub fn begin_anew<M: Machine>(alloc: Global, _machine: &M, front: &mut Front<M::State>) -> bool
+pub fn begin_anew<M: Machine>(_machine: &M, front: &mut Front<M::State>) -> bool
     ensures { (whole : M) → BeginsAnew (M.Step whole) front.old front.new result }
 {
     if !are_free(&front.slots) {
         return false;
     }
     unlink(&mut front.configs);
-    front.links = Vec::new(alloc);
+    front.links.clear();
     true
 }

@@ -1,10 +1,11 @@
 //! A call that ends is made.
 ghost use Rattle.std.specs.Prelude.{◌≡◌, ◌<◌, ◌≤◌, ◌++◌, ◌∷◌, [], ℕ, IfOk, OnOk, length};
 ghost use Rattle.histories.specs.Frontier.{HasSlot, IsWaiting, cleared};
-ghost use Rattle.histories.specs.Gathering.{FromOne, Gathers, IsCloseOutcome, IsDone, IsDropped, IsNext, IsNextAt, IsNextLayer, IsUnderWay, spot_of};
+ghost use Rattle.histories.specs.Gathering.{FromOne, Gathers, IsCloseOutcome, IsDone, IsDropped, IsNext, IsNextAt, IsNextIn, IsNextLayer, IsUnderWay, spot_of};
 
 use super::front::{Config, MAX_CONFIGS};
 use super::gather::{Gathered, add, copy_of};
+use super::left::Left;
 use super::machine::Machine;
 use super::sets::{has, without};
 use super::settle::settle_all;
@@ -24,7 +25,8 @@ fn next_config<S: Drop>(
         × (next.base ≡ config.now.base)
         × (next.made.items ≡ config.now.made.items ++ call ∷ [])) }
 {
-    let mut made = Vec::from_slice(alloc, &config.made)?;
+    let mut made = Vec::with_capacity(alloc, config.made.len() + 1)?;
+    made.extend_from_slice(&config.made)?;
     made.push(call)?;
     Ok(Config {
         state,
@@ -32,6 +34,42 @@ fn next_config<S: Drop>(
         base: config.base,
         made,
     })
+}
+
+/// Adds the configuration in which the call in the slot was made and left this state.
+fn make_state<M: Machine>(
+    alloc: Global,
+    machine: &M,
+    config: &Config<M::State>,
+    slot: usize,
+    call: usize,
+    state: M::State,
+    next: &mut Gathered<M::State>,
+) -> Result<(), AllocError>
+    requires { slot < 64 }
+    ensures { OnOk result (Gathers (IsNextIn config.now slot call (state ∷ [])) next.old next.new) }
+{
+    let made = next_config(alloc, config, slot, call, state)?;
+    add(alloc, machine, next, made)
+}
+
+/// The same for each of these states.
+fn make_states<M: Machine>(
+    alloc: Global,
+    machine: &M,
+    config: &Config<M::State>,
+    slot: usize,
+    call: usize,
+    states: Vec<M::State>,
+    next: &mut Gathered<M::State>,
+) -> Result<(), AllocError>
+    requires { slot < 64 }
+    ensures { OnOk result (Gathers (IsNextIn config.now slot call states.items) next.old next.new) }
+{
+    for state in states {
+        make_state(alloc, machine, config, slot, call, state, next)?;
+    }
+    Ok(())
 }
 
 /// Adds the configurations to which the call in the slot, which waits, leads.
@@ -49,12 +87,11 @@ fn make_call<M: Machine>(
     ensures { OnOk result (Gathers (IsNextAt (M.Step machine.now) slots.now config.now slot)
         next.old next.new) }
 {
-    let found = machine.follow(&config.state, call)?;
-    for state in found {
-        let made = next_config(alloc, config, slot, call, state)?;
-        add(alloc, machine, next, made)?;
+    match machine.follow(&config.state, call)? {
+        Left::Nothing => Ok(()),
+        Left::One(state) => make_state(alloc, machine, config, slot, call, state, next),
+        Left::All(states) => make_states(alloc, machine, config, slot, call, states, next),
     }
-    Ok(())
 }
 
 /// The same, if a call has the slot and waits.
@@ -135,7 +172,7 @@ fn close_round<M: Machine>(
         × Gathers (FromOne (IsUnderWay (M.Step machine.now) slots.now slot) layer.items) []
         next.items) }
 {
-    let mut next = Gathered::new(alloc);
+    let mut next = Gathered::with_room(alloc, layer.len())?;
     for config in layer {
         close_one(alloc, machine, slots, config, slot, done, &mut next)?;
     }
@@ -156,6 +193,9 @@ fn close_settled<M: Machine>(
     ensures { IfOk result (λ next. Gathers (FromOne (IsDone slot) layer.items) done.old done.new
         × IsNextLayer (M.Step machine.now) slots.now slot layer.items next.items) }
 {
+    if layer.is_empty() {
+        return Ok(layer);
+    }
     let mut next = close_round(alloc, machine, slots, layer, slot, done)?;
     settle_all(alloc, machine, slots, &mut next, true)?;
     Ok(next)
@@ -176,7 +216,7 @@ pub fn close<M: Machine>(
     ensures { IfOk result (IsCloseOutcome (M.Step machine.now) slots.now configs.items slot) }
 {
     let mut left = slots.len();
-    let mut done = Gathered::new(alloc);
+    let mut done = Gathered::with_room(alloc, configs.len())?;
     let mut layer = close_settled(alloc, machine, slots, configs, slot, &mut done)?;
     while left > 0 {
         if layer.len() > MAX_CONFIGS {

@@ -42,6 +42,13 @@ impl<S> Gathered<S> {
         Gathered::of(alloc, Vec::new(alloc))
     }
 
+    /// No configuration, and room for so many.
+    pub fn with_room(alloc: Global, count: usize) -> Result<Self, AllocError>
+        ensures { IfOk result (λ gathered. gathered ≡ []) }
+    {
+        Ok(Gathered::of(alloc, Vec::with_capacity(alloc, count)?))
+    }
+
     /// These configurations.
     pub fn of(alloc: Global, configs: Vec<Config<S>>) -> Self
         ensures { result ≡ configs.items }

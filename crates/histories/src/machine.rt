@@ -1,8 +1,9 @@
 //! What is searched: recorded calls that lead from one state to another.
 ghost use Rattle.std.specs.Prelude.{◌≡◌, ◌↔◌, ℕ, IfOk, IsTrue};
-ghost use Rattle.histories.specs.Frontier.{IsIdle};
+ghost use Rattle.histories.specs.Frontier.{IsIdle, IsMade, states_in};
 ghost use Rattle.histories.specs.Histories.{AreAll};
 
+use super::left::Left;
 use std::alloc::AllocError;
 
 /// Recorded calls. A call is named by its number.
@@ -15,8 +16,13 @@ pub trait Machine {
     ghost Step: { Self → Self.State → ℕ → Self.State → Type 0 };
 
     /// All states that the call may leave.
-    fn follow(&self, state: &Self::State, call: usize) -> Result<Vec<Self::State>, AllocError>
-        ensures { IfOk result (λ found. AreAll (Step self.now state.now call) found.items) };
+    fn follow(&self, state: &Self::State, call: usize) -> Result<Left<Self::State>, AllocError>
+        ensures { IfOk result (λ left. AreAll (Step self.now state.now call) (states_in left)) };
+
+    /// Makes the call in this state, if it can leave one state alone. Returns whether it did; else
+    /// nothing changed. An answer of no is always right: then the states are listed.
+    fn make(&self, state: &mut Self::State, call: usize) -> Result<bool, AllocError>
+        ensures { IfOk result (IsMade (Step self.now state.old call) state.old state.new) };
 
     /// Whether the call can be made in this state, and changes nothing in whatever state it is
     /// made, as a query or a call that was refused. Such a call is made at once. An answer of no is

@@ -8,7 +8,6 @@ fn orders_are_read(rt: HostRuntime) -> Result<(), Fail> {
     let alloc = rt.alloc();
     let calls = [Access::Write(1), Access::Write(2), Access::Read(1)];
     let machine = Recorded {
-        alloc,
         calls: Vec::from_slice(alloc, &calls)?,
     };
     let mut front = start(alloc, &machine, &[0])?;
@@ -36,7 +35,7 @@ fn orders_are_read(rt: HostRuntime) -> Result<(), Fail> {
     }
     assert_eq!(rt; calls_in_order.as_slice(), [1, 0, 2, 0, 2, 1].as_slice());
     // No call is open: the links go, and the states stay.
-    assert!(rt; begin_anew(alloc, &machine, &mut front));
+    assert!(rt; begin_anew(&machine, &mut front));
     assert_eq!(rt; (front.links.len(), front.configs.len()), (0, 2));
     Ok(())
 }
@@ -46,7 +45,6 @@ fn an_open_call_keeps_its_links(rt: HostRuntime) -> Result<(), Fail> {
     let alloc = rt.alloc();
     let calls = [Access::Read(0), Access::Write(1)];
     let machine = Recorded {
-        alloc,
         calls: Vec::from_slice(alloc, &calls)?,
     };
     let mut front = start(alloc, &machine, &[0])?;
@@ -54,7 +52,7 @@ fn an_open_call_keeps_its_links(rt: HostRuntime) -> Result<(), Fail> {
         assert!(rt; front.slots.len() <= MAX_OPEN);
         assert_eq!(rt; advance(alloc, &machine, &mut front, event)?, Advance::Done);
     }
-    assert!(rt; !begin_anew(alloc, &machine, &mut front));
+    assert!(rt; !begin_anew(&machine, &mut front));
     assert_eq!(rt; front.links.len(), 1);
     assert!(rt; front.slots.len() <= MAX_OPEN);
     // A call ends once.

@@ -1,10 +1,11 @@
 //! A register that is written and read.
 ghost use Rattle.std.specs.Prelude.{◌≡◌, ℕ, IfNone, IfOk, IfSome, IsTrue, slice_get};
+ghost use Rattle.histories.specs.Frontier.{IsMade, states_in};
 ghost use Rattle.histories.specs.Histories.{AreAll};
 ghost use Rattle.histories_tests.specs.Register.{Makes, MakesCall};
 
-use histories::Machine;
-use std::alloc::{AllocError, Global};
+use histories::{Left, Machine};
+use std::alloc::AllocError;
 
 /// A call on the register, with the reply that was seen.
 #[derive(Clone, Copy)]
@@ -20,7 +21,6 @@ pub enum Access {
 /// Recorded calls on the register.
 #[derive(Drop)]
 pub struct Recorded {
-    pub alloc: Global,
     pub calls: Vec<Access>,
 }
 
@@ -39,22 +39,24 @@ fn after(access: &Access, value: u64) -> Option<u64>
 }
 
 /// All values after a call: one, or none.
-fn all_after(alloc: Global, access: &Access, value: u64) -> Result<Vec<u64>, AllocError>
-    ensures { IfOk result (λ found. AreAll (Makes access.now value) found.items) }
+fn all_after(access: &Access, value: u64) -> Left<u64>
+    ensures { AreAll (Makes access.now value) (states_in result) }
 {
-    let mut list = Vec::new(alloc);
     let Some(new) = after(access, value) else {
-        return Ok(list);
+        return Left::Nothing;
     };
-    list.push(new)?;
-    Ok(list)
+    Left::One(new)
 }
 
-/// No value.
-fn nothing(alloc: Global) -> Vec<u64>
-    ensures { AreAll (λ _. ⊥) result.items }
+/// Makes the call with this value, if it can be. Returns whether it did; else nothing changed.
+fn make(access: &Access, value: &mut u64) -> bool
+    ensures { IsMade (Makes access.now value.old) value.old value.new result }
 {
-    Vec::new(alloc)
+    let Some(new) = after(access, *value) else {
+        return false;
+    };
+    *value = new;
+    true
 }
 
 /// Whether the call can be made with this value, and is no write.
@@ -74,10 +76,17 @@ impl Machine for Recorded {
 
     ghost Step = { λ m value call new. MakesCall (slice_get m.calls.items call) value new };
 
-    fn follow(&self, value: &u64, call: usize) -> Result<Vec<u64>, AllocError> {
+    fn follow(&self, value: &u64, call: usize) -> Result<Left<u64>, AllocError> {
         match self.calls.get(call) {
-            Some(access) => all_after(self.alloc, access, *value),
-            None => Ok(nothing(self.alloc)),
+            Some(access) => Ok(all_after(access, *value)),
+            None => Ok(Left::Nothing),
+        }
+    }
+
+    fn make(&self, value: &mut u64, call: usize) -> Result<bool, AllocError> {
+        match self.calls.get(call) {
+            Some(access) => Ok(make(access, value)),
+            None => Ok(false),
         }
     }
 

@@ -17,7 +17,6 @@ pub enum Found {
 /// What is found of these calls, from a register with 0 on.
 pub fn judged(alloc: Global, calls: &[Access], events: &[Event]) -> Result<Found, AllocError> {
     let machine = Recorded {
-        alloc,
         calls: Vec::from_slice(alloc, calls)?,
     };
     match judge(alloc, &machine, &[0], events)? {

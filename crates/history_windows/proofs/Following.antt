@@ -1,17 +1,19 @@
 -- Windows that go on event by event.
-use Rattle.std.proofs.Common.{◌≡◌, ◌⊎◌, ℕ, zero, suc, ◌+◌, ◌-◌, ◌<◌, ◌≤◌, List, [], ◌∷◌, ◌++◌, length, take, get_or, refl, sym, ◌∙◌, ap, subst, arith, inl, inr, append_assoc, append-nil, take_all, true}
+use Rattle.std.proofs.Common.{◌≡◌, ◌⊎◌, ℕ, zero, suc, ◌+◌, ◌-◌, ◌<◌, ◌≤◌, List, [], ◌∷◌, ◌++◌, length, take, get_or, refl, sym, ◌∙◌, ap, subst, arith, inl, inr, append_assoc, append-nil, take_all, true, Option, Some}
 use Rattle.std.proofs.lemmas.List.{length-take-le, take-take}
 use Rattle.std.proofs.lemmas.Option.{slice_get-get_or}
 use Rattle.histories.specs.declared.event.Event.{Event}
 use Rattle.histories.specs.declared.event.Event.TheVariants.{Begin, End, Crash}
 use Rattle.histories.specs.declared.front.Advance.{Advance}
 use Rattle.histories.specs.declared.front.Advance.TheVariants as advance
+use Rattle.histories.specs.declared.front.Config.{Config}
 use Rattle.histories.specs.declared.front.Front.{Front}
-use Rattle.histories.specs.Advances.{AdvancesIn, IsAdvance}
+use Rattle.histories.specs.declared.front.Link.{Link}
+use Rattle.histories.specs.Advances.{AdvancesIn, IsAdvance, IsMadeAlone, IsSameFront}
 use Rattle.histories.specs.Histories.{begins, IsExplained, IsHistory, IsOpen, MayFollow, StandsAt}
-use Rattle.histories.specs.Frontier.{HasManyOpen, IsFrontOf, IsSound}
+use Rattle.histories.specs.Frontier.{HasManyOpen, IsFrontOf, IsFrontier, IsSound}
 use Rattle.histories.specs.Splitting.{BeginsAnew, IsQuiet}
-use Rattle.histories.proofs.Events.{begins_none, sound_none}
+use Rattle.histories.proofs.Events.{begins_none, open_begin_now, sound_end, sound_none, stands_within}
 use Rattle.histories.proofs.Explaining.{explains_begin, explains_end}
 use Rattle.histories.proofs.Cutting.{begins-append}
 use Rattle.histories.proofs.Verdicts.{AreNumbered, agrees_same, ends_of, explained_take, frontier_explained, frontier_refused, frontier_some, next_fresh, next_of, numbered_more, numbered_none, one_more, sound_more}
@@ -199,6 +201,37 @@ module _ {S : Type 0} (Step : S → ℕ → S → Type 0) (olds : List S) where
           → AdvancesIn Step g.is.inside g.is.states e new advance.NoEvent → ⊥
       goes_closed new closed = closed ends_inside
 
+    -- a call begins and is answered next
+    pub goes_alone : (new : Front S) (c : ℕ) → MayFollow es (Begin c)
+        → MayFollow (es ++ Begin c ∷ []) (End c)
+        → IsFrontOf Step new ((g.is.inside ++ Begin c ∷ []) ++ End c ∷ []) g.is.states
+        → 0 < length new.configs.items
+        → GoesTo ((es ++ Begin c ∷ []) ++ End c ∷ []) (record { begin = w.begin; front = new })
+    goes_alone new c may then f some =
+        let inside : List Event = g.is.inside ++ Begin c ∷ [] in
+        let more : List Event = es ++ Begin c ∷ [] in
+        let is_open : IsOpen inside c =
+        open_begin_now g.is.inside c g.second (fresh_inside (Begin c) may c refl) in record {
+          is = record {
+            past = g.is.past;
+            inside = inside ++ End c ∷ [];
+            split = ap (λ (l : List Event). l ++ End c ∷ []) (split_more (Begin c) may)
+                ∙ append_assoc g.is.past inside (End c ∷ []);
+            begins = g.is.begins;
+            states = g.is.states;
+            cut = g.is.cut;
+            front = f;
+            some = some;
+          };
+          first = g.first;
+          second = sound_end inside (End c) c (inl refl) (inside_more (Begin c) may) is_open.0;
+          whole = sound_more more (End c) (whole_more (Begin c) may)
+              (λ x is. absurd (cc)) (ends_of more (End c) then);
+          numbered = numbered_more more (End c)
+              (numbered_more es (Begin c) g.numbered (next_of es (Begin c) may))
+              (next_of more (End c) then);
+        }
+
     -- a window begins where no call is open
     pub goes_anew : (new : Front S) → BeginsAnew Step w.front new true
         → GoesTo es (record { begin = length es; front = new })
@@ -271,6 +304,21 @@ goes_advance StepOf machine olds es w g e may new result advances =
     advances machine g.is.inside g.is.states (agrees_same (StepOf machine) g.is.inside)
     (agrees_same (StepOf machine) (g.is.inside ++ e ∷ [])) g.second
     (fresh_inside (StepOf machine) olds es w g e may) g.is.front
+
+-- the events up to one that stands at a place
+take_stands : (es : List Event) (at : ℕ) (e : Event) → StandsAt es at e
+    → take (at + 1) es ≡ take at es ++ e ∷ []
+take_stands es at e stands =
+    let h : at < length es = stands_within es at e stands in
+    let same : Some (get_or es at e) ≡ Some e = sym (slice_get-get_or es at e h) ∙ stands in
+    one_more es at e h ∙ ap (λ (x : Event). take at es ++ x ∷ []) (some_same same)
+  where
+    some_same : {x y : Event} → Some x ≡ Some y → x ≡ y
+    some_same p = cc
+
+stands_below : (es : List Event) (at : ℕ) (e : Event) → StandsAt es (at + 1) e
+    → at + 2 ≤ length es
+stands_below es at e stands = omega (arith, stands_within es (at + 1) e stands)
 
 -- the event at a place of a history may follow those before it
 pub may_at : (es : List Event) (at : ℕ) (d : Event) → IsHistory es → at < length es
@@ -456,6 +504,113 @@ module _ {M S : Type 0} (StepOf : M → S → ℕ → S → Type 0) (machine : M
             advances));
         whole = λ never. whole_done f.goes (f.whole never) advances;
       })
+
+-- the front has the same slots, configurations and links
+pub follows_same : {S : Type 0} (Step : S → ℕ → S → Type 0) (olds : List S) (c : Cut)
+    (es : List Event) (w same : Window S) → same.begin ≡ w.begin → IsSameFront w.front same.front
+    → FollowsTo Step olds c es w → FollowsTo Step olds c es same
+follows_same {S} Step olds c es w same begins is f =
+    let front_of : (events : List Event) (states : List S) → IsFrontOf Step w.front events states
+    → IsFrontOf Step same.front events states =
+    λ events states front.
+    subst (λ (l : List Link). IsFrontier Step l same.front.slots.items events states
+    same.front.configs.items) (sym is.2)
+    (subst (λ (l : List (Option ℕ)). IsFrontier Step w.front.links.items l events states
+    same.front.configs.items) (sym is.0)
+    (subst (λ (l : List (Config S)). IsFrontier Step w.front.links.items w.front.slots.items events
+    states l) (sym is.1) front)) in record {
+      goes = record {
+        is = record {
+          past = f.goes.is.past;
+          inside = f.goes.is.inside;
+          split = f.goes.is.split;
+          begins = begins ∙ f.goes.is.begins;
+          states = f.goes.is.states;
+          cut = f.goes.is.cut;
+          front = front_of f.goes.is.inside f.goes.is.states f.goes.is.front;
+          some = subst (λ (l : List (Config S)). 0 < length l) (sym is.1) f.goes.is.some;
+        };
+        first = f.goes.first;
+        second = f.goes.second;
+        whole = f.goes.whole;
+        numbered = f.goes.numbered;
+      };
+      whole = λ never. front_of es olds (f.whole never);
+    }
+
+-- a call that begins and is answered next
+module _ {M S : Type 0} (StepOf : M → S → ℕ → S → Type 0) (machine : M) (olds : List S)
+    (es : List Event) (at c : ℕ) (w : Window S) (new : Front S) (history : IsHistory es)
+    (begins_at : StandsAt es at (Begin c)) (ends_at : StandsAt es (at + 1) (End c)) where
+  then_taken : take (at + 1) es ≡ take at es ++ Begin c ∷ []
+  then_taken = take_stands es at (Begin c) begins_at
+
+  both_taken : take (at + 2) es ≡ (take at es ++ Begin c ∷ []) ++ End c ∷ []
+  both_taken =
+      ap (λ n. take n es) (two_more at)
+      ∙ (take_stands es (at + 1) (End c) ends_at
+      ∙ ap (λ (l : List Event). l ++ End c ∷ []) then_taken)
+    where
+      two_more : (n : ℕ) → n + 2 ≡ (n + 1) + 1
+      two_more n = omega arith
+
+  alone_in : (events : List Event) (states : List S) → IsMadeAlone StepOf machine w.front c new true
+      → IsSound events → begins c events ≡ 0 → IsFrontOf (StepOf machine) w.front events states
+      → IsFrontOf (StepOf machine) new ((events ++ Begin c ∷ []) ++ End c ∷ []) states
+      × (0 < length new.configs.items)
+  alone_in events states alone sound fresh f =
+      alone machine events states (agrees_same (StepOf machine) (events ++ Begin c ∷ [])) sound
+      fresh f
+
+  pub follows_alone : (n : Cut) (window : Window S)
+      → FollowsTo (StepOf machine) olds n (take at es) w
+      → IsMadeAlone StepOf machine w.front c new true
+      → CutsAt (StepOf machine) n (at + 2) (record { begin = w.begin; front = new }) window
+      → FollowsTo (StepOf machine) olds n (take (at + 2) es) window
+  follows_alone n window f alone cuts = cases n f cuts
+    where
+      Step : S → ℕ → S → Type 0
+      Step = StepOf machine
+
+      first : List Event
+      first = take at es
+
+      may : MayFollow first (Begin c)
+      may = history at (Begin c) begins_at
+
+      then : MayFollow (first ++ Begin c ∷ []) (End c)
+      then =
+          subst (λ (l : List Event). MayFollow l (End c)) then_taken
+          (history (at + 1) (End c) ends_at)
+
+      goes : GoesTo Step olds first w
+          → GoesTo Step olds (take (at + 2) es) (record { begin = w.begin; front = new })
+      goes g =
+          let is = alone_in g.is.inside g.is.states alone g.second
+          (fresh_inside Step olds first w g (Begin c) may c refl) g.is.front in
+          subst
+          (λ (l : List Event). GoesTo Step olds l (record { begin = w.begin; front = new }))
+          (sym both_taken) (goes_alone Step olds first w g new c may then is.0 is.1)
+
+      cases : (n : Cut) → FollowsTo Step olds n first w
+          → CutsAt Step n (at + 2) (record { begin = w.begin; front = new }) window
+          → FollowsTo Step olds n (take (at + 2) es) window
+      cases cut.WhereQuiet f cuts = record {
+        goes = goes_window Step olds (take (at + 2) es) (record { begin = w.begin; front = new })
+            window (at + 2)
+            (sym (length-take-le (at + 2) es (stands_below es at (End c) ends_at)))
+            (goes f.goes) cuts;
+        whole = λ never. absurd (cc);
+      }
+      cases cut.Never f same =
+          subst (λ (x : Window S). FollowsTo Step olds cut.Never (take (at + 2) es) x) (sym same)
+          (record {
+            goes = goes f.goes;
+            whole = λ never.
+                subst (λ (l : List Event). IsFrontOf Step new l olds) (sym both_taken)
+                (alone_in first olds alone f.goes.whole
+                (fresh Step olds first w f.goes (Begin c) may c refl) (f.whole never)).0;
+          })
 
 -- all events were followed
 pub follows_end : {S : Type 0} (Step : S → ℕ → S → Type 0) (olds : List S) (c : Cut)

@@ -1,36 +1,63 @@
 //! Following a history event by event.
-ghost use Rattle.std.specs.Prelude.{◌≡◌, ◌<◌, IfErr, IfOk, OnOk, length};
+ghost use Rattle.std.specs.Prelude.{◌≡◌, ◌+◌, ◌<◌, IfErr, IfOk, IfSome, OnOk, length};
+ghost use Rattle.histories.specs.declared.event.Event.TheVariants.{Begin, End};
 ghost use Rattle.histories.specs.Frontier.{IsFrontOf};
-ghost use Rattle.histories.specs.Histories.{IsExplained, IsHistory};
-ghost use Rattle.history_windows.specs.Windows.{BeginsWindow, CutsAt, IsStop, IsWindowOf};
+ghost use Rattle.histories.specs.Histories.{IsExplained, IsHistory, StandsAt};
+ghost use Rattle.history_windows.specs.Windows.{BeginsWindow, CutsAt, IsMadeAt, IsStop, IsWindowOf};
 
 use super::window::{Cut, Stop, Window};
-use histories::{Advance, Event, Machine, advance, begin_anew, start};
+use histories::{Advance, Event, Machine, advance, begin_anew, make_alone, start};
 use std::alloc::{AllocError, Global};
 
 /// Begins a new window after so many events, where no call is open.
-fn begin_window<M: Machine>(alloc: Global, machine: &M, window: &mut Window<M::State>, count: usize)
+fn begin_window<M: Machine>(machine: &M, window: &mut Window<M::State>, count: usize)
     ensures { BeginsWindow (M.Step machine.now) count window.old window.new }
 {
-    if !begin_anew(alloc, machine, &mut window.front) {
+    if !begin_anew(machine, &mut window.front) {
         return;
     }
     window.begin = count;
 }
 
 /// Begins a new window after so many events, if the history is cut there.
-fn cut_at<M: Machine>(
-    alloc: Global,
-    machine: &M,
-    window: &mut Window<M::State>,
-    count: usize,
-    cut: Cut,
-)
+fn cut_at<M: Machine>(machine: &M, window: &mut Window<M::State>, count: usize, cut: Cut)
     ensures { CutsAt (M.Step machine.now) cut count window.old window.new }
 {
     match cut {
-        Cut::WhereQuiet => begin_window(alloc, machine, window, count),
+        Cut::WhereQuiet => begin_window(machine, window, count),
         Cut::Never => (),
+    }
+}
+
+/// The call that begins at this place and is answered next, if one is.
+fn call_alone(events: &[Event], at: usize) -> Option<usize>
+    requires { at < length events.now }
+    ensures { IfSome result (λ call. StandsAt events.now at (Begin call)
+        × StandsAt events.now (at + 1) (End call)) }
+{
+    let Event::Begin(call) = events[at] else {
+        return None;
+    };
+    match events.get(at + 1) {
+        Some(Event::End(ended)) if *ended == call => Some(call),
+        _ => None,
+    }
+}
+
+/// Makes the call that begins at this place in place, if it is answered next and can be made so.
+/// Returns whether it did; else nothing changed.
+fn make_at<M: Machine>(
+    machine: &M,
+    window: &mut Window<M::State>,
+    events: &[Event],
+    at: usize,
+) -> Result<bool, AllocError>
+    requires { at < length events.now }
+    ensures { IfOk result (IsMadeAt M.Step machine.now events.now at window.old window.new) }
+{
+    match call_alone(events, at) {
+        Some(call) => make_alone(machine, &mut window.front, call),
+        None => Ok(false),
     }
 }
 
@@ -56,7 +83,13 @@ pub(super) fn follow<M: Machine>(
 {
     let front = start(alloc, machine, states)?;
     let mut window = Window { begin: 0, front };
-    for at in 0..events.len() {
+    let mut at = 0;
+    while at < events.len() {
+        if make_at(machine, &mut window, events, at)? {
+            at += 2;
+            cut_at(machine, &mut window, at, cut);
+            continue;
+        }
         match advance(alloc, machine, &mut window.front, events[at])? {
             Advance::Done => (),
             Advance::Refused => return Ok(Err((at, Stop::Refused))),
@@ -64,7 +97,8 @@ pub(super) fn follow<M: Machine>(
             Advance::ManyOpen => return Ok(Err((at, Stop::ManyOpen))),
             Advance::NoEvent => unreachable!(),
         }
-        cut_at(alloc, machine, &mut window, at + 1, cut);
+        at += 1;
+        cut_at(machine, &mut window, at, cut);
     }
     Ok(Ok(window))
 }

@@ -16,6 +16,7 @@ use Rattle.service_descriptions.specs.declared.replay.machine.reply.Reply.{Reply
 use Rattle.service_descriptions.specs.declared.replay.machine.reply.Reply.TheVariants as reply
 use Rattle.service_descriptions.specs.Listings.{LacksRole}
 use Rattle.service_descriptions.specs.Steps.{ServesAdd}
+use Rattle.service_conformance.specs.declared.conformance.line_reply.LineReply.TheVariants as line
 use Rattle.service_conformance.specs.declared.conformance.possible.Possible.TheVariants as possible
 use Rattle.service_conformance.specs.Entries.{Refuses}
 use Rattle.service_conformance.specs.Possible.{Allows, ArePossible, possible_add}
@@ -36,9 +37,9 @@ module _ (s : Service) (d : PortDetails) where
   lacking_only n _ new so = absurd so
 
   pub lacking : IsService s → LacksRole s (role_of d)
-      → ArePossible s (ServesAdd s d) (possible.One reply.WrongPattern)
+      → ArePossible s (ServesAdd s d) (possible.One line.WrongPattern)
   lacking i n =
-      alone _ _ reply.WrongPattern s (λ r. refl) (n, refl) i (lacking_only n)
+      alone _ _ line.WrongPattern s (λ r. refl) (n, refl) i (lacking_only n)
 
   locked_only : HasRole s.pattern (role_of d) → s.nodes.registry.locked ≡ true → (r : Reply)
       (new : Service) → ServesAdd s d r new → reply.Locked ≡ r
@@ -50,9 +51,9 @@ module _ (s : Service) (d : PortDetails) where
   locked_only has l _ new so = absurd so
 
   pub locked : IsService s → HasRole s.pattern (role_of d) → s.nodes.registry.locked ≡ true
-      → ArePossible s (ServesAdd s d) (possible.One reply.Locked)
+      → ArePossible s (ServesAdd s d) (possible.One line.Locked)
   locked i has l =
-      alone _ _ reply.Locked s (λ r. refl) (has, (l, refl)) i (locked_only has l)
+      alone _ _ line.Locked s (λ r. refl) (has, (l, refl)) i (locked_only has l)
 
   unregistered_only : HasRole s.pattern (role_of d) → s.nodes.registry.locked ≡ false
       → entries_of_node (node_of d) s.nodes.registry ≡ 0 → (r : Reply) (new : Service)
@@ -68,9 +69,9 @@ module _ (s : Service) (d : PortDetails) where
 
   pub unregistered : IsService s → HasRole s.pattern (role_of d)
       → s.nodes.registry.locked ≡ false → entries_of_node (node_of d) s.nodes.registry ≡ 0
-      → ArePossible s (ServesAdd s d) (possible.One reply.NotRegistered)
+      → ArePossible s (ServesAdd s d) (possible.One line.NotRegistered)
   unregistered i has l n =
-      alone _ _ reply.NotRegistered s (λ r. refl) (has, (l, n, refl)) i
+      alone _ _ line.NotRegistered s (λ r. refl) (has, (l, n, refl)) i
       (unregistered_only has l n)
 
   module _ (side : Side) (role : role_of d ≡ role_at s.pattern side)
@@ -139,6 +140,6 @@ module _ (s : Service) (d : PortDetails) where
         let adds =
         steps_at s.pattern side s.ports (role_of d) (λ o n. Adds o d (Err OutOfSpace) n) old role
         (untouching _ old old.registry (l, full, refl) (ports_are s side i).is_registry) in
-        alone _ _ reply.Full (record s { ports = ports }) (λ r. refl)
+        alone _ _ line.Full (record s { ports = ports }) (λ r. refl)
         (has_role s.pattern side (role_of d) role, (opens, (adds, refl)))
         (attach_kept s s.pattern ports d (Err OutOfSpace) refl opens.1 adds i) (full_only full)

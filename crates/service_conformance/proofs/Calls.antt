@@ -1,12 +1,13 @@
 -- What calls that were seen do.
-use Rattle.std.proofs.Common.{◌≡◌, ◌↔◌, ℕ, zero, suc, ◌+◌, ◌<◌, ◌⊎◌, inl, inr, true, false, Option, Some, None, Result, Ok, Err, List, [], ◌∷◌, ◌++◌, length, get_or, refl, sym, ◌∙◌, ap, subst, arith}
+use Rattle.std.proofs.Common.{◌≡◌, ◌↔◌, ℕ, zero, suc, ◌+◌, ◌<◌, ◌⊎◌, inl, inr, Bool, true, false, Option, Some, None, Result, Ok, Err, List, [], ◌∷◌, ◌++◌, length, get_or, refl, sym, ◌∙◌, ap, subst, arith}
 use Rattle.std.specs.List.{Contains, slice_get}
 use Rattle.std.specs.Prelude.{IfOk}
 use Rattle.std.specs.Global.{Vec}
 use Rattle.std.specs.declared.alloc.AllocError.{AllocError}
 use Rattle.std.proofs.lemmas.List.Elements.{All-push, All-weaker, Contains-append_left, Contains-push}
 use Rattle.std.proofs.lemmas.Option.{slice_get_within}
-use Rattle.histories.specs.Frontier.{IsIdle}
+use Rattle.histories.specs.declared.left.Left.{Left}
+use Rattle.histories.specs.Frontier.{IsIdle, IsMade, states_in}
 use Rattle.histories.specs.Histories.{AreAll}
 use Rattle.iox2_container.specs.Handle.{Handle}
 use Rattle.iox2_dynamic.specs.Service.{Service}
@@ -22,11 +23,12 @@ use Rattle.service_descriptions.specs.Steps.{Serves, ServesDeregister, ServesRel
 use Rattle.service_conformance.specs.declared.conformance.possible.Part.{Part}
 use Rattle.service_conformance.specs.declared.conformance.possible.Part.TheVariants as part
 use Rattle.service_conformance.specs.declared.conformance.possible.Possible.{Possible}
+use Rattle.service_conformance.specs.declared.conformance.line_reply.LineReply.{LineReply}
 use Rattle.service_conformance.specs.declared.conformance.possible.Possible.TheVariants as possible
 use Rattle.service_conformance.specs.declared.conformance.possible.PossibleReplies.{PossibleReplies}
 use Rattle.service_conformance.specs.declared.conformance.seen_reply.SeenReply.{SeenReply}
 use Rattle.service_conformance.specs.Calls.{AreRepliesOf, Call, CallStep, GivesBelow, HasNumber, IsIdleCall, IsWithin, LacksNumber, LeadsOn, ServesCall, WindowStep, answered, unanswered}
-use Rattle.service_conformance.specs.Possible.{ArePossible, IsCovered, MayGiveIn}
+use Rattle.service_conformance.specs.Possible.{ArePossible, IsCovered, MayGiveIn, reply_in}
 use Rattle.service_conformance.specs.Quiet.{CanServe, LeadsTo, is_removal, quiet}
 use Rattle.service_conformance.specs.Seen.{changes_nothing, seen_text}
 use Rattle.service_conformance.specs.Words.{ArePossibleWords, Tells}
@@ -115,11 +117,12 @@ module _ (call : Call) (s : Service) where
           let on = step.1.2 in
           tells q (all.only q on.0 on.1 on.2) step.1.1)
 
-    pub any_one : (r : Reply) (next : Service)
-        → ArePossible s (ServesCall call s) (possible.One r)
-        → LeadsTo (ServesCall call s) r next
+    pub any_one : (one : LineReply) (next : Service)
+        → ArePossible s (ServesCall call s) (possible.One one)
+        → LeadsTo (ServesCall call s) (reply_in one) next
         → AreAll (CallStep (unanswered call) s) (next ∷ [])
-    any_one r next all leads =
+    any_one one next all leads =
+        let r = reply_in one in
         all_of_one (CallStep (unanswered call) s) next
         (rest, (r, tt, leads_on r next (all.can r (same_reply r)) leads))
         (λ other step.
@@ -262,11 +265,18 @@ module _ (first : ℕ) (calls : List Call) (number : ℕ) where
         (λ x step. (call, has, step))
         (λ x step. subst (λ c. CallStep c s x) (one_call call step.0 has step.1) step.2)
 
-    pub window_followed : (found : Result (Vec Service) AllocError)
-        → IfOk found (λ f. AreAll (CallStep call s) f.items)
-        → IfOk found (λ f. AreAll (λ new. WindowStep first calls s number new) f.items)
-    window_followed (Ok f) all = window_all f.items all
+    pub window_followed : (found : Result (Left Service) AllocError)
+        → IfOk found (λ left. AreAll (CallStep call s) (states_in left))
+        → IfOk found (λ left. AreAll (λ new. WindowStep first calls s number new) (states_in left))
+    window_followed (Ok left) all = window_all (states_in left) all
     window_followed (Err e) all = tt
+
+    pub window_made : (made : Result Bool AllocError) (new : Service)
+        → IfOk made (IsMade (CallStep call s) s new)
+        → IfOk made (IsMade (λ x. WindowStep first calls s number x) s new)
+    window_made (Ok true) new all = window_all (new ∷ []) all
+    window_made (Ok false) new same = same
+    window_made (Err e) new is = tt
 
     pub window_idle : IsIdleCall call s
         → WindowStep first calls s number s
@@ -277,11 +287,10 @@ module _ (first : ℕ) (calls : List Call) (number : ℕ) where
           (subst (λ c. CallStep c old new) (one_call call step.0 has step.1) step.2),
     )
 
-  pub window_none : LacksNumber first calls number → (s : Service) (xs : List Service)
-      → AreAll {S = Service} (λ _. ⊥) xs → AreAll (λ new. WindowStep first calls s number new) xs
-  window_none lacks s xs =
-      all_as (λ _. ⊥) (λ new. WindowStep first calls s number new) xs (λ x no. absurd no)
-      (λ x step. lacks step.0 step.1)
+  pub window_none : LacksNumber first calls number → (s : Service)
+      → AreAll (λ new. WindowStep first calls s number new) []
+  window_none lacks s =
+      all_of_none (λ new. WindowStep first calls s number new) (λ x step. lacks step.0 step.1)
 
 pub windows_agree : (first : ℕ) (calls all : List Call)
     → ((at : ℕ) → at < length calls → slice_get calls at ≡ slice_get all (first + at))

@@ -27,9 +27,10 @@ use Rattle.service_descriptions.specs.declared.replay.machine.command.Cleanup.Th
 use Rattle.service_descriptions.specs.declared.replay.machine.reply.Reply.{Reply}
 use Rattle.service_descriptions.specs.declared.replay.machine.reply.Reply.TheVariants as reply
 use Rattle.service_descriptions.specs.Cleanups.{CleanedUp, Cleans, ServesDead, action_for}
+use Rattle.service_conformance.specs.declared.conformance.line_reply.LineReply.TheVariants as line
 use Rattle.service_conformance.specs.declared.conformance.possible.Possible.TheVariants as possible
 use Rattle.service_conformance.specs.Dead.{is_kept, nodes_if, ports_after, without_node, without_ports}
-use Rattle.service_conformance.specs.Possible.{ArePossible, reply_of_owners}
+use Rattle.service_conformance.specs.Possible.{ArePossible, reply_in, reply_of_owners}
 use Rattle.service_conformance.proofs.Deregistering.{owned}
 use Rattle.service_conformance.proofs.Dying.{Asks, and_true, answered, dies, node_left, removed}
 use Rattle.service_conformance.proofs.Filters.{kept_filter}
@@ -220,7 +221,7 @@ module _ (s : Service) (dead : ℕ) (kept : Vec ℕ) where
       s.nodes.registry).locked
 
   dead_only : (b : Bool) → b ≡ locked → (r : Reply) (w : Service)
-      → ServesDead s dead (ByPort kept) r w → reply_of_owners b ≡ r
+      → ServesDead s dead (ByPort kept) r w → reply_in (reply_of_owners b) ≡ r
   dead_only b e reply.HasOwners w so =
       owned b nodes.HasOwners
       (dead_answered s w dead kept nodes.HasOwners so ∙ ap release_state (sym e))
@@ -233,7 +234,7 @@ module _ (s : Service) (dead : ℕ) (kept : Vec ℕ) where
       → ArePossible s (ServesDead s dead (ByPort kept)) (possible.One (reply_of_owners b))
   dead_possible true i e =
       let can = can_die s dead kept nodes.NoMoreOwners i (ap release_state e) in
-      alone _ _ reply.NoMoreOwners can.0 (λ r. refl) can.1 can.2 (dead_only true e)
+      alone _ _ line.NoMoreOwners can.0 (λ r. refl) can.1 can.2 (dead_only true e)
   dead_possible false i e =
       let can = can_die s dead kept nodes.HasOwners i (ap release_state e) in
-      alone _ _ reply.HasOwners can.0 (λ r. refl) can.1 can.2 (dead_only false e)
+      alone _ _ line.HasOwners can.0 (λ r. refl) can.1 can.2 (dead_only false e)

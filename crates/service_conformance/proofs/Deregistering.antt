@@ -21,9 +21,10 @@ use Rattle.iox2_dynamic.proofs.Keeping.{leaving_kept}
 use Rattle.service_descriptions.specs.declared.replay.machine.reply.Reply.{Reply}
 use Rattle.service_descriptions.specs.declared.replay.machine.reply.Reply.TheVariants as reply
 use Rattle.service_descriptions.specs.Steps.{ServesDeregister}
+use Rattle.service_conformance.specs.declared.conformance.line_reply.LineReply.TheVariants as line
 use Rattle.service_conformance.specs.declared.conformance.possible.Possible.TheVariants as possible
 use Rattle.service_conformance.specs.Entries.{with_left}
-use Rattle.service_conformance.specs.Possible.{ArePossible, reply_of_owners, reply_of_state}
+use Rattle.service_conformance.specs.Possible.{ArePossible, reply_in, reply_of_owners, reply_of_state}
 use Rattle.service_conformance.proofs.Possibles.{alone, not_both}
 use Rattle.service_conformance.proofs.Touching.{untouching}
 use Rattle.service_conformance.proofs.Removes.{can_remove, known}
@@ -35,9 +36,9 @@ nothing_only s reply.NoHandle new so = refl
 nothing_only s _ new so = absurd so
 
 pub nothing : (s : Service) → IsService s
-    → ArePossible s (ServesDeregister s None) (possible.One reply.NoHandle)
+    → ArePossible s (ServesDeregister s None) (possible.One line.NoHandle)
 nothing s i =
-    alone _ _ reply.NoHandle s (λ r. refl) refl i (nothing_only s)
+    alone _ _ line.NoHandle s (λ r. refl) refl i (nothing_only s)
 
 -- the entry of a handle is one
 pub one_details : {T : Type 0} (r : RegistryState T) (h : Handle) (a b : T) → IsRegistry r
@@ -76,7 +77,7 @@ locks r rest x k g =
 
 -- one reply says whether a service is locked
 pub owned : (b : Bool) (n : DeregisterNodeState) → state_of n ≡ release_state b
-    → reply_of_owners b ≡ reply_of_state n
+    → reply_in (reply_of_owners b) ≡ reply_of_state n
 owned true nodes.HasOwners e =
     absurd (let z : ◌≡◌ {A = ReleaseState} state.Unlocked state.Locked = e in cc)
 owned true nodes.NoMoreOwners e = refl
@@ -94,9 +95,9 @@ module _ (s : Service) (h : Handle) where
   unknown_only u _ new so = absurd so
 
   pub unknown : IsService s → IsUnknownHandle s.nodes.registry h
-      → ArePossible s (ServesDeregister s (Some h)) (possible.One reply.NotOwned)
+      → ArePossible s (ServesDeregister s (Some h)) (possible.One line.NotOwned)
   unknown i u =
-      alone _ _ reply.NotOwned s (λ r. refl) (u, refl) i (unknown_only u)
+      alone _ _ line.NotOwned s (λ r. refl) (u, refl) i (unknown_only u)
 
   module _ (i : IsService s) (id : ℕ) (has : HasEntry s.nodes.registry h id) where
     -- whether it is the last of its node's ports, for whom it is named
@@ -116,9 +117,9 @@ module _ (s : Service) (h : Handle) where
     attached_only l _ new so = absurd so
 
     pub attached : is_last_of_ports id s ≡ true
-        → ArePossible s (ServesDeregister s (Some h)) (possible.One reply.PortsAttached)
+        → ArePossible s (ServesDeregister s (Some h)) (possible.One line.PortsAttached)
     attached l =
-        alone _ _ reply.PortsAttached s (λ r. refl) (id, has, l, refl) i
+        alone _ _ line.PortsAttached s (λ r. refl) (id, has, l, refl) i
         (attached_only l)
 
     -- the answer is by the lock
@@ -131,7 +132,7 @@ module _ (s : Service) (h : Handle) where
 
     owners_only : (b : Bool) → b ≡ nat_eq (length s.nodes.registry.entries) 1
         → is_last_of_ports id s ≡ false → (r : Reply) (new : Service)
-        → ServesDeregister s (Some h) r new → reply_of_owners b ≡ r
+        → ServesDeregister s (Some h) r new → reply_in (reply_of_owners b) ≡ r
     owners_only b e l reply.HasOwners new so =
         owned b nodes.HasOwners
         (answered nodes.HasOwners new.nodes.registry so.3.step ∙ ap release_state (sym e))
@@ -160,10 +161,10 @@ module _ (s : Service) (h : Handle) where
         (elim b as
         (λ b. left.locked ≡ b → b ≡ nat_eq (length s.nodes.registry.entries) 1
         → ArePossible s (ServesDeregister s (Some h)) (possible.One (reply_of_owners b))) [
-          | true ↦ λ k e. alone _ _ reply.NoMoreOwners new (λ r. refl)
+          | true ↦ λ k e. alone _ _ line.NoMoreOwners new (λ r. refl)
               (id, has, l, leaves _ (sym (ap release_state k)), refl) kept
               (owners_only true e l)
-          | false ↦ λ k e. alone _ _ reply.HasOwners new (λ r. refl)
+          | false ↦ λ k e. alone _ _ line.HasOwners new (λ r. refl)
               (id, has, l, leaves _ (sym (ap release_state k)), refl) kept
               (owners_only false e l)
         ]) locked e

@@ -14,6 +14,7 @@ use Rattle.service_descriptions.specs.declared.replay.machine.reply.Reply.{Reply
 use Rattle.service_descriptions.specs.declared.replay.machine.reply.Reply.TheVariants as reply
 use Rattle.service_descriptions.specs.Listings.{LacksRole, ServesNodes, ServesList, ServesCount}
 use Rattle.service_descriptions.specs.Replies.{IsSameReply}
+use Rattle.service_conformance.specs.declared.conformance.line_reply.LineReply.TheVariants as line
 use Rattle.service_conformance.specs.declared.conformance.possible.Possible.TheVariants as possible
 use Rattle.service_conformance.specs.Possible.{ArePossible}
 use Rattle.service_conformance.specs.Quiet.{Reports}
@@ -58,7 +59,7 @@ module _ (s : Service) where
     nodes_only _ so = absurd so
 
     pub nodes : IsService s
-        → ArePossible s (Reports s (ServesNodes s)) (possible.One (reply.Nodes ids))
+        → ArePossible s (Reports s (ServesNodes s)) (possible.One (line.Nodes ids))
     nodes i = record {
       can = λ r a. (s, (nodes_can r a, refl), i);
       only = λ r new so k. nodes_only r so.0;
@@ -74,9 +75,9 @@ module _ (s : Service) where
     list_lacks n _ new so = absurd so.0
 
     pub lists_none : IsService s → LacksRole s role
-        → ArePossible s (Reports s (ServesList s role)) (possible.One reply.WrongPattern)
+        → ArePossible s (Reports s (ServesList s role)) (possible.One line.WrongPattern)
     lists_none i n =
-        alone _ _ reply.WrongPattern s (λ r. refl) (n, refl) i (list_lacks n)
+        alone _ _ line.WrongPattern s (λ r. refl) (n, refl) i (list_lacks n)
 
     count_lacks : LacksRole s role → (r : Reply) (new : Service)
         → Reports s (ServesCount s role) r new → reply.WrongPattern ≡ r
@@ -86,9 +87,9 @@ module _ (s : Service) where
     count_lacks n _ new so = absurd so.0
 
     pub counts_none : IsService s → LacksRole s role
-        → ArePossible s (Reports s (ServesCount s role)) (possible.One reply.WrongPattern)
+        → ArePossible s (Reports s (ServesCount s role)) (possible.One line.WrongPattern)
     counts_none i n =
-        alone _ _ reply.WrongPattern s (λ r. refl) (n, refl) i (count_lacks n)
+        alone _ _ line.WrongPattern s (λ r. refl) (n, refl) i (count_lacks n)
 
     module _ (side : Side) (has : role ≡ role_at s.pattern side) where
       module _ (ports : Vec PortDetails)
@@ -108,7 +109,7 @@ module _ (s : Service) where
         list_only _ so = absurd so
 
         pub lists : IsService s
-            → ArePossible s (Reports s (ServesList s role)) (possible.One (reply.Ports ports))
+            → ArePossible s (Reports s (ServesList s role)) (possible.One (line.Ports ports))
         lists i = record {
           can = λ r a. (s, (list_can r a, refl), i);
           only = λ r new so k. list_only r so.0;
@@ -124,8 +125,8 @@ module _ (s : Service) where
       counted n e _ new so = absurd so.0
 
       pub counts : (n : ℕ) → IsService s → n ≡ length (ports_at s side).registry.entries
-          → ArePossible s (Reports s (ServesCount s role)) (possible.One (reply.Count n))
+          → ArePossible s (Reports s (ServesCount s role)) (possible.One (line.Count n))
       counts n i e =
-          alone _ _ (reply.Count n) s (λ r. refl)
+          alone _ _ (line.Count n) s (λ r. refl)
           (of_role s.pattern side (λ r n. n ≡ length r.entries) s.ports role n has e, refl) i
           (counted n e)

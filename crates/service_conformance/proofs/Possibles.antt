@@ -11,9 +11,11 @@ use Rattle.service_descriptions.specs.declared.replay.machine.reply.Reply.TheVar
 use Rattle.service_descriptions.specs.Replies.{IsSameReply}
 use Rattle.service_descriptions.specs.Steps.{ServesRegister}
 use Rattle.service_conformance.specs.declared.conformance.possible.Part.TheVariants as part
+use Rattle.service_conformance.specs.declared.conformance.line_reply.LineReply.{LineReply}
+use Rattle.service_conformance.specs.declared.conformance.line_reply.LineReply.TheVariants as line
 use Rattle.service_conformance.specs.declared.conformance.possible.Possible.TheVariants as possible
 use Rattle.service_conformance.specs.Entries.{Refuses}
-use Rattle.service_conformance.specs.Possible.{Allows, ArePossible, possible_add}
+use Rattle.service_conformance.specs.Possible.{Allows, ArePossible, possible_add, reply_in}
 use Rattle.service_conformance.proofs.Adds.{can_give, no_room, was_given}
 use Rattle.service_conformance.proofs.Touching.{untouching}
 
@@ -21,9 +23,9 @@ pub not_both : (b : Bool) → b ≡ true → b ≡ false → ⊥
 not_both b t f = (let z : true ≡ false = sym t ∙ f in cc)
 
 -- one reply that is no list
-pub alone : (s : Service) (Step : Reply → Service → Type 0) (one : Reply) (new : Service)
-    → ((r : Reply) → IsSameReply one r ≡ (one ≡ r)) → Step one new → IsService new
-    → ((r : Reply) (new : Service) → Step r new → one ≡ r)
+pub alone : (s : Service) (Step : Reply → Service → Type 0) (one : LineReply) (new : Service)
+    → ((r : Reply) → IsSameReply (reply_in one) r ≡ (reply_in one ≡ r)) → Step (reply_in one) new
+    → IsService new → ((r : Reply) (new : Service) → Step r new → reply_in one ≡ r)
     → ArePossible s Step (possible.One one)
 alone s Step one new plain step kept only = record {
   can = λ r a. (new, subst (λ r. Step r new) (subst (λ (T : Type 0). T) (plain r) a) step, kept);
@@ -69,9 +71,9 @@ registers s id None i takes = record {
   only = given_only s id takes;
 }
 registers s id (Some IsLocked) i l =
-    alone _ _ reply.Locked s (λ r. refl)
+    alone _ _ line.Locked s (λ r. refl)
     (untouching _ s.nodes s.nodes.registry (l, refl) i.nodes_are, refl) i (locked_only s id l)
 registers s id (Some OutOfSpace) i (l, full) =
-    alone _ _ reply.Full s (λ r. refl)
+    alone _ _ line.Full s (λ r. refl)
     (untouching _ s.nodes s.nodes.registry (l, full, refl) i.nodes_are, refl) i
     (full_only s id l full)

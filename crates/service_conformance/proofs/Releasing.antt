@@ -17,6 +17,7 @@ use Rattle.iox2_dynamic.proofs.Moving.{release_kept}
 use Rattle.service_descriptions.specs.declared.replay.machine.reply.Reply.{Reply}
 use Rattle.service_descriptions.specs.declared.replay.machine.reply.Reply.TheVariants as reply
 use Rattle.service_descriptions.specs.Steps.{ServesRelease}
+use Rattle.service_conformance.specs.declared.conformance.line_reply.LineReply.TheVariants as line
 use Rattle.service_conformance.specs.declared.conformance.possible.Possible.TheVariants as possible
 use Rattle.service_conformance.specs.Entries.{with_left}
 use Rattle.service_conformance.specs.Possible.{ArePossible}
@@ -32,9 +33,9 @@ nothing_only s reply.NoHandle new so = refl
 nothing_only s _ new so = absurd so
 
 pub nothing : (s : Service) → IsService s
-    → ArePossible s (ServesRelease s None) (possible.One reply.NoHandle)
+    → ArePossible s (ServesRelease s None) (possible.One line.NoHandle)
 nothing s i =
-    alone _ _ reply.NoHandle s (λ r. refl) refl i (nothing_only s)
+    alone _ _ line.NoHandle s (λ r. refl) refl i (nothing_only s)
 
 module _ (s : Service) (h : Handle) where
   pub never : (state : ReleaseState) (new : Ports)
@@ -52,9 +53,9 @@ module _ (s : Service) (h : Handle) where
   elsewhere_only n _ new so = absurd so
 
   pub elsewhere : IsService s → IsNeither (first_role s.pattern) (second_role s.pattern) h.role
-      → ArePossible s (ServesRelease s (Some h)) (possible.One reply.NotOwned)
+      → ArePossible s (ServesRelease s (Some h)) (possible.One line.NotOwned)
   elsewhere i n =
-      alone _ _ reply.NotOwned s (λ r. refl) (inr (n, refl, refl), refl) i (elsewhere_only n)
+      alone _ _ line.NotOwned s (λ r. refl) (inr (n, refl, refl), refl) i (elsewhere_only n)
 
   module _ (side : Side) (role : h.role ≡ role_at s.pattern side) where
     from_at : (answer : Result ReleaseState ContainerRemoveError) (new : Ports)
@@ -81,7 +82,7 @@ module _ (s : Service) (h : Handle) where
     unknown_only u _ new so = absurd so
 
     pub unknown : IsService s → IsUnknownHandle (ports_at s side).registry h
-        → ArePossible s (ServesRelease s (Some h)) (possible.One reply.NotOwned)
+        → ArePossible s (ServesRelease s (Some h)) (possible.One line.NotOwned)
     unknown i u =
         let old = ports_at s side in
         let ports = with_ports_at side s.ports old in
@@ -91,7 +92,7 @@ module _ (s : Service) (h : Handle) where
         (second_role s.pattern) s.ports h answer ports =
         inl (steps_at s.pattern side s.ports h.role (λ o n. Removes o h Default answer n) old role
         (untouching _ old old.registry (u, refl) (ports_are s side i).is_registry)) in
-        alone _ _ reply.NotOwned (record s { ports = ports }) (λ r. refl) (removes, refl)
+        alone _ _ line.NotOwned (record s { ports = ports }) (λ r. refl) (removes, refl)
         (release_kept s s.pattern ports h answer refl removes i) (unknown_only u)
 
     module _ (d : PortDetails) (has : HasEntry (ports_at s side).registry h d) where
@@ -104,7 +105,7 @@ module _ (s : Service) (h : Handle) where
       released_only _ new so = absurd so
 
       pub released : IsService s
-          → ArePossible s (ServesRelease s (Some h)) (possible.One reply.Released)
+          → ArePossible s (ServesRelease s (Some h)) (possible.One line.Released)
       released i =
           let old = ports_at s side in
           let gone = can_remove old.registry h Default d (ports_are s side i).is_registry has in
@@ -115,6 +116,6 @@ module _ (s : Service) (h : Handle) where
           (second_role s.pattern) s.ports h answer ports =
           inl (steps_at s.pattern side s.ports h.role (λ o n. Removes o h Default answer n)
           (container left old.touches) role (untouching _ old left gone.0 gone.1)) in
-          alone _ _ reply.Released (record s { ports = ports }) (λ r. refl)
+          alone _ _ line.Released (record s { ports = ports }) (λ r. refl)
           (release_state left.locked, (removes, refl))
           (release_kept s s.pattern ports h answer refl removes i) released_only

@@ -26,10 +26,11 @@ use Rattle.service_descriptions.proofs.Lines.{any_fits, any_number}
 use Rattle.service_conformance.specs.declared.conformance.possible.NextHandle.{NextHandle}
 use Rattle.service_conformance.specs.declared.conformance.possible.Part.{Part}
 use Rattle.service_conformance.specs.declared.conformance.possible.Part.TheVariants as part
+use Rattle.service_conformance.specs.declared.conformance.line_reply.LineReply.{LineReply}
 use Rattle.service_conformance.specs.declared.conformance.possible.Possible.TheVariants as possible
 use Rattle.service_conformance.specs.declared.conformance.possible.PossibleReplies.TheVariants as replies
 use Rattle.service_conformance.specs.Entries.{MayGive}
-use Rattle.service_conformance.specs.Possible.{ArePossible, IsCovered, MayGiveIn}
+use Rattle.service_conformance.specs.Possible.{ArePossible, IsCovered, MayGiveIn, reply_in}
 use Rattle.service_conformance.specs.Words.{AllowsWords, ArePossibleWords, IsNextHandle, IsNextIn, Tells, TellsHandle, handle_words}
 
 -- the text of a handle: its slot, a space, and the rest
@@ -141,11 +142,13 @@ same_text (reply.Ports ports) r e =
 same_text _ r e = ap text_of e
 
 module _ (s : Service) (words : List ℕ) where
-  pub one_told : (one : Reply) → text_of one ≡ words → Tells s (possible.One one) words (Some one)
-  one_told one e = (same_reply one, e, λ other a f. a)
+  pub one_told : (one : LineReply) → text_of (reply_in one) ≡ words
+      → Tells s (possible.One one) words (Some (reply_in one))
+  one_told one e = (same_reply (reply_in one), e, λ other a f. a)
 
-  pub one_not : (one : Reply) → ¬ (text_of one ≡ words) → Tells s (possible.One one) words None
-  one_not one never r a e = never (same_text one r a ∙ e)
+  pub one_not : (one : LineReply) → ¬ (text_of (reply_in one) ≡ words)
+      → Tells s (possible.One one) words None
+  one_not one never r a e = never (same_text (reply_in one) r a ∙ e)
 
   pub given_told : (part : Part) (h : Handle) → TellsHandle (MayGiveIn s part) words (Some h)
       → Tells s (possible.Given part) words (Some (reply.Handle h))
@@ -194,11 +197,11 @@ module _ {T : Type 0} (r : RegistryState T) (next : NextHandle) (is : IsNextHand
   )
 
 module _ (s : Service) (Step : Reply → Service → Type 0) where
-  pub one_words : (one : Reply) → ArePossible s Step (possible.One one)
-      → ArePossibleWords Step (replies.One one)
+  pub one_words : (one : LineReply) → ArePossible s Step (possible.One one)
+      → ArePossibleWords Step (replies.One (reply_in one))
   one_words one all words = (
-    λ e. (one, e, all.can one (same_reply one)),
-    λ a. same_text one a.0 (all.only a.0 a.2.0 a.2.1 a.2.2) ∙ a.1,
+    λ e. (reply_in one, e, all.can (reply_in one) (same_reply (reply_in one))),
+    λ a. same_text (reply_in one) a.0 (all.only a.0 a.2.0 a.2.1 a.2.2) ∙ a.1,
   )
 
   module _ (part : Part) (next : NextHandle)

@@ -12,6 +12,8 @@ use Rattle.service_descriptions.specs.declared.replay.machine.command.Command.Th
 use Rattle.service_descriptions.specs.declared.replay.machine.reply.Reply.{Reply}
 use Rattle.service_descriptions.specs.declared.replay.machine.reply.Reply.TheVariants as reply
 use Rattle.service_descriptions.specs.Replies.{IsSameReply}
+use Rattle.service_conformance.specs.declared.conformance.line_reply.LineReply.{LineReply}
+use Rattle.service_conformance.specs.declared.conformance.line_reply.LineReply.TheVariants as line
 use Rattle.service_conformance.specs.declared.conformance.possible.Part.{Part}
 use Rattle.service_conformance.specs.declared.conformance.possible.Part.TheVariants as part
 use Rattle.service_conformance.specs.declared.conformance.possible.Possible.{Possible}
@@ -24,9 +26,26 @@ MayGiveIn s part.Nodes handle = MayGive s.nodes.registry handle
 MayGiveIn s part.First handle = MayGive s.ports.first.registry handle
 MayGiveIn s part.Second handle = MayGive s.ports.second.registry handle
 
+-- the reply itself
+abbrev pub reply_in : LineReply → Reply
+reply_in (line.Handle h) = reply.Handle h
+reply_in line.Locked = reply.Locked
+reply_in line.Full = reply.Full
+reply_in line.NotRegistered = reply.NotRegistered
+reply_in line.HasOwners = reply.HasOwners
+reply_in line.NoMoreOwners = reply.NoMoreOwners
+reply_in line.PortsAttached = reply.PortsAttached
+reply_in line.Released = reply.Released
+reply_in line.NotOwned = reply.NotOwned
+reply_in line.NoHandle = reply.NoHandle
+reply_in line.WrongPattern = reply.WrongPattern
+reply_in (line.Nodes ids) = reply.Nodes ids
+reply_in (line.Ports ports) = reply.Ports ports
+reply_in (line.Count n) = reply.Count n
+
 -- the reply is one of these
 abbrev pub Allows : Service → Possible → Reply → Type 0
-Allows s (possible.One one) r = IsSameReply one r
+Allows s (possible.One one) r = IsSameReply (reply_in one) r
 Allows s (possible.Given in_part) r =
     (handle : Handle) × (r ≡ reply.Handle handle) × MayGiveIn s in_part handle
 
@@ -38,13 +57,13 @@ pub record ArePossible (s : Service) (Step : Reply → Service → Type 0) (p : 
 -- the replies to an add in this part, by why it is refused
 abbrev pub possible_add : Option ContainerAddFailure → Part → Possible
 possible_add None in_part = possible.Given in_part
-possible_add (Some IsLocked) in_part = possible.One reply.Locked
-possible_add (Some OutOfSpace) in_part = possible.One reply.Full
+possible_add (Some IsLocked) in_part = possible.One line.Locked
+possible_add (Some OutOfSpace) in_part = possible.One line.Full
 
 -- how a service answers whether it is locked, when entries were removed
-abbrev pub reply_of_owners : Bool → Reply
-reply_of_owners true = reply.NoMoreOwners
-reply_of_owners false = reply.HasOwners
+abbrev pub reply_of_owners : Bool → LineReply
+reply_of_owners true = line.NoMoreOwners
+reply_of_owners false = line.HasOwners
 
 -- the reply that says so
 abbrev pub reply_of_state : DeregisterNodeState → Reply

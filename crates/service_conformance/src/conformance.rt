@@ -2,6 +2,7 @@
 
 mod calls;
 mod id_word;
+mod line_reply;
 mod placed;
 mod possible;
 mod registry_check;

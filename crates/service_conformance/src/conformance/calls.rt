@@ -1,12 +1,10 @@
 //! The calls of a history, as a machine.
-ghost use Rattle.std.specs.Prelude.{◌≡◌, ◌+◌, ◌<◌, IfNone, IfOk, IfSome, IsTrue, ℕ, Some, length, slice_get};
-ghost use Rattle.histories.specs.Histories.{AreAll};
+ghost use Rattle.std.specs.Prelude.{IfNone, IfSome};
 ghost use Rattle.service_conformance.specs.Calls.{HasNumber, LacksNumber, WindowStep};
-ghost use Rattle.iox2_dynamic.specs.Service.{Service};
 
 use super::seen_call::SeenCall;
 use super::service_check::ServiceCheck;
-use histories::Machine;
+use histories::{Left, Machine};
 use std::alloc::{AllocError, Global};
 
 /// The calls of a history, or some that follow one another: the first of them has the first number.
@@ -29,22 +27,22 @@ fn call_at(calls: &[SeenCall], first: usize, number: usize) -> Option<&SeenCall>
     calls.get(number - first)
 }
 
-/// No state.
-fn no_state(alloc: Global) -> Vec<ServiceCheck>
-    ensures { AreAll {S = Service} (λ _. ⊥) result.items }
-{
-    Vec::new(alloc)
-}
-
 impl<'a> Machine for Calls<'a> {
     type State = ServiceCheck;
 
     ghost Step = { λ m old call new. WindowStep m.first m.calls.now old call new };
 
-    fn follow(&self, state: &ServiceCheck, call: usize) -> Result<Vec<ServiceCheck>, AllocError> {
+    fn follow(&self, state: &ServiceCheck, call: usize) -> Result<Left<ServiceCheck>, AllocError> {
         match call_at(self.calls, self.first, call) {
             Some(made) => made.follow(self.alloc, state),
-            None => Ok(no_state(self.alloc)),
+            None => Ok(Left::Nothing),
+        }
+    }
+
+    fn make(&self, state: &mut ServiceCheck, call: usize) -> Result<bool, AllocError> {
+        match call_at(self.calls, self.first, call) {
+            Some(made) => made.make(self.alloc, state),
+            None => Ok(false),
         }
     }
 

@@ -151,7 +151,7 @@ pub(super) fn copied<T: Copy>(
 ) -> Result<Vec<Placed<T>>, AllocError>
     ensures { IfOk result (λ copy. copy.items ≡ entries.now) }
 {
-    let mut copy = Vec::new(alloc);
+    let mut copy = Vec::with_capacity(alloc, entries.len())?;
     for entry in entries {
         copy.push(Placed {
             slot: entry.slot(),

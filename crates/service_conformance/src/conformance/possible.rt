@@ -1,5 +1,6 @@
 //! The replies that a run could give.
 
+use super::line_reply::LineReply;
 use service_descriptions::replay::Reply;
 
 /// One of the three registries of a service.
@@ -17,7 +18,7 @@ pub(super) enum Part {
 #[derive(Debug, Drop)]
 pub(super) enum Possible {
     /// This one alone.
-    One(Reply),
+    One(LineReply),
     /// Each handle of a free slot of this registry, with its next ticket.
     Given(Part),
 }

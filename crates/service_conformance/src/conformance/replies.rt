@@ -1,22 +1,23 @@
 //! What replies say.
 ghost use Rattle.std.specs.Prelude.{◌≡◌, IfNone, IfSome, None};
-ghost use Rattle.service_conformance.specs.Possible.{possible_add, reply_of_owners};
+ghost use Rattle.service_conformance.specs.Possible.{possible_add, reply_in, reply_of_owners};
 ghost use Rattle.service_conformance.specs.Quiet.{is_removal};
 ghost use Rattle.service_descriptions.specs.Handles.{named};
 ghost use Rattle.service_descriptions.specs.Steps.{handle_in};
 
+use super::line_reply::LineReply;
 use super::possible::{Part, Possible};
 use iox2_container::container::{ContainerAddFailure, ContainerHandle};
 use service_descriptions::replay::Reply;
 
 /// How a service answers whether it is locked, when entries were removed.
-pub(super) fn reply_of_owners(locked: bool) -> Reply
+pub(super) fn reply_of_owners(locked: bool) -> LineReply
     ensures { result ≡ reply_of_owners locked }
 {
     if locked {
-        Reply::NoMoreOwners
+        LineReply::NoMoreOwners
     } else {
-        Reply::HasOwners
+        LineReply::HasOwners
     }
 }
 
@@ -26,8 +27,8 @@ pub(super) fn possible_add(why: Option<ContainerAddFailure>, part: Part) -> Poss
 {
     match why {
         None => Possible::Given(part),
-        Some(ContainerAddFailure::IsLocked) => Possible::One(Reply::Locked),
-        Some(ContainerAddFailure::OutOfSpace) => Possible::One(Reply::Full),
+        Some(ContainerAddFailure::IsLocked) => Possible::One(LineReply::Locked),
+        Some(ContainerAddFailure::OutOfSpace) => Possible::One(LineReply::Full),
     }
 }
 
@@ -42,25 +43,25 @@ pub(super) fn named(earlier: &[Option<ContainerHandle>], k: usize) -> Option<Con
 }
 
 /// The handle that a reply gives.
-pub(super) fn given(reply: &Reply) -> Option<ContainerHandle>
-    ensures handle { result ≡ handle_in reply.now }
-    ensures none { IfNone result (handle_in reply.now ≡ None) }
-    ensures some { IfSome result (λ handle. reply.now ≡ Reply.Handle handle) }
+pub(super) fn given(reply: &LineReply) -> Option<ContainerHandle>
+    ensures handle { result ≡ handle_in (reply_in reply.now) }
+    ensures none { IfNone result (handle_in (reply_in reply.now) ≡ None) }
+    ensures some { IfSome result (λ handle. reply_in reply.now ≡ Reply.Handle handle) }
 {
     match reply {
-        Reply::Handle(handle) => Some(*handle),
+        LineReply::Handle(handle) => Some(*handle),
         _ => None,
     }
 }
 
 /// Whether a reply says that an entry was removed.
-pub(super) fn is_removal(reply: &Reply) -> bool
-    ensures { result ≡ is_removal reply.now }
+pub(super) fn is_removal(reply: &LineReply) -> bool
+    ensures { result ≡ is_removal (reply_in reply.now) }
 {
     match reply {
-        Reply::HasOwners => true,
-        Reply::NoMoreOwners => true,
-        Reply::Released => true,
+        LineReply::HasOwners => true,
+        LineReply::NoMoreOwners => true,
+        LineReply::Released => true,
         _ => false,
     }
 }

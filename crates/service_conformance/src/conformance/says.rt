@@ -3,15 +3,16 @@ ghost use Rattle.std.specs.Prelude.{◌≡◌, ◌↔◌, ◌<◌, ◌^◌, ℕ,
 ghost use Rattle.std.specs.List.{flat_map};
 ghost use Rattle.iox2_dynamic.specs.Details.{port_of};
 ghost use Rattle.iox2_ids.specs.PortId.{port_value};
+ghost use Rattle.service_conformance.specs.Possible.{reply_in};
 ghost use Rattle.service_conformance.specs.Seen.{IsIdNumber, IsSeen, count_words, list_words, seen_text, word_of, word_text};
 ghost use Rattle.service_conformance.specs.Words.{handle_words};
 ghost use Rattle.service_descriptions.specs.Replies.{id_word, text_of};
 
+use super::line_reply::LineReply;
 use super::replies::given;
 use super::seen_reply::{ReplyWord, SeenReply};
 use iox2_dynamic::dynamic_config::PortDetails;
 use iox2_ids::identifiers::UniqueNodeId;
-use service_descriptions::replay::Reply;
 
 /// What a list prints the id of.
 pub(super) trait Printed {
@@ -55,29 +56,29 @@ fn are_ids<T: Printed>(items: &[T], ids: &[u128]) -> bool
 }
 
 /// Whether the reply is a list of these ids.
-fn is_list(reply: &Reply, ids: &[u128]) -> bool
-    ensures { IsTrue result ↔ (text_of reply.now ≡ list_words ids.now) }
+fn is_list(reply: &LineReply, ids: &[u128]) -> bool
+    ensures { IsTrue result ↔ (text_of (reply_in reply.now) ≡ list_words ids.now) }
 {
     match reply {
-        Reply::Nodes(nodes) => are_ids(nodes.as_slice(), ids),
-        Reply::Ports(ports) => are_ids(ports.as_slice(), ids),
+        LineReply::Nodes(nodes) => are_ids(nodes.as_slice(), ids),
+        LineReply::Ports(ports) => are_ids(ports.as_slice(), ids),
         _ => false,
     }
 }
 
 /// Whether the reply is this count.
-fn is_count(reply: &Reply, count: usize) -> bool
-    ensures { IsTrue result ↔ (text_of reply.now ≡ count_words count) }
+fn is_count(reply: &LineReply, count: usize) -> bool
+    ensures { IsTrue result ↔ (text_of (reply_in reply.now) ≡ count_words count) }
 {
     match reply {
-        Reply::Count(n) => *n == count,
+        LineReply::Count(n) => *n == count,
         _ => false,
     }
 }
 
 /// Whether the reply is a handle of this slot and this ticket.
-fn is_handle(reply: &Reply, slot: usize, ticket: u64) -> bool
-    ensures { IsTrue result ↔ (text_of reply.now ≡ handle_words slot ticket) }
+fn is_handle(reply: &LineReply, slot: usize, ticket: u64) -> bool
+    ensures { IsTrue result ↔ (text_of (reply_in reply.now) ≡ handle_words slot ticket) }
 {
     let Some(handle) = given(reply) else {
         return false;
@@ -86,34 +87,34 @@ fn is_handle(reply: &Reply, slot: usize, ticket: u64) -> bool
 }
 
 /// The reply without numbers that it is, if it is one.
-fn word_of(reply: &Reply) -> Option<ReplyWord>
-    ensures { result ≡ word_of reply.now }
+fn word_of(reply: &LineReply) -> Option<ReplyWord>
+    ensures { result ≡ word_of (reply_in reply.now) }
 {
     match reply {
-        Reply::Locked => Some(ReplyWord::Locked),
-        Reply::Full => Some(ReplyWord::Full),
-        Reply::NotRegistered => Some(ReplyWord::NotRegistered),
-        Reply::HasOwners => Some(ReplyWord::HasOwners),
-        Reply::NoMoreOwners => Some(ReplyWord::NoMoreOwners),
-        Reply::PortsAttached => Some(ReplyWord::PortsAttached),
-        Reply::Released => Some(ReplyWord::Released),
-        Reply::NotOwned => Some(ReplyWord::NotOwned),
-        Reply::NoHandle => Some(ReplyWord::NoHandle),
-        Reply::WrongPattern => Some(ReplyWord::WrongPattern),
+        LineReply::Locked => Some(ReplyWord::Locked),
+        LineReply::Full => Some(ReplyWord::Full),
+        LineReply::NotRegistered => Some(ReplyWord::NotRegistered),
+        LineReply::HasOwners => Some(ReplyWord::HasOwners),
+        LineReply::NoMoreOwners => Some(ReplyWord::NoMoreOwners),
+        LineReply::PortsAttached => Some(ReplyWord::PortsAttached),
+        LineReply::Released => Some(ReplyWord::Released),
+        LineReply::NotOwned => Some(ReplyWord::NotOwned),
+        LineReply::NoHandle => Some(ReplyWord::NoHandle),
+        LineReply::WrongPattern => Some(ReplyWord::WrongPattern),
         _ => None,
     }
 }
 
 /// Whether the reply is the one without numbers.
-fn is_word(reply: &Reply, word: ReplyWord) -> bool
-    ensures { IsTrue result ↔ (text_of reply.now ≡ word_text word) }
+fn is_word(reply: &LineReply, word: ReplyWord) -> bool
+    ensures { IsTrue result ↔ (text_of (reply_in reply.now) ≡ word_text word) }
 {
     word_of(reply) == Some(word)
 }
 
 /// Whether the reply has the words of what was seen.
-pub(super) fn says(reply: &Reply, seen: &SeenReply) -> bool
-    ensures { IsTrue result ↔ (text_of reply.now ≡ seen_text seen.now) }
+pub(super) fn says(reply: &LineReply, seen: &SeenReply) -> bool
+    ensures { IsTrue result ↔ (text_of (reply_in reply.now) ≡ seen_text seen.now) }
 {
     match seen {
         SeenReply::Handle(slot, ticket) => is_handle(reply, *slot, *ticket),

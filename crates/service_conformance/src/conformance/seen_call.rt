@@ -1,19 +1,22 @@
 //! Calls that were seen.
 ghost use Rattle.std.specs.Prelude.{◌≡◌, ◌+◌, IfOk, IsTrue, OnOk};
+ghost use Rattle.histories.specs.Frontier.{IsMade, states_in};
 ghost use Rattle.histories.specs.Histories.{AreAll};
 ghost use Rattle.service_conformance.specs.Calls.{AreRepliesOf, CallStep, GivesBelow, IsIdleCall, ServesCall};
 ghost use Rattle.service_conformance.specs.Calls.{answered, at_first, call_of, unanswered};
-ghost use Rattle.service_conformance.specs.Possible.{ArePossible, IsCovered};
+ghost use Rattle.service_conformance.specs.Possible.{ArePossible, IsCovered, reply_in};
 ghost use Rattle.service_conformance.specs.Quiet.{CanServe, LeadsTo};
 ghost use Rattle.service_conformance.specs.Seen.{changes_nothing, seen_text};
 ghost use Rattle.service_descriptions.specs.Lines.{command_of};
 ghost use Rattle.service_conformance.specs.declared.conformance.possible.Possible.TheVariants as possible;
 
+use super::line_reply::LineReply;
 use super::possible::{Part, Possible, PossibleReplies};
 use super::seen_reply::{SeenReply, changes_nothing};
 use super::service_check::ServiceCheck;
+use histories::Left;
 use iox2_container::container::ContainerHandle;
-use service_descriptions::replay::{LineCommand, Reply};
+use service_descriptions::replay::LineCommand;
 use std::alloc::{AllocError, Global};
 use std::marker::Model;
 
@@ -75,6 +78,7 @@ impl SeenCall {
     }
 
     /// The replies that the call may have in this state.
+    #[inline(always)]
     fn possible(&self, alloc: Global, state: &ServiceCheck) -> Result<Possible, AllocError>
         ensures possible { IfOk result (ArePossible state.now (ServesCall self.now state.now)) }
         ensures covered { IsCovered self.now.command }
@@ -82,19 +86,59 @@ impl SeenCall {
         state.possible_for_line(alloc, &[self.handle], &self.command)
     }
 
+    /// Makes the call in this state, with this reply. Where memory is refused, nothing changes.
+    fn make_with(&self, state: &mut ServiceCheck, reply: &LineReply) -> Result<(), AllocError>
+        requires { CanServe (ServesCall self.now state.old) (reply_in reply.now) }
+        ensures { OnOk result (LeadsTo (ServesCall self.now state.old) (reply_in reply.now) state.new) }
+    {
+        state.follow_line(&[self.handle], &self.command, reply)
+    }
+
     /// The state that the call leaves with this reply.
     fn state_after(
         &self,
         alloc: Global,
         state: &ServiceCheck,
-        reply: &Reply,
+        reply: &LineReply,
     ) -> Result<ServiceCheck, AllocError>
-        requires { CanServe (ServesCall self.now state.now) reply.now }
-        ensures { IfOk result (LeadsTo (ServesCall self.now state.now) reply.now) }
+        requires { CanServe (ServesCall self.now state.now) (reply_in reply.now) }
+        ensures { IfOk result (LeadsTo (ServesCall self.now state.now) (reply_in reply.now)) }
     {
         let mut next = state.copied(alloc)?;
-        next.follow_line(&[self.handle], &self.command, reply)?;
+        self.make_with(&mut next, reply)?;
         Ok(next)
+    }
+
+    /// Makes the call in this state, if the reply that was seen can be given there. Returns whether
+    /// it did; else nothing changed.
+    fn make_seen(
+        &self,
+        alloc: Global,
+        state: &mut ServiceCheck,
+        seen: &SeenReply,
+    ) -> Result<bool, AllocError>
+        ensures { IfOk result (IsMade (CallStep (answered self.now (seen_text seen.now)) state.old)
+            state.old state.new) }
+    {
+        // For the proof: what is true of every check.
+        let _pattern = state.kind();
+        let possible = self.possible(alloc, state)?;
+        let Some(reply) = state.reply_seen(possible, seen) else {
+            return Ok(false);
+        };
+        self.make_with(state, &reply)?;
+        Ok(true)
+    }
+
+    /// Makes the call in this state, if it was answered and can be made. Returns whether it did;
+    /// else nothing changed.
+    pub(super) fn make(&self, alloc: Global, state: &mut ServiceCheck) -> Result<bool, AllocError>
+        ensures { IfOk result (IsMade (CallStep self.now state.old) state.old state.new) }
+    {
+        match &self.seen {
+            Some(seen) => self.make_seen(alloc, state, seen),
+            None => Ok(false),
+        }
     }
 
     /// The states that the call leaves with the reply that was seen: one, or none.
@@ -103,19 +147,18 @@ impl SeenCall {
         alloc: Global,
         state: &ServiceCheck,
         seen: &SeenReply,
-    ) -> Result<Vec<ServiceCheck>, AllocError>
-        ensures { IfOk result (λ found.
-            AreAll (CallStep (answered self.now (seen_text seen.now)) state.now) found.items) }
+    ) -> Result<Left<ServiceCheck>, AllocError>
+        ensures { IfOk result (λ left.
+            AreAll (CallStep (answered self.now (seen_text seen.now)) state.now)
+            (states_in left)) }
     {
         // For the proof: what is true of every check.
         let _pattern = state.kind();
         let possible = self.possible(alloc, state)?;
-        let mut found = Vec::new(alloc);
         let Some(reply) = state.reply_seen(possible, seen) else {
-            return Ok(found);
+            return Ok(Left::Nothing);
         };
-        found.push(self.state_after(alloc, state, &reply)?)?;
-        Ok(found)
+        Ok(Left::One(self.state_after(alloc, state, &reply)?))
     }
 
     /// Adds the state that an add leaves where it gives this slot, if it is free.
@@ -135,7 +178,7 @@ impl SeenCall {
         let Some(handle) = state.next_in_slot(part, slot) else {
             return Ok(());
         };
-        let next = self.state_after(alloc, state, &Reply::Handle(handle))?;
+        let next = self.state_after(alloc, state, &LineReply::Handle(handle))?;
         found.push(next)?;
         Ok(())
     }
@@ -166,19 +209,15 @@ impl SeenCall {
         &self,
         alloc: Global,
         state: &ServiceCheck,
-    ) -> Result<Vec<ServiceCheck>, AllocError>
-        ensures { IfOk result (λ found.
-            AreAll (CallStep (unanswered self.now) state.now) found.items) }
+    ) -> Result<Left<ServiceCheck>, AllocError>
+        ensures { IfOk result (λ left.
+            AreAll (CallStep (unanswered self.now) state.now) (states_in left)) }
     {
         // For the proof: what is true of every check.
         let _pattern = state.kind();
         match self.possible(alloc, state)? {
-            Possible::One(reply) => {
-                let mut found = Vec::new(alloc);
-                found.push(self.state_after(alloc, state, &reply)?)?;
-                Ok(found)
-            }
-            Possible::Given(part) => self.follow_add(alloc, state, part),
+            Possible::One(reply) => Ok(Left::One(self.state_after(alloc, state, &reply)?)),
+            Possible::Given(part) => Ok(Left::All(self.follow_add(alloc, state, part)?)),
         }
     }
 
@@ -187,8 +226,8 @@ impl SeenCall {
         &self,
         alloc: Global,
         state: &ServiceCheck,
-    ) -> Result<Vec<ServiceCheck>, AllocError>
-        ensures { IfOk result (λ found. AreAll (CallStep self.now state.now) found.items) }
+    ) -> Result<Left<ServiceCheck>, AllocError>
+        ensures { IfOk result (λ left. AreAll (CallStep self.now state.now) (states_in left)) }
     {
         match &self.seen {
             Some(seen) => self.follow_seen(alloc, state, seen),

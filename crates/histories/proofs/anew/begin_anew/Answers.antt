@@ -20,11 +20,11 @@ returns g c whole events olds sound f =
       quiet,
       (
         map (λ k. k.state) configs,
-        subst (λ (l : List (Config g.row.M-State.Denot)). IsFrontier Step c.new.result.items slots
+        subst (λ (l : List (Config g.row.M-State.Denot)). IsFrontier Step c.clear.new.self.items slots
             []
             (map (λ k. k.state) configs) l)
             (sym (put_back unlinked configs front.configs.len is.0 long))
-            (fresh_anew Step c.new.result.items slots configs unlinked f.table.few empty f.once is),
+            (fresh_anew Step c.clear.new.self.items slots configs unlinked f.table.few empty f.once is),
         λ rest after all.
             split_anew Step front.links.items slots events olds configs sound quiet empty f rest
             after all,

@@ -10,7 +10,7 @@ loop-left-init g c =
     closing_layer Step slots configs [] configs c.close_settled.new.done
     c.in_ok-layer.layer.items c.args.slot c.requires.taken.0 _ c.requires.few c.requires.taken.1
     (closing_begin Step slots configs c.args.slot)
-    (rw c.new-done.ensures at c.in_ok-layer.ensures.0) c.in_ok-layer.ensures.1
+    (rw c.in_ok-done.ensures at c.in_ok-layer.ensures.0) c.in_ok-layer.ensures.1
 
 pub loop-left-preserved : goal.loop-left-preserved
 loop-left-preserved g c =

@@ -10,7 +10,7 @@ use Rattle.histories.proofs.close.close_round.Goals as goal
 pub loop-config-init : goal.loop-config-init
 loop-config-init g c = (
   gathers_no_one (IsDone c.args.slot) _,
-  rw c.new-next.ensures
+  rw c.in_ok-next.ensures
       (gathers_no_one
       (IsUnderWay (g.M.Machine.Step c.args.machine.now) c.args.slots.now c.args.slot) []),
 )

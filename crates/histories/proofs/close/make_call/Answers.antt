@@ -1,36 +1,25 @@
-use Rattle.std.proofs.Common.{◌≡◌, ◌∷◌, [], ◌∙◌, subst, sym}
-use Rattle.std.proofs.lemmas.List.{map-id}
-use Rattle.std.proofs.lemmas.Iterator.Adapters.{YieldsList-from_vec}
-use Rattle.std.proofs.lemmas.Iterator.Consumers.{YieldsList-end}
-use Rattle.histories.specs.Frontier.{path_more, path_of}
-use Rattle.histories.specs.Gathering.{Gathers, IsNextIn}
-use Rattle.histories.proofs.Closing.{path_is}
-use Rattle.histories.proofs.Gathering.{gathers_call, gathers_no_state, gathers_state}
+use Rattle.std.proofs.Common.{◌∷◌, []}
+use Rattle.std.proofs.lemmas.Result.{on_ok_weaker}
+use Rattle.histories.proofs.Gathering.{gathers_call, gathers_no_state}
 use Rattle.histories.proofs.close.make_call.Goals as goal
 
-pub loop-state-init : goal.loop-state-init
-loop-state-init g c =
-    gathers_no_state c.args.config.now c.args.slot c.args.call c.args.next.now
-
-pub loop-state-preserved : goal.loop-state-preserved
-loop-state-preserved g c =
-    let next = c.in_ok-made.made in
-    gathers_state c.args.config.now next c.args.slot c.args.call c.loop-state.yielded
-    c.in-Some.state _ _ _ c.in_ok-made.ensures.0 c.in_ok-made.ensures.1
-    (path_is (path_of next) (path_more (path_of c.args.config.now) (c.args.call ∷ []))
-    c.in_ok-made.ensures.2 c.in_ok-made.ensures.3) c.loop-state.invariant c.in_ok-add.ensures
-
-pub returns : goal.returns
-returns g c =
-    let found = c.in_ok-found.found in
-    let end = YieldsList-end
-    (YieldsList-from_vec {s = c.into_iter-state-iterator.result} found.items
-    c.into_iter-state-iterator.ensures.into_iter_gives.0
-    (c.into_iter-state-iterator.ensures.into_iter_gives.1 ∙ found.ok.0))
-    c.loop-state.yielded _ c.loop-state.yielded_by _ c.next.new.self
-    c.in-None.is c.next.ensures.steps in
-    let all : c.loop-state.yielded ≡ found.items = sym (map-id c.loop-state.yielded) ∙ end.0 in
+pub returns-in-Nothing : goal.returns-in-Nothing
+returns-in-Nothing g c =
     gathers_call (g.M.Machine.Step c.args.machine.now) c.args.slots.now c.args.config.now
-    c.args.slot c.args.call found.items _ _ c.requires.waits c.in_ok-found.ensures
-    (subst (λ l. Gathers (IsNextIn c.args.config.now c.args.slot c.args.call l) c.args.next.now
-    c.loop-state.next) all c.loop-state.invariant)
+    c.args.slot c.args.call [] _ _ c.requires.waits
+    (rw c.in-Nothing.is at c.in_ok-follow.ensures)
+    (gathers_no_state c.args.config.now c.args.slot c.args.call c.args.next.now)
+
+pub returns-in-One : goal.returns-in-One
+returns-in-One g c =
+    on_ok_weaker c.make_state.result
+    (gathers_call (g.M.Machine.Step c.args.machine.now) c.args.slots.now c.args.config.now
+    c.args.slot c.args.call (c.in-One.state ∷ []) _ _ c.requires.waits
+    (rw c.in-One.is at c.in_ok-follow.ensures)) c.make_state.ensures
+
+pub returns-in-All : goal.returns-in-All
+returns-in-All g c =
+    on_ok_weaker c.make_states.result
+    (gathers_call (g.M.Machine.Step c.args.machine.now) c.args.slots.now c.args.config.now
+    c.args.slot c.args.call c.in-All.states.items _ _ c.requires.waits
+    (rw c.in-All.is at c.in_ok-follow.ensures)) c.make_states.ensures

@@ -1,7 +1,7 @@
 //! The state that a reply leaves.
 ghost use Rattle.std.specs.Prelude.{◌≡◌, None, OnOk, OnErr};
 ghost use Rattle.iox2_dynamic.specs.Service.{IsService};
-ghost use Rattle.service_conformance.specs.Possible.{IsCovered};
+ghost use Rattle.service_conformance.specs.Possible.{IsCovered, reply_in};
 ghost use Rattle.service_conformance.specs.Quiet.{CanServe, LeadsTo};
 ghost use Rattle.service_descriptions.specs.Cleanups.{ServesDead};
 ghost use Rattle.service_descriptions.specs.Lines.{command_of};
@@ -9,20 +9,21 @@ ghost use Rattle.service_descriptions.specs.Steps.{Serves, ServesAdd, ServesDere
 ghost use Rattle.service_descriptions.specs.declared.replay.machine.command.Cleanup.TheVariants as cleanup;
 ghost use Rattle.service_descriptions.specs.declared.replay.machine.command.Command.TheVariants as command;
 
+use super::super::line_reply::LineReply;
 use super::super::replies::{given, is_removal, named};
 use super::super::sides::side;
 use super::{ServiceCheck, has_ports_in};
 use iox2_container::container::{ContainerHandle, ReleaseMode};
 use iox2_dynamic::dynamic_config::PortDetails;
 use iox2_ids::identifiers::UniqueNodeId;
-use service_descriptions::replay::{Cleanup, LineCommand, Reply};
+use service_descriptions::replay::{Cleanup, LineCommand};
 use std::alloc::AllocError;
 
 impl ServiceCheck {
     /// The service after a node was registered and this was replied.
-    fn follow_register(&mut self, id: UniqueNodeId, reply: &Reply) -> Result<(), AllocError>
-        requires { CanServe (ServesRegister self.old id) reply.now }
-        ensures ok { OnOk result (LeadsTo (ServesRegister self.old id) reply.now self.new) }
+    fn follow_register(&mut self, id: UniqueNodeId, reply: &LineReply) -> Result<(), AllocError>
+        requires { CanServe (ServesRegister self.old id) (reply_in reply.now) }
+        ensures ok { OnOk result (LeadsTo (ServesRegister self.old id) (reply_in reply.now) self.new) }
         ensures err { OnErr result (self.new ≡ self.old) }
         ensures kept { IsService self.new }
     {
@@ -36,9 +37,9 @@ impl ServiceCheck {
     }
 
     /// The service after a node's entry was to be removed and this was replied.
-    fn follow_deregister(&mut self, handle: Option<ContainerHandle>, reply: &Reply)
-        requires { CanServe (ServesDeregister self.old handle) reply.now }
-        ensures one { LeadsTo (ServesDeregister self.old handle) reply.now self.new }
+    fn follow_deregister(&mut self, handle: Option<ContainerHandle>, reply: &LineReply)
+        requires { CanServe (ServesDeregister self.old handle) (reply_in reply.now) }
+        ensures one { LeadsTo (ServesDeregister self.old handle) (reply_in reply.now) self.new }
         ensures kept { IsService self.new }
     {
         // For the proof: what is true of every check.
@@ -53,9 +54,9 @@ impl ServiceCheck {
     }
 
     /// The service after a port was to be attached and this was replied.
-    fn follow_attach(&mut self, details: PortDetails, reply: &Reply) -> Result<(), AllocError>
-        requires { CanServe (ServesAdd self.old details) reply.now }
-        ensures ok { OnOk result (LeadsTo (ServesAdd self.old details) reply.now self.new) }
+    fn follow_attach(&mut self, details: PortDetails, reply: &LineReply) -> Result<(), AllocError>
+        requires { CanServe (ServesAdd self.old details) (reply_in reply.now) }
+        ensures ok { OnOk result (LeadsTo (ServesAdd self.old details) (reply_in reply.now) self.new) }
         ensures err { OnErr result (self.new ≡ self.old) }
         ensures kept { IsService self.new }
     {
@@ -76,9 +77,9 @@ impl ServiceCheck {
     }
 
     /// The service after a port was to be released and this was replied.
-    fn follow_release(&mut self, handle: Option<ContainerHandle>, reply: &Reply)
-        requires { CanServe (ServesRelease self.old handle) reply.now }
-        ensures one { LeadsTo (ServesRelease self.old handle) reply.now self.new }
+    fn follow_release(&mut self, handle: Option<ContainerHandle>, reply: &LineReply)
+        requires { CanServe (ServesRelease self.old handle) (reply_in reply.now) }
+        ensures one { LeadsTo (ServesRelease self.old handle) (reply_in reply.now) self.new }
         ensures kept { IsService self.new }
     {
         // For the proof: what is true of every check.
@@ -100,10 +101,10 @@ impl ServiceCheck {
     }
 
     /// The service after a dead node was removed, where the ports of these values stay.
-    fn follow_dead(&mut self, dead: &UniqueNodeId, kept: &Vec<u128>, _reply: &Reply)
-        requires { CanServe (ServesDead self.old dead.now (cleanup.ByPort kept.now)) _reply.now }
+    fn follow_dead(&mut self, dead: &UniqueNodeId, kept: &Vec<u128>, _reply: &LineReply)
+        requires { CanServe (ServesDead self.old dead.now (cleanup.ByPort kept.now)) (reply_in _reply.now) }
         ensures one { LeadsTo (ServesDead self.old dead.now (cleanup.ByPort kept.now))
-            _reply.now self.new }
+            (reply_in _reply.now) self.new }
         ensures kept { IsService self.new }
     {
         let kept = kept.as_slice();
@@ -116,10 +117,10 @@ impl ServiceCheck {
     }
 
     /// The service after a dead node was removed with this cleanup.
-    fn follow_cleanup(&mut self, dead: &UniqueNodeId, cleanup: &Cleanup, reply: &Reply)
+    fn follow_cleanup(&mut self, dead: &UniqueNodeId, cleanup: &Cleanup, reply: &LineReply)
         requires covered { IsCovered (command.Dead dead.now cleanup.now) }
-        requires can { CanServe (ServesDead self.old dead.now cleanup.now) reply.now }
-        ensures one { LeadsTo (ServesDead self.old dead.now cleanup.now) reply.now self.new }
+        requires can { CanServe (ServesDead self.old dead.now cleanup.now) (reply_in reply.now) }
+        ensures one { LeadsTo (ServesDead self.old dead.now cleanup.now) (reply_in reply.now) self.new }
         ensures kept { IsService self.new }
     {
         match cleanup {
@@ -134,13 +135,13 @@ impl ServiceCheck {
         &mut self,
         earlier: &[Option<ContainerHandle>],
         command: &LineCommand,
-        reply: &Reply,
+        reply: &LineReply,
     ) -> Result<(), AllocError>
         requires covered { IsCovered (command_of command.now) }
         requires can { CanServe (Serves self.old None earlier.now (command_of command.now))
-            reply.now }
+            (reply_in reply.now) }
         ensures ok { OnOk result
-            (LeadsTo (Serves self.old None earlier.now (command_of command.now)) reply.now
+            (LeadsTo (Serves self.old None earlier.now (command_of command.now)) (reply_in reply.now)
             self.new) }
         ensures err { OnErr result (self.new ≡ self.old) }
         ensures kept { IsService self.new }

@@ -10,6 +10,7 @@ ghost use Rattle.service_descriptions.specs.Steps.{Serves, ServesAdd, ServesDere
 ghost use Rattle.service_descriptions.specs.declared.replay.machine.command.Cleanup.TheVariants as cleanup;
 ghost use Rattle.service_descriptions.specs.declared.replay.machine.command.Command.TheVariants as command;
 
+use super::super::line_reply::LineReply;
 use super::super::possible::{Part, Possible};
 use super::super::replies::{named, possible_add, reply_of_owners};
 use super::super::sides::{part, side};
@@ -17,7 +18,7 @@ use super::ServiceCheck;
 use iox2_container::container::{ContainerHandle, Role};
 use iox2_dynamic::dynamic_config::PortDetails;
 use iox2_ids::identifiers::UniqueNodeId;
-use service_descriptions::replay::{Cleanup, LineCommand, Reply};
+use service_descriptions::replay::{Cleanup, LineCommand};
 use std::alloc::{AllocError, Global};
 
 impl ServiceCheck {
@@ -36,13 +37,13 @@ impl ServiceCheck {
         ensures { ArePossible self.now (ServesAdd self.now details) result }
     {
         let Some(first) = side(self.pattern, details.role()) else {
-            return Possible::One(Reply::WrongPattern);
+            return Possible::One(LineReply::WrongPattern);
         };
         if self.nodes.is_locked() {
-            return Possible::One(Reply::Locked);
+            return Possible::One(LineReply::Locked);
         }
         if self.nodes.count(&details.node_id()) == 0 {
-            return Possible::One(Reply::NotRegistered);
+            return Possible::One(LineReply::NotRegistered);
         }
         let why = self.ports(first).refusal();
         possible_add(why, part(first))
@@ -54,13 +55,13 @@ impl ServiceCheck {
     {
         let nodes = self.nodes();
         let Some(handle) = handle else {
-            return Possible::One(Reply::NoHandle);
+            return Possible::One(LineReply::NoHandle);
         };
         let Some(id) = nodes.get(handle) else {
-            return Possible::One(Reply::NotOwned);
+            return Possible::One(LineReply::NotOwned);
         };
         if self.is_last_of_ports(&id) {
-            return Possible::One(Reply::PortsAttached);
+            return Possible::One(LineReply::PortsAttached);
         }
         let locks = nodes.len() == 1;
         Possible::One(reply_of_owners(locks))
@@ -72,15 +73,15 @@ impl ServiceCheck {
     {
         let kind = self.kind();
         let Some(handle) = handle else {
-            return Possible::One(Reply::NoHandle);
+            return Possible::One(LineReply::NoHandle);
         };
         let Some(first) = side(kind, handle.role()) else {
-            return Possible::One(Reply::NotOwned);
+            return Possible::One(LineReply::NotOwned);
         };
         let Some(_details) = self.ports(first).get(handle) else {
-            return Possible::One(Reply::NotOwned);
+            return Possible::One(LineReply::NotOwned);
         };
-        Possible::One(Reply::Released)
+        Possible::One(LineReply::Released)
     }
 
     /// The replies that removing a dead node may have, where the ports of these values stay.
@@ -108,7 +109,7 @@ impl ServiceCheck {
         ensures { IfOk result (ArePossible self.now (Reports self.now (ServesNodes self.now))) }
     {
         let nodes = self.nodes().listed(alloc)?;
-        Ok(Possible::One(Reply::Nodes(nodes)))
+        Ok(Possible::One(LineReply::Nodes(nodes)))
     }
 
     /// The replies that a list of the ports of a role may be.
@@ -117,10 +118,10 @@ impl ServiceCheck {
     {
         let kind = self.kind();
         let Some(first) = side(kind, role) else {
-            return Ok(Possible::One(Reply::WrongPattern));
+            return Ok(Possible::One(LineReply::WrongPattern));
         };
         let ports = self.ports(first).listed(alloc)?;
-        Ok(Possible::One(Reply::Ports(ports)))
+        Ok(Possible::One(LineReply::Ports(ports)))
     }
 
     /// The replies that a count of the ports of a role may be.
@@ -129,13 +130,14 @@ impl ServiceCheck {
     {
         let kind = self.kind();
         let Some(first) = side(kind, role) else {
-            return Possible::One(Reply::WrongPattern);
+            return Possible::One(LineReply::WrongPattern);
         };
         let n = self.ports(first).len();
-        Possible::One(Reply::Count(n))
+        Possible::One(LineReply::Count(n))
     }
 
     /// The replies that a command may have, where earlier ones gave these handles.
+    #[inline(always)]
     pub(in super::super) fn possible_for_line(
         &self,
         alloc: Global,

@@ -38,7 +38,7 @@ impl ServiceCheck {
             (ArePossibleWords (Serves self.now None earlier.now (command_of command.now))) }
     {
         match self.possible_for_line(alloc, earlier, command)? {
-            Possible::One(one) => Ok(PossibleReplies::One(one)),
+            Possible::One(one) => Ok(PossibleReplies::One(one.reply())),
             Possible::Given(part) => Ok(PossibleReplies::Handle(self.next_in(alloc, part)?)),
         }
     }

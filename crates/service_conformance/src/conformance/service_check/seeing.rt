@@ -1,15 +1,16 @@
 //! Replies that were seen.
+ghost use Rattle.std.specs.Option.{option_map};
 ghost use Rattle.std.specs.Prelude.{◌≡◌};
-ghost use Rattle.service_conformance.specs.Possible.{MayGiveIn};
+ghost use Rattle.service_conformance.specs.Possible.{MayGiveIn, reply_in};
 ghost use Rattle.service_conformance.specs.Seen.{IsSeen, seen_text};
 ghost use Rattle.service_conformance.specs.Words.{Tells, TellsHandle, handle_words};
 
+use super::super::line_reply::LineReply;
 use super::super::possible::{Part, Possible};
 use super::super::says::says;
 use super::super::seen_reply::SeenReply;
 use super::ServiceCheck;
 use iox2_container::container::ContainerHandle;
-use service_descriptions::replay::Reply;
 
 impl ServiceCheck {
     /// The handle of this slot and this ticket that the registry of the part may give next.
@@ -24,8 +25,14 @@ impl ServiceCheck {
     }
 
     /// Of the possible replies, the one that says what was seen.
-    pub(in super::super) fn reply_seen(&self, possible: Possible, seen: &SeenReply) -> Option<Reply>
-        ensures { Tells self.now possible (seen_text seen.now) result }
+    #[inline(always)]
+    pub(in super::super) fn reply_seen(
+        &self,
+        possible: Possible,
+        seen: &SeenReply,
+    ) -> Option<LineReply>
+        ensures { Tells self.now possible (seen_text seen.now)
+            (option_map reply_in result) }
     {
         match possible {
             Possible::One(one) => { if says(&one, seen) { Some(one) } else { None } }
@@ -36,7 +43,7 @@ impl ServiceCheck {
                 let Some(handle) = self.handle_at(part, *slot, *ticket) else {
                     return None;
                 };
-                Some(Reply::Handle(handle))
+                Some(LineReply::Handle(handle))
             }
         }
     }

@@ -9,4 +9,4 @@ returns-in-Some c =
 pub returns-in-None : goal.returns-in-None
 returns-in-None c =
     window_none c.args.self.now.first c.args.self.now.calls.now c.args.call
-    c.in-None.ensures.none c.args.state.now _ c.no_state.ensures
+    c.in-None.ensures.none c.args.state.now

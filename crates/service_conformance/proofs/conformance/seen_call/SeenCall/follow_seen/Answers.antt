@@ -1,11 +1,11 @@
+use Rattle.service_conformance.specs.Possible.{reply_in}
 use Rattle.service_conformance.specs.Seen.{seen_text}
 use Rattle.service_conformance.proofs.Calls.{seen_one}
 use Rattle.service_conformance.proofs.conformance.seen_call.SeenCall.follow_seen.Goals as goal
 
 pub returns : goal.returns
 returns c =
-    rw (c.in_ok-push.ensures.items, c.new-found.ensures.items)
-    (seen_one c.args.self.now c.args.state.now c.kind-pattern.ensures.rest
+    seen_one c.args.self.now c.args.state.now c.kind-pattern.ensures.rest
     c.in_ok-possible.ensures.covered c.in_ok-possible.possible (seen_text c.args.seen.now)
-    c.in_ok-possible.ensures.possible c.in-Some.reply c.in_ok-state_after.field-0
-    c.in-Some.ensures c.in_ok-state_after.ensures)
+    c.in_ok-possible.ensures.possible (reply_in c.in-Some.reply) c.in_ok-state_after.field-0
+    c.in-Some.ensures c.in_ok-state_after.ensures

@@ -1,5 +1,5 @@
 use Rattle.histories.specs.Gathering.{Gathers, IsNextIn}
-use Rattle.histories.proofs.close.make_call.Given as goal
+use Rattle.histories.proofs.close.make_states.Given as goal
 
 abbrev pub invariant-loop-state : goal.invariant-loop-state
 invariant-loop-state g l =

@@ -1,0 +1,29 @@
+use Rattle.std.proofs.Common.{◌≡◌, ◌∙◌, subst, sym}
+use Rattle.std.proofs.lemmas.List.{map-id}
+use Rattle.std.proofs.lemmas.Iterator.Adapters.{YieldsList-from_vec}
+use Rattle.std.proofs.lemmas.Iterator.Consumers.{YieldsList-end}
+use Rattle.histories.specs.Gathering.{Gathers, IsNextIn}
+use Rattle.histories.proofs.Gathering.{gathers_no_state, gathers_states}
+use Rattle.histories.proofs.close.make_states.Goals as goal
+
+pub loop-state-init : goal.loop-state-init
+loop-state-init g c =
+    gathers_no_state c.args.config.now c.args.slot c.args.call c.args.next.now
+
+pub loop-state-preserved : goal.loop-state-preserved
+loop-state-preserved g c =
+    gathers_states c.args.config.now c.args.slot c.args.call c.loop-state.yielded
+    c.in-Some.state _ _ _ c.loop-state.invariant c.in_ok-make_state.ensures
+
+pub returns : goal.returns
+returns g c =
+    let found = c.args.states in
+    let end = YieldsList-end
+    (YieldsList-from_vec {s = c.into_iter-state-iterator.result} found.items
+    c.into_iter-state-iterator.ensures.into_iter_gives.0
+    (c.into_iter-state-iterator.ensures.into_iter_gives.1 ∙ found.ok.0))
+    c.loop-state.yielded _ c.loop-state.yielded_by _ c.next.new.self
+    c.in-None.is c.next.ensures.steps in
+    let all : c.loop-state.yielded ≡ found.items = sym (map-id c.loop-state.yielded) ∙ end.0 in
+    subst (λ l. Gathers (IsNextIn c.args.config.now c.args.slot c.args.call l) c.args.next.now
+    c.loop-state.next) all c.loop-state.invariant
