@@ -114,9 +114,8 @@ typedef struct iox2sd_config_fault {
     iox2sd_toml_type found; /* The type of its value, with IOX2SD_STATUS_WRONG_TYPE; 0 otherwise. */
     iox2sd_setting_kind wanted; /* What its value may be; 0 where nothing is wrong with a key. */
     /* Where the key begins, or where the text is found to be no UTF-8, too deep or no TOML: both
-     * from 1, columns in bytes (of a text that is too deep, in characters). Both are 0 where there
-     * is no position: of a key in a file of more than 128 KiB, and where nothing is wrong with the
-     * text. */
+     * from 1, columns in bytes, without a byte-order mark. Both are 0 where there is no position:
+     * of a key in a file of more than 128 KiB, and where nothing is wrong with the text. */
     size_t line;
     size_t column;
     uint8_t key[80]; /* The path of the key, as "defaults.event.deadline", then zeros. */

@@ -566,7 +566,10 @@ static void depth(void) {
     repeat(".a", 16);
     repeat("]\n\n'\xc3\xa4'", 1);
     repeat(".b", 16);
-    CHECK(is_deep("3:34"));
+    CHECK(is_deep("3:35"));
+    repeat("\xef\xbb\xbfx = ", 1);
+    repeat("[", 33);
+    CHECK(is_deep("1:37"));
 }
 
 static void nulls(void) {

@@ -5,10 +5,11 @@ use Rattle.std.proofs.lemmas.List.Sorted.{All-permutation}
 use Rattle.iox2_config_file.specs.Faults.{reason_text}
 use Rattle.iox2_config_file.specs.Rows.{prefix_of}
 use Rattle.config_report.specs.Contradictions.{Contradiction, Side, beside_text, contradiction_note, contradictions_in, is_later, placed_note, side_note, side_position}
-use Rattle.config_report.specs.Findings.{Checks, FindsOne, finding_view, notes_in, topics_in}
+use Rattle.config_report.specs.Findings.{Checks, notes_in, topics_in}
 use Rattle.config_report.specs.InLine.{AreInLine, is_in_line, key_in_line}
 use Rattle.config_report.specs.Lines.{has_no_control, in_line}
-use Rattle.config_report.specs.Notes.{Note, Topic, fault, unknown, meant_text, note, note_in, topic_note, topic_position}
+use Rattle.config_report.specs.Notes.{Note, Topic, fault, unknown, meant_text, note, note_in, topic_note, topic_position, finding_view}
+use Rattle.config_report.specs.Unread.{IsNoFile, error_behind}
 use Rattle.config_report.specs.declared.contradiction.Effect.{Effect}
 use Rattle.config_report.specs.declared.finding.Finding.{Finding}
 use Rattle.config_report.specs.declared.finding.Findings.{Findings}
@@ -97,21 +98,26 @@ one_of : (fs : List Finding) (n : Note) → is_in_line n ≡ true → map findin
     → AreInLine fs
 one_of fs n h e = all_of fs (n ∷ []) (h, tt) e
 
-one_error : (at : Option Position) (words : List ℕ) (found : Findings) → FindsOne at words found
-    → AreInLine found.list.items
-one_error at words found one =
-    one_of found.list.items (note at Error None words) (note_of at Error None words) one.1
+-- what is said of bytes that are no file of settings
+error_of : (bytes : List ℕ) (said : Note) (n : ℕ) (words : List ℕ)
+    → said ≡ error_behind n bytes words → is_in_line said ≡ true
+error_of bytes said n words is =
+    ap (λ m. is_in_line m) is
+    ∙ note_of (Some (position_after (take n bytes))) Error None words
+
+no_file_of : (bytes : List ℕ) (said : Note) → IsNoFile bytes said → is_in_line said ≡ true
+no_file_of bytes said (inl (n, refuted, valid, is)) =
+    error_of bytes said n (codes "the file is no UTF-8") is
+no_file_of bytes said (inr (inl (n, utf8, deep, is))) =
+    error_of bytes said n (codes "tables and arrays are more than 32 deep in one another") is
+no_file_of bytes said (inr (inr (n, words, within, text, unparsed, is))) =
+    error_of bytes said n words is
 
 pub checks_in_line : (bytes : List ℕ) (found : Findings) → Checks bytes found
     → AreInLine found.list.items
-checks_in_line bytes found (inl (n, refuted, valid, one)) =
-    one_error (Some (position_after (take n bytes))) (codes "the file is no UTF-8") found one
-checks_in_line bytes found (inr (inl (place, utf8, deep, one))) =
-    one_error (Some (record { line = place.line; column = place.column }))
-    (codes "tables and arrays are more than 32 deep in one another") found one
-checks_in_line bytes found (inr (inr (inl (n, words, within, utf8, shallow, unparsed, one)))) =
-    one_error (Some (position_after (take n bytes))) words found one
-checks_in_line bytes found (inr (inr (inr h))) =
+checks_in_line bytes found (inl h) =
+    one_of found.list.items h.said (no_file_of bytes h.said h.no_file) h.list
+checks_in_line bytes found (inr h) =
     let (fs, same, order) = h.list in
     All-permutation Lined fs found.list.items order.same
     (all_of fs (notes_in bytes h.default h.file found.config)

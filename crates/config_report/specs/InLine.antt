@@ -1,9 +1,8 @@
 -- That all that is found stands in one line each.
 use Rattle.std.specs.Prelude.{◌≡◌, List, Bool, true, ◌&&◌, ℕ, Option, Some, None}
 use Rattle.std.specs.List.{All}
-use Rattle.config_report.specs.Findings.{finding_view}
 use Rattle.config_report.specs.Lines.{has_no_control}
-use Rattle.config_report.specs.Notes.{Note}
+use Rattle.config_report.specs.Notes.{Note, finding_view}
 use Rattle.config_report.specs.declared.finding.Finding.{Finding}
 
 -- a key has no control character, if there is one

@@ -8,3 +8,4 @@ pub mod Positions
 pub mod Report
 pub mod Subjects
 pub mod Text
+pub mod Unread

@@ -1,5 +1,5 @@
 -- What is said of a file of settings, and how it is written.
-use Rattle.std.specs.Prelude.{ℕ, List, [], ◌∷◌, ◌++◌, codes, Option, Some, None, option_map}
+use Rattle.std.specs.Prelude.{ℕ, List, [], ◌∷◌, ◌++◌, codes, Option, Some, None, option_map, string_bytes}
 use Rattle.iox2_config_file.specs.Faults.{reason_text}
 use Rattle.iox2_config_file.specs.Read.{Located}
 use Rattle.iox2_config_file.specs.Proposals.{Proposed}
@@ -10,6 +10,7 @@ use Rattle.iox2_config_file.specs.declared.section.Section.{Section}
 use Rattle.iox2_config_file.specs.declared.section.Section.TheVariants as section
 use Rattle.config_report.specs.Lines.{in_line}
 use Rattle.config_report.specs.Positions.{at_text, position_for, table_path}
+use Rattle.config_report.specs.declared.finding.Finding.{Finding}
 use Rattle.config_report.specs.declared.finding.Severity.{Severity}
 use Rattle.config_report.specs.declared.finding.Severity.TheVariants.{Error, Warning}
 use Rattle.toml_positions.specs.declared.position.Position.{Position}
@@ -29,6 +30,15 @@ note at severity key message = record {
   severity = severity;
   key = option_map in_line key;
   message = in_line message;
+}
+
+-- what a finding says
+abbrev pub finding_view : Finding → Note
+finding_view f = record {
+  position = f.position;
+  severity = f.severity;
+  key = option_map (λ k. string_bytes k) f.key;
+  message = string_bytes f.message;
 }
 
 -- what there is to say something of: a value that is not allowed, or a key that no setting has

@@ -1,32 +1,25 @@
 //! What is found in a file of settings.
-ghost use Rattle.std.specs.Prelude.{◌≡◌, ◌≤◌, ◌++◌, ℕ, List, IfOk, IsSome, IsUtf8, None, OnOk};
-ghost use Rattle.std.specs.Prelude.{Some, length, map, option_copied};
-ghost use Rattle.std.specs.Str.{IsValidUpTo};
-ghost use Rattle.iox2_config_file.specs.Answers.{IsUnparsed, ReadsAll};
-ghost use Rattle.iox2_config_file.specs.Depth.{too_deep};
-ghost use Rattle.iox2_config_file.specs.Read.{IsSettingsOf};
-ghost use Rattle.iox2_config.specs.Defaults.{IsDefaultConfig};
+ghost use Rattle.std.specs.Prelude.{◌≡◌, ◌++◌, List, ℕ, IfOk, IsSome, OnOk, map, option_copied};
+ghost use Rattle.iox2_config_file.specs.Answers.{ReadsAll};
 ghost use Rattle.config_report.specs.Contradictions.{contradiction_note, contradiction_view};
 ghost use Rattle.config_report.specs.Contradictions.{contradictions_in};
-ghost use Rattle.config_report.specs.Findings.{Checks, FindsInFile, FindsNoToml, FindsNoUtf8};
-ghost use Rattle.config_report.specs.Findings.{FindsOne, FindsTooDeep, HasFaults, IsConfigOf, IsInOrder};
-ghost use Rattle.config_report.specs.Findings.{IsShallow, Lists, finding_view};
-ghost use Rattle.config_report.specs.Notes.{note_in, topic_position};
+ghost use Rattle.config_report.specs.Findings.{Checks, FindsInFile, FindsNoFile};
+ghost use Rattle.config_report.specs.Findings.{IsInOrder, Lists};
+ghost use Rattle.config_report.specs.Notes.{finding_view, note_in, topic_position};
 ghost use Rattle.config_report.specs.Subjects.{subject_view};
-ghost use Rattle.toml.specs.Data.{Members};
+ghost use Rattle.config_report.specs.Unread.{IsText, IsUnread};
 ghost use Rattle.toml.specs.Parse.{parse_document};
 
 use crate::contradiction::{Contradiction, contradiction_finding};
 use crate::contradictions::contradictions_in;
-use crate::finding::{Finding, Findings, Severity, place};
-use crate::line::in_line;
+use crate::finding::{Finding, Findings, place};
 use crate::positions::{position_at, subject_positions};
 use crate::subject::{Subject, subjects_of};
+use crate::unread::{Unread, contents_of, text_of};
 use iox2_config::config::Config;
-use iox2_config_file::{ConfigFileError, FileContents, SettingFault, TooDeep, read_all, too_deep};
+use iox2_config_file::FileContents;
 use std::alloc::{AllocError, Global};
-use std::str;
-use toml_positions::{Position, position_after};
+use toml_positions::Position;
 
 /// All that is found in a file of settings, in the order of the file: that it is no UTF-8, that its
 /// tables and arrays are more than 32 deep in one another, or that it is no TOML; or else each
@@ -36,71 +29,45 @@ use toml_positions::{Position, position_after};
 pub fn check_file(alloc: Global, bytes: &[u8]) -> Result<Findings, AllocError>
     ensures { IfOk result (Checks bytes.now) }
 {
-    match str::from_utf8(bytes) {
+    match text_of(alloc, bytes) {
         Ok(text) => check_text(alloc, text),
-        Err(error) => no_utf8(alloc, bytes, error.valid_up_to()),
-    }
-}
-
-/// All that is found in a text.
-fn check_text(alloc: Global, text: &str) -> Result<Findings, AllocError>
-    ensures { IfOk result (Checks text.now) }
-{
-    match too_deep(text.as_bytes()) {
-        Some(place) => deep_text(alloc, text, place),
-        None => check_shallow(alloc, text),
+        Err(unread) => alone(alloc, unread),
     }
 }
 
 /// All that is found in a text whose tables and arrays are not too deep in one another.
-fn check_shallow(alloc: Global, text: &str) -> Result<Findings, AllocError>
-    requires { IsShallow text.now }
+fn check_text(alloc: Global, text: &str) -> Result<Findings, AllocError>
+    requires { IsText text.now }
     ensures { IfOk result (Checks text.now) }
 {
-    let default = Config::default();
-    match read_all(alloc, text, &default) {
+    match contents_of(alloc, text) {
         Ok(contents) => list_all(alloc, text, contents),
-        Err(error) => refused(alloc, text, &error),
+        Err(unread) => alone(alloc, unread),
     }
 }
 
-/// Why a text is no TOML, unless memory was refused.
-fn refused(alloc: Global, text: &str, error: &ConfigFileError) -> Result<Findings, AllocError>
-    requires { IsShallow text.now }
-    ensures { IsUnparsed text.now error.now → IfOk result (FindsNoToml text.now) }
+/// What is found in bytes that are no file of settings.
+fn alone(alloc: Global, unread: Unread) -> Result<Findings, AllocError>
+    ensures { (bytes : List ℕ) → IsUnread bytes unread → IfOk result (FindsNoFile bytes) }
 {
-    match error {
-        ConfigFileError::Syntax(error) => no_toml(alloc, text, error),
-        _ => Err(AllocError),
-    }
+    let mut list = Vec::new(alloc);
+    list.push(unread.finding()?)?;
+    Ok(Findings { config: None, list })
 }
 
 /// All that is found in a file.
 fn list_all(alloc: Global, text: &str, contents: FileContents) -> Result<Findings, AllocError>
-    requires { IsShallow text.now }
-    ensures { (default : Config) → IsDefaultConfig default
-        → ReadsAll default text.now contents → IfOk result (FindsInFile text.now) }
+    requires { IsText text.now }
+    ensures { ReadsAll text.now contents → IfOk result (FindsInFile text.now) }
 {
     let FileContents {
         config,
         faults,
         unknown,
     } = contents;
-    let config = settings_of(faults.as_slice(), config);
     let subjects = subjects_of(alloc, faults.as_slice(), unknown.as_slice())?;
     let list = list_of(alloc, text, subjects.as_slice(), config.as_ref())?;
     Ok(Findings { config, list })
-}
-
-/// The settings of a file, unless it has faults.
-fn settings_of(faults: &[SettingFault], config: Config) -> Option<Config>
-    ensures { (default : Config) (file : Members) → HasFaults file faults.now
-        → IsSettingsOf default file config → IsConfigOf default file result }
-{
-    match faults.first().copied() {
-        Some(_) => None,
-        None => Some(config),
-    }
 }
 
 /// What is said of some subjects and of the settings, if there are any, in the order of the file.
@@ -168,60 +135,4 @@ fn put_in_order(list: &mut Vec<Finding>) -> Result<(), AllocError>
 {
     list.sort_by_key(|finding| place(finding))?;
     Ok(())
-}
-
-/// The one thing that is found in bytes that are no file of settings.
-fn one_finding(alloc: Global, position: Position, message: &str) -> Result<Findings, AllocError>
-    ensures { IfOk result (FindsOne (Some position) message.now) }
-{
-    let mut list = Vec::new(alloc);
-    list.push(Finding {
-        position: Some(position),
-        severity: Severity::Error,
-        key: None,
-        message: in_line(alloc, String::from_str(alloc, message)?)?,
-    })?;
-    Ok(Findings { config: None, list })
-}
-
-/// That a file is no UTF-8, and the position of the first byte that shows it.
-fn no_utf8(alloc: Global, bytes: &[u8], valid: usize) -> Result<Findings, AllocError>
-    requires { IsValidUpTo bytes.now valid }
-    ensures { ¬ IsUtf8 bytes.now → IfOk result (FindsNoUtf8 bytes.now) }
-{
-    let position = position_after(&bytes[..valid]);
-    one_finding(alloc, position, "the file is no UTF-8")
-}
-
-/// That the tables and arrays of a text are too deep in one another, and where.
-fn deep_text(alloc: Global, text: &str, place: TooDeep) -> Result<Findings, AllocError>
-    ensures { too_deep text.now ≡ Some place → IfOk result (FindsTooDeep text.now) }
-{
-    let TooDeep { line, column } = place;
-    one_finding(
-        alloc,
-        Position { line, column },
-        "tables and arrays are more than 32 deep in one another",
-    )
-}
-
-/// That a text is no TOML, and why.
-fn no_toml(alloc: Global, text: &str, error: &toml::de::Error) -> Result<Findings, AllocError>
-    requires { IsShallow text.now }
-    ensures { parse_document text.now ≡ None → IfOk result (FindsNoToml text.now) }
-{
-    let bytes = text.as_bytes();
-    let start = start_of(error, bytes);
-    let position = position_after(&bytes[..start]);
-    one_finding(alloc, position, error.message())
-}
-
-/// Where in a text it is found to be no TOML.
-fn start_of(error: &toml::de::Error, bytes: &[u8]) -> usize
-    ensures { result ≤ length bytes.now }
-{
-    match error.span() {
-        Some(span) => span.start.min(bytes.len()),
-        None => 0,
-    }
 }

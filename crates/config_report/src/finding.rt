@@ -1,7 +1,7 @@
 //! What is found in a file of settings.
 ghost use Rattle.std.specs.Prelude.{◌≡◌, Some};
-ghost use Rattle.config_report.specs.Findings.{finding_view, place_of};
-ghost use Rattle.config_report.specs.Notes.{severity_text, note_text};
+ghost use Rattle.config_report.specs.Findings.{place_of};
+ghost use Rattle.config_report.specs.Notes.{severity_text, note_text, finding_view};
 
 use crate::positions::At;
 use iox2_config::config::Config;

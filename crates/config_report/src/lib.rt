@@ -21,6 +21,7 @@ mod positions;
 mod report;
 mod subject;
 mod text;
+mod unread;
 
 pub use check::check_file;
 pub use chunks::{requests, responses, samples};
@@ -32,3 +33,4 @@ pub use report::{
 };
 pub use subject::Subject;
 pub use toml_positions::Position;
+pub use unread::{Unread, contents_of, text_of};

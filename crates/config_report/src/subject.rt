@@ -2,8 +2,7 @@
 ghost use Rattle.std.specs.Prelude.{◌≡◌, ◌++◌, IfOk, map};
 ghost use Rattle.iox2_config_file.specs.Read.{fault_view};
 ghost use Rattle.iox2_config_file.specs.Unknown.{unknown_view};
-ghost use Rattle.config_report.specs.Findings.{finding_view};
-ghost use Rattle.config_report.specs.Notes.{fault, unknown, topic_path, topic_note};
+ghost use Rattle.config_report.specs.Notes.{fault, unknown, topic_path, topic_note, finding_view};
 ghost use Rattle.config_report.specs.Subjects.{subject_view};
 ghost use Rattle.toml_positions.specs.Written.{path_view};
 

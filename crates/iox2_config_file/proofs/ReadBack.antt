@@ -1,5 +1,5 @@
 -- What is read of the text of a configuration.
-use Rattle.std.proofs.Common.{◌≡◌, ℕ, true, List, [], ◌∷◌, ◌++◌, map, Option, None, option_map, Result, Ok, Err, IfOk, IfErr, string_bytes, refl, sym, ap, subst, length, arith}
+use Rattle.std.proofs.Common.{◌≡◌, ℕ, true, List, [], ◌∷◌, ◌++◌, map, Option, Some, None, option_map, Result, Ok, Err, IfOk, IfErr, string_bytes, ◌∙◌, refl, sym, ap, subst, length, arith}
 use Rattle.std.specs.Prelude.{not, ◌||◌}
 use Rattle.std.specs.List.{filter_map}
 use Rattle.std.proofs.lemmas.List.Elements.{filter_map-append}
@@ -7,6 +7,7 @@ use Rattle.std.proofs.Common.{rules}
 use Rattle.std.specs.Prelude.{String}
 use Rattle.std.specs.declared.alloc.Global.{Global}
 use Rattle.toml.specs.Data.{Data, Members, get_member}
+use Rattle.toml.specs.Parse.{parse_document}
 use Rattle.toml.specs.Tables.{Nodes, no_nodes, node, value, get_node, close}
 use Rattle.iox2_config.specs.Defaults.{IsDefaultConfig}
 use Rattle.iox2_config.specs.declared.config.Config.{Config}
@@ -14,13 +15,13 @@ use Rattle.iox2_config_file.specs.declared.kind.Kind.{Kind}
 use Rattle.iox2_config_file.specs.declared.kind.Kind.TheVariants as kind
 use Rattle.iox2_config_file.specs.declared.section.Section.{Section}
 use Rattle.iox2_config_file.specs.declared.section.Section.TheVariants as section
-use Rattle.iox2_config_file.specs.Read.{IsSettingsOf, read_setting, section_members, rows_in, row_fault, section_faults, faults_in}
+use Rattle.iox2_config_file.specs.Read.{IsSettingsOf, fault_view, read_setting, section_members, rows_in, row_fault, section_faults, faults_in}
 use Rattle.iox2_config_file.specs.declared.error.ConfigFileError.{ConfigFileError}
 use Rattle.iox2_config_file.specs.declared.error.ConfigFileError.TheVariants as error
-use Rattle.iox2_config_file.specs.declared.read.FileSettings.{FileSettings}
+use Rattle.iox2_config_file.specs.declared.read.FileContents.{FileContents}
 use Rattle.iox2_config_file.specs.declared.write.ConfigWriteError.{ConfigWriteError}
-use Rattle.iox2_config_file.specs.Answers.{ReadsOverDefaults, Refuses}
-use Rattle.iox2_config_file.specs.ReadBack.{AreLegal, ReadsBack, IsNoMemory}
+use Rattle.iox2_config_file.specs.Answers.{HasNoFault, IsConfigOf, IsUnparsed, ReadsAll}
+use Rattle.iox2_config_file.specs.ReadBack.{AreConfig, AreLegal, AreSame, ReadsBack, IsNoMemory}
 use Rattle.iox2_config_file.specs.Settings.{Setting, settings_in, tables_in, global_settings, service_settings, node_settings}
 use Rattle.iox2_config_file.specs.Unknown.{is_known, unknown_view, unknown_at, unknown_among, section_unknown, unknown_in}
 use Rattle.iox2_config_file.specs.Values.{SettingValue, value_or}
@@ -193,19 +194,41 @@ wrote_back default config (Err e) is whole services nodes h = tt
 
 -- ---- reading it
 
-pub none_is_unknown : (config : Config) (bytes : List ℕ)
-    (r : Result FileSettings ConfigFileError) → ReadsBack config bytes
-    → IfOk r (ReadsOverDefaults bytes) → IfOk r (λ read. read.unknown.items ≡ [])
-none_is_unknown config bytes (Ok read) (file, parsed, _, _, known)
-    (_, _, other, shown, _, _, unknown) =
-    let same : other ≡ file = cc in
-    no_items unknown_view read.unknown.items (rw (same, known config) at (unknown config))
-none_is_unknown config bytes (Err e) back h = tt
+-- the file is the one that was written
+same_file : (bytes : List ℕ) (one other : Members) → parse_document bytes ≡ Some one
+    → parse_document bytes ≡ Some other → other ≡ one
+same_file bytes one other parsed shown = cc
 
-pub only_memory : (config : Config) (bytes : List ℕ) (r : Result FileSettings ConfigFileError)
-    → ReadsBack config bytes → IfErr r (Refuses bytes) → IfErr r IsNoMemory
+-- a file without faults gives settings
+config_back : (config : Config) (file : Members) (default : Config) (found : Option Config)
+    → HasNoFault file → IsSettingsOf default file config → IsConfigOf default file found
+    → (back : Config) × (found ≡ Some back) × AreSame back config
+config_back config file default None allowed set (first, is_first) =
+    let none = allowed config in let some = is_first config in absurd (grind arith)
+config_back config file default (Some back) allowed set (_, is) =
+    (back, refl, λ s. is s ∙ sym (set s))
+
+pub config_is_back : (config : Config) (bytes : List ℕ)
+    (r : Result FileContents ConfigFileError) → ReadsBack config bytes → IfOk r (ReadsAll bytes)
+    → IfOk r (AreConfig config)
+config_is_back config bytes (Ok read) (file, parsed, allowed, set, known) all =
+    let same = same_file bytes file all.file parsed all.parsed in
+    let (back, is, are_same) =
+    config_back config all.file all.default read.config (subst HasNoFault (sym same) allowed)
+    (subst (λ f. IsSettingsOf all.default f config) (sym same) (set all.default all.is_default))
+    all.config in record {
+      back = back;
+      read = is;
+      same = are_same;
+      allowed = no_items fault_view read.faults.items
+          (rw (same, allowed config) at (all.faults config));
+      known = no_items unknown_view read.unknown.items
+          (rw (same, known config) at (all.unknown config));
+    }
+config_is_back config bytes (Err e) back h = tt
+
+pub only_memory : (config : Config) (bytes : List ℕ) (r : Result FileContents ConfigFileError)
+    → ReadsBack config bytes → IfErr r (IsUnparsed bytes) → IfErr r IsNoMemory
 only_memory config bytes (Ok read) back h = tt
 only_memory config bytes (Err (error.Syntax e)) back h = grind arith
-only_memory config bytes (Err (error.Setting fault)) back h =
-    let none = back.2 config in let first = h.2 config in grind arith
 only_memory config bytes (Err (error.NoMemory e)) back h = tt

@@ -1,8 +1,5 @@
 -- How deep the tables and arrays of a file are in one another.
-use Rattle.std.specs.Prelude.{◌≡◌, ℕ, ◌+◌, ◌<◌, ◌≤◌, ◌||◌, ◌&&◌, ◌==◌, Bool, true, false, not, nat_le, nat_lt, if◌then◌else◌, List, [], ◌∷◌, ◌++◌, Option, Some, None, option_map, length}
-use Rattle.std.specs.Fmt.{decimal}
-use lib.Chars.{codes}
-use Rattle.iox2_config_file.specs.declared.depth.TooDeep.{TooDeep}
+use Rattle.std.specs.Prelude.{◌≡◌, ℕ, ◌+◌, ◌<◌, ◌≤◌, ◌||◌, ◌&&◌, ◌==◌, Bool, true, false, not, nat_le, nat_lt, if◌then◌else◌, List, [], ◌∷◌, Option, Some, None, option_map, length}
 use Rattle.iox2_config_file.specs.declared.depth.lexing.Inside.{Inside}
 use Rattle.iox2_config_file.specs.declared.depth.lexing.Inside.TheVariants as inside
 use Rattle.iox2_config_file.specs.declared.depth.marks.Mark.{Mark}
@@ -172,30 +169,12 @@ begin = record {
   nesting = record { position = position.Start; marks = [] };
 }
 
--- a place in words
-abbrev pub depth_text : TooDeep → List ℕ
-depth_text place =
-    codes "line " ++ (decimal place.line ++ (codes ", column " ++ (decimal place.column
-    ++ codes ": tables and arrays are more than 32 deep in one another")))
-
--- the lines, and the characters of the last line, that are passed with a byte
-abbrev pub passed : TooDeep → ℕ → TooDeep
-passed before b =
-    if b == 10 then record { line = before.line + 1; column = 0 }
-    else if nat_le 128 b && nat_lt b 192 then before
-    else record { line = before.line; column = before.column + 1 }
-
--- the place behind so many lines and characters
-abbrev pub told : TooDeep → TooDeep
-told before = record { line = before.line + 1; column = before.column + 1 }
-
--- the place of the first byte that opens a table or an array within 32 others
-abbrev pub found_from : Scan → TooDeep → List ℕ → Option TooDeep
+-- the bytes, after so many, before the first that opens a table or an array within 32 others
+abbrev pub found_from : Scan → ℕ → List ℕ → Option ℕ
 found_from s before [] = None
 found_from s before (b ∷ bs) =
-    elim (stepped s b)
-    [ None ↦ Some (told before) | Some next ↦ found_from next (passed before b) bs ]
+    elim (stepped s b) [ None ↦ Some before | Some next ↦ found_from next (before + 1) bs ]
 
 -- the same of a whole text
-unfoldable pub too_deep : List ℕ → Option TooDeep
-too_deep bytes = found_from begin (record { line = 0; column = 0 }) bytes
+unfoldable pub too_deep : List ℕ → Option ℕ
+too_deep bytes = found_from begin 0 bytes

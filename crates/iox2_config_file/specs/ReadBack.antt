@@ -9,6 +9,7 @@ use Rattle.iox2_config_file.specs.declared.error.ConfigFileError.{ConfigFileErro
 use Rattle.iox2_config_file.specs.declared.error.ConfigFileError.TheVariants as error
 use Rattle.iox2_config_file.specs.declared.kind.Kind.{Kind}
 use Rattle.iox2_config_file.specs.declared.kind.Kind.TheVariants as kind
+use Rattle.iox2_config_file.specs.declared.read.FileContents.{FileContents}
 use Rattle.iox2_config_file.specs.declared.section.Section.{Section}
 use Rattle.iox2_config_file.specs.Answers.{HasNoFault}
 use Rattle.iox2_config_file.specs.Read.{IsSettingsOf}
@@ -29,6 +30,14 @@ ReadsBack config bytes =
     (file : Members) × (parse_document bytes ≡ Some file) × HasNoFault file
     × ((default : Config) → IsDefaultConfig default → IsSettingsOf default file config)
     × ((c : Config) → unknown_in c file ≡ [])
+
+-- the contents of a file are this configuration and nothing else
+pub record AreConfig (config : Config) (contents : FileContents) : Type 0 where
+  pub back : Config
+  pub read : contents.config ≡ Some back
+  pub same : AreSame back config
+  pub allowed : contents.faults.items ≡ []
+  pub known : contents.unknown.items ≡ []
 
 -- memory was refused
 abbrev pub IsNoMemory : ConfigFileError → Type 0

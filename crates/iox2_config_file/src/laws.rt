@@ -1,27 +1,25 @@
 //! Laws of files of settings that no single call carries, and how values are copied.
-ghost use Rattle.std.specs.Prelude.{◌≡◌, [], IfOk, IfErr, IsOkAnd};
+ghost use Rattle.std.specs.Prelude.{◌≡◌, IfOk, IfErr, IsOkAnd};
 ghost use Rattle.iox2_config_file.specs.Complete.{TableIsComplete};
-ghost use Rattle.iox2_config_file.specs.ReadBack.{AreSame, IsNoMemory};
+ghost use Rattle.iox2_config_file.specs.ReadBack.{AreConfig, IsNoMemory};
 
 use crate::error::ConfigFileError;
 use crate::fault::SettingFault;
 use crate::kind::{Fault, Kind, TomlType};
-use crate::read::{FileSettings, read_config};
+use crate::read::{FileContents, read_config};
 use crate::section::{Row, Section};
 use crate::setting::SettingValue;
 use crate::write::{ConfigWriteError, Misfit, write_config};
 use iox2_config::config::Config;
 use std::alloc::{AllocError, Global};
 
-/// What `write_config` writes, `read_config` reads: each setting has the value that it had, and no
-/// key is unknown. Only refused memory is reported.
+/// What `write_config` writes, `read_config` reads: each setting has the value that it had, none is
+/// refused, and no key is unknown. Only refused memory is reported.
 pub fn what_is_written_is_read_back(
     alloc: Global,
     config: &Config,
-) -> Result<Result<FileSettings, ConfigFileError>, ConfigWriteError>
-    ensures same { IfOk result (λ read. IfOk read (λ settings.
-        AreSame settings.config config.now)) }
-    ensures known { IfOk result (λ read. IfOk read (λ settings. settings.unknown.items ≡ [])) }
+) -> Result<Result<FileContents, ConfigFileError>, ConfigWriteError>
+    ensures same { IfOk result (λ read. IfOk read (AreConfig config.now)) }
     ensures refused { IfOk result (λ read. IfErr read IsNoMemory) }
 {
     let text = write_config(alloc, config)?;

@@ -20,12 +20,12 @@ mod unknown;
 mod value;
 mod write;
 
-pub use depth::{TooDeep, too_deep};
+pub use depth::too_deep;
 pub use error::ConfigFileError;
 pub use fault::SettingFault;
 pub use kind::{Fault, Kind, TomlType};
 pub use proposal::{Likeness, Proposal};
-pub use read::{FileContents, FileSettings, read_all, read_config, report_all, report_unknown};
+pub use read::{FileContents, read_config};
 pub use section::{Row, SECTIONS, Section, rows};
 pub use setting::{SettingValue, value_at};
 pub use unknown::UnknownKey;

@@ -3,8 +3,8 @@
 use config_report::{FileConfig, Finding, Findings, Position, Report, ReportError, Severity};
 use iox2_config::config::{AllocationStrategy, BackpressureStrategy, Config};
 use iox2_config_file::{
-    ConfigFileError, ConfigWriteError, Fault, FileContents, FileSettings, Kind, Likeness, Misfit,
-    Proposal, Row, Section, SettingFault, SettingValue, TomlType, UnknownKey,
+    ConfigFileError, ConfigWriteError, Fault, FileContents, Kind, Likeness, Misfit, Proposal, Row,
+    Section, SettingFault, SettingValue, TomlType, UnknownKey,
 };
 use iox2_texts::bounded::SemanticStringError;
 use std::alloc::{AllocError, Global};
@@ -142,15 +142,11 @@ fn errors_are_shown_by_field(rt: HostRuntime) {
                 "SettingFault { section: Global, key: \"prefix\", fault: OutOfRange }",
             ),
             is_shown_as(
-                &ConfigFileError::Setting(fault),
-                "Setting(SettingFault { section: Global, key: \"prefix\", fault: OutOfRange })",
-            ),
-            is_shown_as(
                 &ConfigFileError::NoMemory(AllocError),
                 "NoMemory(AllocError)"
             ),
         ],
-        [true; 6]
+        [true; 5]
     );
 }
 
@@ -162,10 +158,6 @@ fn rows_and_settings_are_shown_by_field(rt: HostRuntime) {
         about: "b",
     };
     assert!(rt; is_shown_as(&row, "Row { key: \"a\", kind: Path, about: \"b\" }"));
-    let mut settings = FileSettings {
-        config: Config::default(),
-        unknown: Vec::new(rt.alloc()),
-    };
     let unknown = UnknownKey {
         section: Section::Node,
         key: String::from_str(rt.alloc(), "a").expect(&rt, "memory for a text"),
@@ -178,15 +170,6 @@ fn rows_and_settings_are_shown_by_field(rt: HostRuntime) {
     let key = "UnknownKey { section: Node, key: \"a\", meant: Some(Proposal { section: Event, \
                key: \"b\", likeness: Near }) }";
     assert!(rt; is_shown_as(&unknown, key));
-    settings
-        .unknown
-        .push(unknown)
-        .expect(&rt, "memory for a key");
-    let config = Config::default();
-    let shown = format!(in rt.alloc();
-        "FileSettings {{ config: {config:?}, unknown: [{key}] }}"
-    ).expect(&rt, "memory for a text");
-    assert!(rt; is_shown_as(&settings, shown.as_str()));
 }
 
 /// A text of one letter.
@@ -222,13 +205,13 @@ fn reports_are_shown_by_field(rt: HostRuntime) -> Result<(), Fail> {
 #[test]
 fn contents_are_shown_by_field(rt: HostRuntime) {
     let contents = FileContents {
-        config: Config::default(),
+        config: Some(Config::default()),
         faults: Vec::new(rt.alloc()),
         unknown: Vec::new(rt.alloc()),
     };
     let config = Config::default();
     let shown = format!(in rt.alloc();
-        "FileContents {{ config: {config:?}, faults: [], unknown: [] }}"
+        "FileContents {{ config: Some({config:?}), faults: [], unknown: [] }}"
     ).expect(&rt, "memory for a text");
     assert!(rt; is_shown_as(&contents, shown.as_str()));
 }

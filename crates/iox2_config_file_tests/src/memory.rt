@@ -3,9 +3,7 @@
 //! wrong with them.
 
 use iox2_config::config::Config;
-use iox2_config_file::{
-    ConfigFileError, ConfigWriteError, Section, read_config, report_all, write_config,
-};
+use iox2_config_file::{ConfigFileError, ConfigWriteError, Section, read_config, write_config};
 use std::alloc::{AllocError, Global};
 use std::test::Fail;
 use test_support::memory::may_be_refused;
@@ -28,7 +26,7 @@ servers = []
 /// The number of unknown keys of the file, if memory for it was given.
 fn unknown(alloc: Global, text: &str) -> Option<usize> {
     match read_config(alloc, text) {
-        Ok(settings) => Some(settings.unknown.len()),
+        Ok(contents) => Some(contents.unknown.len()),
         Err(ConfigFileError::NoMemory(_)) => None,
         Err(_) => Some(usize::MAX),
     }
@@ -44,10 +42,10 @@ fn a_file_is_read_whole_or_not_at_all(rt: HostRuntime) {
 
 #[test]
 fn all_faults_are_reported_or_none(rt: HostRuntime) {
-    match report_all(rt.alloc(), "global = 1\ndefaults.event.deadline = 'soon'") {
-        Ok(faults) => {
-            let last = faults.last().map(|fault| fault.section);
-            assert_eq!(rt; (faults.len(), last), (2, Some(Section::Event)));
+    match read_config(rt.alloc(), "global = 1\ndefaults.event.deadline = 'soon'") {
+        Ok(read) => {
+            let last = read.faults.last().map(|fault| fault.section);
+            assert_eq!(rt; (read.faults.len(), last), (2, Some(Section::Event)));
         }
         Err(ConfigFileError::NoMemory(_)) => assert!(rt; may_be_refused(&rt)),
         Err(_) => panic!(rt; "the file is refused"),

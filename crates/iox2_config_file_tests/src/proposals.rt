@@ -131,21 +131,37 @@ fn all_that_is_found_comes_in_the_order_of_the_file(rt: HostRuntime) {
     }
 }
 
+/// Files with 33 brackets at their ends, and where that is too deep: columns count bytes, also of
+/// letters of two, and not those of a byte-order mark.
+const DEEP: [(&str, &str); 3] = [
+    (
+        "a = 1\nb = ",
+        "2:37: error: tables and arrays are more than 32 deep in one another",
+    ),
+    (
+        "a = 1\n'ä' = ",
+        "2:40: error: tables and arrays are more than 32 deep in one another",
+    ),
+    (
+        "\u{feff}b = ",
+        "1:37: error: tables and arrays are more than 32 deep in one another",
+    ),
+];
+
 /// A file that is too deep is refused before anything is built of it.
 #[test]
 fn a_file_that_is_too_deep_is_refused_with_its_position(rt: HostRuntime) {
-    let mut file = String::from_str(rt.alloc(), "a = 1\nb = ").expect(&rt, "memory");
-    for _ in 0..33 {
-        file.push('[').expect(&rt, "memory");
-    }
-    let found = check_file(rt.alloc(), file.as_str().as_bytes()).expect(&rt, "memory");
-    assert!(rt; found.config.is_none());
-    assert_eq!(rt; found.list.len(), 1);
-    for finding in &found.list {
-        let text = format!(in rt.alloc(); "{finding}").expect(&rt, "memory");
-        assert_eq!(rt;
-            text.as_str(),
-            "2:37: error: tables and arrays are more than 32 deep in one another"
-        );
+    for (front, want) in &DEEP {
+        let mut file = String::from_str(rt.alloc(), front).expect(&rt, "memory");
+        for _ in 0..33 {
+            file.push('[').expect(&rt, "memory");
+        }
+        let found = check_file(rt.alloc(), file.as_str().as_bytes()).expect(&rt, "memory");
+        assert!(rt; found.config.is_none());
+        assert_eq!(rt; found.list.len(), 1);
+        for finding in &found.list {
+            let text = format!(in rt.alloc(); "{finding}").expect(&rt, "memory");
+            assert_eq!(rt; text.as_str(), *want);
+        }
     }
 }

@@ -1,5 +1,5 @@
 use iox2_config::config::{AllocationStrategy, BackpressureStrategy, Config};
-use iox2_config_file::{FileSettings, read_config};
+use iox2_config_file::{FileContents, read_config};
 use iox2_texts::paths::{FileName, Path};
 use std::process::Abort;
 use std::time::Duration;
@@ -97,9 +97,9 @@ client-allocation-strategy = 'BestFit'\r
 max-nodes = 1_000\r
 ";
 
-fn settings(rt: &(impl Abort + AllocGlobal), text: &str) -> FileSettings {
+fn contents(rt: &(impl Abort + AllocGlobal), text: &str) -> FileContents {
     match read_config(rt.alloc(), text) {
-        Ok(settings) => settings,
+        Ok(contents) => contents,
         Err(_) => panic!(rt; "the file is refused"),
     }
 }
@@ -114,18 +114,18 @@ fn file_name(rt: &impl Abort, text: &[u8]) -> FileName {
 
 #[test]
 fn the_documented_defaults_are_the_defaults(rt: HostRuntime) {
-    let read = settings(&rt, DEFAULTS);
+    let read = contents(&rt, DEFAULTS);
     assert_eq!(rt;
-        (read.config == Config::default(), read.unknown.len()),
+        (read.config == Some(Config::default()), read.unknown.len()),
         (true, 0)
     );
 }
 
 #[test]
 fn an_empty_file_gives_the_defaults(rt: HostRuntime) {
-    let read = settings(&rt, "");
+    let read = contents(&rt, "");
     assert_eq!(rt;
-        (read.config == Config::default(), read.unknown.len()),
+        (read.config == Some(Config::default()), read.unknown.len()),
         (true, 0)
     );
 }
@@ -149,17 +149,17 @@ fn each_kind_of_value_is_read(rt: HostRuntime) {
     want.defaults.event.notifier_dead_event = Some(9_223_372_036_854_775_807);
     want.defaults.request_response.client_allocation_strategy = AllocationStrategy::BestFit;
     want.defaults.blackboard.max_nodes = 1000;
-    let read = settings(&rt, OTHERS);
-    assert_eq!(rt; (read.config == want, read.unknown.len()), (true, 0));
+    let read = contents(&rt, OTHERS);
+    assert_eq!(rt; (read.config == Some(want), read.unknown.len()), (true, 0));
 }
 
 /// Nanoseconds of a second or more are carried over, up to 32 bits of them.
 #[test]
 fn nanoseconds_are_carried_over(rt: HostRuntime) {
     let text = "global.creation-timeout = { secs = 9223372036854775807, nanos = 4294967295 }";
-    let read = settings(&rt, text);
+    let read = contents(&rt, text);
     assert_eq!(rt;
-        read.config.global.creation_timeout,
-        Duration::new(9_223_372_036_854_775_811, 294_967_295)
+        read.config.map(|config| config.global.creation_timeout),
+        Some(Duration::new(9_223_372_036_854_775_811, 294_967_295))
     );
 }

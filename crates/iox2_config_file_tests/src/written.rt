@@ -1,7 +1,7 @@
 use iox2_config::config::Config;
 use iox2_config_file::laws::what_is_written_is_read_back;
 use iox2_config_file::{
-    ConfigWriteError, FileSettings, Kind, Row, SECTIONS, Section, read_config, rows, write_config,
+    ConfigWriteError, Kind, Row, SECTIONS, Section, read_config, rows, write_config,
 };
 use iox2_texts::paths::{FileName, Path};
 use std::process::Abort;
@@ -26,9 +26,9 @@ fn written(rt: &(impl Abort + AllocGlobal), config: &Config) -> String {
     }
 }
 
-fn settings(rt: &(impl Abort + AllocGlobal), text: &str) -> FileSettings {
+fn config(rt: &(impl Abort + AllocGlobal), text: &str) -> Config {
     match read_config(rt.alloc(), text) {
-        Ok(settings) => settings,
+        Ok(contents) => contents.config.expect(rt, "a file without faults"),
         Err(_) => panic!(rt; "the file is refused"),
     }
 }
@@ -36,7 +36,10 @@ fn settings(rt: &(impl Abort + AllocGlobal), text: &str) -> FileSettings {
 /// Whether the text of a configuration gives the same configuration, and no unknown key.
 fn comes_back(rt: &(impl Abort + AllocGlobal), config: &Config) -> bool {
     match what_is_written_is_read_back(rt.alloc(), config) {
-        Ok(Ok(back)) => back.config == *config && back.unknown.is_empty(),
+        Ok(Ok(back)) => match back.config {
+            Some(same) => same == *config && back.unknown.is_empty(),
+            None => false,
+        },
         _ => false,
     }
 }
@@ -159,7 +162,7 @@ fn each_setting_alone_comes_back(rt: HostRuntime) {
         for row in rows(section) {
             let mut text = String::new(rt.alloc());
             add(&rt, &mut text, section, row, &mut state);
-            if !comes_back(&rt, &settings(&rt, text.as_str()).config) {
+            if !comes_back(&rt, &config(&rt, text.as_str())) {
                 differs = Some(row.key);
             }
         }
@@ -178,7 +181,7 @@ fn all_settings_come_back(rt: HostRuntime) {
                 add(&rt, &mut text, section, row, &mut state);
             }
         }
-        if !comes_back(&rt, &settings(&rt, text.as_str()).config) {
+        if !comes_back(&rt, &config(&rt, text.as_str())) {
             differ = true;
         }
     }

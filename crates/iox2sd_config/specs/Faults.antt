@@ -1,8 +1,8 @@
 -- What is wrong with a file of settings, as plain values.
-use Rattle.std.specs.Prelude.{◌≡◌, ◌⊎◌, ℕ, List, [], ◌∷◌, ◌++◌, length, map, take, replicate, Option, Some, None}
-use Rattle.config_report.specs.Findings.{Checks, finding_view}
-use Rattle.config_report.specs.Notes.{Note, fault, fault_position, topic_note}
-use Rattle.config_report.specs.declared.finding.Findings.{Findings}
+use Rattle.std.specs.Prelude.{ℕ, List, [], ◌++◌, length, take, replicate, Option, Some, None}
+use Rattle.config_report.specs.Notes.{Note, fault, fault_position, finding_view, topic_note}
+use Rattle.config_report.specs.declared.unread.Unread.{Unread}
+use Rattle.config_report.specs.declared.unread.Unread.TheVariants.{NotUtf8, TooDeep, NotToml, NoMemory}
 use Rattle.iox2_config_file.specs.Read.{Located}
 use Rattle.iox2_config_file.specs.Rows.{prefix_of}
 use Rattle.iox2_config_file.specs.declared.kind.Fault.{Fault}
@@ -179,14 +179,16 @@ told_at at (s, key, reason) =
 abbrev pub told_fault : List ℕ → Located → Known
 told_fault bytes located = told_at (fault_position bytes located) located
 
--- the first thing that the report says, with this status
-abbrev pub told_first : Status → List Note → Known
-told_first s [] = no_place s
-told_first s (n ∷ more) = told_note s 0 0 0 n
+-- why bytes are no file of settings: what the report says, with its status
+abbrev pub told_unread : Unread → Known
+told_unread (NotUtf8 finding) = told_note status.NotUtf8 0 0 0 (finding_view finding)
+told_unread (TooDeep finding) = told_note status.TooDeep 0 0 0 (finding_view finding)
+told_unread (NotToml finding) = told_note status.NotToml 0 0 0 (finding_view finding)
+told_unread (NoMemory e) = no_place status.NoMemory
 
--- the first thing that the report on a file says, or that there was no memory to say it
-abbrev pub TellsFirst : List ℕ → Status → Known → Type 0
-TellsFirst bytes s known =
-    ((found : Findings) × Checks bytes found
-    × (known ≡ told_first s (map finding_view found.list.items)))
-    ⊎ (known ≡ no_place status.NoMemory)
+-- the same by the status alone
+abbrev pub unread_status : Unread → Status
+unread_status (NotUtf8 finding) = status.NotUtf8
+unread_status (TooDeep finding) = status.TooDeep
+unread_status (NotToml finding) = status.NotToml
+unread_status (NoMemory e) = status.NoMemory

@@ -1,12 +1,10 @@
 -- The text of a file of settings: its settings, or what is wrong with it.
-use Rattle.std.specs.Prelude.{◌≡◌, ◌⊎◌, ◌≤◌, ◌<◌, ℕ, List, [], ◌∷◌, ◌++◌, map, drop, length, Some, None, IsUtf8}
-use Rattle.config_report.specs.Findings.{IsShallow}
-use Rattle.iox2_config.specs.Defaults.{IsDefaultConfig}
+use Rattle.std.specs.Prelude.{◌≡◌, ◌⊎◌, ◌≤◌, ◌<◌, ℕ, List, [], ◌∷◌, ◌++◌, map, drop, length, Option, Some, None}
+use Rattle.config_report.specs.Unread.{IsText, IsUnread}
+use Rattle.config_report.specs.declared.unread.Unread.{Unread}
 use Rattle.iox2_config.specs.declared.config.Config.{Config}
-use Rattle.iox2_config_file.specs.Answers.{ReadsAll, ReportsAll}
-use Rattle.iox2_config_file.specs.Depth.{too_deep}
+use Rattle.iox2_config_file.specs.Answers.{ReadsAll}
 use Rattle.iox2_config_file.specs.Read.{fault_view}
-use Rattle.iox2_config_file.specs.declared.depth.TooDeep.{TooDeep}
 use Rattle.iox2_config_file.specs.declared.fault.SettingFault.{SettingFault}
 use Rattle.iox2_config_file.specs.declared.read.FileContents.{FileContents}
 use Rattle.iox2sd_common.specs.Answers.{count_answer}
@@ -15,23 +13,11 @@ use Rattle.iox2sd_common.specs.declared.answers.CountAnswer.{CountAnswer}
 use Rattle.iox2sd_common.specs.declared.status.Status.{Status}
 use Rattle.iox2sd_common.specs.declared.status.Status.TheVariants as status
 use Rattle.iox2sd_config.specs.Configs.{told_config}
-use Rattle.iox2sd_config.specs.Faults.{Known, known_of, no_place, worded, told_fault, TellsFirst}
+use Rattle.iox2sd_config.specs.Faults.{Known, known_of, no_place, worded, told_fault, told_unread, unread_status}
 use Rattle.iox2sd_config.specs.Order.{place_at, IsInOrder}
 use Rattle.iox2sd_config.specs.declared.config.PlainConfig.{PlainConfig}
 use Rattle.iox2sd_config.specs.declared.fault.PlainFault.{PlainFault}
 use Rattle.iox2sd_config.specs.declared.read.ConfigAnswer.{ConfigAnswer}
-use Rattle.toml.specs.Parse.{parse_document}
-
--- the bytes are a text, and its tables and arrays are not too deep in one another
-abbrev pub IsText : List ℕ → Type 0
-IsText bytes = IsUtf8 bytes × IsShallow bytes
-
--- why bytes are no file of settings, by the status: each comes only where those before it do not
-abbrev pub IsNoFile : List ℕ → Status → Type 0
-IsNoFile bytes status.NotUtf8 = ¬ (IsUtf8 bytes)
-IsNoFile bytes status.TooDeep = IsUtf8 bytes × (place : TooDeep) × (too_deep bytes ≡ Some place)
-IsNoFile bytes status.NotToml = IsText bytes × (parse_document bytes ≡ None)
-IsNoFile bytes _ = ⊥
 
 -- where a fault stands among others
 abbrev pub fault_place : PlainFault → ℕ × ℕ
@@ -65,41 +51,32 @@ refused_answer known = record { status = known.status; unknown = 0; fault = know
 abbrev pub Keeps : Known → PlainConfig → KnownAnswer → PlainConfig → Type 0
 Keeps known old answer new = (answer ≡ refused_answer known) × (new ≡ old)
 
--- where a file has no fault, its settings are those of this struct; else its first fault is told
-abbrev pub Settles : FileContents → List PlainFault → PlainConfig → KnownAnswer → PlainConfig
-    → Type 0
-Settles contents [] old answer new =
-    (new ≡ told_config contents.config) × (answer ≡ read_answer (length contents.unknown.items))
-Settles contents (first ∷ more) old answer new = Keeps (known_of first) old answer new
+-- the first of some faults of a file, in its order, or that there was no memory to find it
+abbrev pub TellsFirst : List ℕ → List SettingFault → Known → Type 0
+TellsFirst bytes faults known =
+    ((first : PlainFault) × (more : List PlainFault) × ListsFaults bytes faults (first ∷ more)
+    × (known ≡ known_of first))
+    ⊎ (known ≡ no_place status.NoMemory)
 
--- the same by the faults that the file has, in its order
+-- where a file has settings, they are those of this struct; else its first fault is told
+abbrev pub Settles : List ℕ → FileContents → Option Config → PlainConfig → KnownAnswer
+    → PlainConfig → Type 0
+Settles bytes contents (Some config) old answer new =
+    (new ≡ told_config config) × (answer ≡ read_answer (length contents.unknown.items))
+Settles bytes contents None old answer new =
+    (known : Known) × TellsFirst bytes contents.faults.items known × Keeps known old answer new
+
+-- the same, by what the file has
 abbrev pub ReadsContents : List ℕ → FileContents → PlainConfig → KnownAnswer → PlainConfig → Type 0
 ReadsContents bytes contents old answer new =
-    ((listed : List PlainFault) × ListsFaults bytes contents.faults.items listed
-    × Settles contents listed old answer new)
-    ⊎ Keeps (no_place status.NoMemory) old answer new
-
--- these are the contents of a file, where an absent key has the default of the middleware
-abbrev pub HasContents : List ℕ → FileContents → Type 0
-HasContents bytes contents =
-    (default : Config) × IsDefaultConfig default × ReadsAll default bytes contents
-
--- why bytes are no file of settings, as the report on them says it, or memory was refused
-abbrev pub RefusesFile : List ℕ → Known → Type 0
-RefusesFile bytes known =
-    ((s : Status) × IsNoFile bytes s × TellsFirst bytes s known)
-    ⊎ (known ≡ no_place status.NoMemory)
+    Settles bytes contents contents.config old answer new
 
 -- the settings of the file are those of this struct, or it is as it was
 abbrev pub ReadsInto : List ℕ → PlainConfig → KnownAnswer → PlainConfig → Type 0
 ReadsInto bytes old answer new =
-    (IsText bytes × (contents : FileContents) × HasContents bytes contents
+    (IsText bytes × (contents : FileContents) × ReadsAll bytes contents
     × ReadsContents bytes contents old answer new)
-    ⊎ ((known : Known) × RefusesFile bytes known × Keeps known old answer new)
-
--- why a text is not read: it is no TOML, or memory was refused
-abbrev pub IsUnread : List ℕ → Status → Type 0
-IsUnread bytes s = (s ≡ status.NoMemory) ⊎ IsNoFile bytes s
+    ⊎ ((unread : Unread) × IsUnread bytes unread × Keeps (told_unread unread) old answer new)
 
 -- the same of the first struct, where there is one
 abbrev pub Answers : List ℕ → List PlainConfig → KnownAnswer → List PlainConfig → Type 0
@@ -130,7 +107,7 @@ PutsListed bytes faults old answer new =
 -- all faults of a file are listed, or it is none, or there was no memory
 abbrev pub ReportsFile : List ℕ → List PlainFault → CountAnswer → List PlainFault → Type 0
 ReportsFile bytes old answer new =
-    (IsText bytes × (faults : List SettingFault) × ReportsAll bytes faults
-    × PutsListed bytes faults old answer new)
-    ⊎ (((s : Status) × IsNoFile bytes s × RefusesCount s old answer new)
-    ⊎ RefusesCount status.NoMemory old answer new)
+    (IsText bytes × (contents : FileContents) × ReadsAll bytes contents
+    × PutsListed bytes contents.faults.items old answer new)
+    ⊎ ((unread : Unread) × IsUnread bytes unread
+    × RefusesCount (unread_status unread) old answer new)

@@ -1,18 +1,20 @@
 -- The keys of a file that no setting has.
 use Rattle.std.specs.Prelude.{◌≡◌, ◌⊎◌, ◌≤◌, ◌<◌, ℕ, List, [], ◌++◌, map, flat_map, drop, length, Option, Some, None, string_bytes}
 use Rattle.config_report.specs.Notes.{Note, topic_note, unknown, unknown_position}
-use Rattle.iox2_config_file.specs.Answers.{ReportsAllUnknown}
+use Rattle.config_report.specs.Unread.{IsText, IsUnread}
+use Rattle.config_report.specs.declared.unread.Unread.{Unread}
+use Rattle.iox2_config_file.specs.Answers.{ReadsAll}
 use Rattle.iox2_config_file.specs.Proposals.{Proposed}
 use Rattle.iox2_config_file.specs.Unknown.{Unknown, unknown_view}
 use Rattle.iox2_config_file.specs.declared.proposal.Likeness.{Likeness}
 use Rattle.iox2_config_file.specs.declared.proposal.Likeness.TheVariants.{Spelling, OtherTable, Quoted, Near}
+use Rattle.iox2_config_file.specs.declared.read.FileContents.{FileContents}
 use Rattle.iox2_config_file.specs.declared.section.Section.{Section}
 use Rattle.iox2_config_file.specs.declared.unknown.UnknownKey.{UnknownKey}
 use Rattle.iox2sd_common.specs.Status.{code}
 use Rattle.iox2sd_common.specs.declared.status.Status.{Status}
 use Rattle.iox2sd_common.specs.declared.status.Status.TheVariants as status
-use Rattle.iox2sd_config.specs.Faults.{section_number, key_path, key_of, cut_key, cut_reason, line_of, column_of}
-use Rattle.iox2sd_config.specs.Files.{IsText, IsNoFile}
+use Rattle.iox2sd_config.specs.Faults.{section_number, key_path, key_of, cut_key, cut_reason, line_of, column_of, unread_status}
 use Rattle.iox2sd_config.specs.Order.{place_at, IsInOrder}
 use Rattle.iox2sd_config.specs.declared.unknown.NamedKey.{NamedKey}
 use Rattle.iox2sd_config.specs.declared.unknown.PlainUnknown.{PlainUnknown}
@@ -116,7 +118,7 @@ PutsUnknown bytes keys old old_paths answer new new_paths =
 abbrev pub ListsUnknown : List ℕ → List PlainUnknown → List ℕ → UnknownAnswer
     → List PlainUnknown → List ℕ → Type 0
 ListsUnknown bytes old old_paths answer new new_paths =
-    (IsText bytes × (keys : List UnknownKey) × ReportsAllUnknown bytes keys
-    × PutsUnknown bytes keys old old_paths answer new new_paths)
-    ⊎ (((s : Status) × IsNoFile bytes s × RefusesKeys s old old_paths answer new new_paths)
-    ⊎ RefusesKeys status.NoMemory old old_paths answer new new_paths)
+    (IsText bytes × (contents : FileContents) × ReadsAll bytes contents
+    × PutsUnknown bytes contents.unknown.items old old_paths answer new new_paths)
+    ⊎ ((unread : Unread) × IsUnread bytes unread
+    × RefusesKeys (unread_status unread) old old_paths answer new new_paths)

@@ -1,14 +1,14 @@
 //! What is wrong with a file of settings, as plain values.
 ghost use Rattle.std.specs.Prelude.{◌≡◌, ◌++◌, IfOk, map, option_map, string_bytes, take};
-ghost use Rattle.config_report.specs.Findings.{finding_view};
+ghost use Rattle.config_report.specs.Notes.{finding_view};
 ghost use Rattle.iox2_config_file.specs.Read.{fault_view};
 ghost use Rattle.iox2sd_common.specs.Answers.{zero_padded};
 ghost use Rattle.iox2sd_config.specs.Faults.{section_number, type_number, kind_number, fault_status};
 ghost use Rattle.iox2sd_config.specs.Faults.{found_number, wanted_number, key_path, cut_key, key_of};
 ghost use Rattle.iox2sd_config.specs.Faults.{known_of, no_place, worded, line_of, column_of};
-ghost use Rattle.iox2sd_config.specs.Faults.{told_note, told_at, told_first, TellsFirst};
+ghost use Rattle.iox2sd_config.specs.Faults.{told_note, told_at, told_unread, unread_status};
 
-use config_report::{Finding, Subject, check_file};
+use config_report::{Finding, Subject, Unread};
 use iox2_config_file::{Fault, Kind, Section, SettingFault, TomlType};
 use iox2_texts::bounded::SemanticStringError;
 use iox2sd_common::answers::zero_padded;
@@ -249,22 +249,26 @@ pub(crate) fn plain_fault(
     ))
 }
 
-/// The first of some findings, with this status.
-fn first_told(status: Status, findings: &[Finding]) -> PlainFault
-    ensures { known_of result ≡ told_first status (map finding_view findings.now) }
+/// Why bytes are no file of settings.
+pub(crate) fn plain_unread(unread: &Unread) -> PlainFault
+    ensures { known_of result ≡ told_unread unread.now }
 {
-    match findings {
-        [] => PlainFault::of(status),
-        [first, ..] => told(status, 0, 0, 0, first),
+    match unread {
+        Unread::NotUtf8(finding) => told(Status::NotUtf8, 0, 0, 0, finding),
+        Unread::TooDeep(finding) => told(Status::TooDeep, 0, 0, 0, finding),
+        Unread::NotToml(finding) => told(Status::NotToml, 0, 0, 0, finding),
+        Unread::NoMemory(_) => PlainFault::of(Status::NoMemory),
     }
 }
 
-/// Why bytes are no file of settings, with the status, or that there was no memory to say it.
-pub(crate) fn unread(alloc: Global, bytes: &[u8], status: Status) -> PlainFault
-    ensures { TellsFirst bytes.now status (known_of result) }
+/// The same by the status alone.
+pub(crate) fn unread_status(unread: &Unread) -> Status
+    ensures { result ≡ unread_status unread.now }
 {
-    match check_file(alloc, bytes) {
-        Ok(found) => first_told(status, found.list.as_slice()),
-        Err(_) => PlainFault::of(Status::NoMemory),
+    match unread {
+        Unread::NotUtf8(_) => Status::NotUtf8,
+        Unread::TooDeep(_) => Status::TooDeep,
+        Unread::NotToml(_) => Status::NotToml,
+        Unread::NoMemory(_) => Status::NoMemory,
     }
 }

@@ -7,6 +7,5 @@ pub mod config;
 pub mod fault;
 mod order;
 pub mod read;
-mod text;
 pub mod unknown;
 pub mod write;

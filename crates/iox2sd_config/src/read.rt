@@ -1,23 +1,21 @@
 //! The text of a file of settings: its settings, or what is wrong with it.
-ghost use Rattle.std.specs.Prelude.{◌≡◌, ℕ, List, IfOk, IsSome, map, OnOk};
+ghost use Rattle.std.specs.Prelude.{◌≡◌, ◌<◌, ℕ, List, IfOk, IsSome, OnOk, Some, length, map, slice_get};
 ghost use Rattle.config_report.specs.Notes.{fault_position};
-ghost use Rattle.iox2_config_file.specs.Answers.{IsUnparsed};
+ghost use Rattle.config_report.specs.Unread.{IsText};
+ghost use Rattle.iox2_config_file.specs.Answers.{ReadsAll};
 ghost use Rattle.iox2_config_file.specs.Read.{fault_view};
 ghost use Rattle.iox2sd_config.specs.Faults.{known_of, told_fault};
-ghost use Rattle.iox2sd_config.specs.Files.{Answers, IsText, ListsFaults, PutsFaults, PutsListed};
-ghost use Rattle.iox2sd_config.specs.Files.{ReadsContents, ReadsInto, RefusesFile, ReportsFile};
-ghost use Rattle.iox2sd_config.specs.Files.{Settles, fault_place, known_answer};
-ghost use Rattle.iox2sd_config.specs.Files.{read_answer, refused_answer};
+ghost use Rattle.iox2sd_config.specs.Files.{Answers, ListsFaults, PutsFaults, PutsListed};
+ghost use Rattle.iox2sd_config.specs.Files.{ReadsContents, ReadsInto, ReportsFile, TellsFirst};
+ghost use Rattle.iox2sd_config.specs.Files.{fault_place, known_answer, read_answer, refused_answer};
 ghost use Rattle.iox2sd_config.specs.Order.{IsInOrder};
 ghost use Rattle.toml.specs.Parse.{parse_document};
 
 use crate::config::{PlainConfig, config_of};
-use crate::fault::{PlainFault, plain_fault, unread};
+use crate::fault::{PlainFault, plain_fault, plain_unread, unread_status};
 use crate::order::place_at;
-use crate::text::{text_of, unparsed};
-use config_report::{fault_positions, position_at};
-use iox2_config::config::Config;
-use iox2_config_file::{ConfigFileError, FileContents, SettingFault, read_all, report_all};
+use config_report::{contents_of, fault_positions, position_at, text_of};
+use iox2_config_file::{FileContents, SettingFault};
 use iox2sd_common::answers::{CountAnswer, count, put};
 use iox2sd_common::status::Status;
 use std::alloc::{AllocError, Global};
@@ -110,17 +108,24 @@ fn listed_faults(
     Ok(plain)
 }
 
-/// Writes the settings of a file to a struct, unless it has a fault.
-fn settle(contents: &FileContents, listed: &[PlainFault], place: &mut PlainConfig) -> ConfigAnswer
-    ensures { Settles contents.now listed.now place.old (known_answer result) place.new }
+/// The first of some faults of a text, in the order of the file.
+fn first_fault(alloc: Global, text: &str, faults: &[SettingFault]) -> PlainFault
+    requires parsed { IsSome (parse_document text.now) }
+    requires some { 0 < length faults.now }
+    ensures { TellsFirst text.now faults.now (known_of result) }
 {
-    match listed {
-        [] => {
-            *place = config_of(&contents.config);
-            ConfigAnswer::read(contents.unknown.len())
-        }
-        [first, ..] => ConfigAnswer::refused(*first),
+    match listed_faults(alloc, text, faults) {
+        Ok(listed) => first_of(listed.as_slice()),
+        Err(_) => PlainFault::of(Status::NoMemory),
     }
+}
+
+/// The first of some plain faults.
+fn first_of(listed: &[PlainFault]) -> PlainFault
+    requires { 0 < length listed.now }
+    ensures { Some result ≡ slice_get listed.now 0 }
+{
+    listed[0]
 }
 
 /// Writes the settings of a file of these contents to a struct, unless it has a fault.
@@ -131,23 +136,15 @@ fn read_contents(
     contents: &FileContents,
     place: &mut PlainConfig,
 ) -> ConfigAnswer
-    requires { IsSome (parse_document text.now) }
+    requires { ReadsAll text.now contents.now }
     ensures { ReadsContents text.now contents.now place.old (known_answer result) place.new }
 {
-    match listed_faults(alloc, text, contents.faults.as_slice()) {
-        Ok(listed) => settle(contents, listed.as_slice(), place),
-        Err(_) => ConfigAnswer::refused(PlainFault::of(Status::NoMemory)),
-    }
-}
-
-/// Why a text is not read, or that there was no memory to say it.
-fn unparsed_fault(alloc: Global, text: &str, error: &ConfigFileError) -> PlainFault
-    requires { IsText text.now }
-    ensures { IsUnparsed text.now error.now → RefusesFile text.now (known_of result) }
-{
-    match error {
-        ConfigFileError::Syntax(_) => unread(alloc, text.as_bytes(), Status::NotToml),
-        _ => PlainFault::of(Status::NoMemory),
+    match &contents.config {
+        Some(config) => {
+            *place = config_of(config);
+            ConfigAnswer::read(contents.unknown.len())
+        }
+        None => ConfigAnswer::refused(first_fault(alloc, text, contents.faults.as_slice())),
     }
 }
 
@@ -156,10 +153,9 @@ fn read_text(alloc: Global, text: &str, place: &mut PlainConfig) -> ConfigAnswer
     requires { IsText text.now }
     ensures { ReadsInto text.now place.old (known_answer result) place.new }
 {
-    let default = Config::default();
-    match read_all(alloc, text, &default) {
+    match contents_of(alloc, text) {
         Ok(contents) => read_contents(alloc, text, &contents, place),
-        Err(error) => ConfigAnswer::refused(unparsed_fault(alloc, text, &error)),
+        Err(unread) => ConfigAnswer::refused(plain_unread(&unread)),
     }
 }
 
@@ -167,9 +163,9 @@ fn read_text(alloc: Global, text: &str, place: &mut PlainConfig) -> ConfigAnswer
 fn read_into(alloc: Global, bytes: &[u8], place: &mut PlainConfig) -> ConfigAnswer
     ensures { ReadsInto bytes.now place.old (known_answer result) place.new }
 {
-    match text_of(bytes) {
+    match text_of(alloc, bytes) {
         Ok(text) => read_text(alloc, text, place),
-        Err(status) => ConfigAnswer::refused(unread(alloc, bytes, status)),
+        Err(no_text) => ConfigAnswer::refused(plain_unread(&no_text)),
     }
 }
 
@@ -226,9 +222,9 @@ fn report_faults(alloc: Global, text: &str, out: &mut [PlainFault]) -> CountAnsw
     requires { IsText text.now }
     ensures { ReportsFile text.now out.old result out.new }
 {
-    match report_all(alloc, text) {
-        Ok(faults) => put_listed(alloc, text, faults.as_slice(), out),
-        Err(error) => count(unparsed(&error), 0),
+    match contents_of(alloc, text) {
+        Ok(contents) => put_listed(alloc, text, contents.faults.as_slice(), out),
+        Err(unread) => count(unread_status(&unread), 0),
     }
 }
 
@@ -246,8 +242,8 @@ pub extern "C" fn iox2sd_config_faults_at(
 ) -> CountAnswer
     ensures { ReportsFile text.now out.old result out.new }
 {
-    match text_of(text) {
+    match text_of(alloc, text) {
         Ok(text) => report_faults(alloc, text, out),
-        Err(status) => count(status, 0),
+        Err(no_text) => count(unread_status(&no_text), 0),
     }
 }

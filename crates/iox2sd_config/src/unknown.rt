@@ -1,10 +1,9 @@
 //! The keys of a file that no setting has.
 ghost use Rattle.std.specs.Prelude.{◌≡◌, ℕ, List, IfOk, IsSome, OnOk, map, option_map, string_bytes};
-ghost use Rattle.config_report.specs.Findings.{finding_view};
-ghost use Rattle.config_report.specs.Notes.{unknown_position};
+ghost use Rattle.config_report.specs.Notes.{finding_view, unknown_position};
+ghost use Rattle.config_report.specs.Unread.{IsText};
 ghost use Rattle.iox2_config_file.specs.Proposals.{proposal_view};
 ghost use Rattle.iox2_config_file.specs.Unknown.{unknown_view};
-ghost use Rattle.iox2sd_config.specs.Files.{IsText};
 ghost use Rattle.iox2sd_config.specs.Order.{IsInOrder};
 ghost use Rattle.iox2sd_config.specs.Unknown.{likeness_number, meant_number, meant_path, named_place};
 ghost use Rattle.iox2sd_config.specs.Unknown.{named_view, paths_of, plain_of, told_key, told_key_at};
@@ -12,11 +11,10 @@ ghost use Rattle.iox2sd_config.specs.Unknown.{told_unknown, unknown_answer, List
 ghost use Rattle.iox2sd_config.specs.Unknown.{PutsKeys, PutsUnknown};
 ghost use Rattle.toml.specs.Parse.{parse_document};
 
-use crate::fault::{column_of, cut, key_of, key_path, line_of, section_number};
+use crate::fault::{column_of, cut, key_of, key_path, line_of, section_number, unread_status};
 use crate::order::place_at;
-use crate::text::{text_of, unparsed};
-use config_report::{Finding, Subject, position_at, unknown_positions};
-use iox2_config_file::{Likeness, Proposal, UnknownKey, report_unknown};
+use config_report::{Finding, Subject, contents_of, position_at, text_of, unknown_positions};
+use iox2_config_file::{Likeness, Proposal, UnknownKey};
 use iox2sd_common::answers::put;
 use iox2sd_common::status::Status;
 use std::alloc::{AllocError, Global};
@@ -266,9 +264,9 @@ fn list_unknown(
     requires { IsText text.now }
     ensures { ListsUnknown text.now out.old paths.old result out.new paths.new }
 {
-    match report_unknown(alloc, text) {
-        Ok(keys) => put_unknown(alloc, text, keys.as_slice(), out, paths),
-        Err(error) => answer(unparsed(&error), 0, 0),
+    match contents_of(alloc, text) {
+        Ok(contents) => put_unknown(alloc, text, contents.unknown.as_slice(), out, paths),
+        Err(unread) => answer(unread_status(&unread), 0, 0),
     }
 }
 
@@ -288,8 +286,8 @@ pub extern "C" fn iox2sd_config_unknown_at(
 ) -> UnknownAnswer
     ensures { ListsUnknown text.now out.old paths.old result out.new paths.new }
 {
-    match text_of(text) {
+    match text_of(alloc, text) {
         Ok(text) => list_unknown(alloc, text, out, paths),
-        Err(status) => answer(status, 0, 0),
+        Err(no_text) => answer(unread_status(&no_text), 0, 0),
     }
 }

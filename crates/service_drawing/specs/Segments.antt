@@ -8,23 +8,27 @@ use Rattle.service_drawing.specs.declared.description.Exchange.TheVariants.{Publ
 use Rattle.service_drawing.specs.declared.description.Message.{Message}
 use Rattle.service_drawing.specs.declared.segments.Segment.{Segment}
 
--- ports of this name send this message, which is called
--- so, and of one port that many are in use at most
+-- so many ports of this name, at most, send this message, which is called so, and of one port that
+-- many are in use at most
 pub record IsSegmentOf (s : Segment) (title port : List ℕ) (message : Message)
-    (limits : List ℕ) : Type 0 where
+    (limits : List ℕ) (most : ℕ) : Type 0 where
   pub called : s.title.now ≡ title
   pub sender : s.port.now ≡ port
   pub sent : s.message.now ≡ message
   pub chunks : TellsGreatest limits s.chunks
+  pub ports : s.ports ≡ most
 
 -- the messages that ports of this kind of exchange send
 abbrev pub AreSegments : List (Option Segment) → Exchange → Defaults → Type 0
 AreSegments segments (PublishSubscribe message) d =
     (s : Segment) × (segments ≡ Some s ∷ None ∷ [])
     × IsSegmentOf s (codes "message") (codes "publisher") message (sample_limits_of d)
+    d.publish_subscribe.max_publishers
 AreSegments segments (RequestResponse request response) d =
     (s : Segment) × (t : Segment) × (segments ≡ Some s ∷ Some t ∷ [])
     × IsSegmentOf s (codes "request") (codes "client") request (request_limits_of d)
+    d.request_response.max_clients
     × IsSegmentOf t (codes "response") (codes "server") response (response_limits_of d)
+    d.request_response.max_servers
 AreSegments segments Event d = segments ≡ None ∷ None ∷ []
 AreSegments segments (Blackboard key) d = segments ≡ None ∷ None ∷ []

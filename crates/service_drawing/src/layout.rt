@@ -120,4 +120,17 @@ impl MessageLayout {
     {
         chunks.checked_mul(self.size)
     }
+
+    /// How many bytes this many messages of each of so many ports take, or `None` where that passes
+    /// 2^64 - 1.
+    pub(crate) fn memory_of_all(&self, chunks: usize, ports: usize) -> Option<usize>
+        ensures { MatchOption result (2 ^ 64 ≤ (chunks * self.now.size) * ports)
+            (λ bytes. bytes ≡ (chunks * self.now.size) * ports) }
+    {
+        match self.memory(chunks) {
+            Some(bytes) => bytes.checked_mul(ports),
+            None if ports == 0 => Some(0),
+            None => None,
+        }
+    }
 }

@@ -15,6 +15,8 @@ pub(crate) struct Segment<'a> {
     pub(crate) message: &'a Message,
     /// How many messages fit in the data segment of a port, if that number fits 64 bits.
     pub(crate) chunks: Option<usize>,
+    /// How many such ports the service may have.
+    pub(crate) ports: usize,
 }
 
 /// What the ports of a service send, at most two kinds of messages.
@@ -28,6 +30,7 @@ pub(crate) fn segments(service: &Description) -> [Option<Segment<'_>>; 2]
                 port: "publisher",
                 message,
                 chunks: samples(&service.config),
+                ports: service.config.defaults.publish_subscribe.max_publishers,
             }),
             None,
         ],
@@ -37,12 +40,14 @@ pub(crate) fn segments(service: &Description) -> [Option<Segment<'_>>; 2]
                 port: "client",
                 message: request,
                 chunks: requests(&service.config),
+                ports: service.config.defaults.request_response.max_clients,
             }),
             Some(Segment {
                 title: "response",
                 port: "server",
                 message: response,
                 chunks: responses(&service.config),
+                ports: service.config.defaults.request_response.max_servers,
             }),
         ],
         Exchange::Event | Exchange::Blackboard(_) => [None, None],

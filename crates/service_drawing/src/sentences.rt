@@ -52,7 +52,8 @@ pub(crate) fn opener_sentence(message: &Message) -> Option<&'static str> {
     })
 }
 
-/// Appends how many messages fit in the data segment of a port, and the memory that they take.
+/// Appends how many messages fit in the data segment of a port, the memory that they take, and that
+/// of all such ports that the service may have.
 pub(crate) fn write_memory(
     out: &mut String,
     segment: Segment<'_>,
@@ -68,7 +69,18 @@ pub(crate) fn write_memory(
         Counted::new(chunks, "chunk"),
         Counted::new(layout.size, "byte")
     )?;
-    match layout.memory(chunks) {
+    write_bytes(out, layout.memory(chunks))?;
+    write!(
+        out,
+        ", of all {}: ",
+        Counted::new(segment.ports, segment.port)
+    )?;
+    write_bytes(out, layout.memory_of_all(chunks, segment.ports))
+}
+
+/// Appends a number of bytes, or that 64 bits do not have it.
+fn write_bytes(out: &mut String, bytes: Option<usize>) -> Result<(), AllocError> {
+    match bytes {
         Some(bytes) => write!(out, "{}", Counted::new(bytes, "byte")),
         None => write!(out, "more than 18446744073709551615 bytes, too many"),
     }

@@ -58,7 +58,7 @@ message: 96 bytes, alignment 8
         88          8                        - padding
         96                                     end
   the opener is compatible
-  data segment of a publisher: 18 chunks of 96 bytes, 1728 bytes
+  data segment of a publisher: 18 chunks of 96 bytes, 1728 bytes, of all 2 publishers: 3456 bytes
 
 attributes
   camera = front
@@ -192,7 +192,7 @@ message: 0 bytes, alignment 1
          0          0                        0   element 0
          0                                     end
   the opener is not compatible: its header has another alignment
-  data segment of a publisher: 34 chunks of 0 bytes, 0 bytes
+  data segment of a publisher: 34 chunks of 0 bytes, 0 bytes, of all 2 publishers: 0 bytes
 
 attributes
 

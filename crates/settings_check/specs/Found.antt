@@ -4,8 +4,8 @@ use Rattle.std.specs.declared.alloc.Global.{Global}
 use Rattle.std.specs.List.{list_any}
 use Rattle.std.specs.Str.{bytes_eq}
 use Rattle.iox2_config.specs.declared.config.Config.{Config}
-use Rattle.config_report.specs.Findings.{Checks, finding_view}
-use Rattle.config_report.specs.Notes.{Note}
+use Rattle.config_report.specs.Findings.{Checks}
+use Rattle.config_report.specs.Notes.{Note, finding_view}
 use Rattle.config_report.specs.declared.finding.Finding.{Finding}
 use Rattle.config_report.specs.declared.finding.Findings.{Findings}
 use Rattle.settings_check.specs.Files.{IsGiven}

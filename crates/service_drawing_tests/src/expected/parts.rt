@@ -54,7 +54,7 @@ message: 20 bytes, alignment 4
         16          2                        2   element 2
         18          2                        - padding
         20                                     end
-  data segment of a publisher: 34 chunks of 20 bytes, 680 bytes
+  data segment of a publisher: 34 chunks of 20 bytes, 680 bytes, of all 2 publishers: 1360 bytes
 
 attributes
 
@@ -82,7 +82,7 @@ message: 1024 bytes, alignment 1024
                                                  and 596 more
        608        416                        - padding
       1024                                     end
-  data segment of a publisher: 34 chunks of 1024 bytes, 34816 bytes
+  data segment of a publisher: 34 chunks of 1024 bytes, 34816 bytes, of all 2 publishers: 69632 bytes
 
 attributes
 
@@ -129,7 +129,7 @@ required by an opener
 <rect x=\"200\" y=\"3170\" width=\"140\" height=\"140\" class=\"part empty\"/>
 <text x=\"440\" y=\"3170\" dy=\"115\">padding: offset 18, 2 bytes</text>
 <text x=\"200\" y=\"3470\" dy=\"110\" font-size=\"110\" font-family=\"monospace\">3 elements of 2 bytes</text>
-<text x=\"200\" y=\"3640\" dy=\"110\" font-size=\"110\" font-family=\"monospace\">data segment of a publisher: 34 chunks of 20 bytes, 680 bytes</text>
+<text x=\"200\" y=\"3640\" dy=\"110\" font-size=\"110\" font-family=\"monospace\">data segment of a publisher: 34 chunks of 20 bytes, 680 bytes, of all 2 publishers: 1360 bytes</text>
 </svg>
 ",
     ),
@@ -158,7 +158,7 @@ required by an opener
 <rect x=\"200\" y=\"2690\" width=\"140\" height=\"140\" class=\"part empty\"/>
 <text x=\"440\" y=\"2690\" dy=\"115\">padding: offset 96, 4 bytes</text>
 <text x=\"200\" y=\"2990\" dy=\"110\" font-size=\"110\" font-family=\"monospace\">1 element of 4 bytes</text>
-<text x=\"200\" y=\"3160\" dy=\"110\" font-size=\"110\" font-family=\"monospace\">data segment of a publisher: 34 chunks of 100 bytes, 3400 bytes</text>
+<text x=\"200\" y=\"3160\" dy=\"110\" font-size=\"110\" font-family=\"monospace\">data segment of a publisher: 34 chunks of 100 bytes, 3400 bytes, of all 2 publishers: 6800 bytes</text>
 </svg>
 ",
     ),
@@ -184,7 +184,7 @@ required by an opener
 <text x=\"440\" y=\"2280\" dy=\"115\">payload: offset 11000, 1000 bytes</text>
 <text x=\"440\" y=\"2480\" dy=\"110\" font-size=\"110\" font-family=\"monospace\">alignment 1, P</text>
 <text x=\"200\" y=\"2750\" dy=\"110\" font-size=\"110\" font-family=\"monospace\">1000 elements of 1 byte</text>
-<text x=\"200\" y=\"2920\" dy=\"110\" font-size=\"110\" font-family=\"monospace\">data segment of a publisher: 34 chunks of 12000 bytes, 408000 bytes</text>
+<text x=\"200\" y=\"2920\" dy=\"110\" font-size=\"110\" font-family=\"monospace\">data segment of a publisher: 34 chunks of 12000 bytes, 408000 bytes, of all 2 publishers: 816000 bytes</text>
 </svg>
 ",
     ),
@@ -213,7 +213,7 @@ required by an opener
 <rect x=\"200\" y=\"2690\" width=\"140\" height=\"140\" class=\"part empty\"/>
 <text x=\"440\" y=\"2690\" dy=\"115\">padding: offset 608, 416 bytes</text>
 <text x=\"200\" y=\"2990\" dy=\"110\" font-size=\"110\" font-family=\"monospace\">600 elements of 1 byte</text>
-<text x=\"200\" y=\"3160\" dy=\"110\" font-size=\"110\" font-family=\"monospace\">data segment of a publisher: 34 chunks of 1024 bytes, 34816 bytes</text>
+<text x=\"200\" y=\"3160\" dy=\"110\" font-size=\"110\" font-family=\"monospace\">data segment of a publisher: 34 chunks of 1024 bytes, 34816 bytes, of all 2 publishers: 69632 bytes</text>
 </svg>
 ",
     ),

@@ -73,7 +73,7 @@ opener 8 1 4
 <rect x=\"200\" y=\"2930\" width=\"140\" height=\"140\" class=\"part empty\"/>
 <text x=\"440\" y=\"2930\" dy=\"115\">padding: offset 40, 8 bytes</text>
 <text x=\"200\" y=\"3230\" dy=\"110\" font-size=\"110\" font-family=\"monospace\">2 elements of 8 bytes</text>
-<text x=\"200\" y=\"3400\" dy=\"110\" font-size=\"110\" font-family=\"monospace\">data segment of a publisher: 34 chunks of 48 bytes, 1632 bytes</text>
+<text x=\"200\" y=\"3400\" dy=\"110\" font-size=\"110\" font-family=\"monospace\">data segment of a publisher: 34 chunks of 48 bytes, 1632 bytes, of all 2 publishers: 3264 bytes</text>
 <text x=\"200\" y=\"3570\" dy=\"110\" font-size=\"110\" font-family=\"monospace\">the opener is compatible</text>
 </svg>
 ",
@@ -147,7 +147,7 @@ response-payload fixed 8 1 [u8; 8]
 <text x=\"440\" y=\"2640\" dy=\"115\">payload: offset 8, 8 bytes</text>
 <text x=\"440\" y=\"2840\" dy=\"110\" font-size=\"110\" font-family=\"monospace\">alignment 1, [u8; 8]</text>
 <text x=\"200\" y=\"3110\" dy=\"110\" font-size=\"110\" font-family=\"monospace\">1 element of 8 bytes</text>
-<text x=\"200\" y=\"3280\" dy=\"110\" font-size=\"110\" font-family=\"monospace\">data segment of a server: 384 chunks of 16 bytes, 6144 bytes</text>
+<text x=\"200\" y=\"3280\" dy=\"110\" font-size=\"110\" font-family=\"monospace\">data segment of a server: 384 chunks of 16 bytes, 6144 bytes, of all 2 servers: 12288 bytes</text>
 </svg>
 ",
 };
@@ -216,7 +216,7 @@ elements 18
 <text x=\"440\" y=\"2490\" dy=\"115\">payload: offset 0, 18 bytes</text>
 <text x=\"440\" y=\"2690\" dy=\"110\" font-size=\"110\" font-family=\"monospace\">alignment 1, u8</text>
 <text x=\"200\" y=\"2960\" dy=\"110\" font-size=\"110\" font-family=\"monospace\">18 elements of 1 byte: 16 one by one, and 2 more</text>
-<text x=\"200\" y=\"3130\" dy=\"110\" font-size=\"110\" font-family=\"monospace\">data segment of a publisher: 34 chunks of 18 bytes, 612 bytes</text>
+<text x=\"200\" y=\"3130\" dy=\"110\" font-size=\"110\" font-family=\"monospace\">data segment of a publisher: 34 chunks of 18 bytes, 612 bytes, of all 2 publishers: 1224 bytes</text>
 </svg>
 ",
 };
@@ -253,7 +253,7 @@ elements 1000
 <text x=\"440\" y=\"2280\" dy=\"115\">payload: offset 8, 1000 bytes</text>
 <text x=\"440\" y=\"2480\" dy=\"110\" font-size=\"110\" font-family=\"monospace\">alignment 1, u8</text>
 <text x=\"200\" y=\"2750\" dy=\"110\" font-size=\"110\" font-family=\"monospace\">1000 elements of 1 byte</text>
-<text x=\"200\" y=\"2920\" dy=\"110\" font-size=\"110\" font-family=\"monospace\">data segment of a publisher: 34 chunks of 1008 bytes, 34272 bytes</text>
+<text x=\"200\" y=\"2920\" dy=\"110\" font-size=\"110\" font-family=\"monospace\">data segment of a publisher: 34 chunks of 1008 bytes, 34272 bytes, of all 2 publishers: 68544 bytes</text>
 </svg>
 ",
 };

@@ -60,7 +60,7 @@ request: 24 bytes, alignment 8
         20          4                        - padding
         24                                     end
   the opener is not compatible: its payload has a greater alignment
-  data segment of a client: 26 chunks of 24 bytes, 624 bytes
+  data segment of a client: 26 chunks of 24 bytes, 624 bytes, of all 8 clients: 4992 bytes
 
 response: 80 bytes, alignment 16
 
@@ -80,7 +80,7 @@ response: 80 bytes, alignment 16
         72          8                        - padding
         80                                     end
   the opener is compatible
-  data segment of a server: 384 chunks of 80 bytes, 30720 bytes
+  data segment of a server: 384 chunks of 80 bytes, 30720 bytes, of all 3 servers: 92160 bytes
 
 attributes
 
@@ -148,7 +148,7 @@ response: 9223372036854775800 bytes, alignment 8
         11          1                        3   element 3
                                                  and 9223372036854775788 more
 9223372036854775800                                     end
-  data segment of a server: 384 chunks of 9223372036854775800 bytes, more than 18446744073709551615 bytes, too many
+  data segment of a server: 384 chunks of 9223372036854775800 bytes, more than 18446744073709551615 bytes, too many, of all 2 servers: more than 18446744073709551615 bytes, too many
 
 attributes
 

@@ -1,7 +1,7 @@
 use Rattle.std.proofs.Common.{◌≡◌, ◌++◌, drop}
 use Rattle.std.specs.Prelude.{IsSome, map}
 use Rattle.config_report.specs.Contradictions.{contradiction_note, contradiction_view}
-use Rattle.config_report.specs.Findings.{finding_view}
+use Rattle.config_report.specs.Notes.{finding_view}
 use Rattle.toml.specs.Parse.{parse_document}
 use Rattle.config_report.proofs.check.add_contradictions.Given as goal
 

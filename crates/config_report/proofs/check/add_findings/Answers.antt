@@ -1,8 +1,7 @@
 use Rattle.std.proofs.Common.{◌≡◌, ◌++◌, ◌∙◌, ◌+◌, ◌<◌, [], ◌∷◌, ap, None, Option, List, ℕ, length, drop, get_or, arith}
 use Rattle.std.specs.Prelude.{map}
 use Rattle.config_report.proofs.Lines.{at_map, one_listed}
-use Rattle.config_report.specs.Findings.{finding_view}
-use Rattle.config_report.specs.Notes.{Note, note_in, topic_note, topic_position}
+use Rattle.config_report.specs.Notes.{Note, finding_view, note_in, topic_note, topic_position}
 use Rattle.config_report.specs.Subjects.{subject_view}
 use Rattle.config_report.specs.declared.finding.Finding.{Finding}
 use Rattle.config_report.specs.declared.subject.Subject.{Subject}

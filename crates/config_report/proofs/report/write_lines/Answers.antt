@@ -1,5 +1,6 @@
 use Rattle.config_report.proofs.Lines.{one_more}
-use Rattle.config_report.specs.Findings.{finding_view, note_line}
+use Rattle.config_report.specs.Findings.{note_line}
+use Rattle.config_report.specs.Notes.{finding_view}
 use Rattle.config_report.proofs.report.write_lines.Goals as goal
 
 pub loop-finding-preserved : goal.loop-finding-preserved

@@ -1,25 +1,19 @@
 use Rattle.std.proofs.Common.{◌∙◌, ap}
-use Rattle.std.specs.Prelude.{slice_get}
-use Rattle.iox2_config_file.proofs.First.{first_is}
+use Rattle.std.specs.Prelude.{map}
+use Rattle.iox2_config_file.specs.Read.{fault_view}
+use Rattle.toml.specs.View.{table_view}
 use Rattle.iox2_config_file.proofs.read.read_config.Goals as goal
 
-pub returns-in-Some-clause-err : goal.returns-in-Some-clause-err
-returns-in-Some-clause-err c =
-    let (file, parsed, all, set, unknown) = c.in-Ok.ensures.ok in
-    let first = first_is file c.in-Ok.contents.faults.items c.first_of.result all
-    (c.first_of.ensures ∙ ap (λ l. slice_get l 0) c.as_slice.ensures.value) in
-    (file, parsed, rw c.in-Some.is at first)
-
-pub returns-in-None-clause-ok : goal.returns-in-None-clause-ok
-returns-in-None-clause-ok c =
-    let (file, parsed, all, set, unknown) = c.in-Ok.ensures.ok in
-    let first = first_is file c.in-Ok.contents.faults.items c.first_of.result all
-    (c.first_of.ensures ∙ ap (λ l. slice_get l 0) c.as_slice.ensures.value) in (
-      c.default.result,
-      c.default.ensures,
-      file,
-      parsed,
-      rw c.in-None.is at first,
-      set,
-      unknown,
-    )
+pub returns-in-Ok-unknown_keys-clause-ok : goal.returns-in-Ok-unknown_keys-clause-ok
+returns-in-Ok-unknown_keys-clause-ok c =
+    let file = table_view c.in_ok-file.file in record {
+      file = file;
+      default = c.default.result;
+      parsed = c.in_ok-file.ensures.ok;
+      is_default = c.default.ensures;
+      config = c.settings_of.ensures c.default.result file
+          (λ k. ap (λ l. map fault_view l) c.as_slice.ensures.value ∙ c.in-Ok.ensures k)
+          c.config-config.ensures;
+      faults = c.in-Ok.ensures;
+      unknown = c.in-Ok-unknown_keys.ensures;
+    }

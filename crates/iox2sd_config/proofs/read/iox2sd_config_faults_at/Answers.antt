@@ -1,4 +1,5 @@
-use Rattle.std.proofs.Common.{inl, inr, refl}
+use Rattle.std.proofs.Common.{◌∙◌, ap, inr, refl}
+use Rattle.iox2sd_common.specs.Answers.{count_answer}
 use Rattle.iox2sd_config.proofs.read.iox2sd_config_faults_at.Goals as goal
 
 pub report_faults-requires : goal.report_faults-requires
@@ -8,4 +9,9 @@ pub returns-in-Ok : goal.returns-in-Ok
 returns-in-Ok c = rw c.in-Ok.ensures.same at c.report_faults.ensures
 
 pub returns-in-Err : goal.returns-in-Err
-returns-in-Err c = inr (inl (c.in-Err.status, c.in-Err.ensures.err, (c.count.ensures, refl)))
+returns-in-Err c =
+    inr (
+      c.in-Err.no_text,
+      c.in-Err.ensures.err,
+      (c.count.ensures ∙ ap (λ s. count_answer s 0) c.unread_status.ensures, refl),
+    )

@@ -1,10 +1,12 @@
-use Rattle.std.proofs.Common.{inl}
+use Rattle.std.proofs.Common.{refl}
+use Rattle.iox2sd_config.proofs.Listed.{has_faults}
 use Rattle.iox2sd_config.proofs.read.read_contents.Goals as goal
 
-pub returns-in-Ok : goal.returns-in-Ok
-returns-in-Ok c =
-    inl (
-      c.in-Ok.listed.items,
-      rw c.as_slice.ensures.value at c.in-Ok.ensures,
-      rw c.as_slice-in-Ok.ensures.value at c.settle.ensures,
-    )
+pub first_fault-requires-clause-parsed : goal.first_fault-requires-clause-parsed
+first_fault-requires-clause-parsed c = rw c.requires.parsed refl
+
+pub first_fault-requires-clause-some : goal.first_fault-requires-clause-some
+first_fault-requires-clause-some c =
+    rw c.as_slice.ensures.value
+    (has_faults c.requires.default c.requires.file _ _ c.in-None.is c.requires.faults
+    c.requires.config)

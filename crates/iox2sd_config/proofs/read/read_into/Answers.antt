@@ -1,4 +1,5 @@
-use Rattle.std.proofs.Common.{inl, inr, refl}
+use Rattle.std.proofs.Common.{◌∙◌, ap, inr, refl}
+use Rattle.iox2sd_config.specs.Files.{refused_answer}
 use Rattle.iox2sd_config.proofs.read.read_into.Goals as goal
 
 pub returns-in-Ok : goal.returns-in-Ok
@@ -10,7 +11,7 @@ read_text-requires c = rw c.in-Ok.ensures.same c.in-Ok.ensures.ok
 pub returns-in-Err : goal.returns-in-Err
 returns-in-Err c =
     inr (
-      _,
-      inl (c.in-Err.status, c.in-Err.ensures.err, c.unread.ensures),
-      (c.refused.ensures, refl),
+      c.in-Err.no_text,
+      c.in-Err.ensures.err,
+      (c.refused.ensures ∙ ap (λ k. refused_answer k) c.plain_unread.ensures, refl),
     )

@@ -1,6 +1,6 @@
 use Rattle.iox2_config_file.proofs.First.{first_is}
 use Rattle.iox2_config_file.specs.Read.{fault_view}
-use Rattle.config_report.proofs.check.settings_of.Goals as goal
+use Rattle.iox2_config_file.proofs.read.settings_of.Goals as goal
 
 pub returns-in-Some : goal.returns-in-Some
 returns-in-Some c = λ default file all set.

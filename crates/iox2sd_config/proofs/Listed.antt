@@ -1,0 +1,37 @@
+-- Where a file has a fault, the list of its faults has a first one.
+use Rattle.std.proofs.Common.{◌≡◌, ◌<◌, ℕ, List, [], ◌∷◌, Option, Some, None, length, sym, ap, arith}
+use Rattle.std.specs.Prelude.{map, slice_get}
+use Rattle.std.proofs.lemmas.List.{length-map}
+use Rattle.std.proofs.lemmas.List.Sorted.{length_permutation}
+use Rattle.std.proofs.lemmas.Option.{same_Some}
+use Rattle.iox2_config.specs.declared.config.Config.{Config}
+use Rattle.iox2_config_file.specs.Answers.{IsConfigOf, ReportsFaults}
+use Rattle.iox2_config_file.specs.Read.{fault_view, faults_in}
+use Rattle.iox2_config_file.specs.declared.fault.SettingFault.{SettingFault}
+use Rattle.iox2sd_config.specs.Faults.{known_of, told_fault}
+use Rattle.iox2sd_config.specs.Files.{ListsFaults}
+use Rattle.iox2sd_config.specs.declared.fault.PlainFault.{PlainFault}
+use Rattle.toml.specs.Data.{Members}
+
+-- a file without settings has a fault
+pub has_faults : (default : Config) (file : Members) (faults : List SettingFault)
+    (found : Option Config) → found ≡ None → ReportsFaults file faults
+    → IsConfigOf default file found → 0 < length faults
+has_faults default file faults (Some config) is all h = absurd (grind arith)
+has_faults default file [] None is all (first, is_first) =
+    let none = all default in let some = is_first default in absurd (grind arith)
+has_faults default file (x ∷ xs) None is all h = grind arith
+
+-- as many faults are listed as there are
+pub as_many : (bytes : List ℕ) (faults : List SettingFault) (listed : List PlainFault)
+    → ListsFaults bytes faults listed → length listed ≡ length faults
+as_many bytes faults listed (plain, same, (moved, sorted, stable)) =
+    let all = length_permutation plain listed moved in
+    let lengths = ap length same in
+    grind (arith, all, lengths, length-map)
+
+-- where there is a first one, it stands before the others
+pub front_of : (listed : List PlainFault) (first : PlainFault)
+    → Some first ≡ slice_get listed 0 → (more : List PlainFault) × (listed ≡ first ∷ more)
+front_of [] first is = absurd (grind arith)
+front_of (x ∷ more) first is = (more, ap (λ y. y ∷ more) (sym (same_Some first x is)))
