@@ -45,7 +45,7 @@ class Recorder(DynamicConfig):
     their calls themselves.
     """
 
-    __slots__ = ("_log", "_caller")
+    __slots__ = ("_log", "_caller", "_kinds")
 
     def __init__(
         self,
@@ -64,6 +64,7 @@ class Recorder(DynamicConfig):
         super().__init__(messaging_pattern, service_number, capacities)
         self._log = LogWriter(messaging_pattern, self.service_number, capacities)
         self._caller = self._log.caller("A")
+        self._kinds = [PORT_IDS[role] for role in self.port_roles]
 
     @property
     def log(self) -> str:
@@ -110,8 +111,7 @@ class Recorder(DynamicConfig):
         one is kept, the port of the other kind with its number is kept too.
         """
         kept = items(keep, UniquePortId, "remove_dead_node_id.keep")
-        kinds = [PORT_IDS[role] for role in self.port_roles]
-        both = [kind._of(port._lent()) for port in kept for kind in kinds]
+        both = [kind._of(port._lent()) for port in kept for kind in self._kinds]
         removal = super().remove_dead_node_id(node_id, cast("list[UniquePortId]", both))
         self._write(LogCommand.dead(node_id, kept), LogReply.state(removal.state))
         return removal

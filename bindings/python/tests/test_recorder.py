@@ -93,6 +93,8 @@ class Recording(unittest.TestCase):
             self.assertEqual(service.log, text)
             self.assertEqual(check_log(service.log), Conforms(1))
         self.assertRaises(iox2sd.NoServiceError, service.list_node_ids)
+        self.assertRaises(iox2sd.NoServiceError, service.remove_dead_node_id, NODES[0], [])
+        self.assertRaises(iox2sd.WrongTypeError, service.remove_dead_node_id, 0, [])
         self.assertEqual((service.log, repr(service)), (text, "<a closed Recorder>"))
 
     def test_with_statements_and_lists_of_a_kind_are_written(self):
