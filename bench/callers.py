@@ -56,6 +56,7 @@ BESIDE_PLAIN_CPP = Table("From C / plain C++", "Ratio", marks.ratio, [
     (Call("attach-release", "19 8 2", 1, 100, 200), 1.1),
     (Call("ports", "1 15 0", 1, 100, 200), 1.1),
     (Call("ports", "1 999 0", 1, 10, 20), 1.1),
+    (Call("port", DEFAULT, 1, 100, 200), 1.1),
 ])
 
 BEYOND_INSIDE = Table("From C / inside", "More", beyond, [

@@ -198,6 +198,7 @@ for compiler in gcc clang; do
         runs "$compiler" iox2sd "$source" -std=c99 -D_GNU_SOURCE "$wrapped"
     done
     runs "$compiler" iox2sd c/test_stack.c -std=c99 -D_GNU_SOURCE
+    runs "$compiler" iox2sd c/test_time.c -std=c99
     for source in ../examples/{builder,monitor,settings}.c; do
         example "$compiler" "$source" c99
     done

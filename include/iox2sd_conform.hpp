@@ -258,7 +258,7 @@ public:
         return recorded(command, [] { return LogReply::released(); }, call);
     }
 
-    /// A line has no kinds of ports: the port of the other kind with the number of one that is kept
+    /// A line has no kinds of ports: where one is kept, the port of the other kind with its number
     /// is kept too.
     template <class Range>
     Result<DeadNodeRemoval> remove_dead_node_id(const UniqueNodeId& dead, Range&& kept) {

@@ -555,13 +555,12 @@ static inline void iox2sd_log_put_reply(struct iox2sd_log_text *text,
 /* Where the next line of a caller stands: begins stand above an end of the same number.
  * IOX2SD_LOG_NEVER where no line is left. */
 static inline uint64_t iox2sd_log_next(const iox2sd_log_caller *caller) {
-    if (caller->at == caller->call_count || caller->ended) {
-        if (caller->ended || caller->at == 0) return IOX2SD_LOG_NEVER;
-        return caller->died == IOX2SD_LOG_NEVER ? IOX2SD_LOG_NEVER : 2 * caller->died + 1;
+    if (caller->ended || caller->call_count == 0) return IOX2SD_LOG_NEVER;
+    if (caller->at < caller->call_count) {
+        const struct iox2sd_log_call *const call = caller->calls + caller->at;
+        if (!caller->began) return 2 * call->begun;
+        if (call->ended != IOX2SD_LOG_NEVER) return 2 * call->ended + 1;
     }
-    const struct iox2sd_log_call *const call = caller->calls + caller->at;
-    if (!caller->began) return 2 * call->begun;
-    if (call->ended != IOX2SD_LOG_NEVER) return 2 * call->ended + 1;
     return caller->died == IOX2SD_LOG_NEVER ? IOX2SD_LOG_NEVER : 2 * caller->died + 1;
 }
 

@@ -97,6 +97,15 @@ iox2sd_handle_answer answer(const std::optional<iox2sd_handle> &made) {
     return {IOX2SD_STATUS_DONE, *made};
 }
 
+iox2sd_count_answer counted(uint32_t status, size_t count) {
+    return {status, IOX2SD_STATUS_DONE, count};
+}
+
+// The order of ports to keep: by ids, and by roles where ids are the same.
+bool is_kept_before(const iox2sd_port_id &one, const iox2sd_port_id &other) {
+    return one.port == other.port ? one.role < other.role : is_before(one.port, other.port);
+}
+
 } // namespace
 
 struct plain_registries {
@@ -175,12 +184,13 @@ uint32_t plain_release_port(plain_service *service, iox2sd_handle handle) {
 }
 
 iox2sd_dead_node_removal plain_remove_dead_node_id(plain_service *service, iox2sd_id dead,
-                                                   const iox2sd_id *kept, size_t kept_count) {
+                                                   const iox2sd_port_id *kept, size_t kept_count) {
     plain_registries &its = *service->registries;
     bool stays = false;
     const auto goes = [&](const iox2sd_port_details &port) {
         if (!(port.node == dead)) return false;
-        const bool is_kept = std::binary_search(kept, kept + kept_count, port.port, is_before);
+        const iox2sd_port_id id = {port.role, port.port};
+        const bool is_kept = std::binary_search(kept, kept + kept_count, id, is_kept_before);
         stays |= is_kept;
         return !is_kept;
     };
@@ -196,8 +206,8 @@ iox2sd_flag_answer plain_is_locked(const plain_service *service) {
 
 iox2sd_count_answer plain_count_ports(const plain_service *service, uint64_t role) {
     const Ports *ports = service->registries->ports(role);
-    if (ports == nullptr) return {IOX2SD_STATUS_ROLE_NOT_IN_PATTERN, 0};
-    return {IOX2SD_STATUS_DONE, ports->size()};
+    if (ports == nullptr) return counted(IOX2SD_STATUS_ROLE_NOT_IN_PATTERN, 0);
+    return counted(IOX2SD_STATUS_DONE, ports->size());
 }
 
 iox2sd_port_answer plain_port(const plain_service *service, iox2sd_handle handle) {
@@ -212,10 +222,10 @@ iox2sd_port_answer plain_port(const plain_service *service, iox2sd_handle handle
 iox2sd_count_answer plain_ports(const plain_service *service, uint64_t role,
                                 iox2sd_port_details *out, size_t capacity) {
     const Ports *ports = service->registries->ports(role);
-    if (ports == nullptr) return {IOX2SD_STATUS_ROLE_NOT_IN_PATTERN, 0};
-    if (ports->size() > capacity) return {IOX2SD_STATUS_BUFFER_TOO_SHORT, ports->size()};
+    if (ports == nullptr) return counted(IOX2SD_STATUS_ROLE_NOT_IN_PATTERN, 0);
+    if (ports->size() > capacity) return counted(IOX2SD_STATUS_BUFFER_TOO_SHORT, ports->size());
     ports->each([&](const iox2sd_port_details &port) { *out++ = port; });
-    return {IOX2SD_STATUS_DONE, ports->size()};
+    return counted(IOX2SD_STATUS_DONE, ports->size());
 }
 
 iox2sd_count_answer plain_ports_of(const plain_service *service, iox2sd_id node,
@@ -223,11 +233,11 @@ iox2sd_count_answer plain_ports_of(const plain_service *service, iox2sd_id node,
     const plain_registries &its = *service->registries;
     const auto is_its = [&](const iox2sd_port_details &port) { return port.node == node; };
     const size_t number = its.first.count(is_its) + its.second.count(is_its);
-    if (number > capacity) return {IOX2SD_STATUS_BUFFER_TOO_SHORT, number};
+    if (number > capacity) return counted(IOX2SD_STATUS_BUFFER_TOO_SHORT, number);
     const auto list = [&](const iox2sd_port_details &port) {
         if (is_its(port)) *out++ = port;
     };
     its.first.each(list);
     its.second.each(list);
-    return {IOX2SD_STATUS_DONE, number};
+    return counted(IOX2SD_STATUS_DONE, number);
 }

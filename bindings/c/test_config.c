@@ -657,26 +657,6 @@ static void no_memory(uint32_t (*call)(void)) {
     }
 }
 
-/* A megabyte of unknown keys. */
-static void large(void) {
-    enum { COUNT = 20000 };
-    char *text = malloc(COUNT * 60);
-    iox2sd_unknown_key *keys = malloc(COUNT * sizeof *keys);
-    uint8_t *buffer = malloc(COUNT * 50);
-    static iox2sd_config made;
-    if (text == NULL || keys == NULL || buffer == NULL) abort();
-    size_t length = 0;
-    for (int i = 0; i < COUNT; i++)
-        length += (size_t)sprintf(text + length, "key-%040d = 1\n", i);
-    CHECK(iox2sd_config_read((uint8_t *)text, length, &made).unknown == COUNT);
-    CHECK(is_unknown(iox2sd_config_unknown((uint8_t *)text, length, keys, COUNT, buffer,
-                                           COUNT * 50),
-                     IOX2SD_STATUS_DONE, COUNT, COUNT * 44));
-    free(text);
-    free(keys);
-    free(buffer);
-}
-
 int main(void) {
     defaults();
     every_setting();
@@ -692,7 +672,6 @@ int main(void) {
     no_memory(lists_faults);
     no_memory(lists_unknown);
     no_memory(writes);
-    large();
     printf("%d checks, %d failed\n", checks, failed);
     return failed != 0;
 }

@@ -1,7 +1,7 @@
-/* Logs by iox2sd_log.h: the line of each command and each reply, the order of lines, callers that
- * died, what is refused, buffers of each length, want of memory at each request, and calls of
- * several threads. Compiled as C99 with
- * -pthread -Wl,--wrap=malloc,--wrap=calloc,--wrap=realloc. The last line is 'N checks, N failed'. */
+/* Logs by iox2sd_log.h: the line of each command and each reply, with the library's words and texts
+ * of ids, the order of lines, callers that died, what is refused, buffers of each length, want of
+ * memory at each request, and calls of several threads. Compiled as C99 with -pthread
+ * -Wl,--wrap=malloc,--wrap=calloc,--wrap=realloc. The last line is 'N checks, N failed'. */
 #include "check.h"
 #include "iox2sd_log.h"
 
@@ -94,27 +94,46 @@ static void replies(void) {
     iox2sd_log_writer_free(&writer);
 }
 
-/* Services, and the roles of their ports. */
+/* Services, and the roles of their ports, by the words of the library. */
 static void services(void) {
-    static const char *const lines[] = {
-        "service publish-subscribe 7 4 3 2\n", "service event 7 4 3 2\n",
-        "service request-response 7 4 3 2\n", "service blackboard 7 4 3 2\n"};
-    static const char *const roles[] = {"",         "publisher", "subscriber", "notifier", "listener",
-                                        "client",   "server",    "reader",     "writer"};
+    static const char *const patterns[] = {"publish-subscribe", "event", "request-response",
+                                           "blackboard"};
+    static const char *const roles[] = {"node",   "publisher", "subscriber", "notifier", "listener",
+                                        "client", "server",    "reader",     "writer"};
+    char text[64];
     for (iox2sd_pattern pattern = 0; pattern < 4; pattern++) {
+        CHECK(strcmp(iox2sd_pattern_str(pattern), patterns[pattern]) == 0);
         iox2sd_log_writer writer = writer_of(pattern);
         const iox2sd_text_answer found = iox2sd_log_write(&writer, out, sizeof out);
-        CHECK(found.length == strlen(lines[pattern]));
-        CHECK(memcmp(out, lines[pattern], found.length) == 0);
+        snprintf(text, sizeof text, "service %s 7 4 3 2\n", patterns[pattern]);
+        CHECK(found.length == strlen(text) && memcmp(out, text, found.length) == 0);
         iox2sd_log_writer_free(&writer);
     }
     for (iox2sd_role role = 1; role <= 8; role++) {
+        CHECK(strcmp(iox2sd_role_str(role), roles[role]) == 0);
         iox2sd_log_writer writer = writer_of(IOX2SD_PATTERN_EVENT);
         call(caller_of(&writer, "A"), iox2sd_log_list(role), iox2sd_log_listed(NULL, 0));
-        char text[64];
         snprintf(text, sizeof text, "A> list %s\nA< list\n", roles[role]);
         CHECK(has_lines(&writer, text));
         iox2sd_log_writer_free(&writer);
+    }
+}
+
+/* An id of a list has the text that the library writes of it: of each length of its four parts. */
+static void listed_ids(void) {
+    for (uint32_t at = 0; at < 9 * 9 * 9 * 9; at++) {
+        const uint32_t digits[] = {at % 9, at / 9 % 9, at / 81 % 9, at / 729};
+        uint32_t parts[4];
+        for (size_t part = 0; part < 4; part++) {
+            parts[part] = digits[part] == 0 ? 0 : 0xfedcba98u >> (32 - 4 * digits[part]);
+        }
+        const iox2sd_id one = {parts[0], parts[1], parts[2], parts[3]};
+        struct iox2sd_log_text text = {out, 0};
+        iox2sd_log_put_listed(&text, one);
+        uint8_t wanted[32];
+        const iox2sd_text_answer found = iox2sd_id_text(one, wanted, sizeof wanted);
+        CHECK(found.status == IOX2SD_STATUS_DONE && text.length == found.length + 1);
+        CHECK(out[0] == ' ' && memcmp(out + 1, wanted, found.length) == 0);
     }
 }
 
@@ -341,6 +360,7 @@ int main(void) {
     commands();
     replies();
     services();
+    listed_ids();
     order();
     deaths();
     refusals();

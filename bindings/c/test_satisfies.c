@@ -9,6 +9,8 @@ static bool is_field(iox2sd_field_answer answer, uint32_t status, uint32_t field
     return answer.status == status && answer.field == field;
 }
 
+#define IS_FIELD(call, status, field) CHECK(is_field(call, IOX2SD_STATUS_##status, field))
+
 static void publish_subscribe(void) {
     const iox2sd_publish_subscribe_config service = {5, 5, 5, 5, 5, 5, true};
     iox2sd_publish_subscribe_config required = service;
@@ -24,26 +26,23 @@ static void publish_subscribe(void) {
                                IOX2SD_FIELD_HISTORY_SIZE,
                                IOX2SD_FIELD_SUBSCRIBER_MAX_BUFFER_SIZE,
                                IOX2SD_FIELD_SUBSCRIBER_MAX_BORROWED_SAMPLES};
-    CHECK(is_field(iox2sd_publish_subscribe_satisfies(&service, &required), IOX2SD_STATUS_DONE, 0));
+    IS_FIELD(iox2sd_publish_subscribe_satisfies(&service, &required), DONE, 0);
     for (size_t i = 0; i < 6; i++) {
         *numbers[i] = 6;
-        CHECK(is_field(iox2sd_publish_subscribe_satisfies(&service, &required), IOX2SD_STATUS_UNMET,
-                       fields[i]));
-        CHECK(is_field(iox2sd_publish_subscribe_satisfies(&required, &service), IOX2SD_STATUS_DONE,
-                       0));
+        IS_FIELD(iox2sd_publish_subscribe_satisfies(&service, &required), UNMET, fields[i]);
+        IS_FIELD(iox2sd_publish_subscribe_satisfies(&required, &service), DONE, 0);
         *numbers[i] = 4;
-        CHECK(is_field(iox2sd_publish_subscribe_satisfies(&service, &required), IOX2SD_STATUS_DONE,
-                       0));
+        IS_FIELD(iox2sd_publish_subscribe_satisfies(&service, &required), DONE, 0);
         *numbers[i] = 5;
     }
     required.enable_safe_overflow = false;
-    CHECK(is_field(iox2sd_publish_subscribe_satisfies(&service, &required), IOX2SD_STATUS_UNMET,
-                   IOX2SD_FIELD_ENABLE_SAFE_OVERFLOW));
+    IS_FIELD(iox2sd_publish_subscribe_satisfies(&service, &required),
+             UNMET, IOX2SD_FIELD_ENABLE_SAFE_OVERFLOW);
     required.max_nodes = 6;
-    CHECK(is_field(iox2sd_publish_subscribe_satisfies(&service, &required), IOX2SD_STATUS_UNMET,
-                   IOX2SD_FIELD_MAX_NODES));
-    CHECK(is_field(iox2sd_publish_subscribe_satisfies(NULL, &required), IOX2SD_STATUS_NULL, 0));
-    CHECK(is_field(iox2sd_publish_subscribe_satisfies(&service, NULL), IOX2SD_STATUS_NULL, 0));
+    IS_FIELD(iox2sd_publish_subscribe_satisfies(&service, &required),
+             UNMET, IOX2SD_FIELD_MAX_NODES);
+    IS_FIELD(iox2sd_publish_subscribe_satisfies(NULL, &required), NULL, 0);
+    IS_FIELD(iox2sd_publish_subscribe_satisfies(&service, NULL), NULL, 0);
 }
 
 static void event(void) {
@@ -60,37 +59,31 @@ static void event(void) {
     const uint32_t numbered[] = {IOX2SD_FIELD_NOTIFIER_CREATED_EVENT,
                                  IOX2SD_FIELD_NOTIFIER_DROPPED_EVENT,
                                  IOX2SD_FIELD_NOTIFIER_DEAD_EVENT};
-    CHECK(is_field(iox2sd_event_satisfies(&service, &required), IOX2SD_STATUS_DONE, 0));
+    IS_FIELD(iox2sd_event_satisfies(&service, &required), DONE, 0);
     for (size_t i = 0; i < 4; i++) {
         *numbers[i] = 6;
-        CHECK(
-            is_field(iox2sd_event_satisfies(&service, &required), IOX2SD_STATUS_UNMET, fields[i]));
+        IS_FIELD(iox2sd_event_satisfies(&service, &required), UNMET, fields[i]);
         *numbers[i] = 4;
-        CHECK(is_field(iox2sd_event_satisfies(&service, &required), IOX2SD_STATUS_DONE, 0));
+        IS_FIELD(iox2sd_event_satisfies(&service, &required), DONE, 0);
     }
     for (size_t i = 0; i < 3; i++) {
         const iox2sd_optional_event_id kept = *events[i], other = {3, true};
         *events[i] = other;
-        CHECK(is_field(iox2sd_event_satisfies(&service, &required), IOX2SD_STATUS_UNMET,
-                       numbered[i]));
+        IS_FIELD(iox2sd_event_satisfies(&service, &required), UNMET, numbered[i]);
         *events[i] = kept;
     }
     required.notifier_dead_event.number = 9;
-    CHECK(is_field(iox2sd_event_satisfies(&service, &required), IOX2SD_STATUS_DONE, 0));
+    IS_FIELD(iox2sd_event_satisfies(&service, &required), DONE, 0);
     required.deadline.nanoseconds = 9;
-    CHECK(is_field(iox2sd_event_satisfies(&service, &required), IOX2SD_STATUS_UNMET,
-                   IOX2SD_FIELD_DEADLINE));
+    IS_FIELD(iox2sd_event_satisfies(&service, &required), UNMET, IOX2SD_FIELD_DEADLINE);
     required.deadline.is_some = false;
-    CHECK(is_field(iox2sd_event_satisfies(&service, &required), IOX2SD_STATUS_UNMET,
-                   IOX2SD_FIELD_DEADLINE));
+    IS_FIELD(iox2sd_event_satisfies(&service, &required), UNMET, IOX2SD_FIELD_DEADLINE);
     required = service;
     required.deadline.nanoseconds = 1000000000;
-    CHECK(is_field(iox2sd_event_satisfies(&service, &required), IOX2SD_STATUS_BAD_DURATION,
-                   IOX2SD_FIELD_DEADLINE));
-    CHECK(is_field(iox2sd_event_satisfies(&required, &service), IOX2SD_STATUS_BAD_DURATION,
-                   IOX2SD_FIELD_DEADLINE));
-    CHECK(is_field(iox2sd_event_satisfies(NULL, &required), IOX2SD_STATUS_NULL, 0));
-    CHECK(is_field(iox2sd_event_satisfies(&service, NULL), IOX2SD_STATUS_NULL, 0));
+    IS_FIELD(iox2sd_event_satisfies(&service, &required), BAD_DURATION, IOX2SD_FIELD_DEADLINE);
+    IS_FIELD(iox2sd_event_satisfies(&required, &service), BAD_DURATION, IOX2SD_FIELD_DEADLINE);
+    IS_FIELD(iox2sd_event_satisfies(NULL, &required), NULL, 0);
+    IS_FIELD(iox2sd_event_satisfies(&service, NULL), NULL, 0);
 }
 
 static void request_response(void) {
@@ -116,24 +109,21 @@ static void request_response(void) {
     const uint32_t choices[] = {IOX2SD_FIELD_ENABLE_SAFE_OVERFLOW_FOR_REQUESTS,
                                 IOX2SD_FIELD_ENABLE_SAFE_OVERFLOW_FOR_RESPONSES,
                                 IOX2SD_FIELD_ENABLE_FIRE_AND_FORGET_REQUESTS};
-    CHECK(is_field(iox2sd_request_response_satisfies(&service, &required), IOX2SD_STATUS_DONE, 0));
+    IS_FIELD(iox2sd_request_response_satisfies(&service, &required), DONE, 0);
     for (size_t i = 0; i < 7; i++) {
         *numbers[i] = 6;
-        CHECK(is_field(iox2sd_request_response_satisfies(&service, &required), IOX2SD_STATUS_UNMET,
-                       fields[i]));
+        IS_FIELD(iox2sd_request_response_satisfies(&service, &required), UNMET, fields[i]);
         *numbers[i] = 4;
-        CHECK(is_field(iox2sd_request_response_satisfies(&service, &required), IOX2SD_STATUS_DONE,
-                       0));
+        IS_FIELD(iox2sd_request_response_satisfies(&service, &required), DONE, 0);
     }
     required.max_servers = 6;
     for (size_t i = 0; i < 3; i++) {
         *flags[i] = false;
-        CHECK(is_field(iox2sd_request_response_satisfies(&service, &required), IOX2SD_STATUS_UNMET,
-                       choices[i]));
+        IS_FIELD(iox2sd_request_response_satisfies(&service, &required), UNMET, choices[i]);
         *flags[i] = true;
     }
-    CHECK(is_field(iox2sd_request_response_satisfies(NULL, &required), IOX2SD_STATUS_NULL, 0));
-    CHECK(is_field(iox2sd_request_response_satisfies(&service, NULL), IOX2SD_STATUS_NULL, 0));
+    IS_FIELD(iox2sd_request_response_satisfies(NULL, &required), NULL, 0);
+    IS_FIELD(iox2sd_request_response_satisfies(&service, NULL), NULL, 0);
 }
 
 static void blackboard(void) {
@@ -142,16 +132,15 @@ static void blackboard(void) {
     size_t *const numbers[] = {&required.max_readers, &required.max_writers, &required.max_nodes};
     const uint32_t fields[] = {IOX2SD_FIELD_MAX_READERS, IOX2SD_FIELD_MAX_WRITERS,
                                IOX2SD_FIELD_MAX_NODES};
-    CHECK(is_field(iox2sd_blackboard_satisfies(&service, &required), IOX2SD_STATUS_DONE, 0));
+    IS_FIELD(iox2sd_blackboard_satisfies(&service, &required), DONE, 0);
     for (size_t i = 0; i < 3; i++) {
         *numbers[i] = 6;
-        CHECK(is_field(iox2sd_blackboard_satisfies(&service, &required), IOX2SD_STATUS_UNMET,
-                       fields[i]));
+        IS_FIELD(iox2sd_blackboard_satisfies(&service, &required), UNMET, fields[i]);
         *numbers[i] = 4;
-        CHECK(is_field(iox2sd_blackboard_satisfies(&service, &required), IOX2SD_STATUS_DONE, 0));
+        IS_FIELD(iox2sd_blackboard_satisfies(&service, &required), DONE, 0);
     }
-    CHECK(is_field(iox2sd_blackboard_satisfies(NULL, &required), IOX2SD_STATUS_NULL, 0));
-    CHECK(is_field(iox2sd_blackboard_satisfies(&service, NULL), IOX2SD_STATUS_NULL, 0));
+    IS_FIELD(iox2sd_blackboard_satisfies(NULL, &required), NULL, 0);
+    IS_FIELD(iox2sd_blackboard_satisfies(&service, NULL), NULL, 0);
 }
 
 /* By settings that were filled, and by what is fixed then. */

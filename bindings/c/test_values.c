@@ -42,6 +42,15 @@ static bool is_field(iox2sd_field_answer answer, uint32_t status, uint32_t field
     return answer.status == status && answer.field == field;
 }
 
+/* A call's answer by the name of its status and by the number beside it. */
+#define IS_PLACE(call, status, at) CHECK(is_place(call, IOX2SD_STATUS_##status, at))
+#define IS_TEXT(call, status, length) CHECK(is_text(call, IOX2SD_STATUS_##status, length))
+#define IS_COUNT(call, status, count) CHECK(is_count(call, IOX2SD_STATUS_##status, count))
+#define IS_FIELD(call, status, field) CHECK(is_field(call, IOX2SD_STATUS_##status, field))
+
+/* The pointer and the length of a text. */
+#define TEXT(literal) bytes(literal), sizeof(literal) - 1
+
 /* A text of bytes 'x' with one other byte. */
 static const uint8_t *with_byte(size_t at, uint8_t byte) {
     static uint8_t text[300];
@@ -54,13 +63,13 @@ typedef iox2sd_place_answer (*check)(const uint8_t *text, size_t length);
 
 /* What all checks of names of 1 to `most` bytes share. */
 static void name_check(check checks, size_t most) {
-    CHECK(is_place(checks(with_byte(0, 'y'), most), IOX2SD_STATUS_DONE, 0));
-    CHECK(is_place(checks(with_byte(0, 'y'), 1), IOX2SD_STATUS_DONE, 0));
-    CHECK(is_place(checks(NULL, 0), IOX2SD_STATUS_EMPTY, 0));
-    CHECK(is_place(checks(with_byte(3, 0), most + 1), IOX2SD_STATUS_TOO_LONG, most));
-    CHECK(is_place(checks(with_byte(3, 0), most), IOX2SD_STATUS_ILLEGAL_BYTE, 3));
-    CHECK(is_place(checks(with_byte(most - 1, 128), most), IOX2SD_STATUS_ILLEGAL_BYTE, most - 1));
-    CHECK(is_place(checks(with_byte(0, 255), 1), IOX2SD_STATUS_ILLEGAL_BYTE, 0));
+    IS_PLACE(checks(with_byte(0, 'y'), most), DONE, 0);
+    IS_PLACE(checks(with_byte(0, 'y'), 1), DONE, 0);
+    IS_PLACE(checks(NULL, 0), EMPTY, 0);
+    IS_PLACE(checks(with_byte(3, 0), most + 1), TOO_LONG, most);
+    IS_PLACE(checks(with_byte(3, 0), most), ILLEGAL_BYTE, 3);
+    IS_PLACE(checks(with_byte(most - 1, 128), most), ILLEGAL_BYTE, most - 1);
+    IS_PLACE(checks(with_byte(0, 255), 1), ILLEGAL_BYTE, 0);
 }
 
 static void checks(void) {
@@ -72,31 +81,26 @@ static void checks(void) {
     name_check(iox2sd_file_path_check, 255);
     name_check(iox2sd_restricted_file_name_check, 64);
 
-    CHECK(is_place(iox2sd_path_check(NULL, 0), IOX2SD_STATUS_DONE, 0));
-    CHECK(is_place(iox2sd_path_check(with_byte(0, '/'), 255), IOX2SD_STATUS_DONE, 0));
-    CHECK(is_place(iox2sd_path_check(with_byte(0, 0), 256), IOX2SD_STATUS_TOO_LONG, 255));
-    CHECK(is_place(iox2sd_path_check(with_byte(9, 128), 255), IOX2SD_STATUS_ILLEGAL_BYTE, 9));
+    IS_PLACE(iox2sd_path_check(NULL, 0), DONE, 0);
+    IS_PLACE(iox2sd_path_check(with_byte(0, '/'), 255), DONE, 0);
+    IS_PLACE(iox2sd_path_check(with_byte(0, 0), 256), TOO_LONG, 255);
+    IS_PLACE(iox2sd_path_check(with_byte(9, 128), 255), ILLEGAL_BYTE, 9);
 
-    CHECK(is_place(iox2sd_service_name_check(bytes("iox2://\xff"), 8),
-                   IOX2SD_STATUS_RESERVED_PREFIX, 0));
-    CHECK(is_place(iox2sd_service_name_check(bytes("iox2:/x"), 7), IOX2SD_STATUS_DONE, 0));
-    CHECK(is_place(iox2sd_internal_service_name_check(bytes("iox2://\xff"), 8),
-                   IOX2SD_STATUS_ILLEGAL_BYTE, 7));
-    CHECK(
-        is_place(iox2sd_internal_service_name_check(bytes("iox2://x"), 8), IOX2SD_STATUS_DONE, 0));
+    IS_PLACE(iox2sd_service_name_check(TEXT("iox2://\xff")), RESERVED_PREFIX, 0);
+    IS_PLACE(iox2sd_service_name_check(TEXT("iox2:/x")), DONE, 0);
+    IS_PLACE(iox2sd_internal_service_name_check(TEXT("iox2://\xff")), ILLEGAL_BYTE, 7);
+    IS_PLACE(iox2sd_internal_service_name_check(TEXT("iox2://x")), DONE, 0);
 
-    CHECK(is_place(iox2sd_file_name_check(bytes("a/b"), 3), IOX2SD_STATUS_ILLEGAL_BYTE, 1));
-    CHECK(is_place(iox2sd_file_name_check(bytes("."), 1), IOX2SD_STATUS_NO_FILE_NAME, 0));
-    CHECK(is_place(iox2sd_file_name_check(bytes(".."), 2), IOX2SD_STATUS_NO_FILE_NAME, 0));
-    CHECK(is_place(iox2sd_file_name_check(bytes("..."), 3), IOX2SD_STATUS_DONE, 0));
-    CHECK(is_place(iox2sd_file_path_check(bytes("a/b"), 3), IOX2SD_STATUS_DONE, 0));
-    CHECK(is_place(iox2sd_file_path_check(bytes("a/"), 2), IOX2SD_STATUS_NO_FILE_NAME, 0));
-    CHECK(is_place(iox2sd_file_path_check(bytes("a/.."), 4), IOX2SD_STATUS_NO_FILE_NAME, 0));
-    CHECK(is_place(iox2sd_restricted_file_name_check(bytes("aZ9-.:_"), 7), IOX2SD_STATUS_DONE, 0));
-    CHECK(is_place(iox2sd_restricted_file_name_check(bytes("a b"), 3), IOX2SD_STATUS_ILLEGAL_BYTE,
-                   1));
-    CHECK(
-        is_place(iox2sd_restricted_file_name_check(bytes(".."), 2), IOX2SD_STATUS_NO_FILE_NAME, 0));
+    IS_PLACE(iox2sd_file_name_check(TEXT("a/b")), ILLEGAL_BYTE, 1);
+    IS_PLACE(iox2sd_file_name_check(TEXT(".")), NO_FILE_NAME, 0);
+    IS_PLACE(iox2sd_file_name_check(TEXT("..")), NO_FILE_NAME, 0);
+    IS_PLACE(iox2sd_file_name_check(TEXT("...")), DONE, 0);
+    IS_PLACE(iox2sd_file_path_check(TEXT("a/b")), DONE, 0);
+    IS_PLACE(iox2sd_file_path_check(TEXT("a/")), NO_FILE_NAME, 0);
+    IS_PLACE(iox2sd_file_path_check(TEXT("a/..")), NO_FILE_NAME, 0);
+    IS_PLACE(iox2sd_restricted_file_name_check(TEXT("aZ9-.:_")), DONE, 0);
+    IS_PLACE(iox2sd_restricted_file_name_check(TEXT("a b")), ILLEGAL_BYTE, 1);
+    IS_PLACE(iox2sd_restricted_file_name_check(TEXT("..")), NO_FILE_NAME, 0);
 }
 
 static void names(void) {
@@ -106,104 +110,79 @@ static void names(void) {
     CHECK(!iox2sd_has_iox2_prefix(NULL, 0));
 
     memset(out, 0xAA, sizeof out);
-    CHECK(is_text(iox2sd_internal_service_name(bytes("ab"), 2, out, 8),
-                  IOX2SD_STATUS_BUFFER_TOO_SHORT, 9));
+    IS_TEXT(iox2sd_internal_service_name(TEXT("ab"), out, 8), BUFFER_TOO_SHORT, 9);
     CHECK(untouched(out, 0, sizeof out));
-    CHECK(is_text(iox2sd_internal_service_name(bytes("ab"), 2, out, 9), IOX2SD_STATUS_DONE, 9));
+    IS_TEXT(iox2sd_internal_service_name(TEXT("ab"), out, 9), DONE, 9);
     CHECK(memcmp(out, "iox2://ab", 9) == 0 && untouched(out, 9, sizeof out));
-    CHECK(is_text(iox2sd_internal_service_name(NULL, 0, out, sizeof out), IOX2SD_STATUS_DONE, 7));
-    CHECK(is_text(iox2sd_internal_service_name(with_byte(0, 'y'), 248, out, sizeof out),
-                  IOX2SD_STATUS_DONE, 255));
+    IS_TEXT(iox2sd_internal_service_name(NULL, 0, out, sizeof out), DONE, 7);
+    IS_TEXT(iox2sd_internal_service_name(with_byte(0, 'y'), 248, out, sizeof out), DONE, 255);
     memset(out, 0xAA, sizeof out);
-    CHECK(is_text(iox2sd_internal_service_name(with_byte(0, 0), 249, out, sizeof out),
-                  IOX2SD_STATUS_TOO_LONG, 0));
-    CHECK(is_text(iox2sd_internal_service_name(with_byte(0, 0), 248, out, sizeof out),
-                  IOX2SD_STATUS_ILLEGAL_BYTE, 0));
-    CHECK(is_text(iox2sd_internal_service_name(with_byte(0, 255), 249, out, sizeof out),
-                  IOX2SD_STATUS_NOT_UTF8, 0));
+    IS_TEXT(iox2sd_internal_service_name(with_byte(0, 0), 249, out, sizeof out), TOO_LONG, 0);
+    IS_TEXT(iox2sd_internal_service_name(with_byte(0, 0), 248, out, sizeof out), ILLEGAL_BYTE, 0);
+    IS_TEXT(iox2sd_internal_service_name(with_byte(0, 255), 249, out, sizeof out), NOT_UTF8, 0);
     CHECK(untouched(out, 0, sizeof out));
 
-    CHECK(is_text(iox2sd_hash_text(IOX2SD_PATTERN_EVENT, bytes("a"), 1, out, 26),
-                  IOX2SD_STATUS_BUFFER_TOO_SHORT, 27));
+    IS_TEXT(iox2sd_hash_text(IOX2SD_PATTERN_EVENT, TEXT("a"), out, 26), BUFFER_TOO_SHORT, 27);
     CHECK(untouched(out, 0, sizeof out));
-    CHECK(is_text(iox2sd_hash_text(IOX2SD_PATTERN_EVENT, bytes("a"), 1, out, 27),
-                  IOX2SD_STATUS_DONE, 27));
+    IS_TEXT(iox2sd_hash_text(IOX2SD_PATTERN_EVENT, TEXT("a"), out, 27), DONE, 27);
     CHECK(memcmp(out, "mywygMzqC6QIJwxFGFv7zTYWQjc", 27) == 0 && untouched(out, 27, sizeof out));
-    CHECK(
-        is_text(iox2sd_hash_text(IOX2SD_PATTERN_REQUEST_RESPONSE, bytes("My/Service"), 10, out, 27),
-                IOX2SD_STATUS_DONE, 27));
+    IS_TEXT(iox2sd_hash_text(IOX2SD_PATTERN_REQUEST_RESPONSE, TEXT("My/Service"), out, 27),
+            DONE, 27);
     CHECK(memcmp(out, "h8eTEKlg0S7w-piembOTeKmjrxo", 27) == 0);
     memset(out, 0xAA, sizeof out);
-    CHECK(is_text(iox2sd_hash_text(4, bytes("\xff"), 1, out, sizeof out),
-                  IOX2SD_STATUS_UNKNOWN_PATTERN, 0));
-    CHECK(is_text(iox2sd_hash_text(IOX2SD_PATTERN_EVENT, bytes("\xff"), 1, out, sizeof out),
-                  IOX2SD_STATUS_NOT_UTF8, 0));
-    CHECK(is_text(iox2sd_hash_text(IOX2SD_PATTERN_EVENT, NULL, 0, out, sizeof out),
-                  IOX2SD_STATUS_BAD_SERVICE_NAME, 0));
-    CHECK(
-        is_text(iox2sd_hash_text(IOX2SD_PATTERN_BLACKBOARD, bytes("iox2://x"), 8, out, sizeof out),
-                IOX2SD_STATUS_BAD_SERVICE_NAME, 0));
+    IS_TEXT(iox2sd_hash_text(4, TEXT("\xff"), out, sizeof out), UNKNOWN_PATTERN, 0);
+    IS_TEXT(iox2sd_hash_text(IOX2SD_PATTERN_EVENT, TEXT("\xff"), out, sizeof out), NOT_UTF8, 0);
+    IS_TEXT(iox2sd_hash_text(IOX2SD_PATTERN_EVENT, NULL, 0, out, sizeof out), BAD_SERVICE_NAME, 0);
+    IS_TEXT(iox2sd_hash_text(IOX2SD_PATTERN_BLACKBOARD, TEXT("iox2://x"), out, sizeof out),
+            BAD_SERVICE_NAME, 0);
     CHECK(untouched(out, 0, sizeof out));
-    CHECK(
-        is_text(iox2sd_internal_hash_text(IOX2SD_PATTERN_BLACKBOARD, bytes("iox2://x"), 8, out, 27),
-                IOX2SD_STATUS_DONE, 27));
+    IS_TEXT(iox2sd_internal_hash_text(IOX2SD_PATTERN_BLACKBOARD, TEXT("iox2://x"), out, 27),
+            DONE, 27);
     CHECK(memcmp(out, "dBa6f4MAuXbGPrWuZe58tIdzmlw", 27) == 0 && untouched(out, 27, sizeof out));
     memset(out, 0xAA, sizeof out);
-    CHECK(is_text(iox2sd_internal_hash_text(IOX2SD_PATTERN_EVENT, bytes("a"), 1, out, 26),
-                  IOX2SD_STATUS_BUFFER_TOO_SHORT, 27));
-    CHECK(is_text(iox2sd_internal_hash_text(4, bytes("\xff"), 1, out, sizeof out),
-                  IOX2SD_STATUS_UNKNOWN_PATTERN, 0));
-    CHECK(
-        is_text(iox2sd_internal_hash_text(IOX2SD_PATTERN_EVENT, bytes("\xff"), 1, out, sizeof out),
-                IOX2SD_STATUS_NOT_UTF8, 0));
-    CHECK(is_text(iox2sd_internal_hash_text(IOX2SD_PATTERN_EVENT, NULL, 0, out, sizeof out),
-                  IOX2SD_STATUS_BAD_SERVICE_NAME, 0));
+    IS_TEXT(iox2sd_internal_hash_text(IOX2SD_PATTERN_EVENT, TEXT("a"), out, 26),
+            BUFFER_TOO_SHORT, 27);
+    IS_TEXT(iox2sd_internal_hash_text(4, TEXT("\xff"), out, sizeof out), UNKNOWN_PATTERN, 0);
+    IS_TEXT(iox2sd_internal_hash_text(IOX2SD_PATTERN_EVENT, TEXT("\xff"), out, sizeof out),
+            NOT_UTF8, 0);
+    IS_TEXT(iox2sd_internal_hash_text(IOX2SD_PATTERN_EVENT, NULL, 0, out, sizeof out),
+            BAD_SERVICE_NAME, 0);
     CHECK(untouched(out, 0, sizeof out));
 }
 
 static void paths(void) {
     uint8_t out[300];
     memset(out, 0xAA, sizeof out);
-    CHECK(is_text(iox2sd_path_add_path_entry(bytes("a"), 1, bytes("bc"), 2, out, 3),
-                  IOX2SD_STATUS_BUFFER_TOO_SHORT, 4));
+    IS_TEXT(iox2sd_path_add_path_entry(TEXT("a"), TEXT("bc"), out, 3), BUFFER_TOO_SHORT, 4);
     CHECK(untouched(out, 0, sizeof out));
-    CHECK(is_text(iox2sd_path_add_path_entry(bytes("a"), 1, bytes("bc"), 2, out, 4),
-                  IOX2SD_STATUS_DONE, 4));
+    IS_TEXT(iox2sd_path_add_path_entry(TEXT("a"), TEXT("bc"), out, 4), DONE, 4);
     CHECK(memcmp(out, "a/bc", 4) == 0 && untouched(out, 4, sizeof out));
-    CHECK(is_text(iox2sd_path_add_path_entry(bytes("a/"), 2, bytes("bc"), 2, out, 4),
-                  IOX2SD_STATUS_DONE, 4));
+    IS_TEXT(iox2sd_path_add_path_entry(TEXT("a/"), TEXT("bc"), out, 4), DONE, 4);
     CHECK(is_text(iox2sd_path_add_path_entry(NULL, 0, bytes("bc"), 2, out, 4), IOX2SD_STATUS_DONE,
                   2) &&
           memcmp(out, "bc", 2) == 0);
-    CHECK(is_text(iox2sd_path_add_path_entry(NULL, 0, NULL, 0, NULL, 0), IOX2SD_STATUS_DONE, 0));
-    CHECK(is_text(
-        iox2sd_path_add_path_entry(with_byte(0, 'y'), 127, with_byte(0, 'y'), 127, out, sizeof out),
-        IOX2SD_STATUS_DONE, 255));
+    IS_TEXT(iox2sd_path_add_path_entry(NULL, 0, NULL, 0, NULL, 0), DONE, 0);
+    IS_TEXT(iox2sd_path_add_path_entry(with_byte(0, 'y'), 127, with_byte(0, 'y'), 127, out,
+                                       sizeof out), DONE, 255);
     memset(out, 0xAA, sizeof out);
-    CHECK(is_text(
-        iox2sd_path_add_path_entry(with_byte(0, 'y'), 127, with_byte(0, 'y'), 128, out, sizeof out),
-        IOX2SD_STATUS_TOO_LONG, 0));
-    CHECK(is_text(iox2sd_path_add_path_entry(bytes("\xff"), 1, bytes("\xff"), 1, out, sizeof out),
-                  IOX2SD_STATUS_BAD_PATH, 0));
-    CHECK(is_text(iox2sd_path_add_path_entry(bytes("a"), 1, bytes("\xff"), 1, out, sizeof out),
-                  IOX2SD_STATUS_BAD_ENTRY, 0));
+    IS_TEXT(iox2sd_path_add_path_entry(with_byte(0, 'y'), 127, with_byte(0, 'y'), 128, out,
+                                       sizeof out), TOO_LONG, 0);
+    IS_TEXT(iox2sd_path_add_path_entry(TEXT("\xff"), TEXT("\xff"), out, sizeof out), BAD_PATH, 0);
+    IS_TEXT(iox2sd_path_add_path_entry(TEXT("a"), TEXT("\xff"), out, sizeof out), BAD_ENTRY, 0);
     CHECK(untouched(out, 0, sizeof out));
 
-    CHECK(is_text(iox2sd_file_path_from_path_and_file(bytes("a"), 1, bytes("bc"), 2, out, 3),
-                  IOX2SD_STATUS_BUFFER_TOO_SHORT, 4));
+    IS_TEXT(iox2sd_file_path_from_path_and_file(TEXT("a"), TEXT("bc"), out, 3),
+            BUFFER_TOO_SHORT, 4);
     CHECK(untouched(out, 0, sizeof out));
-    CHECK(is_text(iox2sd_file_path_from_path_and_file(bytes("a"), 1, bytes("bc"), 2, out, 4),
-                  IOX2SD_STATUS_DONE, 4));
+    IS_TEXT(iox2sd_file_path_from_path_and_file(TEXT("a"), TEXT("bc"), out, 4), DONE, 4);
     CHECK(memcmp(out, "a/bc", 4) == 0 && untouched(out, 4, sizeof out));
     memset(out, 0xAA, sizeof out);
-    CHECK(is_text(
-        iox2sd_file_path_from_path_and_file(bytes("a"), 1, bytes("b/c"), 3, out, sizeof out),
-        IOX2SD_STATUS_BAD_ENTRY, 0));
-    CHECK(is_text(iox2sd_file_path_from_path_and_file(bytes("\xff"), 1, NULL, 0, out, sizeof out),
-                  IOX2SD_STATUS_BAD_PATH, 0));
-    CHECK(is_text(
-        iox2sd_file_path_from_path_and_file(bytes("a"), 1, with_byte(0, 'y'), 254, out, sizeof out),
-        IOX2SD_STATUS_TOO_LONG, 0));
+    IS_TEXT(iox2sd_file_path_from_path_and_file(TEXT("a"), TEXT("b/c"), out, sizeof out),
+            BAD_ENTRY, 0);
+    IS_TEXT(iox2sd_file_path_from_path_and_file(TEXT("\xff"), NULL, 0, out, sizeof out),
+            BAD_PATH, 0);
+    IS_TEXT(iox2sd_file_path_from_path_and_file(TEXT("a"), with_byte(0, 'y'), 254, out, sizeof out),
+            TOO_LONG, 0);
     CHECK(untouched(out, 0, sizeof out));
 }
 
@@ -229,59 +208,49 @@ static void sets(void) {
     uint8_t out[8];
     size_t i;
     for (i = 0; i < 17; i++) pairs[i] = pair("k", "v");
-    CHECK(is_place(iox2sd_attributes_check(NULL, 0), IOX2SD_STATUS_DONE, 0));
-    CHECK(is_place(iox2sd_attributes_check(pairs, 16), IOX2SD_STATUS_DONE, 0));
-    CHECK(is_place(iox2sd_attributes_check(pairs, 17), IOX2SD_STATUS_TOO_MANY, 16));
+    IS_PLACE(iox2sd_attributes_check(NULL, 0), DONE, 0);
+    IS_PLACE(iox2sd_attributes_check(pairs, 16), DONE, 0);
+    IS_PLACE(iox2sd_attributes_check(pairs, 17), TOO_MANY, 16);
     pairs[16] = pair("k", "");
-    CHECK(is_place(iox2sd_attributes_check(pairs, 17), IOX2SD_STATUS_BAD_VALUE, 16));
+    IS_PLACE(iox2sd_attributes_check(pairs, 17), BAD_VALUE, 16);
     pairs[5] = pair("", "");
-    CHECK(is_place(iox2sd_attributes_check(pairs, 17), IOX2SD_STATUS_BAD_KEY, 5));
+    IS_PLACE(iox2sd_attributes_check(pairs, 17), BAD_KEY, 5);
     pairs[3] = pair("k", "\xff");
-    CHECK(is_place(iox2sd_attributes_check(pairs, 17), IOX2SD_STATUS_BAD_VALUE, 3));
+    IS_PLACE(iox2sd_attributes_check(pairs, 17), BAD_VALUE, 3);
 
     pairs[0] = pair("b", "1");
     pairs[1] = pair("a", "2");
     pairs[2] = pair("b", "0");
     pairs[3] = pair("a", "10");
     memcpy(before, pairs, sizeof pairs);
-    CHECK(is_place(iox2sd_attributes_sort(pairs, 6), IOX2SD_STATUS_BAD_KEY, 5));
+    IS_PLACE(iox2sd_attributes_sort(pairs, 6), BAD_KEY, 5);
     CHECK(memcmp(before, pairs, sizeof pairs) == 0);
-    CHECK(is_place(iox2sd_attributes_sort(pairs, 4), IOX2SD_STATUS_DONE, 0));
+    IS_PLACE(iox2sd_attributes_sort(pairs, 4), DONE, 0);
     CHECK(memcmp(&pairs[0], &before[3], sizeof pairs[0]) == 0 &&
           memcmp(&pairs[1], &before[1], sizeof pairs[0]) == 0);
     CHECK(memcmp(&pairs[2], &before[2], sizeof pairs[0]) == 0 &&
           memcmp(&pairs[3], &before[0], sizeof pairs[0]) == 0);
     CHECK(memcmp(&pairs[4], &before[4], 13 * sizeof pairs[0]) == 0);
-    CHECK(is_place(iox2sd_attributes_sort(NULL, 0), IOX2SD_STATUS_DONE, 0));
+    IS_PLACE(iox2sd_attributes_sort(NULL, 0), DONE, 0);
 
-    CHECK(is_count(iox2sd_attributes_number_of_key_values(before, 4, bytes("b"), 1),
-                   IOX2SD_STATUS_DONE, 2));
-    CHECK(is_count(iox2sd_attributes_number_of_key_values(before, 4, bytes("c"), 1),
-                   IOX2SD_STATUS_DONE, 0));
-    CHECK(is_count(iox2sd_attributes_number_of_key_values(NULL, 0, bytes("b"), 1),
-                   IOX2SD_STATUS_DONE, 0));
-    CHECK(is_count(iox2sd_attributes_number_of_key_values(before, 4, NULL, 0),
-                   IOX2SD_STATUS_BAD_ASKED_KEY, 0));
-    CHECK(is_count(iox2sd_attributes_number_of_key_values(before, 6, NULL, 0),
-                   IOX2SD_STATUS_BAD_KEY, 0));
+    IS_COUNT(iox2sd_attributes_number_of_key_values(before, 4, TEXT("b")), DONE, 2);
+    IS_COUNT(iox2sd_attributes_number_of_key_values(before, 4, TEXT("c")), DONE, 0);
+    IS_COUNT(iox2sd_attributes_number_of_key_values(NULL, 0, TEXT("b")), DONE, 0);
+    IS_COUNT(iox2sd_attributes_number_of_key_values(before, 4, NULL, 0), BAD_ASKED_KEY, 0);
+    IS_COUNT(iox2sd_attributes_number_of_key_values(before, 6, NULL, 0), BAD_KEY, 0);
 
     memset(out, 0xAA, sizeof out);
-    CHECK(is_text(iox2sd_attributes_key_value(before, 4, bytes("a"), 1, 0, out, 1),
-                  IOX2SD_STATUS_BUFFER_TOO_SHORT, 2));
+    IS_TEXT(iox2sd_attributes_key_value(before, 4, TEXT("a"), 0, out, 1), BUFFER_TOO_SHORT, 2);
     CHECK(untouched(out, 0, sizeof out));
-    CHECK(is_text(iox2sd_attributes_key_value(before, 4, bytes("a"), 1, 0, out, 2),
-                  IOX2SD_STATUS_DONE, 2));
+    IS_TEXT(iox2sd_attributes_key_value(before, 4, TEXT("a"), 0, out, 2), DONE, 2);
     CHECK(memcmp(out, "10", 2) == 0 && untouched(out, 2, sizeof out));
     CHECK(is_text(iox2sd_attributes_key_value(before, 4, bytes("a"), 1, 1, out, 8),
                   IOX2SD_STATUS_DONE, 1) &&
           out[0] == '2');
     memset(out, 0xAA, sizeof out);
-    CHECK(is_text(iox2sd_attributes_key_value(before, 4, bytes("a"), 1, 2, out, 8),
-                  IOX2SD_STATUS_NO_SUCH_VALUE, 0));
-    CHECK(is_text(iox2sd_attributes_key_value(before, 4, NULL, 0, 2, out, 8),
-                  IOX2SD_STATUS_BAD_ASKED_KEY, 0));
-    CHECK(is_text(iox2sd_attributes_key_value(before, 6, NULL, 0, 2, out, 8), IOX2SD_STATUS_BAD_KEY,
-                  0));
+    IS_TEXT(iox2sd_attributes_key_value(before, 4, TEXT("a"), 2, out, 8), NO_SUCH_VALUE, 0);
+    IS_TEXT(iox2sd_attributes_key_value(before, 4, NULL, 0, 2, out, 8), BAD_ASKED_KEY, 0);
+    IS_TEXT(iox2sd_attributes_key_value(before, 6, NULL, 0, 2, out, 8), BAD_KEY, 0);
     CHECK(untouched(out, 0, sizeof out));
 }
 
@@ -297,15 +266,11 @@ static void requirements(void) {
         required[i] = pair("b", "0");
         keys[i] = key_of("a");
     }
-    CHECK(is_place(iox2sd_attributes_verify(pairs, 3, NULL, 0, NULL, 0), IOX2SD_STATUS_DONE, 0));
-    CHECK(
-        is_place(iox2sd_attributes_verify(pairs, 3, required, 16, NULL, 0), IOX2SD_STATUS_DONE, 0));
-    CHECK(
-        is_place(iox2sd_attributes_verify(pairs, 3, required, 3, keys, 13), IOX2SD_STATUS_DONE, 0));
-    CHECK(is_place(iox2sd_attributes_verify(pairs, 3, required, 17, keys, 0),
-                   IOX2SD_STATUS_TOO_MANY_REQUIRED, 16));
-    CHECK(is_place(iox2sd_attributes_verify(pairs, 3, required, 3, keys, 14),
-                   IOX2SD_STATUS_TOO_MANY_REQUIRED, 13));
+    IS_PLACE(iox2sd_attributes_verify(pairs, 3, NULL, 0, NULL, 0), DONE, 0);
+    IS_PLACE(iox2sd_attributes_verify(pairs, 3, required, 16, NULL, 0), DONE, 0);
+    IS_PLACE(iox2sd_attributes_verify(pairs, 3, required, 3, keys, 13), DONE, 0);
+    IS_PLACE(iox2sd_attributes_verify(pairs, 3, required, 17, keys, 0), TOO_MANY_REQUIRED, 16);
+    IS_PLACE(iox2sd_attributes_verify(pairs, 3, required, 3, keys, 14), TOO_MANY_REQUIRED, 13);
 
     required[1] = pair("b", "3");
     required[2] = pair("b", "2");
@@ -313,25 +278,18 @@ static void requirements(void) {
     keys[1] = key_of("c");
     keys[2] = key_of("0");
     keys[3] = key_of("c");
-    CHECK(is_place(iox2sd_attributes_verify(pairs, 3, required, 4, keys, 4),
-                   IOX2SD_STATUS_MISSING_PAIR, 2));
-    CHECK(is_place(iox2sd_attributes_verify(pairs, 3, required, 1, keys, 4),
-                   IOX2SD_STATUS_MISSING_KEY, 1));
-    CHECK(is_place(iox2sd_attributes_verify(NULL, 0, required, 1, keys, 4),
-                   IOX2SD_STATUS_MISSING_PAIR, 0));
+    IS_PLACE(iox2sd_attributes_verify(pairs, 3, required, 4, keys, 4), MISSING_PAIR, 2);
+    IS_PLACE(iox2sd_attributes_verify(pairs, 3, required, 1, keys, 4), MISSING_KEY, 1);
+    IS_PLACE(iox2sd_attributes_verify(NULL, 0, required, 1, keys, 4), MISSING_PAIR, 0);
 
     keys[4] = key_of("");
-    CHECK(is_place(iox2sd_attributes_verify(pairs, 3, required, 4, keys, 5),
-                   IOX2SD_STATUS_BAD_ASKED_KEY, 4));
+    IS_PLACE(iox2sd_attributes_verify(pairs, 3, required, 4, keys, 5), BAD_ASKED_KEY, 4);
     required[6] = pair("b", "");
-    CHECK(is_place(iox2sd_attributes_verify(pairs, 3, required, 7, keys, 5),
-                   IOX2SD_STATUS_BAD_REQUIRED_VALUE, 6));
+    IS_PLACE(iox2sd_attributes_verify(pairs, 3, required, 7, keys, 5), BAD_REQUIRED_VALUE, 6);
     required[5] = pair("", "");
-    CHECK(is_place(iox2sd_attributes_verify(pairs, 3, required, 7, keys, 5),
-                   IOX2SD_STATUS_BAD_REQUIRED_KEY, 5));
+    IS_PLACE(iox2sd_attributes_verify(pairs, 3, required, 7, keys, 5), BAD_REQUIRED_KEY, 5);
     pairs[1] = pair("a", "");
-    CHECK(is_place(iox2sd_attributes_verify(pairs, 3, required, 7, keys, 5),
-                   IOX2SD_STATUS_BAD_VALUE, 1));
+    IS_PLACE(iox2sd_attributes_verify(pairs, 3, required, 7, keys, 5), BAD_VALUE, 1);
 }
 
 static iox2sd_type_detail type_of(const char *name, size_t size, size_t alignment) {
@@ -459,25 +417,20 @@ static void type_details(void) {
 
 static void chunks(void) {
     const size_t most = SIZE_MAX;
-    CHECK(is_count(iox2sd_required_amount_of_samples_per_data_segment(3, 5, 7, 11, 13),
-                   IOX2SD_STATUS_DONE, 3 * (5 + 7) + 11 + 13));
-    CHECK(is_count(iox2sd_required_amount_of_chunks_per_client_data_segment(3, 5, 7),
-                   IOX2SD_STATUS_DONE, 3 * 2 * 5 + 7));
-    CHECK(is_count(iox2sd_required_amount_of_chunks_per_client_data_segment(5, 3, 0),
-                   IOX2SD_STATUS_DONE, 5 * 2 * 3));
-    CHECK(is_count(iox2sd_required_amount_of_chunks_per_server_data_segment(3, 5, 7, 11, 13),
-                   IOX2SD_STATUS_DONE, 3 * 2 * 5 * (7 + 11 + 13)));
-    CHECK(is_count(iox2sd_required_amount_of_samples_per_data_segment(1, most, 0, 0, 0),
-                   IOX2SD_STATUS_DONE, most));
-    CHECK(is_count(iox2sd_required_amount_of_samples_per_data_segment(1, most, 0, 0, 1),
-                   IOX2SD_STATUS_TOO_LARGE, 0));
-    CHECK(is_count(iox2sd_required_amount_of_chunks_per_client_data_segment(0, most, most),
-                   IOX2SD_STATUS_DONE, most));
-    CHECK(is_count(iox2sd_required_amount_of_chunks_per_client_data_segment(most, most, most),
-                   IOX2SD_STATUS_TOO_LARGE, 0));
-    CHECK(is_count(
-        iox2sd_required_amount_of_chunks_per_server_data_segment(most, most, most, most, most),
-        IOX2SD_STATUS_TOO_LARGE, 0));
+    IS_COUNT(iox2sd_required_amount_of_samples_per_data_segment(3, 5, 7, 11, 13),
+             DONE, 3 * (5 + 7) + 11 + 13);
+    IS_COUNT(iox2sd_required_amount_of_chunks_per_client_data_segment(3, 5, 7),
+             DONE, 3 * 2 * 5 + 7);
+    IS_COUNT(iox2sd_required_amount_of_chunks_per_client_data_segment(5, 3, 0), DONE, 5 * 2 * 3);
+    IS_COUNT(iox2sd_required_amount_of_chunks_per_server_data_segment(3, 5, 7, 11, 13),
+             DONE, 3 * 2 * 5 * (7 + 11 + 13));
+    IS_COUNT(iox2sd_required_amount_of_samples_per_data_segment(1, most, 0, 0, 0), DONE, most);
+    IS_COUNT(iox2sd_required_amount_of_samples_per_data_segment(1, most, 0, 0, 1), TOO_LARGE, 0);
+    IS_COUNT(iox2sd_required_amount_of_chunks_per_client_data_segment(0, most, most), DONE, most);
+    IS_COUNT(iox2sd_required_amount_of_chunks_per_client_data_segment(most, most, most),
+             TOO_LARGE, 0);
+    IS_COUNT(iox2sd_required_amount_of_chunks_per_server_data_segment(most, most, most, most, most),
+             TOO_LARGE, 0);
 }
 
 static void settings(void) {
@@ -519,61 +472,59 @@ static void global_settings(void) {
     CHECK(g.cleanup_dead_nodes_on_destruction);
     g.creation_timeout.seconds = UINT64_MAX;
     g.creation_timeout.nanoseconds = 999999999;
-    CHECK(is_field(iox2sd_global_settings_check(&g), IOX2SD_STATUS_DONE, 0));
+    IS_FIELD(iox2sd_global_settings_check(&g), DONE, 0);
     g.creation_timeout.nanoseconds = 1000000000;
-    CHECK(is_field(iox2sd_global_settings_check(&g), IOX2SD_STATUS_BAD_DURATION,
-                   IOX2SD_FIELD_CREATION_TIMEOUT));
-    CHECK(is_field(iox2sd_global_settings_check(NULL), IOX2SD_STATUS_NULL, 0));
+    IS_FIELD(iox2sd_global_settings_check(&g), BAD_DURATION, IOX2SD_FIELD_CREATION_TIMEOUT);
+    IS_FIELD(iox2sd_global_settings_check(NULL), NULL, 0);
 }
 
 static void publish_subscribe_settings(void) {
     iox2sd_publish_subscribe_settings p = iox2sd_publish_subscribe_defaults();
-    CHECK(is_field(iox2sd_publish_subscribe_settings_check(&p), IOX2SD_STATUS_DONE, 0));
+    IS_FIELD(iox2sd_publish_subscribe_settings_check(&p), DONE, 0);
     p.backpressure_strategy = IOX2SD_BACKPRESSURE_DISCARD_DATA;
     for (uint32_t number = 0; number < 3; number++) {
         p.publisher_allocation_strategy = number;
-        CHECK(is_field(iox2sd_publish_subscribe_settings_check(&p), IOX2SD_STATUS_DONE, 0));
+        IS_FIELD(iox2sd_publish_subscribe_settings_check(&p), DONE, 0);
     }
     p.publisher_allocation_strategy = 3;
-    CHECK(is_field(iox2sd_publish_subscribe_settings_check(&p), IOX2SD_STATUS_UNKNOWN_STRATEGY,
-                   IOX2SD_FIELD_PUBLISHER_ALLOCATION_STRATEGY));
+    IS_FIELD(iox2sd_publish_subscribe_settings_check(&p),
+             UNKNOWN_STRATEGY, IOX2SD_FIELD_PUBLISHER_ALLOCATION_STRATEGY);
     p.backpressure_strategy = 2;
-    CHECK(is_field(iox2sd_publish_subscribe_settings_check(&p), IOX2SD_STATUS_UNKNOWN_STRATEGY,
-                   IOX2SD_FIELD_BACKPRESSURE_STRATEGY));
-    CHECK(is_field(iox2sd_publish_subscribe_settings_check(NULL), IOX2SD_STATUS_NULL, 0));
+    IS_FIELD(iox2sd_publish_subscribe_settings_check(&p),
+             UNKNOWN_STRATEGY, IOX2SD_FIELD_BACKPRESSURE_STRATEGY);
+    IS_FIELD(iox2sd_publish_subscribe_settings_check(NULL), NULL, 0);
 }
 
 static void event_settings(void) {
     iox2sd_event_settings e = iox2sd_event_defaults();
-    CHECK(is_field(iox2sd_event_settings_check(&e), IOX2SD_STATUS_DONE, 0));
+    IS_FIELD(iox2sd_event_settings_check(&e), DONE, 0);
     e.notifier_dead_event.number = 5;
     e.deadline.nanoseconds = 1000000000;
-    CHECK(is_field(iox2sd_event_settings_check(&e), IOX2SD_STATUS_DONE, 0));
+    IS_FIELD(iox2sd_event_settings_check(&e), DONE, 0);
     e.deadline.is_some = true;
-    CHECK(is_field(iox2sd_event_settings_check(&e), IOX2SD_STATUS_BAD_DURATION,
-                   IOX2SD_FIELD_DEADLINE));
+    IS_FIELD(iox2sd_event_settings_check(&e), BAD_DURATION, IOX2SD_FIELD_DEADLINE);
     e.deadline.nanoseconds = 999999999;
     e.deadline.seconds = UINT64_MAX;
-    CHECK(is_field(iox2sd_event_settings_check(&e), IOX2SD_STATUS_DONE, 0));
-    CHECK(is_field(iox2sd_event_settings_check(NULL), IOX2SD_STATUS_NULL, 0));
+    IS_FIELD(iox2sd_event_settings_check(&e), DONE, 0);
+    IS_FIELD(iox2sd_event_settings_check(NULL), NULL, 0);
 }
 
 static void request_response_settings(void) {
     iox2sd_request_response_settings r = iox2sd_request_response_defaults();
-    CHECK(is_field(iox2sd_request_response_settings_check(&r), IOX2SD_STATUS_DONE, 0));
+    IS_FIELD(iox2sd_request_response_settings_check(&r), DONE, 0);
     r.server_allocation_strategy = 3;
-    CHECK(is_field(iox2sd_request_response_settings_check(&r), IOX2SD_STATUS_UNKNOWN_STRATEGY,
-                   IOX2SD_FIELD_SERVER_ALLOCATION_STRATEGY));
+    IS_FIELD(iox2sd_request_response_settings_check(&r),
+             UNKNOWN_STRATEGY, IOX2SD_FIELD_SERVER_ALLOCATION_STRATEGY);
     r.client_allocation_strategy = 3;
-    CHECK(is_field(iox2sd_request_response_settings_check(&r), IOX2SD_STATUS_UNKNOWN_STRATEGY,
-                   IOX2SD_FIELD_CLIENT_ALLOCATION_STRATEGY));
+    IS_FIELD(iox2sd_request_response_settings_check(&r),
+             UNKNOWN_STRATEGY, IOX2SD_FIELD_CLIENT_ALLOCATION_STRATEGY);
     r.server_backpressure_strategy = 2;
-    CHECK(is_field(iox2sd_request_response_settings_check(&r), IOX2SD_STATUS_UNKNOWN_STRATEGY,
-                   IOX2SD_FIELD_SERVER_BACKPRESSURE_STRATEGY));
+    IS_FIELD(iox2sd_request_response_settings_check(&r),
+             UNKNOWN_STRATEGY, IOX2SD_FIELD_SERVER_BACKPRESSURE_STRATEGY);
     r.client_backpressure_strategy = UINT32_MAX;
-    CHECK(is_field(iox2sd_request_response_settings_check(&r), IOX2SD_STATUS_UNKNOWN_STRATEGY,
-                   IOX2SD_FIELD_CLIENT_BACKPRESSURE_STRATEGY));
-    CHECK(is_field(iox2sd_request_response_settings_check(NULL), IOX2SD_STATUS_NULL, 0));
+    IS_FIELD(iox2sd_request_response_settings_check(&r),
+             UNKNOWN_STRATEGY, IOX2SD_FIELD_CLIENT_BACKPRESSURE_STRATEGY);
+    IS_FIELD(iox2sd_request_response_settings_check(NULL), NULL, 0);
 }
 
 typedef iox2sd_text_answer (*teller)(uint8_t *out, size_t capacity);
@@ -620,18 +571,15 @@ static void files(void) {
     uint8_t out[300];
     for (asked = 0; asked < 20; asked++) CHECK(tells(tell_asked, expected[asked]));
     memset(out, 0xAA, sizeof out);
-    CHECK(is_text(iox2sd_default_text(20, out, sizeof out), IOX2SD_STATUS_UNKNOWN_TEXT, 0));
-    CHECK(is_text(iox2sd_service_dir(bytes("/a"), 2, out, 10), IOX2SD_STATUS_BUFFER_TOO_SHORT, 11));
-    CHECK(is_text(iox2sd_node_dir(bytes("/a"), 2, out, 7), IOX2SD_STATUS_BUFFER_TOO_SHORT, 8));
-    CHECK(
-        is_text(iox2sd_service_dir(bytes("\xff"), 1, out, sizeof out), IOX2SD_STATUS_BAD_PATH, 0));
-    CHECK(is_text(iox2sd_node_dir(bytes("\xff"), 1, out, sizeof out), IOX2SD_STATUS_BAD_PATH, 0));
-    CHECK(is_text(iox2sd_service_dir(with_byte(0, 'y'), 247, out, sizeof out),
-                  IOX2SD_STATUS_TOO_LONG, 0));
-    CHECK(is_text(iox2sd_node_dir(with_byte(0, 'y'), 250, out, sizeof out), IOX2SD_STATUS_TOO_LONG,
-                  0));
+    IS_TEXT(iox2sd_default_text(20, out, sizeof out), UNKNOWN_TEXT, 0);
+    IS_TEXT(iox2sd_service_dir(TEXT("/a"), out, 10), BUFFER_TOO_SHORT, 11);
+    IS_TEXT(iox2sd_node_dir(TEXT("/a"), out, 7), BUFFER_TOO_SHORT, 8);
+    IS_TEXT(iox2sd_service_dir(TEXT("\xff"), out, sizeof out), BAD_PATH, 0);
+    IS_TEXT(iox2sd_node_dir(TEXT("\xff"), out, sizeof out), BAD_PATH, 0);
+    IS_TEXT(iox2sd_service_dir(with_byte(0, 'y'), 247, out, sizeof out), TOO_LONG, 0);
+    IS_TEXT(iox2sd_node_dir(with_byte(0, 'y'), 250, out, sizeof out), TOO_LONG, 0);
     CHECK(untouched(out, 0, sizeof out));
-    CHECK(is_text(iox2sd_service_dir(bytes("/a"), 2, out, 11), IOX2SD_STATUS_DONE, 11));
+    IS_TEXT(iox2sd_service_dir(TEXT("/a"), out, 11), DONE, 11);
     CHECK(memcmp(out, "/a/services", 11) == 0 && untouched(out, 11, sizeof out));
     CHECK(is_text(iox2sd_node_dir(bytes("/a/"), 3, out, 8), IOX2SD_STATUS_DONE, 8) &&
           memcmp(out, "/a/nodes", 8) == 0);
@@ -681,17 +629,14 @@ static void describe_publish_subscribe(void) {
     s.publisher_history_size = 11;
     s.subscriber_max_buffer_size = 13;
     s.subscriber_max_borrowed_samples = 17;
-    CHECK(is_field(iox2sd_describe_publish_subscribe(&s, bytes("a/b"), 3, false, some_id, &d),
-                   IOX2SD_STATUS_DONE, 0));
+    IS_FIELD(iox2sd_describe_publish_subscribe(&s, TEXT("a/b"), false, some_id, &d), DONE, 0);
     CHECK(describes(&d, IOX2SD_PATTERN_PUBLISH_SUBSCRIBE, "a/b"));
     CHECK(c->max_subscribers == 3 && c->max_publishers == 5 && c->max_nodes == 7);
     CHECK(c->history_size == 11 && c->subscriber_max_buffer_size == 13);
     CHECK(c->subscriber_max_borrowed_samples == 17 && c->enable_safe_overflow);
     CHECK(d.event.max_nodes == 0 && !d.event.deadline.is_some && d.request_response.max_nodes == 0);
     CHECK(!d.request_response.enable_fire_and_forget_requests && d.blackboard.max_writers == 0);
-    CHECK(
-        is_field(iox2sd_describe_publish_subscribe(&s, bytes("iox2://a"), 8, true, some_id, &d),
-                 IOX2SD_STATUS_DONE, 0));
+    IS_FIELD(iox2sd_describe_publish_subscribe(&s, TEXT("iox2://a"), true, some_id, &d), DONE, 0);
     CHECK(describes(&d, IOX2SD_PATTERN_PUBLISH_SUBSCRIBE, "iox2://a"));
 }
 
@@ -702,18 +647,15 @@ static void describe_refusals(void) {
     memset(&d, 0xAA, sizeof d);
     memset(&before, 0xAA, sizeof before);
     s.publisher_allocation_strategy = 3;
-    CHECK(is_field(iox2sd_describe_publish_subscribe(NULL, bytes("\xff"), 1, false, some_id, &d),
-                   IOX2SD_STATUS_NULL, 0));
-    CHECK(is_field(iox2sd_describe_publish_subscribe(&s, bytes("\xff"), 1, false, some_id, NULL),
-                   IOX2SD_STATUS_NULL, 0));
-    CHECK(is_field(iox2sd_describe_publish_subscribe(&s, bytes("\xff"), 1, false, some_id, &d),
-                   IOX2SD_STATUS_NOT_UTF8, 0));
-    CHECK(is_field(iox2sd_describe_publish_subscribe(&s, bytes("iox2://a"), 8, false, some_id, &d),
-                   IOX2SD_STATUS_BAD_SERVICE_NAME, 0));
-    CHECK(is_field(iox2sd_describe_publish_subscribe(&s, NULL, 0, true, some_id, &d),
-                   IOX2SD_STATUS_BAD_SERVICE_NAME, 0));
-    CHECK(is_field(iox2sd_describe_publish_subscribe(&s, bytes("a"), 1, false, some_id, &d),
-                   IOX2SD_STATUS_UNKNOWN_STRATEGY, IOX2SD_FIELD_PUBLISHER_ALLOCATION_STRATEGY));
+    IS_FIELD(iox2sd_describe_publish_subscribe(NULL, TEXT("\xff"), false, some_id, &d), NULL, 0);
+    IS_FIELD(iox2sd_describe_publish_subscribe(&s, TEXT("\xff"), false, some_id, NULL), NULL, 0);
+    IS_FIELD(iox2sd_describe_publish_subscribe(&s, TEXT("\xff"), false, some_id, &d), NOT_UTF8, 0);
+    IS_FIELD(iox2sd_describe_publish_subscribe(&s, TEXT("iox2://a"), false, some_id, &d),
+             BAD_SERVICE_NAME, 0);
+    IS_FIELD(iox2sd_describe_publish_subscribe(&s, NULL, 0, true, some_id, &d),
+             BAD_SERVICE_NAME, 0);
+    IS_FIELD(iox2sd_describe_publish_subscribe(&s, TEXT("a"), false, some_id, &d),
+             UNKNOWN_STRATEGY, IOX2SD_FIELD_PUBLISHER_ALLOCATION_STRATEGY);
     CHECK(memcmp(&d, &before, sizeof d) == 0);
 }
 
@@ -729,8 +671,7 @@ static void describe_event(void) {
     s.notifier_dropped_event = dropped;
     s.max_listeners = 3;
     s.max_notifiers = 7;
-    CHECK(is_field(iox2sd_describe_event(&s, with_byte(0, 'y'), 255, false, some_id, &d),
-                   IOX2SD_STATUS_DONE, 0));
+    IS_FIELD(iox2sd_describe_event(&s, with_byte(0, 'y'), 255, false, some_id, &d), DONE, 0);
     CHECK(d.name_length == 255 && memcmp(d.name, with_byte(0, 'y'), 255) == 0 && d.name[255] == 0);
     CHECK(d.pattern == IOX2SD_PATTERN_EVENT && is_unset(&d.publish_subscribe)
           && d.blackboard.max_nodes == 0);
@@ -741,15 +682,13 @@ static void describe_event(void) {
     CHECK(c->notifier_dropped_event.is_some && c->notifier_dropped_event.number == 6);
     CHECK(!c->notifier_dead_event.is_some);
     s.deadline.nanoseconds = 1000000000;
-    CHECK(is_field(iox2sd_describe_event(&s, bytes("iox2://a"), 8, true, some_id, &d),
-                   IOX2SD_STATUS_BAD_DURATION, IOX2SD_FIELD_DEADLINE));
+    IS_FIELD(iox2sd_describe_event(&s, TEXT("iox2://a"), true, some_id, &d),
+             BAD_DURATION, IOX2SD_FIELD_DEADLINE);
     s.deadline.is_some = false;
-    CHECK(is_field(iox2sd_describe_event(&s, bytes("iox2://a"), 8, true, some_id, &d),
-                   IOX2SD_STATUS_DONE, 0));
+    IS_FIELD(iox2sd_describe_event(&s, TEXT("iox2://a"), true, some_id, &d), DONE, 0);
     CHECK(describes(&d, IOX2SD_PATTERN_EVENT, "iox2://a") && !c->deadline.is_some
           && c->deadline.nanoseconds == 0);
-    CHECK(is_field(iox2sd_describe_event(&s, bytes("iox2://a"), 8, false, some_id, &d),
-                   IOX2SD_STATUS_BAD_SERVICE_NAME, 0));
+    IS_FIELD(iox2sd_describe_event(&s, TEXT("iox2://a"), false, some_id, &d), BAD_SERVICE_NAME, 0);
 }
 
 static void describe_request_response(void) {
@@ -765,35 +704,31 @@ static void describe_request_response(void) {
     s.max_nodes = 17;
     s.max_borrowed_responses_per_pending_response = 19;
     s.enable_safe_overflow_for_requests = false;
-    CHECK(is_field(iox2sd_describe_request_response(&s, bytes("a"), 1, false, some_id, &d),
-                   IOX2SD_STATUS_DONE, 0));
+    IS_FIELD(iox2sd_describe_request_response(&s, TEXT("a"), false, some_id, &d), DONE, 0);
     CHECK(describes(&d, IOX2SD_PATTERN_REQUEST_RESPONSE, "a") && is_unset(&d.publish_subscribe));
     CHECK(c->max_active_requests_per_client == 3 && c->max_loaned_requests == 5);
     CHECK(c->max_response_buffer_size == 7 && c->max_servers == 11 && c->max_clients == 13);
     CHECK(c->max_nodes == 17 && c->max_borrowed_responses_per_pending_response == 19);
     CHECK(!c->enable_safe_overflow_for_requests && c->enable_safe_overflow_for_responses);
     CHECK(c->enable_fire_and_forget_requests);
-    CHECK(is_field(iox2sd_describe_request_response(&s, bytes("iox2://a"), 8, true, some_id, &d),
-                   IOX2SD_STATUS_DONE, 0));
+    IS_FIELD(iox2sd_describe_request_response(&s, TEXT("iox2://a"), true, some_id, &d), DONE, 0);
     CHECK(describes(&d, IOX2SD_PATTERN_REQUEST_RESPONSE, "iox2://a"));
     s.server_backpressure_strategy = 2;
-    CHECK(is_field(iox2sd_describe_request_response(&s, bytes("a"), 1, false, some_id, &d),
-                   IOX2SD_STATUS_UNKNOWN_STRATEGY, IOX2SD_FIELD_SERVER_BACKPRESSURE_STRATEGY));
+    IS_FIELD(iox2sd_describe_request_response(&s, TEXT("a"), false, some_id, &d),
+             UNKNOWN_STRATEGY, IOX2SD_FIELD_SERVER_BACKPRESSURE_STRATEGY);
 }
 
 static void describe_blackboard(void) {
     const iox2sd_blackboard_settings s = {3, 5};
     iox2sd_description d;
     memset(&d, 0xAA, sizeof d);
-    CHECK(is_field(iox2sd_describe_blackboard(&s, bytes("a"), 1, false, some_id, &d),
-                   IOX2SD_STATUS_DONE, 0));
+    IS_FIELD(iox2sd_describe_blackboard(&s, TEXT("a"), false, some_id, &d), DONE, 0);
     CHECK(describes(&d, IOX2SD_PATTERN_BLACKBOARD, "a") && is_unset(&d.publish_subscribe));
     CHECK(d.blackboard.max_readers == 3 && d.blackboard.max_writers == 1
           && d.blackboard.max_nodes == 5);
-    CHECK(is_field(iox2sd_describe_blackboard(&s, bytes("iox2://a"), 8, false, some_id, &d),
-                   IOX2SD_STATUS_BAD_SERVICE_NAME, 0));
-    CHECK(is_field(iox2sd_describe_blackboard(&s, bytes("iox2://a"), 8, true, some_id, &d),
-                   IOX2SD_STATUS_DONE, 0));
+    IS_FIELD(iox2sd_describe_blackboard(&s, TEXT("iox2://a"), false, some_id, &d),
+             BAD_SERVICE_NAME, 0);
+    IS_FIELD(iox2sd_describe_blackboard(&s, TEXT("iox2://a"), true, some_id, &d), DONE, 0);
     CHECK(describes(&d, IOX2SD_PATTERN_BLACKBOARD, "iox2://a"));
 }
 

@@ -281,6 +281,24 @@ void random_calls() {
     CHECK(seen == all);
 }
 
+/// A line has no kinds of ports, so those of one number are kept together.
+void kept_together() {
+    Recorder recorder = Recorder::create(PatternKind::Event, 7, {1, 2, 2}).value();
+    const UniqueNodeId node = UniqueNodeId::create(1, 0, 0, 1).value();
+    CHECK(recorder.register_node_id(node).has_value());
+    for (const std::uint32_t counter : {1u, 2u}) {
+        CHECK(recorder.attach(ListenerDetails{{1, 0, 0, counter}, node}).has_value());
+        CHECK(recorder.attach(NotifierDetails{{1, 0, 0, counter}, node}).has_value());
+    }
+    const UniquePortId kept = UniqueNotifierId(1, 0, 0, 2);
+    const auto removal = recorder.remove_dead_node_id(node, {kept});
+    CHECK(removal && removal->first == 1 && removal->second == 1);
+    CHECK(recorder.ports(Role::Listener).value().size() == 1);
+    CHECK(port_id(recorder.ports(Role::Notifier).value()[0]) == kept);
+    const List<char> log = recorder.log().value();
+    CHECK(check_log(log).status == Status::Done);
+}
+
 /// What has no line is not written.
 void what_has_no_line() {
     Recorder recorder = Recorder::create(PatternKind::RequestResponse, 7, {1, 2, 3}).value();
@@ -316,6 +334,7 @@ int main() {
     written();
     configurations_differ();
     random_calls();
+    kept_together();
     what_has_no_line();
     return end_of_checks();
 }

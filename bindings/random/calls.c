@@ -402,27 +402,19 @@ static void say_event(iox2sd_optional_event_id event) {
     }
 }
 
+#define SAY(field) say_number(s.field);
+
 static void defaults_of_publish_subscribe(void) {
     iox2sd_publish_subscribe_settings s = iox2sd_publish_subscribe_defaults();
-    say_number(s.max_subscribers);
-    say_number(s.max_publishers);
-    say_number(s.max_nodes);
-    say_number(s.subscriber_max_buffer_size);
-    say_number(s.subscriber_max_borrowed_samples);
-    say_number(s.publisher_max_loaned_samples);
-    say_number(s.publisher_history_size);
-    say_number(s.subscriber_expired_connection_buffer);
-    say_number(s.backpressure_strategy);
-    say_number(s.publisher_allocation_strategy);
-    say_number(s.enable_safe_overflow);
+    SAY(max_subscribers) SAY(max_publishers) SAY(max_nodes) SAY(subscriber_max_buffer_size)
+    SAY(subscriber_max_borrowed_samples) SAY(publisher_max_loaned_samples)
+    SAY(publisher_history_size) SAY(subscriber_expired_connection_buffer) SAY(backpressure_strategy)
+    SAY(publisher_allocation_strategy) SAY(enable_safe_overflow)
 }
 
 static void defaults_of_event(void) {
     iox2sd_event_settings s = iox2sd_event_defaults();
-    say_number(s.max_listeners);
-    say_number(s.max_notifiers);
-    say_number(s.max_nodes);
-    say_number(s.event_id_max_value);
+    SAY(max_listeners) SAY(max_notifiers) SAY(max_nodes) SAY(event_id_max_value)
     if (s.deadline.is_some) {
         say_duration(s.deadline.seconds, s.deadline.nanoseconds);
     } else {
@@ -435,38 +427,27 @@ static void defaults_of_event(void) {
 
 static void defaults_of_request_response(void) {
     iox2sd_request_response_settings s = iox2sd_request_response_defaults();
-    say_number(s.max_active_requests_per_client);
-    say_number(s.max_response_buffer_size);
-    say_number(s.max_servers);
-    say_number(s.max_clients);
-    say_number(s.max_nodes);
-    say_number(s.max_borrowed_responses_per_pending_response);
-    say_number(s.max_loaned_requests);
-    say_number(s.server_max_loaned_responses_per_request);
-    say_number(s.client_expired_connection_buffer);
-    say_number(s.server_expired_connection_buffer);
-    say_number(s.client_backpressure_strategy);
-    say_number(s.server_backpressure_strategy);
-    say_number(s.client_allocation_strategy);
-    say_number(s.server_allocation_strategy);
-    say_number(s.enable_safe_overflow_for_requests);
-    say_number(s.enable_safe_overflow_for_responses);
-    say_number(s.enable_fire_and_forget_requests);
+    SAY(max_active_requests_per_client) SAY(max_response_buffer_size) SAY(max_servers)
+    SAY(max_clients) SAY(max_nodes) SAY(max_borrowed_responses_per_pending_response)
+    SAY(max_loaned_requests) SAY(server_max_loaned_responses_per_request)
+    SAY(client_expired_connection_buffer) SAY(server_expired_connection_buffer)
+    SAY(client_backpressure_strategy) SAY(server_backpressure_strategy)
+    SAY(client_allocation_strategy) SAY(server_allocation_strategy)
+    SAY(enable_safe_overflow_for_requests) SAY(enable_safe_overflow_for_responses)
+    SAY(enable_fire_and_forget_requests)
 }
 
 static void defaults_of_blackboard(void) {
     iox2sd_blackboard_settings s = iox2sd_blackboard_defaults();
-    say_number(s.max_readers);
-    say_number(s.max_nodes);
+    SAY(max_readers) SAY(max_nodes)
 }
 
 static void global_defaults(void) {
     iox2sd_global_settings s = iox2sd_global_defaults();
     say(IOX2SD_STATUS_DONE);
     say_duration(s.creation_timeout.seconds, s.creation_timeout.nanoseconds);
-    say_number(s.cleanup_dead_nodes_on_open);
-    say_number(s.cleanup_dead_nodes_on_creation);
-    say_number(s.cleanup_dead_nodes_on_destruction);
+    SAY(cleanup_dead_nodes_on_open) SAY(cleanup_dead_nodes_on_creation)
+    SAY(cleanup_dead_nodes_on_destruction)
 }
 
 static void defaults(void) {
@@ -609,62 +590,21 @@ static void ports_of(void) {
 
 /* ---- Calls by name ---- */
 
+#define CALL(name) {#name, name},
+
 static const struct {
     const char *name;
     void (*answer)(void);
 } calls[] = {
-    {"service_name", service_name},
-    {"internal_name", internal_name},
-    {"prefixed", prefixed},
-    {"prefix", prefix},
-    {"key", key},
-    {"value", value},
-    {"path", path},
-    {"file_name", file_name},
-    {"file_path", file_path},
-    {"restricted_name", restricted_name},
-    {"join", join},
-    {"file_join", file_join},
-    {"hash", hash},
-    {"internal_hash", internal_hash},
-    {"default_text", default_text},
-    {"service_directory", service_directory},
-    {"node_directory", node_directory},
-    {"sorted", sorted},
-    {"values", values},
-    {"verify", verify},
-    {"layout", layout},
-    {"places", places},
-    {"compatible", compatible},
-    {"samples", samples},
-    {"requests", requests},
-    {"responses", responses},
-    {"defaults", defaults},
-    {"global_defaults", global_defaults},
-    {"duration", duration},
-    {"ids", ids},
-    {"make", make},
-    {"register", register_node},
-    {"deregister", deregister},
-    {"attach", attach},
-    {"release", release},
-    {"dead", dead},
-    {"count", count},
-    {"max", max},
-    {"room", room},
-    {"has_role", has_role},
-    {"room_for_node", room_for_node},
-    {"locked", locked},
-    {"number_of_nodes", number_of_nodes},
-    {"max_nodes", max_nodes},
-    {"pattern", pattern},
-    {"service_number", service_number},
-    {"roles", roles},
-    {"find_node", find_node},
-    {"find_port", find_port},
-    {"nodes", nodes},
-    {"ports", ports},
-    {"ports_of", ports_of},
+    CALL(service_name) CALL(internal_name) CALL(prefixed) CALL(prefix) CALL(key) CALL(value)
+    CALL(path) CALL(file_name) CALL(file_path) CALL(restricted_name) CALL(join) CALL(file_join)
+    CALL(hash) CALL(internal_hash) CALL(default_text) CALL(service_directory) CALL(node_directory)
+    CALL(sorted) CALL(values) CALL(verify) CALL(layout) CALL(places) CALL(compatible) CALL(samples)
+    CALL(requests) CALL(responses) CALL(defaults) CALL(global_defaults) CALL(duration) CALL(ids)
+    CALL(make) {"register", register_node}, CALL(deregister) CALL(attach) CALL(release) CALL(dead)
+    CALL(count) CALL(max) CALL(room) CALL(has_role) CALL(room_for_node) CALL(locked)
+    CALL(number_of_nodes) CALL(max_nodes) CALL(pattern) CALL(service_number) CALL(roles)
+    CALL(find_node) CALL(find_port) CALL(nodes) CALL(ports) CALL(ports_of)
 };
 
 static void answer(void) {

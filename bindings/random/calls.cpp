@@ -613,6 +613,8 @@ void roles(Line&, Answer& out) {
 
 using Call = void (*)(Line&, Answer&);
 
+#define CALL(name) {#name, name},
+
 const std::unordered_map<std::string, Call> calls = {
     {"service_name", create<ServiceName>},
     {"internal_name",
@@ -646,25 +648,9 @@ const std::unordered_map<std::string, Call> calls = {
      [](Line& in, Answer& out) { say_text(out, default_text(ConfigEntry{in.number32()})); }},
     {"service_directory", [](Line& in, Answer& out) { directory(in, out, service_dir); }},
     {"node_directory", [](Line& in, Answer& out) { directory(in, out, node_dir); }},
-    {"sorted", sorted},
-    {"values", values},
-    {"verify", verify},
-    {"layout", layout},
-    {"places", places},
-    {"compatible", compatible},
-    {"samples", samples},
-    {"requests", requests},
-    {"responses", responses},
-    {"defaults", defaults},
-    {"global_defaults", global_defaults},
-    {"duration", duration},
-    {"ids", ids},
-    {"make", make},
-    {"register", register_node},
-    {"deregister", deregister},
-    {"attach", attach},
-    {"release", release},
-    {"dead", dead},
+    CALL(sorted) CALL(values) CALL(verify) CALL(layout) CALL(places) CALL(compatible) CALL(samples)
+    CALL(requests) CALL(responses) CALL(defaults) CALL(global_defaults) CALL(duration) CALL(ids)
+    CALL(make) {"register", register_node}, CALL(deregister) CALL(attach) CALL(release) CALL(dead)
     {"count", [](Line& in, Answer& out) { say_number(out, service.count_ports(in.role())); }},
     {"max", [](Line& in, Answer& out) { say_number(out, service.max_ports(in.role())); }},
     {"room", [](Line& in, Answer& out) { say_flag(out, service.has_room(in.role())); }},
@@ -682,10 +668,7 @@ const std::unordered_map<std::string, Call> calls = {
      [](Line&, Answer& out) {
          say(out, service.service_number(), [&](std::uint64_t number) { out.number(number); });
      }},
-    {"roles", roles},
-    {"find_node", find_node},
-    {"find_port", find_port},
-    {"nodes", nodes},
+    CALL(roles) CALL(find_node) CALL(find_port) CALL(nodes)
     {"ports", [](Line& in, Answer& out) { say_ports(out, service.ports(in.role())); }},
     {"ports_of", ports_of},
 };

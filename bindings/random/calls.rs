@@ -191,18 +191,7 @@ impl<'a> Line<'a> {
     }
 
     fn role(&mut self) -> Result<Role, Refusal> {
-        Ok(match self.number() {
-            0 => Role::Node,
-            1 => Role::Publisher,
-            2 => Role::Subscriber,
-            3 => Role::Notifier,
-            4 => Role::Listener,
-            5 => Role::Client,
-            6 => Role::Server,
-            7 => Role::Reader,
-            8 => Role::Writer,
-            _ => return Err(NotExpressed),
-        })
+        choice(&Role::ALL, self.number())
     }
 
     fn handle(&mut self) -> Result<ContainerHandle, Refusal> {
@@ -217,14 +206,14 @@ impl<'a> Line<'a> {
     }
 
     fn pattern(&mut self) -> Result<MessagingPattern, Refusal> {
-        Ok(match self.number32() {
-            0 => MessagingPattern::PublishSubscribe,
-            1 => MessagingPattern::Event,
-            2 => MessagingPattern::RequestResponse,
-            3 => MessagingPattern::Blackboard,
-            _ => return Err(NotExpressed),
-        })
+        choice(&MessagingPattern::ALL, self.number32().into())
     }
+}
+
+/// The choice of this number.
+fn choice<T: Copy>(all: &[T], number: u64) -> Result<T, Refusal> {
+    let place = usize::try_from(number).map_err(|_| NotExpressed)?;
+    all.get(place).copied().ok_or(NotExpressed)
 }
 
 // ---- Texts ----
@@ -429,11 +418,7 @@ fn details(line: &mut Line, side: Option<u32>) -> Result<MessageTypeDetails, Ref
     let words = [(); 3].map(|()| (line.text(), line.number32(), line.size(), line.size()));
     let mut parts = Vec::new();
     for (place, (name, variant, size, alignment)) in words.into_iter().enumerate() {
-        let variant = match variant {
-            0 => TypeVariant::FixedSize,
-            1 => TypeVariant::Dynamic,
-            _ => return Err(NotExpressed),
-        };
+        let variant = choice(&TypeVariant::ALL, variant.into())?;
         let words = match TypeDetail::from_parts(variant, &name?, size, alignment) {
             Ok(part) => {
                 parts.push(part);
@@ -634,29 +619,20 @@ fn make(line: &mut Line, service: &mut Service) -> Answer {
     let pattern = line.pattern()?;
     let number = line.number();
     let [nodes, first, second] = [(); 3].map(|()| line.size());
-    let settings = match pattern {
-        MessagingPattern::PublishSubscribe => {
-            MessagingPatternSettings::PublishSubscribe(publish_subscribe::DynamicConfigSettings {
-                number_of_publishers: first,
-                number_of_subscribers: second,
-            })
-        }
-        MessagingPattern::Event => MessagingPatternSettings::Event(event::DynamicConfigSettings {
-            number_of_listeners: first,
-            number_of_notifiers: second,
-        }),
-        MessagingPattern::RequestResponse => {
-            MessagingPatternSettings::RequestResponse(request_response::DynamicConfigSettings {
-                number_of_servers: first,
-                number_of_clients: second,
-            })
-        }
-        MessagingPattern::Blackboard => {
-            MessagingPatternSettings::Blackboard(blackboard::DynamicConfigSettings {
-                number_of_readers: first,
-                number_of_writers: second,
-            })
-        }
+    macro_rules! settings {
+        ($($kind:ident: $module:ident, $first:ident, $second:ident;)*) => {
+            match pattern {
+                $(MessagingPattern::$kind => MessagingPatternSettings::from(
+                    $module::DynamicConfigSettings { $first: first, $second: second },
+                ),)*
+            }
+        };
+    }
+    let settings = settings! {
+        PublishSubscribe: publish_subscribe, number_of_publishers, number_of_subscribers;
+        Event: event, number_of_listeners, number_of_notifiers;
+        RequestResponse: request_response, number_of_servers, number_of_clients;
+        Blackboard: blackboard, number_of_readers, number_of_writers;
     };
     match DynamicConfig::with_tickets(&settings, nodes, number, line.number()) {
         Ok(made) => *service = Some(made),
@@ -729,113 +705,57 @@ impl Numbers {
             max_number_of_segments: line.word().parse().expect("a word is a number of 8 bits"),
         }
     }
-
-    fn segment(&self) -> Result<DataSegmentType, Refusal> {
-        match self.data_segment {
-            0 => Ok(DataSegmentType::Dynamic),
-            1 => Ok(DataSegmentType::Static),
-            _ => Err(NotExpressed),
-        }
-    }
-
-    fn of_port(port: &PortDetails) -> Self {
-        match port {
-            PortDetails::Publisher(port) => Numbers {
-                number_of_samples: port.number_of_samples,
-                max_slice_len: port.max_slice_len,
-                data_segment: port.data_segment_type as u32,
-                max_number_of_segments: port.max_number_of_segments,
-                ..Numbers::default()
-            },
-            PortDetails::Subscriber(port) => Numbers {
-                buffer_size: port.buffer_size,
-                ..Numbers::default()
-            },
-            PortDetails::Server(port) => Numbers {
-                request_buffer_size: port.request_buffer_size,
-                number_of_responses: port.number_of_responses,
-                max_slice_len: port.max_slice_len,
-                data_segment: port.data_segment_type as u32,
-                max_number_of_segments: port.max_number_of_segments,
-                ..Numbers::default()
-            },
-            PortDetails::Client(port) => Numbers {
-                number_of_requests: port.number_of_requests,
-                response_buffer_size: port.response_buffer_size,
-                max_slice_len: port.max_slice_len,
-                data_segment: port.data_segment_type as u32,
-                max_number_of_segments: port.max_number_of_segments,
-                ..Numbers::default()
-            },
-            PortDetails::Listener(_)
-            | PortDetails::Notifier(_)
-            | PortDetails::Reader(_)
-            | PortDetails::Writer(_) => Numbers::default(),
-        }
-    }
 }
 
-fn port_of_line(line: &mut Line) -> Result<PortDetails, Refusal> {
-    let role = line.role();
-    let [process, seconds, nanoseconds, counter] = line.id();
-    let node_id = line.node();
-    let n = Numbers::of_line(line);
-    let (role, node_id) = (role?, node_id?);
-    macro_rules! id {
-        ($kind:ident) => {
-            $kind::new(process, seconds, nanoseconds, counter)
-        };
-    }
-    Ok(match role {
-        Role::Node => return Err(NotExpressed),
-        Role::Publisher => PortDetails::Publisher(PublisherDetails {
-            publisher_id: id!(UniquePublisherId),
-            node_id,
-            number_of_samples: n.number_of_samples,
-            max_slice_len: n.max_slice_len,
-            data_segment_type: n.segment()?,
-            max_number_of_segments: n.max_number_of_segments,
-        }),
-        Role::Subscriber => PortDetails::Subscriber(SubscriberDetails {
-            subscriber_id: id!(UniqueSubscriberId),
-            node_id,
-            buffer_size: n.buffer_size,
-        }),
-        Role::Notifier => PortDetails::Notifier(NotifierDetails {
-            notifier_id: id!(UniqueNotifierId),
-            node_id,
-        }),
-        Role::Listener => PortDetails::Listener(ListenerDetails {
-            listener_id: id!(UniqueListenerId),
-            node_id,
-        }),
-        Role::Client => PortDetails::Client(ClientDetails {
-            client_id: id!(UniqueClientId),
-            node_id,
-            number_of_requests: n.number_of_requests,
-            response_buffer_size: n.response_buffer_size,
-            max_slice_len: n.max_slice_len,
-            data_segment_type: n.segment()?,
-            max_number_of_segments: n.max_number_of_segments,
-        }),
-        Role::Server => PortDetails::Server(ServerDetails {
-            server_id: id!(UniqueServerId),
-            node_id,
-            request_buffer_size: n.request_buffer_size,
-            number_of_responses: n.number_of_responses,
-            max_slice_len: n.max_slice_len,
-            data_segment_type: n.segment()?,
-            max_number_of_segments: n.max_number_of_segments,
-        }),
-        Role::Reader => PortDetails::Reader(ReaderDetails {
-            reader_id: id!(UniqueReaderId),
-            node_id,
-        }),
-        Role::Writer => PortDetails::Writer(WriterDetails {
-            writer_id: id!(UniqueWriterId),
-            node_id,
-        }),
-    })
+/// Reads and shows details by the numbers that those of each kind have, and by the type of the data
+/// segment of those that have one.
+macro_rules! kinds {
+    ($($kind:ident($details:ident): $id:ident, $id_type:ident; $($number:ident)* $(=> $segment:ident)?;)*) => {
+        impl Numbers {
+            fn of_port(port: &PortDetails) -> Self {
+                match port {
+                    $(PortDetails::$kind(_port) => Numbers {
+                        $($number: _port.$number,)*
+                        $(data_segment: _port.$segment as u32,)?
+                        ..Numbers::default()
+                    },)*
+                }
+            }
+        }
+
+        fn port_of_line(line: &mut Line) -> Result<PortDetails, Refusal> {
+            let role = line.role();
+            let [process, seconds, nanoseconds, counter] = line.id();
+            let node_id = line.node();
+            let numbers = Numbers::of_line(line);
+            let (role, node_id) = (role?, node_id?);
+            Ok(match role {
+                Role::Node => return Err(NotExpressed),
+                $(Role::$kind => PortDetails::$kind($details {
+                    $id: $id_type::new(process, seconds, nanoseconds, counter),
+                    node_id,
+                    $($number: numbers.$number,)*
+                    $($segment: choice(&DataSegmentType::ALL, numbers.data_segment.into())?,)?
+                }),)*
+            })
+        }
+    };
+}
+
+kinds! {
+    Publisher(PublisherDetails): publisher_id, UniquePublisherId;
+        number_of_samples max_slice_len max_number_of_segments => data_segment_type;
+    Subscriber(SubscriberDetails): subscriber_id, UniqueSubscriberId; buffer_size;
+    Notifier(NotifierDetails): notifier_id, UniqueNotifierId;;
+    Listener(ListenerDetails): listener_id, UniqueListenerId;;
+    Client(ClientDetails): client_id, UniqueClientId;
+        number_of_requests response_buffer_size max_slice_len max_number_of_segments
+        => data_segment_type;
+    Server(ServerDetails): server_id, UniqueServerId;
+        request_buffer_size number_of_responses max_slice_len max_number_of_segments
+        => data_segment_type;
+    Reader(ReaderDetails): reader_id, UniqueReaderId;;
+    Writer(WriterDetails): writer_id, UniqueWriterId;;
 }
 
 fn port_field(port: PortDetails) -> String {

@@ -4,7 +4,7 @@ import functools
 import struct
 from collections.abc import Callable, Iterator
 from dataclasses import dataclass
-from typing import Any, TypeVar, Union, cast
+from typing import Any, TypeVar, Union, cast, get_args
 
 from . import _native
 from ._arguments import U32, Checked, integer, shown, utf8
@@ -199,3 +199,6 @@ UniquePortId = Union[
     UniqueServerId, UniqueReaderId, UniqueWriterId,
 ]
 """The id of a port of any role; its class has the `role`."""
+
+PORT_IDS: "dict[Role, type[UniqueId]]" = {kind.role: kind for kind in get_args(UniquePortId)}
+"""The classes of the ids of ports, by their roles."""

@@ -3,6 +3,7 @@
 from collections.abc import Callable, Iterable, Iterator
 from contextlib import contextmanager
 from functools import partial
+from typing import cast
 
 from . import log_writer
 from ._arguments import U64, items, number
@@ -11,7 +12,7 @@ from .dynamic_config import (
     ALL_TICKETS, ContainerHandle, DeadNodeRemoval, DeregisterNodeState, DynamicConfig,
 )
 from .errors import OutOfRangeError, RefusedError, Status
-from .ids import Role, UniqueNodeId, UniquePortId
+from .ids import PORT_IDS, Role, UniqueNodeId, UniquePortId
 from .log_writer import LogCommand, LogReply, LogWriter
 from .static_config import Capacities
 from .texts import MessagingPattern
@@ -40,12 +41,11 @@ class Recorder(DynamicConfig):
         Conforms(calls=3)
 
     Calls that have no line in a log, as `is_locked`, are not written down, and no more is a call
-    with a handle of another service, or of the other kind. A log names the ports that are kept by
-    the numbers of their ids, and not by their kinds. Threads that share a recorder order their
-    calls themselves.
+    with a handle of another service, or of the other kind. Threads that share a recorder order
+    their calls themselves.
     """
 
-    __slots__ = ("_log", "_caller")
+    __slots__ = ("_log", "_caller", "_kinds")
 
     def __init__(
         self,
@@ -64,6 +64,7 @@ class Recorder(DynamicConfig):
         super().__init__(messaging_pattern, service_number, capacities)
         self._log = LogWriter(messaging_pattern, self.service_number, capacities)
         self._caller = self._log.caller("A")
+        self._kinds = [PORT_IDS[role] for role in self.port_roles]
 
     @property
     def log(self) -> str:
@@ -106,9 +107,12 @@ class Recorder(DynamicConfig):
     def remove_dead_node_id(
         self, node_id: UniqueNodeId, keep: Iterable[UniquePortId] = ()
     ) -> DeadNodeRemoval:
-        """`DynamicConfig.remove_dead_node_id`, written down."""
+        """`DynamicConfig.remove_dead_node_id`, written down. A line has no kinds of ports: where
+        one is kept, the port of the other kind with its number is kept too.
+        """
         kept = items(keep, UniquePortId, "remove_dead_node_id.keep")
-        removal = super().remove_dead_node_id(node_id, kept)
+        both = [kind._of(port._lent()) for port in kept for kind in self._kinds]
+        removal = super().remove_dead_node_id(node_id, cast("list[UniquePortId]", both))
         self._write(LogCommand.dead(node_id, kept), LogReply.state(removal.state))
         return removal
 

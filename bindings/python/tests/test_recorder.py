@@ -40,10 +40,8 @@ def step(dice: random.Random, service: Recorder, handles: "list[Any]") -> None:
     elif kind < 8:
         handles.append(service.attach(port(role, dice.choice(PORTS), node)))
     elif kind == 8:
-        # A log names ids without kinds, so the ports of both kinds with one number are kept.
-        number = dice.choice(PORTS)
-        kept = [KINDS[one][1](*number) for one in service.port_roles] * dice.randrange(2)
-        service.remove_dead_node_id(node, kept)
+        kept = [KINDS[dice.choice(service.port_roles)][1](*dice.choice(PORTS))]
+        service.remove_dead_node_id(node, kept * dice.randrange(2))
     elif kind == 9:
         service.list_node_ids()
     elif kind < 12:
@@ -95,6 +93,8 @@ class Recording(unittest.TestCase):
             self.assertEqual(service.log, text)
             self.assertEqual(check_log(service.log), Conforms(1))
         self.assertRaises(iox2sd.NoServiceError, service.list_node_ids)
+        self.assertRaises(iox2sd.NoServiceError, service.remove_dead_node_id, NODES[0], [])
+        self.assertRaises(iox2sd.WrongTypeError, service.remove_dead_node_id, 0, [])
         self.assertEqual((service.log, repr(service)), (text, "<a closed Recorder>"))
 
     def test_with_statements_and_lists_of_a_kind_are_written(self):
@@ -111,6 +111,20 @@ class Recording(unittest.TestCase):
             ],
         )
         self.assertEqual(check_log(service.log), Conforms(5))
+
+    def test_ports_of_one_number_are_kept_together(self):
+        with Recorder.event(7, max_nodes=1, max_listeners=2, max_notifiers=2) as service:
+            service.register_node_id(NODES[0])
+            ports = [(role, parts) for role in service.port_roles for parts in PORTS[:2]]
+            for role, parts in ports:
+                service.attach(port(role, parts, NODES[0]))
+            kept = iox2sd.UniqueNotifierId(*PORTS[0])
+            removal = service.remove_dead_node_id(NODES[0], [kept])
+            self.assertEqual((removal.first, removal.second), (1, 1))
+            left = [one.port_id for one in service.ports_of(NODES[0])]
+            self.assertEqual(left, [iox2sd.UniqueListenerId(*PORTS[0]), kept])
+        self.assertIn("\nA> dead 1.1.0.5 skip 7.0.0.0\nA< has-owners\n", service.log)
+        self.assertEqual(check_log(service.log), Conforms(6))
 
     def test_all_tickets(self):
         for tickets in (0, 2**64 - 2, 2**64, -1):

@@ -17,6 +17,7 @@ pub(crate) use satisfies::Fixed;
 pub(crate) use service::Service;
 
 use crate::sys;
+use std::ffi::CStr;
 
 /// `Ok` exactly for `IOX2SD_STATUS_DONE`.
 #[inline]
@@ -101,6 +102,25 @@ texts! {
     layer_version(): iox2sd_layer_version_at
     id_text(id: sys::iox2sd_id): iox2sd_id_text_at
     default_text(which: u32): iox2sd_default_text_at
+}
+
+/// Defines calls that return a text which the library has.
+macro_rules! strs {
+    ($($name:ident: $export:ident)*) => {
+        $(
+            pub(crate) fn $name(number: u64) -> &'static str {
+                // SAFETY: the call takes no pointer, and what it returns lasts and ends in a zero
+                // byte.
+                let text = unsafe { CStr::from_ptr(sys::$export(number)) };
+                text.to_str().expect("the library has texts")
+            }
+        )*
+    };
+}
+
+strs! {
+    role_str: iox2sd_role_str
+    pattern_str: iox2sd_pattern_str
 }
 
 /// Defines calls on values alone.

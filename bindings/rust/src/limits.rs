@@ -11,3 +11,4 @@ pub(crate) const FILE_PATH: usize = 255;
 pub(crate) const RESTRICTED_FILE_NAME: usize = 64;
 pub(crate) const SERVICE_NAME: usize = 255;
 pub(crate) const INTERNAL_SERVICE_PREFIX: &str = "iox2://";
+pub(crate) const CALLER_NAME: usize = 16;

@@ -4,8 +4,8 @@
 //!
 //! A [`LogWriter`] has the log of one service, and each thread a [`Caller`] of its own. A call is
 //! begun right before the registry is called, and ended right after it replied. Neither takes a
-//! lock: a begin reads the one counter that callers share, an end adds to it, and the rest is
-//! written to memory of the caller's own. No function of the library is called.
+//! lock or calls the library: a begin reads the one counter that callers share, an end adds to it,
+//! and the rest is written to memory of the caller's own.
 //!
 //! ```
 //! use iox2sd::conform::check_log;

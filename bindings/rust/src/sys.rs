@@ -2,7 +2,7 @@
 //! compares the structs with the headers, and `tests/declarations.rs` the numbers and functions.
 #![allow(non_camel_case_types)]
 
-use std::ffi::c_void;
+use std::ffi::{c_char, c_void};
 
 /// Numbers of the headers, by their type.
 macro_rules! numbers {
@@ -223,6 +223,8 @@ functions! {
     (status: u32, out: *mut u8, capacity: usize) -> iox2sd_text_answer: iox2sd_status_text_at;
     (out: *mut u8, capacity: usize) -> iox2sd_text_answer:
         iox2sd_version_at iox2sd_layer_version_at;
+    (role: u64) -> *const c_char: iox2sd_role_str;
+    (pattern: u64) -> *const c_char: iox2sd_pattern_str;
     (id: iox2sd_id) -> bool: iox2sd_id_is_node;
     (id: iox2sd_id) -> u64: iox2sd_id_owner_id;
     (id: iox2sd_id, other: iox2sd_id) -> bool: iox2sd_id_is_before;

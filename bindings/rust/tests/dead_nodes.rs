@@ -3,7 +3,8 @@
 
 mod common;
 
-use common::{node, ports_of_kind, service, KINDS};
+use common::{node, ports_of_kind, service, settings, KINDS};
+use iox2sd::conform::{check_log, Recorder, Verdict};
 use iox2sd::dynamic_config::{
     DeregisterNodeState, DynamicConfig, ListenerDetails, NotifierDetails, PortCleanupAction,
     PortDetails,
@@ -201,4 +202,43 @@ fn a_callback_that_panics_leaves_the_service_as_it_was() {
     }));
     assert!(panicked.is_err());
     assert_eq!((ports_of(&service, 1), service.number_of_nodes()), before);
+}
+
+/// A line of a log has no kinds of ports, so a recorder keeps those of one number together.
+#[test]
+fn a_recorder_keeps_ports_of_one_number_together() {
+    let mut service = Recorder::new(settings(MessagingPattern::Event, [2, 2]), 1, 7).unwrap();
+    let node_id = node(1);
+    service.register_node_id(node_id).unwrap();
+    for counter in [1, 2] {
+        let listener_id = UniqueListenerId::new(1, 0, 0, counter);
+        let notifier_id = UniqueNotifierId::new(1, 0, 0, counter);
+        service
+            .attach(ListenerDetails {
+                listener_id,
+                node_id,
+            })
+            .unwrap();
+        service
+            .attach(NotifierDetails {
+                notifier_id,
+                node_id,
+            })
+            .unwrap();
+    }
+    let kept = UniquePortId::Notifier(UniqueNotifierId::new(1, 0, 0, 2));
+    let mut answered = 0;
+    let state = service.remove_dead_node_id(&node_id, |port| {
+        answered += 1;
+        match port == kept {
+            true => PortCleanupAction::SkipPort,
+            false => PortCleanupAction::RemovePort,
+        }
+    });
+    assert_eq!((state, answered), (DeregisterNodeState::HasOwners, 4));
+    let listener = UniquePortId::Listener(UniqueListenerId::new(1, 0, 0, 2));
+    let left = service.service().ports_of(&node_id);
+    assert!(left.map(|port| port.port_id()).eq([listener, kept]));
+    let conforms = Verdict::Conforms { calls: 6 };
+    assert_eq!(check_log(&service.log()), Ok(conforms));
 }

@@ -57,21 +57,25 @@ fn in_c(rust: &str) -> String {
     match rust {
         "u8" | "u32" | "u64" => format!("uint{}_t", &rust[1..]),
         "usize" => "size_t".to_string(),
+        "c_char" => "char".to_string(),
         _ if rust.starts_with("*const ") => format!("const {}", pointer(&rust[7..])),
         _ if rust.starts_with("*mut ") => pointer(&rust[5..]),
         other => other.to_string(),
     }
 }
 
+/// A name behind its type of Rust, as C writes them.
+fn named_in_c(kind: &str, name: &str) -> String {
+    let kind = in_c(kind);
+    let space = if kind.ends_with('*') { "" } else { " " };
+    format!("{kind}{space}{name}")
+}
+
 /// The arguments of a function of Rust as C writes them.
 fn arguments_in_c(arguments: &str) -> String {
     let each = arguments.split(',').filter_map(|argument| {
         let (name, kind) = argument.split_once(':')?;
-        let kind = in_c(kind);
-        Some(format!(
-            "{kind}{}{name}",
-            if kind.ends_with('*') { "" } else { " " }
-        ))
+        Some(named_in_c(kind, name))
     });
     let each: Vec<_> = each.collect();
     if each.is_empty() {
@@ -102,7 +106,7 @@ fn each_function_is_that_of_the_headers() {
         let (answer, names) = rest.split_once(':').unwrap();
         for name in names.split(' ') {
             let arguments = arguments_in_c(arguments);
-            let declared = format!("{} {name}({arguments});", in_c(answer));
+            let declared = format!("{}({arguments});", named_in_c(answer, name));
             assert!(headers.contains(&declared), "{declared}");
             count += 1;
         }

@@ -365,6 +365,19 @@ fn names_have_one_to_sixteen_letters_and_digits() {
     }
 }
 
+/// A name is taken exactly where the judge reads it as that of a caller.
+#[test]
+fn names_are_those_that_the_judge_reads() {
+    let log = a_log();
+    let letters = (0..=u8::MAX).map(char::from);
+    let lengths = (0..40).map(|length| "A".repeat(length));
+    for name in letters.map(String::from).chain(lengths) {
+        let judged = check_log(&format!("{SERVICE}{name}> nodes\n"));
+        let is_read = judged == Ok(Verdict::Conforms { calls: 1 });
+        assert_eq!(log.caller(&name).is_ok(), is_read, "{name:?}");
+    }
+}
+
 #[test]
 fn threads_write_one_log() {
     let log = a_log();

@@ -22,17 +22,14 @@ fn sources(folder: &Path) -> Vec<PathBuf> {
 /// The one file of limits, which is compared with the library.
 const LIMITS: &str = "limits.rs";
 
-/// The lines of code of all sources but the declarations, the limits, the examples and the writer of
-/// logs, without comments and pages, each with its file. A log is written without a call of the
-/// library, which has none that writes its lines: that logs are read as they were meant is tested
-/// by judging them.
+/// The lines of code of all sources but the declarations, the limits and the examples, without
+/// comments and pages, each with its file.
 fn code() -> Vec<(String, String)> {
     let folder = Path::new(env!("CARGO_MANIFEST_DIR")).join("src");
     let mut lines = Vec::new();
     for file in sources(&folder) {
         let name = file.strip_prefix(&folder).unwrap().display().to_string();
-        let is_log = name == "log.rs" || Path::new(&name).starts_with("log");
-        if is_log || ["sys.rs", "examples.rs", LIMITS].contains(&name.as_str()) {
+        if ["sys.rs", "examples.rs", LIMITS].contains(&name.as_str()) {
             continue;
         }
         for line in fs::read_to_string(&file).unwrap().lines() {
@@ -61,10 +58,11 @@ fn no_limit_stands_in_the_code() {
         let is_number = |word: &&str| word.starts_with(|letter: char| letter.is_ascii_digit());
         numbers.extend(words.filter(is_number).map(str::to_string));
     }
-    // The sizes of buffers for a short text, a short list and a report, and the radix of an id's
-    // text, besides 0, 1 and 2.
-    let expected = ["0", "1", "16", "2", "256", "512"].map(str::to_string);
+    // The sizes of buffers for a short text, a short list and a report, the radix of an id's text,
+    // and the line of a processor's cache, besides 0, 1 and 2.
+    let expected = ["0", "1", "128", "16", "2", "256", "512"].map(str::to_string);
     assert_eq!(numbers, BTreeSet::from(expected));
+    assert_eq!(places("(128)"), ["log/record.rs: #[repr(align(128))]"]);
     assert_eq!(places("256"), ["text.rs: const CAPACITY: usize = 256;"]);
     assert_eq!(places("512"), ["library.rs: const REPORT: usize = 512;"]);
     let sixteens = [
@@ -99,6 +97,7 @@ fn each_limit_is_compared_with_the_library() {
         "RESTRICTED_FILE_NAME",
         "SERVICE_NAME",
         "INTERNAL_SERVICE_PREFIX",
+        "CALLER_NAME",
     ];
     assert_eq!(names, compared);
 }
@@ -117,10 +116,71 @@ fn no_text_of_the_layer_stands_in_the_code() {
         "\"/",
         "/\"",
         "starts_with",
-        "is_ascii",
     ] {
         assert_eq!(places(text), Vec::<String>::new(), "{text}");
     }
+    // The name of a log's caller, which `logs.rs` compares with the library letter by letter.
+    let legal = "let is_legal = name.bytes().all(|byte| byte.is_ascii_alphanumeric());";
+    assert_eq!(places("is_ascii"), [format!("log/record.rs: {legal}")]);
+}
+
+/// The words of a log's lines, which the library reads and does not write. It has those of patterns
+/// and roles, and the text of an id that is listed.
+#[test]
+fn the_words_of_the_lines_of_a_log_stand_in_one_file() {
+    let texts_of = |file: &str| -> BTreeSet<String> {
+        let of_file = |(name, code): (String, String)| (name == file).then_some(code);
+        let lines: Vec<String> = code().into_iter().filter_map(of_file).collect();
+        let texts = |line: &String| -> Vec<String> {
+            line.split('"')
+                .skip(1)
+                .step_by(2)
+                .map(str::to_string)
+                .collect()
+        };
+        lines.iter().flat_map(texts).collect()
+    };
+    let lines = [
+        r"service {pattern} {number} {max_nodes} {first} {second}\n",
+        "> ",
+        "< ",
+        "register {}",
+        "deregister {slot} {ticket}",
+        "add {role} {port} {}",
+        "release {} {slot} {ticket}",
+        "dead {}",
+        " skip",
+        " {}",
+        "nodes",
+        "list {}",
+        "count {}",
+        "handle {slot} {ticket}",
+        "count {ports}",
+        "locked",
+        "not-registered",
+        "full",
+        "wrong-pattern",
+        "has-owners",
+        "no-owners",
+        "ports-attached",
+        "released",
+        "not-owned",
+        "list",
+        " {id}",
+        "{process}.{seconds}.{nanoseconds}.{counter}",
+        "",
+        "a string takes all texts",
+    ];
+    assert_eq!(texts_of("log/lines.rs"), lines.map(str::to_string).into());
+    assert_eq!(texts_of("log/record.rs"), BTreeSet::new());
+    let errors = [
+        "no memory",
+        "a caller without an open call is expected",
+        "the role of a port is expected",
+        "one to sixteen letters and digits are expected",
+        "a call that is dropped has no end",
+    ];
+    assert_eq!(texts_of("log.rs"), errors.map(str::to_string).into());
 }
 
 /// Sets are sorted by the library. The ids of ports that stay are sorted for it, since it is faster

@@ -161,17 +161,18 @@ impl Walk {
 
     fn dead(&mut self, random: &mut Random) {
         let id = random.id();
-        let kept = (0..random.below(4)).map(|_| [7, 0, 0, random.below(5) as u32]);
+        let kept = (0..random.below(4)).map(|_| (self.role(random), random.below(5)));
         let kept: Vec<_> = kept.collect();
+        let mut skipped = String::new();
         let left = self.service.remove_dead_node_id(&node(id), |port| {
-            let is_kept = |id: &[u32; 4]| port.value() == (7 << 96) + u128::from(id[3]);
-            match kept.iter().any(is_kept) {
-                true => PortCleanupAction::SkipPort,
-                false => PortCleanupAction::RemovePort,
+            let counter = port.value() as u32 as usize;
+            if !kept.contains(&(port.role(), counter)) {
+                return PortCleanupAction::RemovePort;
             }
+            skipped += &format!(" {}", dotted([7, 0, 0, counter as u32]));
+            PortCleanupAction::SkipPort
         });
-        let skipped: String = kept.iter().map(|id| format!(" {}", dotted(*id))).collect();
-        let skip = if kept.is_empty() { "" } else { " skip" };
+        let skip = if skipped.is_empty() { "" } else { " skip" };
         let line = format!("dead {}{skip}{skipped}", dotted(id));
         self.note(&line, Err(state(left).into()));
     }

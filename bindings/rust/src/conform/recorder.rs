@@ -5,6 +5,7 @@ use crate::dynamic_config::{
 };
 use crate::identifiers::{UniqueNodeId, UniquePortId};
 use crate::log::{self, Command, Ends, Record, Reply};
+use std::collections::HashSet;
 
 /// A service that writes down each call on it with its reply, as a log that
 /// [`check_log`](super::check_log) judges. So what a test saw is compared with the proved machine.
@@ -248,9 +249,8 @@ impl Recorder {
         removed
     }
 
-    /// [`DynamicConfig::remove_dead_node_id`], written down. A log has the ids of ports that are
-    /// skipped without their kinds, so a log of ports of one node whose ids have one value conforms
-    /// only where all of them are skipped or none.
+    /// [`DynamicConfig::remove_dead_node_id`], written down. A line has no kinds of ports: where one
+    /// is kept, the port of the other kind with its number is kept too.
     ///
     /// ```
     /// # use iox2sd::{conform::Recorder, prelude::*};
@@ -266,13 +266,18 @@ impl Recorder {
         dead: &UniqueNodeId,
         mut callback: F,
     ) -> DeregisterNodeState {
-        let mut skipped = Vec::new();
+        let ports = self.service.ports_of(dead);
+        let skipped: Vec<_> = ports
+            .map(|port| port.port_id())
+            .filter(|port| callback(*port) == PortCleanupAction::SkipPort)
+            .collect();
+        let numbers: HashSet<_> = skipped.iter().map(UniquePortId::value).collect();
         let state = self.service.remove_dead_node_id(dead, |port| {
-            let action = callback(port);
-            if action == PortCleanupAction::SkipPort {
-                skipped.push(port);
+            if numbers.contains(&port.value()) {
+                PortCleanupAction::SkipPort
+            } else {
+                PortCleanupAction::RemovePort
             }
-            action
         });
         self.write(Command::Dead(*dead, skipped), state_reply(state));
         state

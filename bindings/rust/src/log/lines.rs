@@ -4,7 +4,9 @@ use super::record::{Event, Record};
 use super::{Command, Reply};
 use crate::container::Role;
 use crate::dynamic_config::MessagingPatternSettings;
-use crate::messaging_pattern::MessagingPattern;
+use crate::library;
+use crate::plain::Plain;
+use crate::sys;
 use std::fmt::{self, Write};
 
 /// The line of a service.
@@ -14,12 +16,7 @@ pub(crate) fn service(
     number: u64,
 ) -> String {
     let (pattern, [first, second]) = settings.parts();
-    let pattern = match pattern {
-        MessagingPattern::PublishSubscribe => "publish-subscribe",
-        MessagingPattern::Event => "event",
-        MessagingPattern::RequestResponse => "request-response",
-        MessagingPattern::Blackboard => "blackboard",
-    };
+    let pattern = library::pattern_str(pattern.as_c());
     format!("service {pattern} {number} {max_nodes} {first} {second}\n")
 }
 
@@ -61,20 +58,20 @@ fn write_event(text: &mut String, name: &str, event: &Event<'_>) -> fmt::Result 
 
 fn write_command(text: &mut String, command: &Command) -> fmt::Result {
     match command {
-        Command::Register(node) => write!(text, "register {}", Dotted(node.value())),
+        Command::Register(node) => write!(text, "register {}", Dotted(node.as_c())),
         Command::Deregister { slot, ticket } => write!(text, "deregister {slot} {ticket}"),
         Command::Add(port, node) => {
-            let (role, port) = (word_of(port.role()), Dotted(port.value()));
-            write!(text, "add {role} {port} {}", Dotted(node.value()))
+            let (role, port) = (word_of(port.role()), Dotted(port.parts()));
+            write!(text, "add {role} {port} {}", Dotted(node.as_c()))
         }
         Command::Release { role, slot, ticket } => {
             write!(text, "release {} {slot} {ticket}", word_of(*role))
         }
         Command::Dead(node, skipped) => {
-            write!(text, "dead {}", Dotted(node.value()))?;
+            write!(text, "dead {}", Dotted(node.as_c()))?;
             text.push_str(if skipped.is_empty() { "" } else { " skip" });
             let mut ports = skipped.iter();
-            ports.try_for_each(|port| write!(text, " {}", Dotted(port.value())))
+            ports.try_for_each(|port| write!(text, " {}", Dotted(port.parts())))
         }
         Command::Nodes => text.write_str("nodes"),
         Command::List(role) => write!(text, "list {}", word_of(*role)),
@@ -108,18 +105,21 @@ fn write_list(text: &mut String, ids: &[impl fmt::Display]) -> fmt::Result {
 }
 
 /// An id as commands have it.
-struct Dotted(u128);
+struct Dotted(sys::iox2sd_id);
 
 impl fmt::Display for Dotted {
     fn fmt(&self, f: &mut fmt::Formatter<'_>) -> fmt::Result {
-        let Dotted(id) = self;
-        let part = |shift: u32| (id >> shift) & u128::from(u32::MAX);
-        let [process, seconds, nanoseconds, counter] = [96, 64, 32, 0].map(part);
+        let sys::iox2sd_id {
+            process,
+            seconds,
+            nanoseconds,
+            counter,
+        } = self.0;
         write!(f, "{process}.{seconds}.{nanoseconds}.{counter}")
     }
 }
 
 /// A role as commands have it.
-fn word_of(role: Role) -> String {
-    role.to_string().to_lowercase()
+fn word_of(role: Role) -> &'static str {
+    library::role_str(role.as_c())
 }

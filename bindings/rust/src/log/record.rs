@@ -2,6 +2,7 @@
 
 use super::{Command, LogError, Reply};
 use crate::container::Role;
+use crate::limits;
 use std::sync::atomic::{AtomicU64, Ordering};
 
 /// How many calls have ended, or callers died: in a line of the processor's cache of its own.
@@ -47,14 +48,11 @@ pub(crate) struct Record {
     died: Option<u64>,
 }
 
-/// The most bytes of a caller's name.
-const MAX_NAME: usize = 16;
-
 impl Record {
     /// Nothing yet, of a caller with this name.
     pub(crate) fn new(name: &str) -> Result<Self, LogError> {
         let is_legal = name.bytes().all(|byte| byte.is_ascii_alphanumeric());
-        if name.is_empty() || name.len() > MAX_NAME || !is_legal {
+        if name.is_empty() || name.len() > limits::CALLER_NAME || !is_legal {
             return Err(LogError::NoName);
         }
         let mut record = Record::default();
