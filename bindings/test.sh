@@ -313,11 +313,11 @@ fi
 
 # ---- The same programs in each language, where there is an iceoryx2.toml ----
 
-# The first of the programs of a name is what the others are compared with.
+# The first of the programs of a name is what the others are compared with. They run in docs/.
 alike() {
     local name=$1
     shift
-    if ! "$@" > "$work/printed"; then return 1; fi
+    if ! (cd ../docs && "$@") > "$work/printed"; then return 1; fi
     if [ ! -e "$work/$name" ]; then
         [ -s "$work/printed" ] && mv "$work/printed" "$work/$name"
     else
@@ -330,7 +330,7 @@ compiled() {
     has "$1" || return 0
     run "$1 $2.$3 compiles" "$1" "$4" "${warnings[@]}" -O2 -I../include "../examples/$2.$3" \
         out/libiox2sd.a -o "$work/caller" &&
-        run "$1 $2.$3 prints the same as the others" alike "$2" env -C ../docs "$work/caller"
+        run "$1 $2.$3 prints the same as the others" alike "$2" "$work/caller"
 }
 
 # Runs a program in a package of its own in a folder outside, which depends on the crate at a path.
@@ -347,25 +347,21 @@ iox2sd = { path = "$2" }
 name = "$1"
 path = "$1.rs"
 END
-    CARGO_TARGET_DIR=$work/rust env -C ../docs -u IOX2SD_LIB_DIR cargo run --quiet --offline \
-        --jobs 1 --manifest-path "$work/package/Cargo.toml"
+    CARGO_TARGET_DIR=$work/rust env -u IOX2SD_LIB_DIR cargo run --quiet --offline --jobs 1 \
+        --manifest-path "$work/package/Cargo.toml"
 }
 
 of_python() {
-    PYTHONDONTWRITEBYTECODE=1 PYTHONPATH=$PWD/python IOX2SD_LIBRARY=$PWD/out/libiox2sd.so.2 \
-        env -C ../docs python3 "../examples/$1.py"
+    PYTHONDONTWRITEBYTECODE=1 PYTHONPATH=../bindings/python \
+        IOX2SD_LIBRARY=../bindings/out/libiox2sd.so.2 python3 ../examples/first.py
 }
 
-for name in short first; do
-    compiled gcc "$name" c -std=c99
-    compiled g++ "$name" cpp -std=c++17
-    if has cargo; then
-        run "$name.rs prints the same as the others" alike "$name" of_rust "$name" "$PWD/rust"
-    fi
-    if has python3; then
-        run "$name.py prints the same as the others" alike "$name" of_python "$name"
-    fi
-done
+compiled gcc first c -std=c99
+compiled g++ first cpp -std=c++17
+if has cargo; then
+    run "first.rs prints the same as the others" alike first of_rust first "$PWD/rust"
+fi
+if has python3; then run "first.py prints the same as the others" alike first of_python; fi
 
 if has cargo; then
     for name in builder monitor settings; do

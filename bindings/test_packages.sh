@@ -40,7 +40,7 @@ run() {
     fi
 }
 prints() { diff <("${@:2}") "$1"; }
-printf 'slot 0 of service 7\nit is locked\n' > "$work/short"
+printf 'slot 0 of service 7\nit is locked\n' > "$work/expected"
 
 run "the repository and the toolchain cannot be seen" \
     bash -c '[ -z "$(ls -A "$1")" ] && [ -z "$(ls -A "$2")" ]' - "$3" "$4"
@@ -54,22 +54,22 @@ tar xzf "$work"/dist/iox2sd-*-linux-gnu.tar.gz -C "$work/any where"
 version=$(cd "$work/any where" && echo iox2sd-* | sed 's/^iox2sd-\([0-9.]*\)-.*/\1/')
 mv "$work/any where"/iox2sd-* "$work/prefix"
 prefix=$work/prefix
-mkdir "$work/c" && cd "$work/c" && cp "$work"/examples/short.* "$prefix/share/doc/iox2sd/iceoryx2.toml" .
-c_static() { gcc -std=c99 "-I$prefix/include" short.c "$prefix/lib/libiox2sd.a" -o c && prints "$work/short" ./c; }
+mkdir "$work/c" && cd "$work/c" && cp "$work"/examples/first.* "$prefix/share/doc/iox2sd/iceoryx2.toml" .
+c_static() { gcc -std=c99 "-I$prefix/include" first.c "$prefix/lib/libiox2sd.a" -o c && prints "$work/expected" ./c; }
 cpp_static() {
-    g++ -std=c++17 "-I$prefix/include" short.cpp "$prefix/lib/libiox2sd.a" -o cpp &&
-        prints "$work/short" ./cpp
+    g++ -std=c++17 "-I$prefix/include" first.cpp "$prefix/lib/libiox2sd.a" -o cpp &&
+        prints "$work/expected" ./cpp
 }
 by_pkg_config() {
     PKG_CONFIG_PATH=$prefix/lib/pkgconfig
     export PKG_CONFIG_PATH
-    gcc short.c $(pkg-config --cflags --libs iox2sd) -o c && prints "$work/short" ./c
+    gcc first.c $(pkg-config --cflags --libs iox2sd) -o c && prints "$work/expected" ./c
 }
 examples=$prefix/share/doc/iox2sd/examples
-by_make() { make -C "$examples" && prints "$work/short" "$examples/short_c" && make -C "$examples" clean; }
+by_make() { make -C "$examples" && prints "$work/expected" "$examples/first_c" && make -C "$examples" clean; }
 by_cmake() {
     cmake -S "$examples" -B "$work/build" && cmake --build "$work/build" &&
-        prints "$work/short" "$work/build/short_cpp" && prints "$work/short" "$work/build/short_c"
+        prints "$work/expected" "$work/build/first_cpp" && prints "$work/expected" "$work/build/first_c"
 }
 # A program of the archive on its stored run.
 repeats() {
@@ -152,22 +152,22 @@ fi
 
 by_cargo() {
     mkdir -p "$work/rust/src" && tar xzf "$work"/dist/iox2sd-*-rust.tar.gz -C "$work/rust" &&
-        cp "$work/examples/short.rs" "$work/rust/src/main.rs" && cp iceoryx2.toml "$work/rust" &&
+        cp "$work/examples/first.rs" "$work/rust/src/main.rs" && cp iceoryx2.toml "$work/rust" &&
         printf '[package]\nname = "mine"\nedition = "2021"\n[dependencies]\niox2sd = { path = "%s" }\n' \
             "$(basename "$work"/rust/iox2sd-*)" > "$work/rust/Cargo.toml" &&
         (cd "$work/rust" && env -u IOX2SD_LIB_DIR cargo run --quiet --offline) > "$work/printed" &&
-        diff "$work/printed" "$work/short"
+        diff "$work/printed" "$work/expected"
 }
 by_pip() {
     python3 -m venv "$work/venv" &&
         "$work/venv/bin/pip" install --quiet --no-index "$work"/dist/*.whl &&
-        prints "$work/short" "$work/venv/bin/python" -I "$work/examples/short.py"
+        prints "$work/expected" "$work/venv/bin/python" -I "$work/examples/first.py"
 }
 # The archive of sources takes the library of the prefix.
 from_sources() {
     IOX2SD_LIBRARY=$(echo "$prefix"/lib/libiox2sd.so.[0-9]) "$work/venv/bin/pip" install --quiet \
         --no-index --force-reinstall "$work/dist/iox2sd-$version.tar.gz" &&
-        prints "$work/short" "$work/venv/bin/python" -I "$work/examples/short.py"
+        prints "$work/expected" "$work/venv/bin/python" -I "$work/examples/first.py"
 }
 if has cargo; then run "crate: cargo run" by_cargo; fi
 if has python3; then
@@ -188,13 +188,13 @@ debs() {
 installed() { debs -i "$work"/dist/*.deb && (cd "$root" && find . -path ./var -prune -o -print); }
 used() {
     local lib=$root/usr/lib/x86_64-linux-gnu
-    gcc "-I$root/usr/include" short.c "$lib/libiox2sd.a" -o c && prints "$work/short" ./c &&
-        gcc "-I$root/usr/include" short.c "-L$lib" -liox2sd -o c &&
-        LD_LIBRARY_PATH=$lib prints "$work/short" ./c &&
+    gcc "-I$root/usr/include" first.c "$lib/libiox2sd.a" -o c && prints "$work/expected" ./c &&
+        gcc "-I$root/usr/include" first.c "-L$lib" -liox2sd -o c &&
+        LD_LIBRARY_PATH=$lib prints "$work/expected" ./c &&
         ! grep rpath "$lib/pkgconfig/iox2sd.pc" &&
         "$root/usr/bin/iox2-replay" < "$work/replay/stdin" | diff - "$work/replay/stdout" &&
-        PYTHONPATH=$root/usr/lib/python3/dist-packages prints "$work/short" \
-            python3 "$work/examples/short.py"
+        PYTHONPATH=$root/usr/lib/python3/dist-packages prints "$work/expected" \
+            python3 "$work/examples/first.py"
 }
 removed() {
     debs --purge libiox2sd2 libiox2sd-dev python3-iox2sd iox2sd-tools &&

@@ -74,7 +74,7 @@ OF_FILES = {
 """The status of the program settings.py of files, and what it prints of them."""
 
 LAST = "DeregisterNodeState.NO_MORE_OWNERS\n"
-SHORT = """\
+FIRST = """\
 slot 0 of service 7
 it is locked
 """
@@ -95,7 +95,7 @@ class Examples(unittest.TestCase):
     def test_examples(self):
         folders = (PROJECT / "examples", PACKAGE / "examples")
         found = {path for folder in folders for path in folder.glob("*.py")}
-        elsewhere = {"short", "first", "settings"}
+        elsewhere = {"first", "settings"}
         self.assertEqual({path.stem for path in found} - elsewhere, set(EXPECTED))
         for path in found:
             if path.stem in EXPECTED:
@@ -115,7 +115,7 @@ class Examples(unittest.TestCase):
         self.assertIn("No such file", ended.stderr)
 
     def test_programs_of_the_pages(self):
-        pages = {PROJECT / "docs" / "PYTHON.md": SHORT, PACKAGE / "README.md": LAST}
+        pages = {PROJECT / "docs" / "PYTHON.md": FIRST, PACKAGE / "README.md": LAST}
         for page, expected in pages.items():
             program = re.search(r"```python\n(.*?)```", page.read_text(), re.DOTALL).group(1)
             with self.subTest(page=page):
