@@ -1,7 +1,8 @@
 """The page of the headline: its sentences, the clauses that carry them, and all definitions behind.
 
-The sentences are the list below `## The headline` of docs/PROMISES.md. Each names its functions, as
-"`Type::method`, `function` of `crate`".
+The sentences are the lists below `## The headline` of docs/PROMISES.md. Each names its functions, as
+"`Type::method`, `function` of `crate`". The definitions behind the first list come first, then those
+that the next one needs beside them.
 """
 
 import re
@@ -26,13 +27,13 @@ class Function:
 
 
 def sentences(promises):
-    """Each sentence of the headline, with the paths of the functions that it names."""
+    """Of each list its sentences, with the paths of the functions that they name."""
     below = promises.partition("\n## The headline\n")[2].partition("\n## ")[0]
-    for entry in re.split(r"\n- ", below)[1:]:
-        text = " ".join(entry.partition("\n\n")[0].split())
-        paths = [(crate, path) for names, crate in CITED.findall(text)
-                 for path in re.findall(r"`([\w:]+)`", names)]
-        yield text, paths
+    for block in below.strip().split("\n\n"):
+        texts = [" ".join(entry.split()) for entry in re.split(r"^- ", block, flags=re.M)[1:]]
+        if texts:
+            yield [(text, [(crate, path) for names, crate in CITED.findall(text)
+                           for path in re.findall(r"`([\w:]+)`", names)]) for text in texts]
 
 
 def cited(text, scope):
@@ -50,12 +51,19 @@ class Headline:
         self.project = project
         self.scope_in = scope_in
         self.problems = []
-        self.sentences = [(text, [self.function(*path) for path in paths])
-                          for text, paths in sentences(promises)]
-        if len(self.sentences) < 2 or not all(named for _, named in self.sentences):
+        lists = [[(text, [self.function(*path) for path in paths]) for text, paths in each]
+                 for each in sentences(promises)]
+        named = [functions for each in lists for _, functions in each]
+        if len(named) < 2 or not all(named):
             self.problems.append("docs/PROMISES.md: a sentence of the headline names no function")
-        self.sentences = [(text, [f for f in named if f]) for text, named in self.sentences]
-        self.definitions, self.trusted = self.closure()
+        self.sentences, self.parts, self.trusted = [], [], set()
+        for each in lists:
+            functions = [f for _, found in each for f in found if f]
+            self.sentences += [(text, [f for f in found if f]) for text, found in each]
+            behind, trusted = self.closure(functions)
+            before = {id(d) for part in self.parts for d in part}
+            self.parts.append([d for d in behind if id(d) not in before])
+            self.trusted |= trusted
 
     def function(self, crate, path):
         """The function at a path of a crate: of a module, of a type or of a trait."""
@@ -89,17 +97,16 @@ class Headline:
             for block, home in shown.models:
                 yield shown, block, self.scope_in(home, block)
 
-    def closure(self):
+    def closure(self, functions):
         """All definitions behind the clauses and the models, and what they take from libraries."""
         left = []
-        for _, functions in self.sentences:
-            for function in functions:
-                for clause in function.item.clauses:
-                    left += cited(clause.text, function.scope)
-                for _, block, scope in self.models(function):
-                    for member in block.members:
-                        for clause in member.clauses:
-                            left += cited(clause.text, scope)
+        for function in functions:
+            for clause in function.item.clauses:
+                left += cited(clause.text, function.scope)
+            for _, block, scope in self.models(function):
+                for member in block.members:
+                    for clause in member.clauses:
+                        left += cited(clause.text, scope)
         found, trusted = {}, set()
         while left:
             taken = self.project.origin(left.pop())
@@ -111,7 +118,7 @@ class Headline:
                 found[id(definition)] = definition
                 left += cited(definition.text, definition.scope)
         order = {id(d): at for at, d in enumerate(self.in_reading_order())}
-        return sorted(found.values(), key=lambda d: order[id(d)]), sorted(trusted)
+        return sorted(found.values(), key=lambda d: order[id(d)]), trusted
 
     def in_reading_order(self):
         """All definitions: crates bottom-up, and each file of one after those that it uses."""
@@ -130,10 +137,11 @@ class Headline:
             for module in done:
                 yield from (d for d in crate.definitions if d.module == module)
 
-    def lines(self):
-        """How many lines the definitions have, with the comments above them."""
-        return sum(d.text.strip().count("\n") + 1 + (len(d.comment) + 96) // 97
-                   for d in self.definitions)
+    def counts(self):
+        """How many definitions each list needs, and their lines with the comments above them."""
+        for part in self.parts:
+            lines = sum(d.text.strip().count("\n") + 1 + (len(d.comment) + 96) // 97 for d in part)
+            yield f"{plural(len(part), 'definition')} in {lines} lines"
 
     def summary(self, inline):
         """The sentences, each with links to its functions."""
@@ -142,7 +150,7 @@ class Headline:
                 f'<a href="{f.link}"><code>{breakable(f.name)}</code></a>' for f in functions)
             for text, functions in self.sentences)
         return (f'<ul>{rows}</ul><p><a href="headline.html">The definitions behind these '
-                f"sentences</a>, to be read in one sitting: {self.lines()} lines.</p>")
+                f"sentences</a>, to be read in one sitting: {', and then '.join(self.counts())}.</p>")
 
     def body(self, parts):
         """The page below its title."""
@@ -163,20 +171,20 @@ class Headline:
                         models.append(f"<h3><code>{shown.item.name}</code></h3>" + "".join(
                             parts.clauses(m, scope) for m in members))
         module, texts = None, []
-        for found in self.definitions:
+        for found in [d for part in self.parts for d in part]:
             if (found.crate, found.module) != module:
                 module = (found.crate, found.module)
                 about = parts.inline(self.project.crates[found.crate].abouts[found.module], None)
                 texts.append(f"<h3>{found.crate}: {found.module}</h3><p>{about}</p>")
             texts.append(f"<p>{parts.inline(found.comment, None)}</p>"
                          f"<pre>{parts.contract(found.text, found.scope, found.name)}</pre>")
-        names = ", ".join(f"<code>{parts_of[-1]}</code>" for parts_of in self.trusted)
+        names = ", ".join(f"<code>{parts_of[-1]}</code>" for parts_of in sorted(self.trusted))
         return (
             "<p>Each sentence of the headline, and the clauses that carry it. Below, all definitions "
             "that these clauses cite, and nothing else, each after those that it uses: "
-            f"{plural(len(self.definitions), 'definition')} in {self.lines()} lines. Who believes "
-            f"them, and the {len(self.trusted)} definitions of the toolchain's library that they "
-            "cite, need not read anything else.</p>"
+            f"{', and for the last sentences '.join(self.counts())}. Who believes them, and the "
+            f"{len(self.trusted)} definitions of the toolchain's library that they cite, need not "
+            "read anything else.</p>"
             f"<h2>Sentences</h2>{''.join(rows)}"
             f"<h2>What contracts see of the types</h2>{''.join(models)}"
             f"<h2>Definitions</h2>{''.join(texts)}"
