@@ -14,49 +14,28 @@ def functions_of(crate):
                     yield function, file
 
 
-def lines_of(edit, top, crate):
-    """The file and the line that each pair of an edit changes."""
+def edited(edit, functions, top, crate):
+    """The functions in which the pairs of an edit stand, in turn."""
     file = None
     for word, text in re.findall(r"^(file|old): (.*)$", edit.text, re.MULTILINE):
         if word == "file":
             file = text.strip()
-        else:
             lines = (top / "crates" / crate.name / file).read_text().splitlines()
-            yield file, next((n for n, line in enumerate(lines, 1) if text.strip() in line), 0)
-
-
-def edited_functions(edit, functions, top, crate):
-    """The functions in which the pairs of an edit stand."""
-    for at, line in lines_of(edit, top, crate):
-        around = [f for f, file in functions
-                  if file == at and f.line <= line <= f.line + lines_in(f)]
-        yield from around[-1:]
+        else:
+            at = next((n for n, line in enumerate(lines, 1) if text.strip() in line), 0)
+            yield from [f for f, other in functions
+                        if other == file and f.line <= at <= f.line + lines_in(f)][-1:]
 
 
 def edits_by_function(top, crate):
-    """The edits of each function by its identity, but for those whose function is not certain."""
+    """The edits of each function by its identity: of the one that the mistake is named after, or,
+    where there is none or more than one in its files, of the one in which it stands."""
     functions = list(functions_of(crate))
     found = defaultdict(list)
     for edit in crate.edits:
-        candidates = [(f, file) for f, file in functions if f.name == edit.function]
-        if len(candidates) > 1:
-            near = [(f, file) for f, file in candidates if file in edit.files]
-            candidates = near or candidates
-        if len(candidates) > 1:
-            _, line = next(lines_of(edit, top, crate))
-            before = [(f, file) for f, file in candidates
-                      if file == edit.files[0] and f.line <= line <= f.line + lines_in(f)]
-            candidates = before or candidates
-        if len(candidates) > 1:
-            # The edit is of a function that a trait declares, or a public one calls.
-            declared = [(f, file) for f, file in candidates if not f.body]
-            candidates = declared or [(f, file) for f, file in candidates if f.public]
-        if len(candidates) == 1:
-            found[id(candidates[0][0])].append(edit)
-        if not candidates:
-            # One mistake for each of several functions that are alike.
-            for function in {id(f) for f in edited_functions(edit, functions, top, crate)}:
-                found[function].append(edit)
+        named = [f for f, file in functions if f.name == edit.function and file in edit.files]
+        for function in named if len(named) == 1 else list(edited(edit, functions, top, crate))[-1:]:
+            found[id(function)].append(edit)
     return found
 
 

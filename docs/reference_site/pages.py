@@ -99,7 +99,7 @@ class Pages:
         body = "".join(self.module(crate, m, by_module[m.path]) for m in modules)
         further = [e for e in crate.edits if e.path not in self.parts.edits_shown]
         if further:
-            body += ('<section class="item"><h2>Must-fail edits of private functions</h2>'
+            body += ('<section class="item"><h2>Further must-fail edits</h2>'
                      f"{self.parts.edits(further, with_function=True)}</section>")
         return self.page(crate.name, "\n".join(lead) + f'<div class="contents">{contents}</div>'
                          + body, crate.name)
