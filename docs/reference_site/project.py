@@ -179,8 +179,8 @@ class Project:
     def __init__(self, top):
         lines = (top / "crates.txt").read_text().splitlines()
         lines = [line.split("#")[0].strip() for line in lines]
-        crates = [read_crate(top, line) for line in lines if line and "_tests" not in line.split(":")[0]]
-        self.crates = {crate.name: crate for crate in crates}
+        lines = [line for line in lines if line and not line.split(":")[0].endswith("_tests")]
+        self.crates = {crate.name: crate for crate in (read_crate(top, line) for line in lines)}
         self.definitions = {
             (d.crate, d.module, d.name): d for c in self.crates.values() for d in c.definitions
         }
