@@ -172,7 +172,7 @@ fn close_round<M: Machine>(
         × Gathers (FromOne (IsUnderWay (M.Step machine.now) slots.now slot) layer.items) []
         next.items) }
 {
-    let mut next = Gathered::with_room(alloc, layer.len())?;
+    let mut next = Gathered::with_capacity(alloc, layer.len())?;
     for config in layer {
         close_one(alloc, machine, slots, config, slot, done, &mut next)?;
     }
@@ -216,7 +216,7 @@ pub fn close<M: Machine>(
     ensures { IfOk result (IsCloseOutcome (M.Step machine.now) slots.now configs.items slot) }
 {
     let mut left = slots.len();
-    let mut done = Gathered::with_room(alloc, configs.len())?;
+    let mut done = Gathered::with_capacity(alloc, configs.len())?;
     let mut layer = close_settled(alloc, machine, slots, configs, slot, &mut done)?;
     while left > 0 {
         if layer.len() > MAX_CONFIGS {

@@ -42,8 +42,8 @@ impl<S> Gathered<S> {
         Gathered::of(alloc, Vec::new(alloc))
     }
 
-    /// No configuration, and room for so many.
-    pub fn with_room(alloc: Global, count: usize) -> Result<Self, AllocError>
+    /// No configuration, with the capacity for so many.
+    pub fn with_capacity(alloc: Global, count: usize) -> Result<Self, AllocError>
         ensures { IfOk result (λ gathered. gathered ≡ []) }
     {
         Ok(Gathered::of(alloc, Vec::with_capacity(alloc, count)?))

@@ -29,7 +29,7 @@ fn cut_at<M: Machine>(machine: &M, window: &mut Window<M::State>, count: usize, 
     }
 }
 
-/// The call that begins at this place and is answered next, if one is.
+/// The call that the event at this index begins, if the next event is its end.
 fn call_alone(events: &[Event], at: usize) -> Option<usize>
     requires { at < length events.now }
     ensures { IfSome result (λ call. StandsAt events.now at (Begin call)
@@ -44,8 +44,8 @@ fn call_alone(events: &[Event], at: usize) -> Option<usize>
     }
 }
 
-/// Makes the call that begins at this place in place, if it is answered next and can be made so.
-/// Returns whether it did; else nothing changed.
+/// Goes on with the event at this index and the next one, if they are the begin and the end of a
+/// call that can be made in place. Returns whether it did; else nothing changed.
 fn make_at<M: Machine>(
     machine: &M,
     window: &mut Window<M::State>,

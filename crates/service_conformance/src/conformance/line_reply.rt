@@ -7,8 +7,8 @@ use iox2_dynamic::dynamic_config::PortDetails;
 use iox2_ids::identifiers::UniqueNodeId;
 use service_descriptions::replay::Reply;
 
-/// A reply to a command that has a line, as the variant of `Reply` of this name. It has no room for
-/// the others, which are larger.
+/// A reply to a command that has a line, as the variant of `Reply` of this name. Without the other
+/// variants it is small.
 #[derive(Debug, Drop)]
 pub(super) enum LineReply {
     Handle(ContainerHandle),

@@ -89,7 +89,8 @@ impl SeenCall {
     /// Makes the call in this state, with this reply. Where memory is refused, nothing changes.
     fn make_with(&self, state: &mut ServiceCheck, reply: &LineReply) -> Result<(), AllocError>
         requires { CanServe (ServesCall self.now state.old) (reply_in reply.now) }
-        ensures { OnOk result (LeadsTo (ServesCall self.now state.old) (reply_in reply.now) state.new) }
+        ensures { OnOk result (LeadsTo (ServesCall self.now state.old) (reply_in reply.now)
+            state.new) }
     {
         state.follow_line(&[self.handle], &self.command, reply)
     }

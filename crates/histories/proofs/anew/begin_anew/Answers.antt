@@ -9,6 +9,7 @@ use Rattle.histories.proofs.anew.begin_anew.Goals as goal
 pub returns : goal.returns
 returns g c whole events olds sound f =
     let Step = g.M.Machine.Step whole in
+    let left = c.clear.new.self.items in
     let front = c.args.front.now in
     let slots = front.slots.items in
     let configs = front.configs.items in
@@ -20,11 +21,10 @@ returns g c whole events olds sound f =
       quiet,
       (
         map (λ k. k.state) configs,
-        subst (λ (l : List (Config g.row.M-State.Denot)). IsFrontier Step c.clear.new.self.items slots
-            []
+        subst (λ (l : List (Config g.row.M-State.Denot)). IsFrontier Step left slots []
             (map (λ k. k.state) configs) l)
             (sym (put_back unlinked configs front.configs.len is.0 long))
-            (fresh_anew Step c.clear.new.self.items slots configs unlinked f.table.few empty f.once is),
+            (fresh_anew Step left slots configs unlinked f.table.few empty f.once is),
         λ rest after all.
             split_anew Step front.links.items slots events olds configs sound quiet empty f rest
             after all,

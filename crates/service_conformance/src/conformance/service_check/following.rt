@@ -23,7 +23,8 @@ impl ServiceCheck {
     /// The service after a node was registered and this was replied.
     fn follow_register(&mut self, id: UniqueNodeId, reply: &LineReply) -> Result<(), AllocError>
         requires { CanServe (ServesRegister self.old id) (reply_in reply.now) }
-        ensures ok { OnOk result (LeadsTo (ServesRegister self.old id) (reply_in reply.now) self.new) }
+        ensures ok { OnOk result (LeadsTo (ServesRegister self.old id) (reply_in reply.now)
+            self.new) }
         ensures err { OnErr result (self.new ≡ self.old) }
         ensures kept { IsService self.new }
     {
@@ -56,7 +57,8 @@ impl ServiceCheck {
     /// The service after a port was to be attached and this was replied.
     fn follow_attach(&mut self, details: PortDetails, reply: &LineReply) -> Result<(), AllocError>
         requires { CanServe (ServesAdd self.old details) (reply_in reply.now) }
-        ensures ok { OnOk result (LeadsTo (ServesAdd self.old details) (reply_in reply.now) self.new) }
+        ensures ok { OnOk result (LeadsTo (ServesAdd self.old details) (reply_in reply.now)
+            self.new) }
         ensures err { OnErr result (self.new ≡ self.old) }
         ensures kept { IsService self.new }
     {
@@ -102,7 +104,8 @@ impl ServiceCheck {
 
     /// The service after a dead node was removed, where the ports of these values stay.
     fn follow_dead(&mut self, dead: &UniqueNodeId, kept: &Vec<u128>, _reply: &LineReply)
-        requires { CanServe (ServesDead self.old dead.now (cleanup.ByPort kept.now)) (reply_in _reply.now) }
+        requires { CanServe (ServesDead self.old dead.now (cleanup.ByPort kept.now))
+            (reply_in _reply.now) }
         ensures one { LeadsTo (ServesDead self.old dead.now (cleanup.ByPort kept.now))
             (reply_in _reply.now) self.new }
         ensures kept { IsService self.new }
@@ -120,7 +123,8 @@ impl ServiceCheck {
     fn follow_cleanup(&mut self, dead: &UniqueNodeId, cleanup: &Cleanup, reply: &LineReply)
         requires covered { IsCovered (command.Dead dead.now cleanup.now) }
         requires can { CanServe (ServesDead self.old dead.now cleanup.now) (reply_in reply.now) }
-        ensures one { LeadsTo (ServesDead self.old dead.now cleanup.now) (reply_in reply.now) self.new }
+        ensures one { LeadsTo (ServesDead self.old dead.now cleanup.now) (reply_in reply.now)
+            self.new }
         ensures kept { IsService self.new }
     {
         match cleanup {
@@ -141,8 +145,8 @@ impl ServiceCheck {
         requires can { CanServe (Serves self.old None earlier.now (command_of command.now))
             (reply_in reply.now) }
         ensures ok { OnOk result
-            (LeadsTo (Serves self.old None earlier.now (command_of command.now)) (reply_in reply.now)
-            self.new) }
+            (LeadsTo (Serves self.old None earlier.now (command_of command.now))
+            (reply_in reply.now) self.new) }
         ensures err { OnErr result (self.new ≡ self.old) }
         ensures kept { IsService self.new }
     {

@@ -10,7 +10,8 @@ use Rattle.service_conformance.proofs.conformance.service_check.ServiceCheck.fol
 pub returns-then-has_ports_in-clause-one : goal.returns-then-has_ports_in-clause-one
 returns-then-has_ports_in-clause-one c =
     rw (← c.self.view_is)
-    (dead_left (service_of c.self.inside) c.args.dead.now c.args.kept.now (reply_in c.args._reply.now)
+    (dead_left (service_of c.self.inside) c.args.dead.now c.args.kept.now
+    (reply_in c.args._reply.now)
     c.recover.new.self c.recover-2.new.self true (search rules) (search rules) (search rules))
 
 pub invariant_of-self : goal.invariant_of-self
@@ -24,7 +25,8 @@ returns-then-has_ports_in-clause-kept c = invariant_of-self c
 pub returns-clause-one : goal.returns-clause-one
 returns-clause-one c =
     rw (← c.self.view_is, c.recover-3.ensures.left)
-    (dead_left (service_of c.self.inside) c.args.dead.now c.args.kept.now (reply_in c.args._reply.now)
+    (dead_left (service_of c.self.inside) c.args.dead.now c.args.kept.now
+    (reply_in c.args._reply.now)
     c.recover.new.self c.recover-2.new.self false (search rules) (search rules) (search rules))
 
 pub invariant_of-self-2 : goal.invariant_of-self-2

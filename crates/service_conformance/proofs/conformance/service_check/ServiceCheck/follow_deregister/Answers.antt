@@ -24,7 +24,8 @@ returns-clause-one c =
 
 pub invariant_of-self : goal.invariant_of-self
 invariant_of-self c =
-    one_kept (ServesDeregister c.args.self.now c.args.handle) (reply_in c.args.reply.now) _ c.requires
+    one_kept (ServesDeregister c.args.self.now c.args.handle) (reply_in c.args.reply.now) _
+    c.requires
     (returns-clause-one c)
 
 pub returns-clause-kept : goal.returns-clause-kept

@@ -28,7 +28,8 @@ returns-then-first-clause-one c =
     let p = (goal.at.returns-then-first-clause-one c).In-Some-side in
     rw (← c.self.view_is, c.in-Some.is)
     (release_goes (service_of c.self.inside) c.in-Some.handle First
-    (rw c.if-first.true at (role_is p)) c.remove.new.self c.remove.ensures.gone (reply_in c.args.reply.now)
+    (rw c.if-first.true at (role_is p)) c.remove.new.self c.remove.ensures.gone
+    (reply_in c.args.reply.now)
     (search rules))
 
 pub invariant_of-self : goal.invariant_of-self
