@@ -413,7 +413,8 @@ typedef struct iox2sd_request_response_settings {
     size_t max_loaned_requests;
     /* The same of a server's responses to one request. */
     size_t server_max_loaned_responses_per_request;
-    /* How many connections of servers that are gone it keeps. */
+    /* How many connections of gone servers and gone pending responses a client keeps, and of gone
+     * clients each server. */
     size_t client_expired_connection_buffer;
     size_t server_expired_connection_buffer;
     iox2sd_backpressure_strategy client_backpressure_strategy;

@@ -624,7 +624,8 @@ struct RequestResponseSettings {
     std::size_t max_borrowed_responses_per_pending_response;  ///< Held by a client at once.
     std::size_t max_loaned_requests;                          ///< Taken and not yet sent.
     std::size_t server_max_loaned_responses_per_request;      ///< Taken and not yet sent.
-    std::size_t client_expired_connection_buffer;             ///< Connections of servers now gone.
+    /// Connections of gone servers and gone pending responses.
+    std::size_t client_expired_connection_buffer;
     std::size_t server_expired_connection_buffer;
     BackpressureStrategy client_backpressure_strategy;
     BackpressureStrategy server_backpressure_strategy;

@@ -225,9 +225,9 @@ class RequestResponseSettings(Checked):
     server_max_loaned_responses_per_request: Size = LIBRARY
     """How many responses to one request a server may have taken and not yet sent."""
     client_expired_connection_buffer: Size = LIBRARY
-    """How many connections of servers that are gone a client keeps."""
+    """How many connections of gone servers and gone pending responses a client keeps."""
     server_expired_connection_buffer: Size = LIBRARY
-    """How many connections of clients that are gone a server keeps."""
+    """How many connections of gone clients each server keeps."""
     client_backpressure_strategy: BackpressureStrategy = LIBRARY
     server_backpressure_strategy: BackpressureStrategy = LIBRARY
     client_allocation_strategy: AllocationStrategy = LIBRARY

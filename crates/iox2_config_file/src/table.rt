@@ -135,9 +135,9 @@ macro_rules! request_response_settings {
             11 => server_backpressure_strategy: "server-backpressure-strategy", Backpressure,
                 "What a server does where a client's buffer is full and may not overflow.";
             12 => client_expired_connection_buffer: "client-expired-connection-buffer", Number,
-                "How many connections of servers that are gone a client keeps.";
+                "How many connections of gone servers and gone pending responses a client keeps.";
             13 => server_expired_connection_buffer: "server-expired-connection-buffer", Number,
-                "How many connections of clients that are gone a server keeps.";
+                "How many connections of gone clients each server keeps.";
             14 => enable_fire_and_forget_requests: "enable-fire-and-forget-requests", Flag,
                 "Whether a client may send requests and wait for no response.";
             15 => client_allocation_strategy: "client-allocation-strategy", Allocation,

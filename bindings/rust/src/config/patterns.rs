@@ -161,9 +161,9 @@ settings! {
         client_backpressure_strategy: BackpressureStrategy,
         /// What a server does where a client's buffer is full and may not overflow.
         server_backpressure_strategy: BackpressureStrategy,
-        /// How many connections of servers that are gone a client keeps.
+        /// How many connections of gone servers and gone pending responses a client keeps.
         client_expired_connection_buffer: usize,
-        /// How many connections of clients that are gone a server keeps.
+        /// How many connections of gone clients each server keeps.
         server_expired_connection_buffer: usize,
         /// Whether a client may send a request and take no response.
         enable_fire_and_forget_requests: bool,
