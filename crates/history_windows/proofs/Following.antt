@@ -19,7 +19,7 @@ use Rattle.history_windows.specs.declared.window.Cut.{Cut}
 use Rattle.history_windows.specs.declared.window.Cut.TheVariants as cut
 use Rattle.history_windows.specs.declared.window.Stop.TheVariants as stop
 use Rattle.history_windows.specs.declared.window.Window.{Window}
-use Rattle.history_windows.specs.Windows.{BeginsWindow, CutsAt, IsStop, IsWindowOf, LeadsTooFar}
+use Rattle.history_windows.specs.Windows.{BeginsWindow, CutsAt, IsStop, IsStopAt, IsWindowOf, LeadsTooFar}
 use Rattle.history_windows.proofs.Joins.{open_inside, open_whole, quiet_both, sound_back}
 
 module _ {S : Type 0} (Step : S → ℕ → S → Type 0) (olds : List S) where

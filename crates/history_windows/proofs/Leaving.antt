@@ -205,7 +205,8 @@ module _ (kept : ℕ → Bool) where
       once = λ c. omega (arith, times_fewer c order, ex.once c);
       begun = λ c some.
           let t = times_kept c order some in
-          omega (arith, some, begins_of c es t, ex.begun c (omega (arith, times_of c order t, some)));
+          let made : 0 < times c order = omega (arith, times_of c order t, some) in
+          omega (arith, begins_of c es t, ex.begun c made);
       answered = λ c a.
           let r = answered_of es c a in
           omega (arith, times_of c order r.1, ex.answered c r.0);

@@ -34,7 +34,8 @@ module _ {S : Type 0} (Step : S → ℕ → S → Type 0) (olds : List S) (es : 
       → IsRest Step olds es (is_kept calls)
       → IsRest Step olds es (is_kept (set (set calls call true) call was))
   rest_back calls call was is rest =
-      subst (λ (w : Bool). IsRest Step olds es (is_kept (set (set calls call true) call w))) (sym is)
+      subst
+      (λ (w : Bool). IsRest Step olds es (is_kept (set (set calls call true) call w))) (sym is)
       (subst (λ (l : List Bool). IsRest Step olds es (is_kept l))
       (sym (set_back calls call true was)) rest)
 

@@ -28,9 +28,9 @@ pub record IsRest {S : Type 0} (Step : S → ℕ → S → Type 0) (olds : List 
   pub refused : ¬ (IsExplained Step (events_of kept events) olds)
   pub others : LeavesOutIdle Step kept
 
--- The calls are needed for the refusal of the events in the window: from the states that were left
--- where it begins, no order explains the events of these calls in it, and each other call changes
--- nothing.
+-- The calls are needed, so that the events in the window are refused: from the states that were
+-- left where it begins, no order explains the events of these calls in it, and each other call
+-- changes nothing.
 pub record AreNeeded {S : Type 0} (Step : S → ℕ → S → Type 0) (olds : List S)
     (past window : List Event) (kept : ℕ → Bool) : Type 0 where
   pub states : List S

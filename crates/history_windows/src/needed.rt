@@ -1,4 +1,4 @@
-//! The calls that a refusal needs.
+//! The calls that a refused event needs.
 ghost use Rattle.std.specs.Prelude.{◌≡◌, ◌<◌, ◌++◌, ℕ, IfOk, IfSome, IsTrue, OnOk, length};
 ghost use Rattle.histories.specs.Frontier.{IsIdle};
 ghost use Rattle.histories.specs.Histories.{IsExplained, IsHistory};
