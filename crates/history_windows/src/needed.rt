@@ -102,7 +102,8 @@ fn leave_out<M: Machine>(
 }
 
 /// Leaves out the call that begins with the event, if it is known to change nothing, and it is
-/// found that no order explains the rest.
+/// found that no order explains the rest. Where fewer configurations are left than there are
+/// events, that is not tried.
 fn leave_out_begun<M: Machine>(
     alloc: Global,
     machine: &M,
@@ -123,6 +124,9 @@ fn leave_out_begun<M: Machine>(
         return Ok(());
     };
     if call >= left_out.len() || is_kept(idle, call) {
+        return Ok(());
+    }
+    if events.len() > *left {
         return Ok(());
     }
     leave_out(alloc, machine, states, events, left_out, call, left)
