@@ -157,10 +157,23 @@ struct [[nodiscard]] LogVerdict {
         return number;
     }
 
+    /// With `NoOrder`: the lines, by rising number, in which the calls of the window begin that are
+    /// needed, with a space between: no order explains these alone, and the others change nothing.
+    /// Else nothing.
+    std::string_view needed() const& noexcept {
+        std::string_view lines = below_first();
+        if (lines.empty()) return lines;
+        detail::take_line(lines, {});
+        detail::take_line(lines, {});
+        return detail::take_line(lines, "needed: lines ");
+    }
+    std::string_view needed() const&& = delete;
+
     /// With `NoOrder`: what the calls before the reply can have led to, at least one. Else none.
     Configurations configurations() const& noexcept {
         std::string_view lines = below_first();
         if (lines.empty()) return Configurations({});
+        detail::take_line(lines, {});
         detail::take_line(lines, {});
         detail::take_line(lines, {});
         return Configurations(lines);

@@ -20,8 +20,8 @@ bool is(const LogVerdict& found, Status status, std::size_t line, std::size_t ca
 }
 
 bool has_no_parts(const LogVerdict& found) {
-    return found.words().empty() && found.window() == 0 && found.configurations().empty() &&
-           found.configurations().size() == 0;
+    return found.words().empty() && found.window() == 0 && found.needed().empty() &&
+           found.configurations().empty() && found.configurations().size() == 0;
 }
 
 /// The configuration that is alone.
@@ -78,8 +78,8 @@ void refused(int nodes) {
     const std::string number = std::to_string(line);
     const std::string report =
         "line " + number + ": no order of the calls explains this reply\nseen: released\n" +
-        "window: from line " + number + "\nmade: none\npossible: not-owned\nnodes: " + ids +
-        "\nports: 100000000000000000000000b\n";
+        "window: from line " + number + "\nneeded: lines " + number +
+        "\nmade: none\npossible: not-owned\nnodes: " + ids + "\nports: 100000000000000000000000b\n";
     CHECK(found.report() == report);
 }
 
@@ -104,6 +104,7 @@ void one_place() {
     const LogVerdict two = check_log(both + "A< handle 0 0\nB< handle 0 1\n");
     CHECK(two.status == Status::NoOrder && two.line == 5 && two.words() == "handle 0 1");
     CHECK(two.window() == 2 && (only(two) == Configuration{"", "full", node_1, ""}));
+    CHECK(two.needed() == "2 3");
 }
 
 /// The first node is registered again and gets a port, while it is removed as a dead one: first,
@@ -136,6 +137,7 @@ void open_calls() {
     const LogVerdict found =
         check_log("service event 7 1 0 0\nA> register 1.0.0.1\n" + shown + "nodes\n= list\n");
     CHECK(found.status == Status::NoOrder && found.line == 6 && found.window() == 2);
+    CHECK(found.needed() == "2 4 6");
     const std::string possible = "list " + std::string(node_1);
     CHECK((only(found) == Configuration{"2", possible, node_1, ""}));
 }

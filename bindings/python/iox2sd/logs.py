@@ -79,6 +79,9 @@ class NoOrder(_Fails):
     window: int
     """The line from which the window is open: that of the first event of the service since none of
     its calls was open."""
+    needed: "tuple[int, ...]"
+    """The lines, by rising number, in which the calls of the window begin that are needed: no order
+    explains these alone, and the others change nothing."""
     configurations: "tuple[Configuration, ...]"
     """What the calls before it can have led to: at least one, each once."""
 
@@ -140,10 +143,11 @@ def check_log(log: Union[str, bytes]) -> Verdict:
 
 def _no_order(line: int, report: str) -> NoOrder:
     """What the lines of a report say, which stand below its first one."""
-    _, words, window, *lines, _ = report.split("\n")
+    _, words, window, needed, *lines, _ = report.split("\n")
     told = map(_configuration, lines[::4], lines[1::4], lines[2::4], lines[3::4])
     from_line = int(window.removeprefix("window: from line "))
-    return NoOrder(line, words.removeprefix("seen: "), from_line, tuple(told))
+    begins = tuple(map(int, needed.removeprefix("needed: lines ").split(" ")))
+    return NoOrder(line, words.removeprefix("seen: "), from_line, begins, tuple(told))
 
 
 def _configuration(made: str, possible: str, nodes: str, ports: str) -> Configuration:

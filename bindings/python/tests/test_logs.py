@@ -49,6 +49,7 @@ class Logs(unittest.TestCase):
         lines = [
             f"line {found.line}: no order of the calls explains this reply",
             f"seen: {found.words}", f"window: from line {found.window}",
+            " ".join(["needed: lines", *map(str, found.needed)]),
         ]
         for one in found.configurations:
             made = " ".join(["lines", *map(str, one.made)]) if one.made else "none"
@@ -95,14 +96,14 @@ class Logs(unittest.TestCase):
             line = 2 * nodes + 5
             one = told("not-owned", (1,) * nodes, (11,))
             found = check_log(log + "release 0\n= released\n")
-            self.assertEqual(found, NoOrder(line, "released", line, (one,)))
+            self.assertEqual(found, NoOrder(line, "released", line, (line,), (one,)))
             self.assertFalse(found)
 
     def test_calls_that_overlapped(self):
         both = "service event 7 1 0 0\nA> register 1.0.0.1\nB> register 1.0.0.2\n"
         self.assertEqual(check_log(both + "A< handle 0 0\nB< full\n"), Conforms(2))
         found = check_log(both + "A< handle 0 0\nB< handle 0 1\n")
-        self.assertEqual(found, NoOrder(5, "handle 0 1", 2, (told("full", (1,)),)))
+        self.assertEqual(found, NoOrder(5, "handle 0 1", 2, (2, 3), (told("full", (1,)),)))
 
     def test_each_configuration_is_told(self):
         found = check_log(THREE + "count listener\n= count 7\n")
@@ -110,6 +111,7 @@ class Logs(unittest.TestCase):
         each = {told("count 1", (2, 1), (9,)), told("count 0", (2,)), told("count 0", (2, 1))}
         self.assertEqual(set(found.configurations), each)
         self.assertEqual((found.line, found.words, found.window), (13, "count 7", 13))
+        self.assertEqual(found.needed, (13,))
         self.assertEqual(len(found.configurations), 3)
         # The port is there, so that one state is left.
         log = THREE + "count listener\n= count 1\nrelease listener 0 0\n= released\n"
@@ -119,17 +121,19 @@ class Logs(unittest.TestCase):
         listed = "list 1000000000000000000000001"
         log = f"A> register 1.0.0.1\nnodes\n= {listed}\nnodes\n= list\n"
         found = check_log(f"service event 7 1 0 0\n{log}")
-        self.assertEqual(found, NoOrder(6, "list", 2, (told(listed, (1,), made=(2,)),)))
+        made = told(listed, (1,), made=(2,))
+        self.assertEqual(found, NoOrder(6, "list", 2, (2, 4, 6), (made,)))
 
     def test_verdicts_differ(self):
         one, another = told("list", (1,), (2,), (2,)), told("list", (2,), (2,), (2,))
         verdicts = [
-            Conforms(3), NoOrder(3, "x", 2, (one,)), NoOrder(4, "x", 2, (one,)),
-            NoOrder(3, "y", 2, (one,)), NoOrder(3, "x", 3, (one,)), NoOrder(3, "x", 2, (one, one)),
-            NoOrder(3, "x", 2, (another,)),
-            NoOrder(3, "x", 2, (dataclasses.replace(one, possible="count 1"),)),
-            NoOrder(3, "x", 2, (dataclasses.replace(one, made=()),)),
-            NoOrder(3, "x", 2, (dataclasses.replace(one, ports=()),)),
+            Conforms(3), NoOrder(3, "x", 2, (3,), (one,)), NoOrder(4, "x", 2, (3,), (one,)),
+            NoOrder(3, "y", 2, (3,), (one,)), NoOrder(3, "x", 3, (3,), (one,)),
+            NoOrder(3, "x", 2, (2, 3), (one,)), NoOrder(3, "x", 2, (3,), (one, one)),
+            NoOrder(3, "x", 2, (3,), (another,)),
+            NoOrder(3, "x", 2, (3,), (dataclasses.replace(one, possible="count 1"),)),
+            NoOrder(3, "x", 2, (3,), (dataclasses.replace(one, made=()),)),
+            NoOrder(3, "x", 2, (3,), (dataclasses.replace(one, ports=()),)),
             TooManyConfigurations(3), TooManyConfigurations(4), TooManyOpenCalls(3),
             TooManyOpenCalls(4), *(UnexpectedLine(3, expected) for expected in Expected),
         ]
@@ -143,7 +147,7 @@ class Logs(unittest.TestCase):
                 self.assertTrue(verdict != other and not verdict == other)
 
     def test_verdicts_are_no_tuples(self):
-        for verdict in (Conforms(3), NoOrder(3, "x", 3, ()), TooManyOpenCalls(3)):
+        for verdict in (Conforms(3), NoOrder(3, "x", 3, (3,), ()), TooManyOpenCalls(3)):
             self.assertNotIsInstance(verdict, tuple)
             field, *_ = dataclasses.fields(verdict)
             self.assertRaises(AttributeError, setattr, verdict, field.name, 4)

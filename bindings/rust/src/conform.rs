@@ -72,7 +72,7 @@ pub enum Verdict {
 /// let log = "service event 7 1 0 0\nregister 1.0.0.1\n= handle 0 0\nregister 1.0.0.1\n= locked\n";
 /// let Verdict::NoOrder(refusal) = check_log(log)? else { panic!("an order explains it") };
 /// assert_eq!((refusal.line, refusal.words.as_str(), refusal.window), (5, "locked", 5));
-/// assert_eq!(refusal.configurations[0].possible, "full");
+/// assert_eq!((refusal.needed, refusal.configurations[0].possible.as_str()), (vec![5], "full"));
 /// # Ok::<(), iox2sd::dynamic_config::AllocError>(())
 /// ```
 #[derive(Clone, Debug, PartialEq, Eq, Hash)]
@@ -84,6 +84,9 @@ pub struct Refusal {
     /// The line from which the window is open: that of the first event of the service since none of
     /// its calls was open.
     pub window: usize,
+    /// The lines, by rising number, in which the calls of the window begin that are needed: no
+    /// order explains these alone, and the others change nothing.
+    pub needed: Vec<usize>,
     /// What the calls before it can have led to: at least one, each once.
     pub configurations: Vec<Configuration>,
 }
@@ -281,6 +284,7 @@ impl Refusal {
             line,
             words: after("seen: ", next()).to_string(),
             window: number(after("window: from line ", next())),
+            needed: ids(after("needed: lines", next()), |line| line.parse().ok()),
             configurations: iter::from_fn(|| Configuration::next(&mut lines)).collect(),
         }
     }

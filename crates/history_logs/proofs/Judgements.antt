@@ -1,5 +1,5 @@
 -- What logs are judged to be.
-use Rattle.std.proofs.Common.{◌≡◌, ℕ, ◌+◌, ◌<◌, ◌≤◌, All, Contains, List, [], ◌∷◌, Option, Some, None, length, slice_get, get_or, sum_by, take, refl, sym, ◌∙◌, ap, subst}
+use Rattle.std.proofs.Common.{◌≡◌, ℕ, ◌+◌, ◌<◌, ◌≤◌, All, Contains, List, Option, Some, None, length, get_or, sum_by, take, refl, sym, ◌∙◌, ap, subst}
 use Rattle.std.proofs.lemmas.List.Sums.{sum_by_more, sum_by_more_le}
 use Rattle.history_windows.specs.declared.window.Stop.{Stop}
 use Rattle.history_windows.specs.declared.window.Stop.TheVariants as stop
@@ -41,6 +41,7 @@ refusal_of services k s told has r above = record {
   window = r.window;
   is_window = r.is_window;
   begins = r.is_told.opened;
+  needed = r.needed;
   configurations = r.is_told.configurations;
 }
 

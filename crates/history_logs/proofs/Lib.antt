@@ -17,3 +17,4 @@ pub mod Refusing
 pub mod Reports
 pub mod Streams
 pub mod Telling
+pub mod Needing

@@ -1,11 +1,10 @@
 -- What is told of a reply that is refused.
-use Rattle.std.proofs.Common.{◌≡◌, ◌⊎◌, inl, inr, ℕ, ◌+◌, ◌<◌, ◌≤◌, List, [], ◌∷◌, ◌++◌, Option, Some, None, length, get_or, slice_get, take, drop, refl, sym, ◌∙◌, ap, subst, arith, length-append, take_all, Vec}
+use Rattle.std.proofs.Common.{◌≡◌, ◌⊎◌, inl, inr, ℕ, ◌<◌, ◌≤◌, List, Some, length, get_or, slice_get, take, drop, sym, ◌∙◌, ap, subst, arith, length-append}
 use Rattle.std.proofs.lemmas.List.{length-take-le, take-append-drop}
 use Rattle.std.proofs.lemmas.Option.{get_or_from_slice_get, slice_get-get_or, slice_get_within}
 use Rattle.histories.specs.declared.event.Event.{Event}
 use Rattle.histories.specs.declared.event.Event.TheVariants.{Begin, Crash, End}
-use Rattle.histories.specs.Histories.{StandsAt, begins, begun}
-use Rattle.histories.specs.Frontier.{HasSlot}
+use Rattle.histories.specs.Histories.{StandsAt, begins}
 use Rattle.histories.proofs.Cutting.{begins-append}
 use Rattle.history_windows.specs.declared.window.Stop.TheVariants as stop
 use Rattle.history_windows.specs.declared.window.Window.{Window}
@@ -17,7 +16,7 @@ use Rattle.history_logs.specs.declared.logs.verdict.Refusal.{Refusal}
 use Rattle.history_logs.specs.Good.{IsOrderly}
 use Rattle.history_logs.specs.Placed.{Answers, HasAnswers, IsLineAt}
 use Rattle.history_logs.specs.Judging.{AreBelow, IsRefusedIn, IsToldAt}
-use Rattle.history_logs.specs.Logs.{StepOf, news}
+use Rattle.history_logs.specs.Logs.{AreNeededLines, StepOf, news}
 use Rattle.history_logs.specs.Seen.{Service}
 
 module _ (s : Service) (o : IsOrderly s) where
@@ -70,10 +69,11 @@ module _ (s : Service) (o : IsOrderly s) where
             → ((seen : Line) (said : List ℕ) → IsLine seen → Answers seen said
             → IsLineAt bytes line (line_text seen) → words ≡ said)
             → IsStop (StepOf s) (news s) s.events place stop.Refused
-            → (told : Refusal) → told.words.items ≡ words
+            → (lines : List ℕ) → AreNeededLines s w.begin place call lines
+            → (told : Refusal) → told.words.items ≡ words → told.needed.items ≡ lines
             → ((c : Call) → slice_get s.calls call ≡ Some c → IsToldAt s place c w told)
             → IsRefusedIn s told.line told
-        refused_in words said stops told its tells =
+        refused_in words said stops lines needed told its them tells =
             let a = answers place call line ended at in
             let t = tells a.0 a.2 in
             record {
@@ -87,6 +87,8 @@ module _ (s : Service) (o : IsOrderly s) where
               window = w;
               is_window = is;
               is_told = t;
+              needed = subst (λ (l : List ℕ). AreNeededLines s w.begin place call l) (sym them)
+                  needed;
             }
 
 -- an event that ends a call is no other

@@ -1,8 +1,9 @@
 -- What is found of a service of a log, and what is told of it.
-use Rattle.std.specs.Prelude.{◌≡◌, ℕ, ◌<◌, ◌≤◌, List, All, Contains, Option, Some, None, Result, Ok, Err, if◌then◌else◌, length, ltb, slice_get, sum_by, take}
+use Rattle.std.specs.Prelude.{◌≡◌, ℕ, ◌<◌, List, All, Contains, Option, Some, None, Result, Ok, Err, if◌then◌else◌, length, ltb, slice_get, sum_by, take}
 use Rattle.std.specs.List.{AllZip}
 use Rattle.std.specs.Int.{bit_at}
-use Rattle.histories.specs.declared.event.Event.TheVariants.{End}
+use Rattle.histories.specs.declared.event.Event.{Event}
+use Rattle.histories.specs.declared.event.Event.TheVariants.{Begin, End}
 use Rattle.histories.specs.Frontier.{HasSlot, IsFrontOf}
 use Rattle.histories.specs.Histories.{StandsAt}
 use Rattle.history_windows.specs.declared.window.Cut.{Cut}
@@ -20,7 +21,7 @@ use Rattle.history_logs.specs.declared.logs.verdict.Order.{Order}
 use Rattle.history_logs.specs.declared.logs.verdict.Refusal.{Refusal}
 use Rattle.history_logs.specs.declared.logs.verdict.Verdict.{Verdict}
 use Rattle.history_logs.specs.declared.logs.verdict.Verdict.TheVariants as verdict
-use Rattle.history_logs.specs.Logs.{IsRightAbove, IsSeenRightly, IsTold, StepOf, news}
+use Rattle.history_logs.specs.Logs.{AreNeededLines, IsRightAbove, IsSeenRightly, IsTold, StepOf, news}
 use Rattle.history_logs.specs.Orders.{IsOrderOf}
 use Rattle.history_logs.specs.Seen.{Service}
 
@@ -52,7 +53,12 @@ pub record AreLines (begins : List ℕ) (slots : List (Option ℕ)) (waiting : �
   pub each : (number k : ℕ) → IsMadeIn slots waiting number → slice_get begins number ≡ Some k
       → Contains lines k
 
--- what is told of the reply in the event of this place, but for its words
+-- the calls that begin in the events are some of the first ones, so many
+abbrev pub BeginBelow : List Event → ℕ → Type 0
+BeginBelow events count =
+    (place call : ℕ) → StandsAt events place (Begin call) → call < count
+
+-- what is told of the reply in the event of this place, but for its words and the needed calls
 pub record IsToldAt (s : Service) (place : ℕ) (call : Call) (window : Window dynamic.Service)
     (told : Refusal) : Type 0 where
   pub ended : slice_get s.places place ≡ Some told.line
@@ -77,6 +83,7 @@ pub record IsRefusedIn (s : Service) (k : ℕ) (told : Refusal) : Type 0 where
   pub window : Window dynamic.Service
   pub is_window : IsWindowOf (StepOf s) (news s) (take place s.events) window
   pub is_told : IsToldAt s place call window told
+  pub needed : AreNeededLines s window.begin place number told.needed.items
 
 -- this is found of the service in this line
 abbrev pub IsFound : Service → ℕ → Verdict → Type 0

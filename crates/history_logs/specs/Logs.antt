@@ -1,14 +1,16 @@
 -- What a log is judged to be.
-use Rattle.std.specs.Prelude.{◌≡◌, ◌≢◌, ◌⊎◌, ℕ, ◌+◌, ◌<◌, List, [], ◌∷◌, ◌++◌, All, Contains, Option, Some, None, IsTrue, codes, filter, get_or, length, ltb, slice_get, sum_by, take}
-use Rattle.std.specs.List.{AllZip}
+use Rattle.std.specs.Prelude.{◌≡◌, ◌≢◌, ◌⊎◌, ℕ, ◌+◌, ◌<◌, List, [], ◌∷◌, ◌++◌, All, Bool, Contains, Option, Some, None, IsTrue, codes, drop, filter, get_or, length, ltb, slice_get, sum_by, take, true}
+use Rattle.std.specs.List.{AllZip, flat_map}
 use Rattle.std.specs.Int.{bit_at}
-use Rattle.histories.specs.declared.event.Event.TheVariants.{End}
+use Rattle.histories.specs.declared.event.Event.{Event}
+use Rattle.histories.specs.declared.event.Event.TheVariants.{Begin, Crash, End}
 use Rattle.histories.specs.declared.front.Config.{Config}
 use Rattle.histories.specs.Frontier.{HasSlot}
 use Rattle.histories.specs.Histories.{IsExplained, StandsAt}
 use Rattle.history_windows.specs.declared.window.Stop.{Stop}
 use Rattle.history_windows.specs.declared.window.Stop.TheVariants as stop
 use Rattle.history_windows.specs.declared.window.Window.{Window}
+use Rattle.history_windows.specs.Needed.{AreNeeded, events_of}
 use Rattle.history_windows.specs.Windows.{IsStop, IsWindowOf}
 use Rattle.iox2_container.specs.Steps.{listed}
 use Rattle.iox2_dynamic.specs.Service as dynamic
@@ -97,8 +99,28 @@ pub record IsTold (s : Service) (call : Call) (slots : List (Option ℕ))
   pub ports : told.ports.items
       ≡ listed config.state.ports.first.registry ++ listed config.state.ports.second.registry
 
+-- the line in which the call of the event begins, if it begins with it, by those of all calls
+abbrev pub line_begun : List ℕ → Event → List ℕ
+line_begun begins (Begin call) = get_or begins call 0 ∷ []
+line_begun begins (End call) = []
+line_begun begins (Crash call) = []
+
+-- the events of the service from one place up to another
+abbrev pub events_from : Service → ℕ → ℕ → List Event
+events_from s begin place = drop begin (take (place + 1) s.events)
+
+-- The calls that begin in these lines are needed: from the states with which the window begins, no
+-- order explains their events up to the reply of the refused call, which is among them. Each other
+-- call changes nothing, in whatever state it is made.
+pub record AreNeededLines (s : Service) (begin place refused : ℕ) (lines : List ℕ) : Type 0 where
+  pub kept : ℕ → Bool
+  pub needed : AreNeeded (StepOf s) (news s) (take begin s.events) (events_from s begin place) kept
+  pub is_kept : kept refused ≡ true
+  pub begin_in : lines ≡ flat_map (line_begun s.begins) (events_of kept (events_from s begin place))
+
 -- What is told of a reply that no order explains: its line and its words, the line in which the
--- window begins, and each configuration that what is above it leads to.
+-- window begins, the lines of the calls that are needed, and each configuration that what is above
+-- it leads to.
 pub record IsRefusal (services : List Service) (told : Refusal) : Type 0 where
   pub s : Service
   pub place : ℕ
@@ -111,6 +133,7 @@ pub record IsRefusal (services : List Service) (told : Refusal) : Type 0 where
   pub window : Window dynamic.Service
   pub is_window : IsWindowOf (StepOf s) (news s) (take place s.events) window
   pub begins : slice_get s.places window.begin ≡ Some told.window
+  pub needed : AreNeededLines s window.begin place number told.needed.items
   pub configurations : AllZip (IsTold s call window.front.slots.items)
       window.front.configs.items told.configurations.items
 

@@ -55,13 +55,20 @@ abbrev pub config_text : Configuration → List ℕ
 config_text told =
     choice_text told.made.items told.possible ++ attached_text told.nodes.items told.ports.items
 
--- the lines of a reply that no order explains, and of what the calls before it can have led to
+-- the line from which a window is open, and the lines of the calls in it that are needed
+unfoldable pub window_text : ℕ → List ℕ → List ℕ
+window_text window needed =
+    ((10 ∷ codes "window: from line ") ++ decimal window)
+    ++ ((10 ∷ codes "needed: lines") ++ flat_map number_word needed)
+
+-- the lines of a reply that no order explains, of the calls that are needed, and of what the calls
+-- before it can have led to
 abbrev pub refusal_text : Refusal → List ℕ
 refusal_text told =
     (codes "line " ++ decimal told.line)
     ++ (codes ": no order of the calls explains this reply" ++ 10 ∷ codes "seen: ")
     ++ told.words.items
-    ++ ((10 ∷ codes "window: from line ") ++ decimal told.window)
+    ++ window_text told.window told.needed.items
     ++ (10 ∷ flat_map config_text told.configurations.items)
 
 -- what a line should have been

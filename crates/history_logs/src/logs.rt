@@ -9,6 +9,7 @@ ghost use Rattle.history_logs.specs.Seen.{Service};
 
 mod callers;
 mod judging;
+mod needed;
 mod ordering;
 mod reading;
 mod report;

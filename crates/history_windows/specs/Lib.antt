@@ -1,2 +1,3 @@
--- Promises: windows of histories, and what is found of a history.
+-- Promises: windows of histories, what is found of a history, and which calls are needed for it.
 pub mod Windows
+pub mod Needed

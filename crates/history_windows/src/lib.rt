@@ -4,9 +4,12 @@
 
 mod follow;
 mod judge;
+pub mod laws;
+mod needed;
 mod order;
 mod window;
 
 pub use judge::judge_windows;
+pub use needed::{MAX_TRIED, calls_left_out, is_kept};
 pub use order::order_in;
 pub use window::{Cut, Stop, Verdict, Window};

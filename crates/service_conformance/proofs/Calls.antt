@@ -27,7 +27,7 @@ use Rattle.service_conformance.specs.declared.conformance.line_reply.LineReply.{
 use Rattle.service_conformance.specs.declared.conformance.possible.Possible.TheVariants as possible
 use Rattle.service_conformance.specs.declared.conformance.possible.PossibleReplies.{PossibleReplies}
 use Rattle.service_conformance.specs.declared.conformance.seen_reply.SeenReply.{SeenReply}
-use Rattle.service_conformance.specs.Calls.{AreRepliesOf, Call, CallStep, GivesBelow, HasNumber, IsIdleCall, IsWithin, LacksNumber, LeadsOn, ServesCall, WindowStep, answered, unanswered}
+use Rattle.service_conformance.specs.Calls.{AreRepliesOf, Call, CallStep, ChangesNothing, GivesBelow, HasNumber, IsIdleCall, IsWithin, LacksNumber, LeadsOn, ServesCall, WindowStep, answered, unanswered}
 use Rattle.service_conformance.specs.Possible.{ArePossible, IsCovered, MayGiveIn, reply_in}
 use Rattle.service_conformance.specs.Quiet.{CanServe, LeadsTo, is_removal, quiet}
 use Rattle.service_conformance.specs.Seen.{changes_nothing, seen_text}
@@ -219,15 +219,17 @@ module _ (call : Call) (covered : IsCovered call.command) (seen : SeenReply)
       let told = told_nothing r seen nothing text in
       stays old mid (call.handle ∷ []) call.command r covered rest told.0 told.1 served
 
+  pub changes_none : ChangesNothing (answered call (seen_text seen))
+  changes_none old new step =
+      let on = step.1.2 in sym on.3 ∙ same_state old on.0 step.1.0 step.0 step.1.1 on.1
+
   pub idle : (s : Service) (p : Possible) (r : Reply) → quiet s ≡ s
       → ArePossible s (ServesCall call s) p → Tells s p (seen_text seen) (Some r)
       → IsIdleCall (answered call (seen_text seen)) s
   idle s p r rest all tells =
       let can = all.can r tells.0 in (
         (rest, (r, tells.1, (can.0, can.1, can.2, same_state s can.0 r rest tells.1 can.1))),
-        λ old new step.
-            let on = step.1.2 in
-            sym on.3 ∙ same_state old on.0 step.1.0 step.0 step.1.1 on.1,
+        changes_none,
       )
 
 replies_by_words : (call : Call) (s : Service) (p : PossibleReplies) → quiet s ≡ s

@@ -64,10 +64,13 @@ abbrev pub CallStep : Call → Service → Service → Type 0
 CallStep call old new =
     (quiet old ≡ old) × ((r : Reply) × HasWords call.words r × LeadsOn call old r new)
 
+-- the call changes nothing, in whatever state it is made
+abbrev pub ChangesNothing : Call → Type 0
+ChangesNothing call = (old new : Service) → CallStep call old new → new ≡ old
+
 -- the call can be made in this state, and changes nothing in whatever state it is made
 abbrev pub IsIdleCall : Call → Service → Type 0
-IsIdleCall call state =
-    CallStep call state state × ((old new : Service) → CallStep call old new → new ≡ old)
+IsIdleCall call state = CallStep call state state × ChangesNothing call
 
 -- the call has this number among these, the first of which has the first number
 abbrev pub HasNumber : ℕ → List Call → ℕ → Call → Type 0

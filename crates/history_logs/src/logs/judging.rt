@@ -15,6 +15,7 @@ ghost use Rattle.history_logs.specs.Judging.{IsFoundOf, IsRefusedIn, IsToldAt, I
 ghost use Rattle.history_logs.specs.Logs.{IsTold, StepOf, news};
 ghost use Rattle.history_logs.specs.Placed.{Answers, IsLineAt, IsPlaced};
 
+use super::needed::{first_states, lines_needed};
 use super::service::LogService;
 use super::verdict::{Configuration, Refusal, Verdict};
 use histories::{Config, Event, Machine};
@@ -178,6 +179,7 @@ fn refusal(
     place: usize,
     call: usize,
     words: Vec<u8>,
+    needed: Vec<usize>,
     window: &Window<ServiceCheck>,
 ) -> Result<Refusal, AllocError>
     requires few { length window.now.front.slots.items ≤ 64 }
@@ -185,7 +187,7 @@ fn refusal(
     requires within { call < length service.now.calls }
     requires place { place < length service.now.places }
     requires begin { window.now.begin < length service.now.places }
-    ensures words { IfOk result (λ told. told.words ≡ words) }
+    ensures given { IfOk result (λ told. (told.words ≡ words) × (told.needed ≡ needed)) }
     ensures told { IfOk result (λ told. (c : Call) → slice_get service.now.calls call ≡ Some c
         → IsToldAt service.now place c window.now told) }
 {
@@ -195,6 +197,7 @@ fn refusal(
         line: service.places()[place],
         words,
         window: service.places()[window.begin],
+        needed,
         configurations,
     })
 }
@@ -238,7 +241,8 @@ fn refused(
     let call = call_ended(service, place);
     let line = line_at(service, place);
     let words = words_in(alloc, log, line)?;
-    refusal(alloc, service, place, call, words, window)
+    let needed = lines_needed(alloc, service, window.begin, place, call)?;
+    refusal(alloc, service, place, call, words, needed, window)
 }
 
 /// The verdict by what was found of the service, with its line, or the window in which it ends
@@ -269,19 +273,6 @@ fn told_of(
             Ok(Err((line, Verdict::ManyOpen(line))))
         }
     }
-}
-
-/// What the service is before its first call, alone.
-fn first_states(
-    alloc: Global,
-    machine: &Calls<'_>,
-    service: &LogService,
-) -> Result<Vec<ServiceCheck>, AllocError>
-    ensures { IfOk result (λ states. states.items ≡ news service.now) }
-{
-    let mut states = Vec::new(alloc);
-    states.push(machine.copied(service.start())?)?;
-    Ok(states)
 }
 
 /// Judges what was seen of a service. Returns the window in which it ends, or what was found, with

@@ -5,6 +5,7 @@ ghost use Rattle.history_logs.specs.Reports.{attached_text, choice_text, config_
 ghost use Rattle.history_logs.specs.Reports.{expected_text, number_word};
 ghost use Rattle.history_logs.specs.Reports.{line_of, made_text, next_text, order_text};
 ghost use Rattle.history_logs.specs.Reports.{possible_text, refusal_text, report_text, services_text};
+ghost use Rattle.history_logs.specs.Reports.{window_text};
 ghost use Rattle.service_descriptions.specs.Replies.{id_word, port_word, text_of};
 
 use super::verdict::{Configuration, Expected, Order, Refusal, Verdict};
@@ -164,6 +165,16 @@ fn append_configurations(told: &[Configuration], out: &mut Vec<u8>) -> Result<()
     Ok(())
 }
 
+/// Appends the line from which a window is open, and those of the calls in it that are needed.
+fn append_window(window: usize, needed: &[usize], out: &mut Vec<u8>) -> Result<(), AllocError>
+    ensures { OnOk result (out.new.items ≡ out.old.items ++ window_text window needed.now) }
+{
+    append_number(b"\nwindow: from line ", window as u64, out)?;
+    out.extend_from_slice(b"\nneeded: lines")?;
+    append_numbers(needed, out)?;
+    Ok(())
+}
+
 /// Appends the report on a reply that no order explains.
 fn append_refusal(told: &Refusal, out: &mut Vec<u8>) -> Result<(), AllocError>
     ensures { OnOk result (out.new.items ≡ out.old.items ++ refusal_text told.now) }
@@ -171,7 +182,7 @@ fn append_refusal(told: &Refusal, out: &mut Vec<u8>) -> Result<(), AllocError>
     append_number(b"line ", told.line as u64, out)?;
     out.extend_from_slice(b": no order of the calls explains this reply\nseen: ")?;
     out.extend_from_slice(&told.words)?;
-    append_number(b"\nwindow: from line ", told.window as u64, out)?;
+    append_window(told.window, &told.needed, out)?;
     out.push(b'\n')?;
     append_configurations(&told.configurations, out)?;
     Ok(())

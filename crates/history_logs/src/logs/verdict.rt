@@ -52,6 +52,10 @@ pub struct Refusal {
     /// The line from which the window is open: that of the first event of the service since no call
     /// of it was open.
     pub window: usize,
+    /// The lines, by rising number, in which the calls of the window begin that are needed: no
+    /// order explains these alone, and the others change nothing. Not all that could be left out
+    /// are, where the window is large.
+    pub needed: Vec<usize>,
     /// What the calls before it can have led to, each once.
     pub configurations: Vec<Configuration>,
 }

@@ -2,7 +2,8 @@
 ghost use Rattle.std.specs.Prelude.{◌≡◌, ◌+◌, IfOk, IsTrue, OnOk};
 ghost use Rattle.histories.specs.Frontier.{IsMade, states_in};
 ghost use Rattle.histories.specs.Histories.{AreAll};
-ghost use Rattle.service_conformance.specs.Calls.{AreRepliesOf, CallStep, GivesBelow, IsIdleCall, ServesCall};
+ghost use Rattle.service_conformance.specs.Calls.{AreRepliesOf, CallStep, ChangesNothing, GivesBelow};
+ghost use Rattle.service_conformance.specs.Calls.{IsIdleCall, ServesCall};
 ghost use Rattle.service_conformance.specs.Calls.{answered, at_first, call_of, unanswered};
 ghost use Rattle.service_conformance.specs.Possible.{ArePossible, IsCovered, reply_in};
 ghost use Rattle.service_conformance.specs.Quiet.{CanServe, LeadsTo};
@@ -263,6 +264,17 @@ impl SeenCall {
             Some(seen) => self.is_idle_with(alloc, state, seen),
             None => false,
         }
+    }
+
+    /// Whether the reply that was seen says that nothing changed. Such a call changes nothing, in
+    /// whatever state it is made. A no says nothing.
+    pub fn changes_nothing(&self) -> bool
+        ensures { IsTrue result → ChangesNothing self.now }
+    {
+        let Some(seen) = &self.seen else {
+            return false;
+        };
+        changes_nothing(seen)
     }
 
     /// The replies that the call may have in this state.

@@ -8,7 +8,7 @@ returns c =
     let s = c.args.service.now in
     let front = c.args.window.now.front in
     record {
-      words = refl;
+      given = (refl, refl);
       told = λ x at.
           record {
             ended = read_place s.places c.places.result.now c.args.place c.places.ensures

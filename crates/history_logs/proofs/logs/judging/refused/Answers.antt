@@ -1,5 +1,6 @@
 use Rattle.std.proofs.Common.{ap}
 use Rattle.history_logs.proofs.LinesAt.{if_both}
+use Rattle.history_logs.proofs.Needing.{begin_cut, begin_within}
 use Rattle.history_logs.proofs.Refusing.{call_within, place_within, refused_in, window_below, window_few, window_within}
 use Rattle.history_logs.proofs.logs.judging.refused.Goals as goal
 
@@ -13,6 +14,18 @@ pub line_at-line-requires : goal.line_at-line-requires
 line_at-line-requires c =
     place_within c.args.service.now c.requires.orderly c.args.place c.args.window.now
     c.requires.stops.within c.requires.window
+
+pub lines_needed-requires : goal.lines_needed-requires
+lines_needed-requires c =
+    let s = c.args.service.now in
+    let w = c.args.window.now in
+    record {
+      orderly = c.requires.orderly;
+      stops = c.requires.stops;
+      within = begin_within s c.args.place w c.requires.stops.within c.requires.window;
+      cut = begin_cut s c.args.place w c.requires.stops.within c.requires.window;
+      ended = c.call_ended-call.ensures;
+    }
 
 pub refusal-requires : goal.refusal-requires
 refusal-requires c =
@@ -34,10 +47,11 @@ refusal-requires c =
 pub returns : goal.returns
 returns c =
     let s = c.args.service.now in
-    if_both _ _ _ c.refusal.result c.refusal.ensures.words c.refusal.ensures.told
+    if_both _ _ _ c.refusal.result c.refusal.ensures.given c.refusal.ensures.told
     (λ told its tells.
     refused_in s c.requires.orderly c.args.place c.args.window.now c.requires.stops.within
     c.requires.window c.args.log.now c.requires.placed.answers c.call_ended-call.result
     c.line_at-line.result
     c.call_ended-call.ensures c.line_at-line.ensures c.in_ok-words.words.items c.in_ok-words.ensures
-    c.requires.stops told (ap (λ v. v.items) its) tells)
+    c.requires.stops c.in_ok-needed.needed.items c.in_ok-needed.ensures told
+    (ap (λ v. v.items) its.0) (ap (λ v. v.items) its.1) tells)

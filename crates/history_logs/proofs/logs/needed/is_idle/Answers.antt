@@ -1,0 +1,7 @@
+use Rattle.history_logs.proofs.Needing.{idle_call}
+use Rattle.history_logs.proofs.logs.needed.is_idle.Goals as goal
+
+pub returns : goal.returns
+returns c said =
+    idle_call c.args.calls.now c.args.number c.index-calls-number.result c.requires
+    c.index-calls-number.is (c.changes_nothing.ensures said)

@@ -1,0 +1,18 @@
+use Rattle.std.proofs.Common.{Some, ◌∙◌, ap}
+use Rattle.std.proofs.lemmas.Option.{slice_get-get_or}
+use Rattle.histories.specs.declared.event.Event.{Event}
+use Rattle.history_windows.specs.Needed.{is_kept}
+use Rattle.history_logs.proofs.Needing.{lines_more}
+use Rattle.history_logs.proofs.logs.needed.lines_begun.Goals as goal
+
+pub add_begun-requires : goal.add_begun-requires
+add_begun-requires c call is =
+    c.requires c.loop-event.event-index call
+    (slice_get-get_or c.args.events.now c.loop-event.event-index _ c.loop-event-test.true
+    ∙ ap (λ (e : Event). Some e) is)
+
+pub loop-event-preserved : goal.loop-event-preserved
+loop-event-preserved c =
+    lines_more c.args.begins.now (is_kept c.args.left_out.now) c.args.events.now
+    c.loop-event.event-index _ c.loop-event.lines.items _ c.loop-event-test.true
+    c.loop-event.invariant c.in_ok-add_begun.ensures

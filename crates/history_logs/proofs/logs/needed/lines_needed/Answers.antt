@@ -1,0 +1,42 @@
+use Rattle.std.proofs.Common.{Bool, List, ◌∙◌, ap, arith, length, subst, sym}
+use Rattle.service_conformance.specs.Calls.{Call, WindowStep}
+use Rattle.history_windows.specs.Needed.{AreIdle}
+use Rattle.history_logs.proofs.LinesAt.{if_ok}
+use Rattle.history_logs.proofs.Needing.{given_below, given_cut, given_history, given_lines, given_refused}
+use Rattle.history_logs.proofs.logs.needed.lines_needed.Goals as goal
+
+pub calls_left_out-requires : goal.calls_left_out-requires
+calls_left_out-requires c =
+    let s = c.args.service.now in
+    let o = c.requires.orderly in
+    let states = c.deref.ensures.value ∙ c.in_ok-states.ensures in
+    record {
+      some = omega (arith, ap length states);
+      history = given_history s o c.args.begin c.args.place c.requires.within c.events.result.now
+          c.events.ensures;
+      cut = given_cut s o c.args.begin c.args.place c.requires.within c.calls.result.now
+          c.deref.result.now c.events.result.now c.calls.ensures states c.events.ensures
+          c.requires.cut;
+      refused = given_refused s o c.args.begin c.args.place c.requires.within c.calls.result.now
+          c.deref.result.now c.events.result.now c.calls.ensures states c.events.ensures
+          c.requires.stops c.args.refused c.requires.ended;
+      idle = subst (λ (l : List Call). AreIdle (WindowStep 0 l) c.deref-2.result.now)
+          (c.calls-2.ensures ∙ sym c.calls.ensures)
+          (subst (λ (l : List Bool). AreIdle (WindowStep 0 c.calls-2.result.now) l)
+          (sym c.deref-2.ensures.value) c.in_ok-idle.ensures);
+    }
+
+pub lines_begun-requires : goal.lines_begun-requires
+lines_begun-requires c =
+    given_below c.args.service.now c.requires.orderly c.args.begin c.args.place c.requires.within
+    c.events.result.now c.begins.result.now c.events.ensures c.begins.ensures
+
+pub returns : goal.returns
+returns c =
+    if_ok _ _ c.lines_begun.result c.lines_begun.ensures
+    (λ lines is. given_lines c.args.service.now c.requires.orderly c.args.begin c.args.place
+    c.requires.within c.calls.result.now c.deref.result.now c.events.result.now c.calls.ensures
+    (c.deref.ensures.value ∙ c.in_ok-states.ensures) c.events.ensures c.requires.stops
+    c.args.refused c.requires.ended c.in_ok-left_out.left_out.items c.deref-3.result.now
+    c.begins.result.now lines.items c.begins.ensures c.deref-3.ensures.value
+    c.in_ok-left_out.ensures is)

@@ -1,0 +1,235 @@
+-- Histories and orders of which calls are left out.
+use Rattle.std.proofs.Common.{◌≡◌, ℕ, zero, suc, ◌+◌, ◌<◌, ◌≤◌, Bool, true, false, cond, eqb, List, [], ◌∷◌, take, refl, ap, subst, arith, inl, inr}
+use Rattle.std.specs.Prelude.{filter}
+use Rattle.std.proofs.lemmas.Bool.{cond_both}
+use Rattle.std.proofs.lemmas.Bool.Decides.{eqb_tells}
+use Rattle.std.proofs.lemmas.List.Kept.{AllPairs-filter}
+use Rattle.histories.specs.declared.event.Event.{Event}
+use Rattle.histories.specs.declared.event.Event.TheVariants.{Begin, End, Crash}
+use Rattle.histories.specs.Histories.{begins, times, Explains, HasEnded, IsAnswered, IsExplained, IsOver, Leads, StandsAt}
+use Rattle.histories.proofs.Counting.{times-cons, times_none, times_other}
+use Rattle.history_windows.specs.Needed.{IsRest, LeavesOutIdle, call_of, events_of}
+
+module _ (kept : ℕ → Bool) where
+  -- what the events of some calls have at a place, all of them have, and those before are the same
+  abbrev IsFrom : List Event → List Event → ℕ → Event → Type 0
+  IsFrom es rest p e =
+      (q : ℕ) × StandsAt es q e × (events_of kept (take q es) ≡ take p rest)
+      × (kept (call_of e) ≡ true)
+
+  from_kept : (x : Event) (es rest : List Event) → kept (call_of x) ≡ true
+      → ((p : ℕ) (e : Event) → StandsAt rest p e → IsFrom es rest p e)
+      → (p : ℕ) (e : Event) → StandsAt (x ∷ rest) p e → IsFrom (x ∷ es) (x ∷ rest) p e
+  from_kept x es rest t more zero e at =
+      let same : x ≡ e = cc in
+      (0, at, refl, subst (λ (y : Event). kept (call_of y) ≡ true) same t)
+  from_kept x es rest t more (suc p) e at =
+      let r = more p e at in
+      (suc r.0, r.1, rw t (ap (λ (l : List Event). x ∷ l) r.2), r.3)
+
+  from_left : (x : Event) (es rest : List Event) → kept (call_of x) ≡ false
+      → ((p : ℕ) (e : Event) → StandsAt rest p e → IsFrom es rest p e)
+      → (p : ℕ) (e : Event) → StandsAt rest p e → IsFrom (x ∷ es) rest p e
+  from_left x es rest f more p e at =
+      let r = more p e at in (suc r.0, r.1, rw f r.2, r.3)
+
+  pub stands_of : (es : List Event) (p : ℕ) (e : Event) → StandsAt (events_of kept es) p e
+      → IsFrom es (events_of kept es) p e
+  stands_of [] p e at = absurd (cc)
+  stands_of (x ∷ es) p e at =
+      let rest = events_of kept es in
+      cond_both (kept (call_of x)) (x ∷ rest) rest
+      (λ (l : List Event). (p : ℕ) (e : Event) → StandsAt l p e → IsFrom (x ∷ es) l p e)
+      (λ t. from_kept x es rest t (stands_of es))
+      (λ f. from_left x es rest f (stands_of es)) p e at
+
+  -- two events that stand one before the other did so before
+  abbrev AreFrom : List Event → Event → Event → Type 0
+  AreFrom es e f =
+      (one : ℕ) × (other : ℕ) × (one < other) × StandsAt es one e × StandsAt es other f
+
+  both_kept : (x : Event) (es : List Event)
+      → ((p q : ℕ) (e f : Event) → p < q → StandsAt (events_of kept es) p e
+      → StandsAt (events_of kept es) q f → AreFrom es e f)
+      → (p q : ℕ) (e f : Event) → p < q → StandsAt (x ∷ events_of kept es) p e
+      → StandsAt (x ∷ events_of kept es) q f → AreFrom (x ∷ es) e f
+  both_kept x es more p zero e f less one other = absurd (omega (arith, less))
+  both_kept x es more zero (suc q) e f less one other =
+      let r = stands_of es q f other in (0, suc r.0, omega arith, one, r.1)
+  both_kept x es more (suc p) (suc q) e f less one other =
+      let r = more p q e f (omega (arith, less)) one other in
+      (suc r.0, suc r.1, omega (arith, r.2), r.3, r.4)
+
+  both_left : (x : Event) (es : List Event)
+      → ((p q : ℕ) (e f : Event) → p < q → StandsAt (events_of kept es) p e
+      → StandsAt (events_of kept es) q f → AreFrom es e f)
+      → (p q : ℕ) (e f : Event) → p < q → StandsAt (events_of kept es) p e
+      → StandsAt (events_of kept es) q f → AreFrom (x ∷ es) e f
+  both_left x es more p q e f less one other =
+      let r = more p q e f less one other in (suc r.0, suc r.1, omega (arith, r.2), r.3, r.4)
+
+  both_of : (es : List Event) (p q : ℕ) (e f : Event) → p < q → StandsAt (events_of kept es) p e
+      → StandsAt (events_of kept es) q f → AreFrom es e f
+  both_of [] p q e f less one other = absurd (cc)
+  both_of (x ∷ es) p q e f less one other =
+      let rest = events_of kept es in
+      cond_both (kept (call_of x)) (x ∷ rest) rest
+      (λ (l : List Event). (p q : ℕ) (e f : Event) → p < q → StandsAt l p e → StandsAt l q f
+      → AreFrom (x ∷ es) e f)
+      (λ t. both_kept x es (both_of es))
+      (λ no. both_left x es (both_of es)) p q e f less one other
+
+  pub answered_of : (es : List Event) (c : ℕ) → IsAnswered (events_of kept es) c
+      → IsAnswered es c × (kept c ≡ true)
+  answered_of es c a = let r = stands_of es a.0 (End c) a.1 in ((r.0, r.1), r.3)
+
+  pub ended_of : (es : List Event) (c : ℕ) → HasEnded (events_of kept es) c
+      → HasEnded es c × (kept c ≡ true)
+  ended_of es c h =
+      elim h.1 as (λ _. HasEnded es c × (kept c ≡ true)) [
+        | inl x ↦ let r = stands_of es h.0 (End c) x in ((r.0, inl r.1), r.3)
+        | inr x ↦ let r = stands_of es h.0 (Crash c) x in ((r.0, inr r.1), r.3)
+      ]
+
+  over_of : (es : List Event) (c d : ℕ) → IsOver (events_of kept es) c d → IsOver es c d
+  over_of es c d o =
+      elim o.3 as (λ _. IsOver es c d) [
+        | inl x ↦
+            let r = both_of es o.0 o.1 (End c) (Begin d) o.2 x o.4 in
+            (r.0, r.1, r.2, inl r.3, r.4)
+        | inr x ↦
+            let r = both_of es o.0 o.1 (Crash c) (Begin d) o.2 x o.4 in
+            (r.0, r.1, r.2, inr r.3, r.4)
+      ]
+
+  -- how often a call begins that is kept, and any call
+  other_call : (b c : ℕ) → kept b ≡ false → kept c ≡ true → eqb b c ≡ false
+  other_call b c f t =
+      elim (eqb_tells b c) as (λ _. eqb b c ≡ false) [
+        | inl same ↦ absurd (let e : kept b ≡ kept c = ap kept same.1 in cc)
+        | inr other ↦ other.0
+      ]
+
+  pub begins_of : (c : ℕ) (es : List Event) → kept c ≡ true
+      → begins c (events_of kept es) ≡ begins c es
+  unfolding begins
+  begins_of c [] t = refl
+  begins_of c (Begin b ∷ es) t =
+      let rest = events_of kept es in
+      let more : begins c rest ≡ begins c es = begins_of c es t in
+      cond_both (kept b) (Begin b ∷ rest) rest
+      (λ (l : List Event). begins c l ≡ cond (eqb b c) 1 0 + begins c es)
+      (λ _. ap (λ n. cond (eqb b c) 1 0 + n) more)
+      (λ f. rw (other_call b c f t) (omega (arith, more)))
+  begins_of c (End b ∷ es) t =
+      let rest = events_of kept es in
+      let more : begins c rest ≡ begins c es = begins_of c es t in
+      cond_both (kept b) (End b ∷ rest) rest (λ (l : List Event). begins c l ≡ begins c es)
+      (λ _. more) (λ _. more)
+  begins_of c (Crash b ∷ es) t =
+      let rest = events_of kept es in
+      let more : begins c rest ≡ begins c es = begins_of c es t in
+      cond_both (kept b) (Crash b ∷ rest) rest (λ (l : List Event). begins c l ≡ begins c es)
+      (λ _. more) (λ _. more)
+
+  pub begins_fewer : (c : ℕ) (es : List Event) → begins c (events_of kept es) ≤ begins c es
+  unfolding begins
+  begins_fewer c [] = omega arith
+  begins_fewer c (Begin b ∷ es) =
+      let rest = events_of kept es in
+      let more : begins c rest ≤ begins c es = begins_fewer c es in
+      cond_both (kept b) (Begin b ∷ rest) rest
+      (λ (l : List Event). begins c l ≤ cond (eqb b c) 1 0 + begins c es)
+      (λ _. omega (arith, more)) (λ _. omega (arith, more))
+  begins_fewer c (End b ∷ es) =
+      let rest = events_of kept es in
+      let more : begins c rest ≤ begins c es = begins_fewer c es in
+      cond_both (kept b) (End b ∷ rest) rest (λ (l : List Event). begins c l ≤ begins c es)
+      (λ _. more) (λ _. more)
+  begins_fewer c (Crash b ∷ es) =
+      let rest = events_of kept es in
+      let more : begins c rest ≤ begins c es = begins_fewer c es in
+      cond_both (kept b) (Crash b ∷ rest) rest (λ (l : List Event). begins c l ≤ begins c es)
+      (λ _. more) (λ _. more)
+
+  -- how often a call stands in an order
+  times_of : (c : ℕ) (order : List ℕ) → kept c ≡ true
+      → times c (filter kept order) ≡ times c order
+  unfolding times
+  times_of c [] t = refl
+  times_of c (x ∷ xs) t =
+      let rest = filter kept xs in
+      let more : times c rest ≡ times c xs = times_of c xs t in
+      cond_both (kept x) (x ∷ rest) rest
+      (λ (l : List ℕ). times c l ≡ cond (eqb x c) 1 0 + times c xs)
+      (λ _. ap (λ n. cond (eqb x c) 1 0 + n) more)
+      (λ f. rw (other_call x c f t) (omega (arith, more)))
+
+  times_fewer : (c : ℕ) (order : List ℕ) → times c (filter kept order) ≤ times c order
+  unfolding times
+  times_fewer c [] = omega arith
+  times_fewer c (x ∷ xs) =
+      let rest = filter kept xs in
+      let more : times c rest ≤ times c xs = times_fewer c xs in
+      cond_both (kept x) (x ∷ rest) rest
+      (λ (l : List ℕ). times c l ≤ cond (eqb x c) 1 0 + times c xs)
+      (λ _. omega (arith, more)) (λ _. omega (arith, more))
+
+  times_kept : (c : ℕ) (order : List ℕ) → 0 < times c (filter kept order) → kept c ≡ true
+  times_kept c [] h = absurd (omega (arith, h, times_none c))
+  times_kept c (x ∷ xs) some =
+      let rest = filter kept xs in
+      cond_both (kept x) (x ∷ rest) rest (λ (l : List ℕ). 0 < times c l → kept c ≡ true)
+      (λ t h. elim (eqb_tells x c) as (λ _. kept c ≡ true) [
+        | inl same ↦ subst (λ n. kept n ≡ true) same.1 t
+        | inr other ↦
+            times_kept c xs (omega (arith, h, times-cons c x rest, times_other c x other.1))
+      ])
+      (λ _ h. times_kept c xs h) some
+
+  module _ {S : Type 0} (Step : S → ℕ → S → Type 0) (idle : LeavesOutIdle Step kept) where
+    leads_of : (old new : S) (order : List ℕ) → Leads Step old order new
+        → Leads Step old (filter kept order) new
+    leads_of old new [] l = l
+    leads_of old new (x ∷ xs) l =
+        cond_both (kept x) (x ∷ filter kept xs) (filter kept xs)
+        (λ (o : List ℕ). Leads Step old o new)
+        (λ _. (l.0, l.1, leads_of l.0 new xs l.2))
+        (λ f. subst (λ s. Leads Step s (filter kept xs) new) (idle x f old l.0 l.1)
+        (leads_of l.0 new xs l.2))
+
+    pub explains_of : (es : List Event) (old new : S) (order : List ℕ)
+        → Explains Step es old order new
+        → Explains Step (events_of kept es) old (filter kept order) new
+    explains_of es old new order ex = record {
+      once = λ c. omega (arith, times_fewer c order, ex.once c);
+      begun = λ c some.
+          let t = times_kept c order some in
+          let made : 0 < times c order = omega (arith, times_of c order t, some) in
+          omega (arith, begins_of c es t, ex.begun c made);
+      answered = λ c a.
+          let r = answered_of es c a in
+          omega (arith, times_of c order r.1, ex.answered c r.0);
+      real_time = λ i j d less within over.
+          AllPairs-filter (λ first second. ¬ (IsOver es second first)) kept order ex.real_time
+          i j d less within (over_of es _ _ over);
+      leads = leads_of old new order ex.leads;
+    }
+
+    pub explained_of : (es : List Event) (olds : List S) → IsExplained Step es olds
+        → IsExplained Step (events_of kept es) olds
+    explained_of es olds x =
+        (x.0, filter kept x.1, x.2, x.3, explains_of es x.0 x.2 x.1 x.4)
+
+pub explains_rest : {S : Type 0} (Step : S → ℕ → S → Type 0) (kept : ℕ → Bool)
+    (events : List Event) (old new : S) (order : List ℕ) → LeavesOutIdle Step kept
+    → Explains Step events old order new
+    → Explains Step (events_of kept events) old (filter kept order) new
+explains_rest Step kept events old new order idle ex =
+    explains_of kept Step idle events old new order ex
+
+pub refused_rest : {S : Type 0} (Step : S → ℕ → S → Type 0) (kept : ℕ → Bool)
+    (events : List Event) (olds : List S) → IsRest Step olds events kept
+    → ¬ (IsExplained Step events olds)
+refused_rest Step kept events olds rest x =
+    rest.refused (explained_of kept Step rest.others events olds x)

@@ -1,0 +1,136 @@
+-- Calls that are left out.
+use Rattle.std.proofs.Common.{◌≡◌, ℕ, zero, suc, Bool, true, false, List, [], ◌∷◌, ◌++◌, length, get_or, refl, sym, ◌∙◌, ap, subst, arith, inl, inr, take, take_all, Result, Ok, Err, IfOk}
+use Rattle.std.proofs.Math.ListN.{set, replicate}
+use Rattle.std.proofs.lemmas.Bool.{cases_eq, cases_lt}
+use Rattle.std.proofs.lemmas.List.{get_or-set_other, get_or_past, get_or-replicate, length-replicate, take-append-le}
+use Rattle.std.specs.Prelude.{not}
+use Rattle.std.specs.Global.{Vec}
+use Rattle.histories.specs.declared.event.Event.{Event}
+use Rattle.histories.specs.Frontier.{IsIdle}
+use Rattle.histories.specs.Histories.{IsExplained, IsHistory}
+use Rattle.history_windows.specs.Needed.{AreIdle, AreNeeded, HasCut, IsRest, IsWellFormed, events_of, is_kept}
+use Rattle.history_windows.specs.Windows.{IsCut}
+use Rattle.history_windows.proofs.Following.{history_front}
+use Rattle.history_windows.proofs.Trying.{formed_history, formed_inside, sound_formed}
+
+pub left_out_is : (calls : List Bool) (call : ℕ) → is_kept calls call ≡ false
+    → get_or calls call false ≡ true
+left_out_is calls call h = cases (get_or calls call false) h
+  where
+    cases : (b : Bool) → not b ≡ false → b ≡ true
+    cases true h = refl
+    cases false h = absurd (cc)
+
+-- what was written at a place, and then what was there before
+set_back : (calls : List Bool) (i : ℕ) (x d : Bool)
+    → set (set calls i x) i (get_or calls i d) ≡ calls
+set_back [] i x d = refl
+set_back (y ∷ ys) zero x d = refl
+set_back (y ∷ ys) (suc i) x d = ap (λ (l : List Bool). y ∷ l) (set_back ys i x d)
+
+module _ {S : Type 0} (Step : S → ℕ → S → Type 0) (olds : List S) (es : List Event) where
+  -- the call stays
+  pub rest_back : (calls : List Bool) (call : ℕ) (was : Bool) → was ≡ get_or calls call was
+      → IsRest Step olds es (is_kept calls)
+      → IsRest Step olds es (is_kept (set (set calls call true) call was))
+  rest_back calls call was is rest =
+      subst
+      (λ (w : Bool). IsRest Step olds es (is_kept (set (set calls call true) call w))) (sym is)
+      (subst (λ (l : List Bool). IsRest Step olds es (is_kept l))
+      (sym (set_back calls call true was)) rest)
+
+  -- one call more is left out
+  pub rest_more : (calls : List Bool) (call : ℕ) → IsIdle Step call
+      → ¬ (IsExplained Step (events_of (is_kept (set calls call true)) es) olds)
+      → IsRest Step olds es (is_kept calls) → IsRest Step olds es (is_kept (set calls call true))
+  rest_more calls call idle none rest = record {
+    refused = none;
+    others = λ c left. elim (cases_eq c call) as (λ _. IsIdle Step c) [
+      | inl same ↦ subst (λ n. IsIdle Step n) (sym same) idle
+      | inr other ↦ rest.others c
+          (sym (ap not (get_or-set_other calls call c true false other)) ∙ left)
+    ];
+  }
+
+  -- all of these are left out
+  pub rest_all : (calls : List Bool) → AreIdle Step calls
+      → ¬ (IsExplained Step (events_of (is_kept calls) es) olds)
+      → IsRest Step olds es (is_kept calls)
+  rest_all calls idle none = record {
+    refused = none;
+    others = λ c left. idle c (left_out_is calls c left);
+  }
+
+none_left : (n c : ℕ) → is_kept (replicate n false) c ≡ true
+none_left n c =
+    elim (cases_lt c n) as (λ _. is_kept (replicate n false) c ≡ true) [
+      | inl in_list ↦ ap not (get_or-replicate n c false false in_list)
+      | inr after ↦ ap not (get_or_past (replicate n false) c false
+          (omega (arith, after, length-replicate n false)))
+    ]
+
+all_kept : (kept : ℕ → Bool) (es : List Event) → ((c : ℕ) → kept c ≡ true)
+    → events_of kept es ≡ es
+all_kept kept [] all = refl
+all_kept kept (e ∷ es) all = rw all (ap (λ (l : List Event). e ∷ l) (all_kept kept es all))
+
+-- no call is left out
+pub rest_none : {S : Type 0} (Step : S → ℕ → S → Type 0) (olds : List S) (es : List Event)
+    (n : ℕ) → ¬ (IsExplained Step es olds) → IsRest Step olds es (is_kept (replicate n false))
+rest_none Step olds es n none = record {
+  refused = subst (λ (l : List Event). ¬ (IsExplained Step l olds))
+      (sym (all_kept (is_kept (replicate n false)) es (none_left n))) none;
+  others = λ c left. absurd (let e = none_left n c in cc);
+}
+
+-- the first events of a history are one
+pub history_past : (past window : List Event) → IsHistory (past ++ window) → IsHistory past
+history_past past window history =
+    let is : take (length past) (past ++ window) ≡ past =
+    take-append-le (length past) past window (omega arith)
+    ∙ take_all (length past) past (omega arith) in
+    subst (λ (l : List Event). IsHistory l) is
+    (history_front (past ++ window) (length past) history)
+
+module _ {S : Type 0} (Step : S → ℕ → S → Type 0) (olds : List S) (past window : List Event)
+    (history : IsHistory (past ++ window)) where
+  pub formed_window : HasCut Step olds past → IsWellFormed window
+  formed_window cut = formed_inside past window history cut.1.quiet
+
+  -- no order explains the window from the states with which it begins
+  pub refused_window : (states given : List S) → given ≡ states → IsCut Step olds past states
+      → ¬ (IsExplained Step (past ++ window) olds) → ¬ (IsExplained Step window given)
+  refused_window states given same cut none x =
+      let formed : IsWellFormed window = formed_inside past window history cut.quiet in
+      none
+      ((cut.same window (sound_formed window formed)
+      (sound_formed (past ++ window) (formed_history (past ++ window) history))).1
+      (subst (λ (l : List S). IsExplained Step window l) same x))
+
+  pub needed_found : {E : Type 0} (states given : List S) → given ≡ states
+      → IsCut Step olds past states → (found : Result (Vec Bool) E)
+      → IfOk found (λ left_out. IsRest Step given window (is_kept left_out.items))
+      → IfOk found (λ left_out. AreNeeded Step olds past window (is_kept left_out.items))
+  needed_found states given same cut (Err e) rest = rest
+  needed_found states given same cut (Ok found) rest = record {
+    states = states;
+    cut = cut;
+    rest = subst (λ (l : List S). IsRest Step l window (is_kept found.items)) same rest;
+  }
+
+  pub needed_whole : {E : Type 0} (n : ℕ) → HasCut Step olds past
+      → ¬ (IsExplained Step (past ++ window) olds) → (found : Result (Vec Bool) E)
+      → IfOk found (λ left_out. left_out.items ≡ replicate n false)
+      → IfOk found (λ left_out. AreNeeded Step olds past window (is_kept left_out.items))
+  needed_whole n cut none (Err e) all = all
+  needed_whole n cut none (Ok found) all = record {
+    states = cut.0;
+    cut = cut.1;
+    rest = subst (λ (l : List Bool). IsRest Step cut.0 window (is_kept l)) (sym all)
+        (rest_none Step cut.0 window n (refused_window cut.0 cut.0 refl cut.1 none));
+  }
+
+pub ok_as : {X E : Type 0} (found : Result X E) (P Q : X → Type 0) → ((x : X) → P x → Q x)
+    → IfOk found P → IfOk found Q
+ok_as (Err e) P Q fits h = h
+ok_as (Ok x) P Q fits h = fits x h

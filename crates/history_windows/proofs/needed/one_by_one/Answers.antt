@@ -1,0 +1,18 @@
+use Rattle.std.proofs.Common.{Bool, List, sym, subst}
+use Rattle.history_windows.specs.Needed.{IsRest, is_kept}
+use Rattle.history_windows.proofs.Shrinking.{rest_none}
+use Rattle.history_windows.proofs.needed.one_by_one.Goals as goal
+
+pub loop-event-init : goal.loop-event-init
+loop-event-init g c =
+    subst (λ (l : List Bool).
+    IsRest (g.M.Machine.Step c.args.machine.now) c.args.states.now c.args.events.now (is_kept l))
+    (sym (c.in_ok-left_out.ensures.items_if_clones_equal (λ y same. same)))
+    (rest_none (g.M.Machine.Step c.args.machine.now) c.args.states.now c.args.events.now _
+    c.requires.refused)
+
+pub loop-event-preserved : goal.loop-event-preserved
+loop-event-preserved g c = c.in_ok-leave_out_begun.ensures c.loop-event.invariant
+
+pub returns : goal.returns
+returns g c = c.loop-event.invariant
