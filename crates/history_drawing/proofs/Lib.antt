@@ -1,0 +1,6 @@
+mod Drawable
+mod Drawn
+mod Ends
+mod Parts
+mod Shown
+mod Split
