@@ -1,3 +1,4 @@
+mod Begins
 mod Drawable
 mod Drawn
 mod Ends

@@ -1,9 +1,9 @@
 -- One line more of a time line.
-use Rattle.std.proofs.Common.{◌≡◌, ℕ, zero, suc, ◌+◌, ◌<◌, ◌≤◌, List, [], ◌∷◌, ◌++◌, get_or, length, inl, inr, ap, refl, subst, sym, ◌∙◌, arith}
+use Rattle.std.proofs.Common.{◌≡◌, ℕ, zero, suc, ◌+◌, ◌<◌, ◌≤◌, List, [], ◌∷◌, ◌++◌, Contains, get_or, length, inl, inr, ap, refl, subst, sym, ◌∙◌, arith}
 use Rattle.std.specs.Borrow.{Bor}
 use Rattle.std.proofs.lemmas.Bool.{cases_lt}
 use Rattle.std.proofs.lemmas.List.{length-append}
-use Rattle.std.proofs.lemmas.List.Elements.{All-push}
+use Rattle.std.proofs.lemmas.List.Elements.{All-push, Contains-append_left, Contains-push}
 use Rattle.std.proofs.lemmas.List.Quantifiers.{all_pairs_push}
 use Rattle.history_drawing.specs.Calls.{text_at}
 use Rattle.history_drawing.specs.Timelines.{AreApart, AreBars, Extends, IsBar, IsBarOf, IsRow, IsUnknown, IsWanted}
@@ -66,9 +66,17 @@ bar_kept lines w old new b x (seen, wanted, is) = (
 module _ (lines : List (Bor (List ℕ))) (w : Window) where
   -- a line in which no wanted call begins
   pub bars_same : (limit : ℕ) (rows : List (Bor (List ℕ))) (bars : List Bar)
-      → AreBars lines w limit rows bars → AreBars lines w (limit + 1) rows bars
-  bars_same limit rows bars h = record {
+      → AreBars lines w limit rows bars → ((seen : LogCall) → IsWanted lines w limit seen → ⊥)
+      → AreBars lines w (limit + 1) rows bars
+  bars_same limit rows bars h none = record {
     each = h.each;
+    all = λ k seen a before is.
+        elim (cases_lt k limit) as (λ _. (c : Bar) × Contains bars c × (c.begin ≡ k)) [
+          | inl above ↦ h.all k seen a above is
+          | inr late ↦
+              let same : k ≡ limit = omega (arith, before, late) in
+              absurd (none seen (subst (λ (j : ℕ). IsWanted lines w j seen) same is))
+        ];
     above = λ k d fits. let was = h.above k d fits in (was.0, omega (arith, was.1));
     rising = h.rising;
     apart = h.apart;
@@ -94,6 +102,16 @@ module _ (lines : List (Bor (List ℕ))) (w : Window) where
       record {
         each = All-push (IsBar lines w new) bars b
             (λ k d fits. bar_kept lines w old new (get_or bars k d) x (h.each k d fits)) here;
+        all = λ k other a before its.
+            elim (cases_lt k limit) as (λ _. (c : Bar) × Contains (bars ++ b ∷ []) c
+            × (c.begin ≡ k)) [
+              | inl above ↦
+                  let (c, there, begins) = h.all k other a above its in
+                  (c, Contains-append_left bars (b ∷ []) c there, begins)
+              | inr late ↦
+                  let same : limit ≡ k = omega (arith, before, late) in
+                  (b, Contains-push bars b, is.begin ∙ same)
+            ];
         above = All-push (λ (c : Bar). (w.first ≤ c.begin) × (c.begin < limit + 1)) bars b
             (λ k d fits. let was = h.above k d fits in (was.0, omega (arith, was.1)))
             (subst (λ (n : ℕ). (w.first ≤ n) × (n < limit + 1)) (sym is.begin)

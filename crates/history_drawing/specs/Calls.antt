@@ -1,5 +1,5 @@
 -- The calls of a log, by the texts of its lines.
-use Rattle.std.specs.Prelude.{◌≡◌, ◌⊎◌, ℕ, zero, suc, ◌+◌, ◌<◌, ◌≤◌, List, [], ◌++◌, if◌then◌else◌, codes, get_or, map}
+use Rattle.std.specs.Prelude.{◌≡◌, ◌⊎◌, ℕ, zero, suc, ◌+◌, ◌<◌, ◌≤◌, Bool, true, false, List, [], ◌++◌, if◌then◌else◌, codes, get_or, map}
 use Rattle.std.specs.Borrow.{Bor}
 use Rattle.line_streams.specs.Spelling.{HasNo}
 use Rattle.log_lines.specs.Commands.{NamedCommand}
@@ -16,6 +16,21 @@ texts lines = map (λ (line : Bor (List ℕ)). line.now) lines
 -- the text of the line of this number; it is empty where there is none
 abbrev pub text_at : List (Bor (List ℕ)) → ℕ → List ℕ
 text_at lines k = get_or (texts lines) k []
+
+-- whether a line begins a caller's call
+abbrev pub is_begin : Line → Bool
+is_begin (begin number caller command) = true
+is_begin _ = false
+
+-- whether a line is the reply to a call alone
+abbrev pub is_reply : Line → Bool
+is_reply (reply words) = true
+is_reply _ = false
+
+-- whether a line is a call alone
+abbrev pub is_call : Line → Bool
+is_call (call number command) = true
+is_call _ = false
 
 -- the line of this number is this one
 abbrev pub Says : List (Bor (List ℕ)) → ℕ → Line → Type 0

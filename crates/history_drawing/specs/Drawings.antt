@@ -35,7 +35,8 @@ IsPicture report t picture =
     (notes : List (Bor (List ℕ))) × AreLines report notes
     × (picture ≡ svg_text t (text_at notes 1) (drop 2 notes))
 
--- The picture of the window of a refused reply: calls that begin in its lines, and no points. The
+-- The picture of the window of a refused reply: the wanted calls that begin in its lines, and no
+-- points. The
 -- reply is marked.
 pub record ShowsWindow (log report : List ℕ) (told : Refusal) (picture : List ℕ) : Type 0 where
   pub lines : List (Bor (List ℕ))

@@ -1,5 +1,5 @@
 -- Calls as bars on a time line.
-use Rattle.std.specs.Prelude.{◌≡◌, ◌≢◌, ℕ, ◌<◌, ◌≤◌, ◌++◌, All, AllPairs, List, [], Option, None, Some, length}
+use Rattle.std.specs.Prelude.{◌≡◌, ◌≢◌, ℕ, ◌<◌, ◌≤◌, ◌++◌, All, AllPairs, Contains, List, [], Option, None, Some, length}
 use Rattle.std.specs.Borrow.{Bor}
 use Rattle.history_drawing.specs.Calls.{BeginsIn, text_at}
 use Rattle.history_drawing.specs.declared.calls.LogCall.{LogCall}
@@ -49,11 +49,13 @@ abbrev pub IsBar : List (Bor (List ℕ)) → Window → List (Bor (List ℕ)) �
 IsBar lines w rows b =
     (seen : LogCall) × IsWanted lines w b.begin seen × IsBarOf rows b.begin seen b
 
--- The bars are wanted calls that begin in lines from the first one on and above this one, each
+-- The bars are all wanted calls that begin in lines from the first one on and above this one, each
 -- once, in the order of their begins. There are 200 at most. Each caller has one row.
 pub record AreBars (lines : List (Bor (List ℕ))) (w : Window) (limit : ℕ)
     (rows : List (Bor (List ℕ))) (bars : List Bar) : Type 0 where
   pub each : All (IsBar lines w rows) bars
+  pub all : (k : ℕ) (seen : LogCall) → w.first ≤ k → k < limit → IsWanted lines w k seen
+      → (b : Bar) × Contains bars b × (b.begin ≡ k)
   pub above : All (λ (b : Bar). (w.first ≤ b.begin) × (b.begin < limit)) bars
   pub rising : AllPairs (λ (one other : Bar). one.begin < other.begin) bars
   pub apart : AreApart rows

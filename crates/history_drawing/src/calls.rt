@@ -1,8 +1,11 @@
 //! The calls of a log, by its lines.
-ghost use Rattle.std.specs.Prelude.{◌≡◌, ◌<◌, IfNone, IfOk, IfSome};
-ghost use Rattle.log_lines.specs.Lines.Line.{reply};
+ghost use Rattle.std.specs.Prelude.{◌≡◌, ◌<◌, IfNone, IfOk, IfSome, false};
+ghost use Rattle.log_lines.specs.Commands.{NamedCommand};
+ghost use Rattle.log_lines.specs.Lines.{line_seen};
+ghost use Rattle.log_lines.specs.Lines.Line.{begin, call, reply};
 ghost use Rattle.history_drawing.specs.Calls.{BeginsIn, EndsFrom, EndsIn, IsAlone, IsBehind};
-ghost use Rattle.history_drawing.specs.Calls.{Says, text_above, text_at};
+ghost use Rattle.history_drawing.specs.Calls.{Says, is_begin, is_call, is_reply, text_above, text_at};
+ghost use Rattle.history_drawing.specs.declared.calls.LogCall.{LogCall};
 ghost use Rattle.history_drawing.specs.declared.timeline.BarEnd.{BarEnd};
 
 use crate::timeline::BarEnd;
@@ -89,6 +92,41 @@ fn end_from<'a>(lines: &[&'a [u8]], caller: &[u8], first: usize, last: usize) ->
     BarEnd::Open
 }
 
+/// The number of the service and the caller of a line that begins a call.
+fn begun<'a>(read: &LogLine<'a>) -> Option<(Option<u64>, &'a [u8])>
+    ensures some { IfSome result (λ found. (c : NamedCommand)
+        × (line_seen read.now ≡ begin found.0 found.1.now c)) }
+    ensures none { IfNone result (is_begin (line_seen read.now) ≡ false) }
+{
+    match read {
+        LogLine::Begin(service, caller, _) => Some((*service, caller)),
+        _ => None,
+    }
+}
+
+/// The words of a line that is a reply.
+fn replied<'a>(read: &LogLine<'a>) -> Option<&'a [u8]>
+    ensures some { IfSome result (λ words. line_seen read.now ≡ reply words.now) }
+    ensures none { IfNone result (is_reply (line_seen read.now) ≡ false) }
+{
+    match read {
+        LogLine::Reply(words) => Some(words),
+        _ => None,
+    }
+}
+
+/// The number of the service of a line that is a call alone.
+fn called(read: &LogLine<'_>) -> Option<Option<u64>>
+    ensures some { IfSome result (λ number. (c : NamedCommand)
+        × (line_seen read.now ≡ call number c)) }
+    ensures none { IfNone result (is_call (line_seen read.now) ≡ false) }
+{
+    match read {
+        LogLine::Call(service, _) => Some(*service),
+        _ => None,
+    }
+}
+
 /// The call whose command stands above the line of its reply.
 fn alone_in<'a>(
     alloc: Global,
@@ -97,21 +135,23 @@ fn alone_in<'a>(
     words: &'a [u8],
 ) -> Result<Option<LogCall<'a>>, AllocError>
     requires { Says lines.now line (reply words.now) }
-    ensures { IfOk result (λ found. IfSome found (λ seen. IsAlone lines.now line seen)) }
+    ensures some { IfOk result (λ found. IfSome found (λ seen. IsAlone lines.now line seen)) }
+    ensures none { IfOk result (λ found. IfNone found ((seen : LogCall)
+        → ¬ (IsAlone lines.now line seen))) }
 {
     let command = text_above(lines, line);
     let Some(read) = read_log_line(alloc, command)? else {
         return Ok(None);
     };
-    match read {
-        LogLine::Call(service, _) => Ok(Some(LogCall {
-            service,
-            caller: b"",
-            command,
-            end: BarEnd::Answered(line, words),
-        })),
-        _ => Ok(None),
-    }
+    let Some(service) = called(&read) else {
+        return Ok(None);
+    };
+    Ok(Some(LogCall {
+        service,
+        caller: b"",
+        command,
+        end: BarEnd::Answered(line, words),
+    }))
 }
 
 /// The call that begins in this line, with its end above the last one.
@@ -122,22 +162,28 @@ pub(crate) fn call_at<'a>(
     last: usize,
 ) -> Result<Option<LogCall<'a>>, AllocError>
     requires { line < last }
-    ensures { IfOk result (λ found. IfSome found (λ seen. BeginsIn lines.now line last seen)) }
+    ensures some { IfOk result (λ found. IfSome found (λ seen.
+        BeginsIn lines.now line last seen)) }
+    ensures none { IfOk result (λ found. IfNone found ((seen : LogCall)
+        → ¬ (BeginsIn lines.now line last seen))) }
 {
     let text = text_at(lines, line);
     let Some(read) = read_log_line(alloc, text)? else {
         return Ok(None);
     };
-    match read {
-        LogLine::Begin(service, caller, _) => Ok(Some(LogCall {
+    if let Some((service, caller)) = begun(&read) {
+        return Ok(Some(LogCall {
             service,
             caller,
             command: behind_mark(text),
             end: end_from(lines, caller, line + 1, last),
-        })),
-        LogLine::Reply(words) => alone_in(alloc, lines, line, words),
-        _ => Ok(None),
+        }));
     }
+    let Some(words) = replied(&read) else {
+        return Ok(None);
+    };
+    let found = alone_in(alloc, lines, line, words)?;
+    Ok(found)
 }
 
 /// The number of the first service.

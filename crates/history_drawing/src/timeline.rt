@@ -3,6 +3,7 @@
 ghost use Rattle.std.specs.Prelude.{◌≡◌, ◌++◌, ◌∷◌, [], ◌+◌, ◌<◌, ◌≤◌, IfNone, IfOk, IfSome, IsTrue, OnOk, length};
 ghost use Rattle.history_drawing.specs.Timelines.{AreApart, AreBars, Extends, IsBarOf, IsOn, IsRow};
 ghost use Rattle.history_drawing.specs.Timelines.{IsTimeline, IsUnknown, IsWanted};
+ghost use Rattle.history_drawing.specs.declared.calls.LogCall.{LogCall};
 ghost use Rattle.history_drawing.specs.declared.timeline.Bar.{Bar};
 
 use crate::calls::{LogCall, call_at, text_at};
@@ -142,8 +143,10 @@ fn wanted_at<'a>(
     line: usize,
 ) -> Result<Option<LogCall<'a>>, AllocError>
     requires { line < window.now.last }
-    ensures { IfOk result (λ found. IfSome found (λ seen.
+    ensures some { IfOk result (λ found. IfSome found (λ seen.
         IsWanted lines.now window.now line seen)) }
+    ensures none { IfOk result (λ found. IfNone found ((seen : LogCall)
+        → ¬ (IsWanted lines.now window.now line seen))) }
 {
     let Some(call) = call_at(alloc, lines, line, window.last)? else {
         return Ok(None);

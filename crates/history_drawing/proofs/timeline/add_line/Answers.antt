@@ -6,7 +6,7 @@ use Rattle.history_drawing.proofs.timeline.add_line.Goals as goal
 pub returns-in_default : goal.returns-in_default
 returns-in_default c = λ fits.
     bars_same c.args.lines.now c.args.window.now c.args.line c.args.rows.now.items
-    c.args.bars.now.items c.requires.bars
+    c.args.bars.now.items c.requires.bars (rw c.in_default.is at c.in_ok-call.ensures.none)
 
 pub returns : goal.returns
 returns c = λ fits.
