@@ -3,27 +3,32 @@ use Rattle.std.specs.Prelude.{◌≡◌, ◌⊎◌, ℕ, List, Option, IfSome, R
 use Rattle.std.specs.declared.alloc.Global.{Global}
 use Rattle.std.specs.declared.vec.IntoIter.{IntoIter}
 use Rattle.std.specs.declared.io.Error.{Error}
+use Rattle.history_drawing.specs.Drawings.{DrawnWith}
 use Rattle.history_logs.specs.Orders.{ReportedWith}
 use Rattle.history_logs.specs.Reports.{Reported}
 use Rattle.iox2_conform.specs.declared.TheConstants.{BAD_ARGUMENT, HELP, VERSION}
 use Rattle.iox2_conform.specs.declared.request.Request.{Request}
-use Rattle.iox2_conform.specs.declared.request.Request.TheVariants.{Check, Help, Version, Witness}
+use Rattle.iox2_conform.specs.declared.request.Request.TheVariants.{Check, Help, Picture, Version, Witness}
 use Rattle.iox2_conform.specs.declared.request.RequestError.{RequestError}
 use Rattle.iox2_conform.specs.declared.request.RequestError.TheVariants.{BadArgument, NoMemory}
 use Rattle.iox2_conform.specs.Requests.{Printed, Requests}
 
--- a check is requested, with a witness or without
+-- a check is requested, with a witness or with a picture or with neither
 abbrev pub RequestsCheck : Result (IntoIter (String Global) Global) Error → Type 0
-RequestsCheck arguments = Requests arguments (Ok Check) ⊎ Requests arguments (Ok Witness)
+RequestsCheck arguments =
+    Requests arguments (Ok Check)
+    ⊎ (Requests arguments (Ok Witness) ⊎ Requests arguments (Ok Picture))
 
 -- what the streams get for a request, where the status is below 3: the verdict on the log that the
--- reader gives, if its bytes are known, or one text
+-- reader gives, if its bytes are known, or its picture, or one text
 abbrev pub Runs : Result Request RequestError → ℕ → Option (List ℕ)
     → Option (List ℕ) → Option (List ℕ) → Option (List ℕ) → Option (List ℕ) → Type 0
 Runs (Ok Check) status input out_old out_new err_old err_new =
     IfSome input (λ log. Reported log status out_old out_new err_old err_new)
 Runs (Ok Witness) status input out_old out_new err_old err_new =
     IfSome input (λ log. ReportedWith true log status out_old out_new err_old err_new)
+Runs (Ok Picture) status input out_old out_new err_old err_new =
+    IfSome input (λ log. DrawnWith log status out_old out_new err_old err_new)
 Runs (Ok Help) status input out_old out_new err_old err_new =
     Printed HELP.now 0 status out_old out_new × (err_new ≡ err_old)
 Runs (Ok Version) status input out_old out_new err_old err_new =

@@ -8,7 +8,7 @@ use Rattle.std.specs.declared.vec.IntoIter.{IntoIter}
 use Rattle.std.specs.declared.io.Error.{Error}
 use Rattle.std.specs.declared.io.ErrorKind.TheVariants.{OutOfMemory}
 use Rattle.iox2_conform.specs.declared.request.Request.{Request}
-use Rattle.iox2_conform.specs.declared.request.Request.TheVariants.{Check, Help, Version, Witness}
+use Rattle.iox2_conform.specs.declared.request.Request.TheVariants.{Check, Help, Picture, Version, Witness}
 use Rattle.iox2_conform.specs.declared.request.RequestError.{RequestError}
 use Rattle.iox2_conform.specs.declared.request.RequestError.TheVariants.{BadArgument, NoMemory}
 
@@ -20,11 +20,12 @@ words_of words = map string_bytes (into_iter_items words)
 abbrev pub RequestsIn : List (List ℕ) → Result Request RequestError → Type 0
 RequestsIn words (Ok Check) = words ≡ []
 RequestsIn words (Ok Witness) = words ≡ codes "--witness" ∷ []
+RequestsIn words (Ok Picture) = words ≡ codes "svg" ∷ []
 RequestsIn words (Ok Help) = words ≡ codes "--help" ∷ []
 RequestsIn words (Ok Version) = words ≡ codes "--version" ∷ []
 RequestsIn words (Err BadArgument) =
-    (words ≢ []) × (words ≢ codes "--witness" ∷ []) × (words ≢ codes "--help" ∷ [])
-    × (words ≢ codes "--version" ∷ [])
+    (words ≢ []) × (words ≢ codes "--witness" ∷ []) × (words ≢ codes "svg" ∷ [])
+    × (words ≢ codes "--help" ∷ []) × (words ≢ codes "--version" ∷ [])
 RequestsIn words (Err NoMemory) = ⊥
 
 -- what the arguments request: where they could not be had, there is no memory or they are bad

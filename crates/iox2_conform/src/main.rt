@@ -8,6 +8,7 @@ ghost use Rattle.iox2_conform.specs.Program.{Ran, RequestsCheck};
 
 mod request;
 
+use history_drawing::draw_streams;
 use history_logs::logs::{check_streams, check_witness_streams};
 use line_streams::{Sink, Source};
 use request::{Request, RequestError, print, request_of};
@@ -17,7 +18,7 @@ use std::process::ExitCode;
 use std::{env, io};
 
 /// How the program is used.
-const HELP: &str = "usage: iox2-conform [--witness | --help | --version] < LOG
+const HELP: &str = "usage: iox2-conform [svg | --witness | --help | --version] < LOG
 
 Reads the log of services from standard input: the line of a service, and then what was seen of it,
 in the order of time. `A> COMMAND` begins a call of the caller A, `A< WORDS` ends it with the reply
@@ -27,6 +28,8 @@ number 7. Writes whether an order of the calls, each between its begin and its e
 replies by the proved machine. If not, it writes the first reply that none explains, the line from
 which calls overlap, every reply that the call could have had, and who was attached then.
 
+  svg        write a picture instead: the calls that overlap the refused reply, or all calls of a
+             log that conforms, with the points at which they took effect
   --witness  write an order of the calls on each service too, where the log conforms: the lines
              in which they begin, one a line
   --help     write this text and read nothing
@@ -72,6 +75,7 @@ fn conform_streams<R: Source, W: Sink, E: Sink>(
     match request_of(arguments) {
         Ok(Request::Check) => check_streams(alloc, input, output, errors),
         Ok(Request::Witness) => check_witness_streams(alloc, input, output, errors),
+        Ok(Request::Picture) => draw_streams(alloc, input, output, errors),
         Ok(Request::Help) => print(output, HELP, 0),
         Ok(Request::Version) => print(output, VERSION, 0),
         Err(RequestError::BadArgument) => print(errors, BAD_ARGUMENT, 2),

@@ -15,6 +15,8 @@ pub(crate) enum Request {
     Check,
     /// The same, and to print an order of the calls where the log conforms.
     Witness,
+    /// To judge it and draw it.
+    Picture,
     /// To print how the program is used.
     Help,
     /// To print the version.
@@ -29,8 +31,8 @@ pub(crate) enum RequestError {
     NoMemory,
 }
 
-/// What the arguments request: no word, `--witness`, `--help` or `--version`. The first is the
-/// program's name.
+/// What the arguments request: no word, `--witness`, `svg`, `--help` or `--version`. The first is
+/// the program's name.
 pub(crate) fn request_of(arguments: io::Result<Args>) -> Result<Request, RequestError>
     ensures { Requests arguments result }
 {
@@ -56,6 +58,7 @@ fn request_in(words: Args) -> Result<Request, RequestError>
     }
     match word.as_str() {
         "--witness" => Ok(Request::Witness),
+        "svg" => Ok(Request::Picture),
         "--help" => Ok(Request::Help),
         "--version" => Ok(Request::Version),
         _ => Err(RequestError::BadArgument),

@@ -1,0 +1,103 @@
+-- The lines in which calls begin.
+use Rattle.std.proofs.Common.{◌≡◌, ◌≢◌, ℕ, false, List, Option, None, Some, IfNone, inl, inr, sym, ◌∙◌}
+use Rattle.std.specs.Borrow.{Bor}
+use Rattle.log_lines.specs.Lines.{IsLine, Line, line_text}
+use Rattle.log_lines.specs.Lines.Line.{service, call, reply, begin, end, crash, given}
+use Rattle.log_lines.proofs.OneReading.{one_way}
+use Rattle.history_drawing.specs.Calls.{BeginsIn, IsAlone, is_begin, is_call, is_reply, text_above, text_at}
+use Rattle.history_drawing.specs.declared.calls.LogCall.{LogCall}
+
+module _ (lines : List (Bor (List ℕ))) (k : ℕ) where
+  -- what is no line begins no call
+  pub no_line : (last : ℕ) → ((l : Line) → IsLine l → text_at lines k ≢ line_text l)
+      → (seen : LogCall) → BeginsIn lines k last seen → ⊥
+  no_line last none seen (inl b) =
+      none (begin seen.service seen.caller.now b.command) b.says.0 b.says.1
+  no_line last none seen (inr a) = none (reply a.words.now) a.says.0 a.says.1
+
+  -- nor does another line than a begin and a reply
+  pub no_call : (last : ℕ) (l : Line) → IsLine l → text_at lines k ≡ line_text l
+      → is_begin l ≡ false → is_reply l ≡ false → (seen : LogCall)
+      → BeginsIn lines k last seen → ⊥
+  no_call last (service s) p is b r seen (inl h) =
+      one_way (service s) (begin seen.service seen.caller.now h.command) p h.says.0
+      (sym is ∙ h.says.1)
+  no_call last (service s) p is b r seen (inr h) =
+      one_way (service s) (reply h.words.now) p h.says.0 (sym is ∙ h.says.1)
+  no_call last (call n c) p is b r seen (inl h) =
+      one_way (call n c) (begin seen.service seen.caller.now h.command) p h.says.0
+      (sym is ∙ h.says.1)
+  no_call last (call n c) p is b r seen (inr h) =
+      one_way (call n c) (reply h.words.now) p h.says.0 (sym is ∙ h.says.1)
+  no_call last (reply ws) p is b r seen h = absurd (cc)
+  no_call last (begin n x c) p is b r seen h = absurd (cc)
+  no_call last (end x ws) p is b r seen (inl h) =
+      one_way (end x ws) (begin seen.service seen.caller.now h.command) p h.says.0
+      (sym is ∙ h.says.1)
+  no_call last (end x ws) p is b r seen (inr h) =
+      one_way (end x ws) (reply h.words.now) p h.says.0 (sym is ∙ h.says.1)
+  no_call last (crash x) p is b r seen (inl h) =
+      one_way (crash x) (begin seen.service seen.caller.now h.command) p h.says.0
+      (sym is ∙ h.says.1)
+  no_call last (crash x) p is b r seen (inr h) =
+      one_way (crash x) (reply h.words.now) p h.says.0 (sym is ∙ h.says.1)
+  no_call last (given n s) p is b r seen (inl h) =
+      one_way (given n s) (begin seen.service seen.caller.now h.command) p h.says.0
+      (sym is ∙ h.says.1)
+  no_call last (given n s) p is b r seen (inr h) =
+      one_way (given n s) (reply h.words.now) p h.says.0 (sym is ∙ h.says.1)
+
+  -- a reply begins no call but one that is alone
+  pub no_begin : (last : ℕ) (words : List ℕ) → text_at lines k ≡ line_text (reply words)
+      → ((seen : LogCall) → IsAlone lines k seen → ⊥)
+      → (seen : LogCall) → BeginsIn lines k last seen → ⊥
+  no_begin last words is none seen (inl b) =
+      one_way (reply words) (begin seen.service seen.caller.now b.command) tt b.says.0
+      (sym is ∙ b.says.1)
+  no_begin last words is none seen (inr a) = none seen a
+
+  pub none_begins : (last : ℕ) (words : List ℕ) → text_at lines k ≡ line_text (reply words)
+      → (found : Option LogCall) → IfNone found ((seen : LogCall) → IsAlone lines k seen → ⊥)
+      → IfNone found ((seen : LogCall) → BeginsIn lines k last seen → ⊥)
+  none_begins last words is None none = no_begin last words is none
+  none_begins last words is (Some found) none = tt
+
+  -- above it stands no line
+  pub no_above : ((l : Line) → IsLine l → text_above lines k ≢ line_text l)
+      → (seen : LogCall) → IsAlone lines k seen → ⊥
+  no_above none seen a = none (call seen.service a.command) a.is a.above
+
+  -- above it stands another line than a call
+  pub other_above : (l : Line) → IsLine l → text_above lines k ≡ line_text l
+      → is_call l ≡ false → (seen : LogCall) → IsAlone lines k seen → ⊥
+  other_above (service s) p is o seen a =
+      one_way (service s) (call seen.service a.command) p a.is (sym is ∙ a.above)
+  other_above (call n c) p is o seen a = absurd (cc)
+  other_above (reply ws) p is o seen a =
+      one_way (reply ws) (call seen.service a.command) p a.is (sym is ∙ a.above)
+  other_above (begin n x c) p is o seen a =
+      one_way (begin n x c) (call seen.service a.command) p a.is (sym is ∙ a.above)
+  other_above (end x ws) p is o seen a =
+      one_way (end x ws) (call seen.service a.command) p a.is (sym is ∙ a.above)
+  other_above (crash x) p is o seen a =
+      one_way (crash x) (call seen.service a.command) p a.is (sym is ∙ a.above)
+  other_above (given n s) p is o seen a =
+      one_way (given n s) (call seen.service a.command) p a.is (sym is ∙ a.above)
+
+  -- a line begins calls on one service
+  pub same_service : (last : ℕ) (one other : LogCall) → BeginsIn lines k last one
+      → BeginsIn lines k last other → one.service ≡ other.service
+  same_service last one other (inl a) (inl b) =
+      let same = one_way (begin one.service one.caller.now a.command)
+      (begin other.service other.caller.now b.command) a.says.0 b.says.0
+      (sym a.says.1 ∙ b.says.1) in
+      same.0
+  same_service last one other (inl a) (inr b) =
+      absurd (one_way (begin one.service one.caller.now a.command) (reply b.words.now) a.says.0
+      b.says.0 (sym a.says.1 ∙ b.says.1))
+  same_service last one other (inr a) (inl b) =
+      absurd (one_way (reply a.words.now) (begin other.service other.caller.now b.command)
+      a.says.0 b.says.0 (sym a.says.1 ∙ b.says.1))
+  same_service last one other (inr a) (inr b) =
+      one_way (call one.service a.command) (call other.service b.command) a.is b.is
+      (sym a.above ∙ b.above)

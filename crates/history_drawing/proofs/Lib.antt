@@ -1,0 +1,7 @@
+mod Begins
+mod Drawable
+mod Drawn
+mod Ends
+mod Parts
+mod Shown
+mod Split

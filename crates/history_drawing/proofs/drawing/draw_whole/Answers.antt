@@ -1,0 +1,45 @@
+use Rattle.std.proofs.Common.{◌≡◌, ℕ, List, None, length, refl, rules, subst}
+use Rattle.std.specs.Prelude.{All}
+use Rattle.std.specs.Borrow.{Bor}
+use Rattle.history_drawing.proofs.Drawable.{drawable}
+use Rattle.history_drawing.specs.Points.{IsPoint}
+use Rattle.history_drawing.specs.Timelines.{AreBars}
+use Rattle.history_drawing.specs.declared.timeline.Bar.{Bar}
+use Rattle.history_drawing.specs.declared.timeline.Timeline.{Timeline}
+use Rattle.history_drawing.specs.declared.timeline.Window.{Window}
+use Rattle.history_drawing.proofs.drawing.draw_whole.Goals as goal
+
+pub picture_of-requires : goal.picture_of-requires
+picture_of-requires c =
+    let shown = rw c.in-Some.is at c.in_ok-timeline.ensures in
+    let points = c.in_ok-timeline-2.field-0 in
+    let w : Window =
+    record { first = 0; last = c.len.result; wanted = None; service = None } in
+    let t : Timeline = record c.in-Some.timeline { points = points } in
+    drawable c.deref.result.now w t shown.bars
+    (subst (λ (l : List Bar). All (IsPoint l) points.items) c.deref-2.ensures.value
+    c.in_ok-timeline-2.ensures)
+
+pub returns : goal.returns
+returns c =
+    let shown = rw c.in-Some.is at c.in_ok-timeline.ensures in
+    let points = c.in_ok-timeline-2.field-0 in
+    let w : Window =
+    record { first = 0; last = c.len.result; wanted = None; service = None } in
+    let t : Timeline = record c.in-Some.timeline { points = points } in
+    let last : c.len.result ≡ length c.in_ok-lines.lines.items = search rules in
+    record {
+      lines = c.in_ok-lines.lines.items;
+      are = c.in_ok-lines.ensures;
+      w = w;
+      first = refl;
+      last = last;
+      wanted = refl;
+      t = t;
+      bars = subst (λ (l : List (Bor (List ℕ))). AreBars l w w.last t.rows.items t.bars.items)
+          c.deref.ensures.value shown.bars;
+      points = subst (λ (l : List Bar). All (IsPoint l) points.items) c.deref-2.ensures.value
+          c.in_ok-timeline-2.ensures;
+      refused = shown.refused;
+      is = c.in_ok-picture.ensures;
+    }

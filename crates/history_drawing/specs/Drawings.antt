@@ -1,0 +1,103 @@
+-- What is drawn of a log.
+use Rattle.std.specs.Prelude.{◌≡◌, ◌⊎◌, ℕ, ◌+◌, List, [], ◌∷◌, ◌++◌, All, Option, None, Some, drop, length, string_bytes}
+use Rattle.std.specs.Borrow.{Bor}
+use Rattle.std.specs.Io.KnownBytes.{Appends}
+use Rattle.std.specs.List.{flat_map}
+use Rattle.line_streams.specs.Spelling.{HasNo}
+use Rattle.history_logs.specs.Logs.{Judged}
+use Rattle.history_logs.specs.Reports.{report_text}
+use Rattle.history_logs.specs.declared.logs.verdict.Refusal.{Refusal}
+use Rattle.history_logs.specs.declared.logs.verdict.Verdict.{Verdict}
+use Rattle.history_logs.specs.declared.logs.verdict.Verdict.TheVariants as verdict
+use Rattle.history_drawing.specs.Calls.{text_at, texts}
+use Rattle.history_drawing.specs.Points.{IsPoint}
+use Rattle.history_drawing.specs.Svg.{svg_text}
+use Rattle.history_drawing.specs.Timelines.{AreBars}
+use Rattle.history_drawing.specs.declared.drawing.Drawing.{Drawing}
+use Rattle.history_drawing.specs.declared.drawing.TheConstants.{MANY_CALLS}
+use Rattle.history_drawing.specs.declared.timeline.Timeline.{Timeline}
+use Rattle.history_drawing.specs.declared.timeline.Window.{Window}
+
+-- a line with its newline
+abbrev pub with_newline : List ℕ → List ℕ
+with_newline line = line ++ 10 ∷ []
+
+-- The lines of a text, each at the index of its number, and an empty one at 0. What stands behind
+-- the last newline is no line.
+abbrev pub AreLines : List ℕ → List (Bor (List ℕ)) → Type 0
+AreLines text lines =
+    (ls : List (List ℕ)) × (rest : List ℕ) × (texts lines ≡ [] ∷ ls)
+    × (text ≡ flat_map with_newline ls ++ rest) × All (HasNo 10) ls × HasNo 10 rest
+
+-- the picture of a time line, with this report
+abbrev pub IsPicture : List ℕ → Timeline → List ℕ → Type 0
+IsPicture report t picture =
+    (notes : List (Bor (List ℕ))) × AreLines report notes
+    × (picture ≡ svg_text t (text_at notes 1) (drop 2 notes))
+
+-- The picture of the window of a refused reply: the wanted calls that begin in its lines, and no
+-- points. The
+-- reply is marked.
+pub record ShowsWindow (log report : List ℕ) (told : Refusal) (picture : List ℕ) : Type 0 where
+  pub lines : List (Bor (List ℕ))
+  pub are : AreLines log lines
+  pub w : Window
+  pub first : w.first ≡ told.window
+  pub last : w.last ≡ told.line + 1
+  pub t : Timeline
+  pub bars : AreBars lines w w.last t.rows.items t.bars.items
+  pub points : t.points.items ≡ []
+  pub refused : t.refused ≡ Some told.line
+  pub is : IsPicture report t picture
+
+-- The picture of a log that conforms: calls on all services that begin in its lines, with points
+-- that lie in their bars. No reply is marked.
+pub record ShowsAll (log report picture : List ℕ) : Type 0 where
+  pub lines : List (Bor (List ℕ))
+  pub are : AreLines log lines
+  pub w : Window
+  pub first : w.first ≡ 0
+  pub last : w.last ≡ length lines
+  pub wanted : w.wanted ≡ None
+  pub t : Timeline
+  pub bars : AreBars lines w w.last t.rows.items t.bars.items
+  pub points : All (IsPoint t.bars.items) t.points.items
+  pub refused : t.refused ≡ None
+  pub is : IsPicture report t picture
+
+-- nothing is drawn, and this is reported
+pub record IsUndrawn (message : List ℕ) (d : Drawing) : Type 0 where
+  pub status : d.status ≡ 2
+  pub picture : string_bytes d.picture ≡ []
+  pub told : d.message.items ≡ message
+
+-- a picture is drawn, and nothing is reported
+pub record IsDrawn (status : ℕ) (d : Drawing) : Type 0 where
+  pub ended : d.status ≡ status
+  pub told : d.message.items ≡ []
+
+-- what is drawn of a log that is judged so
+abbrev pub Draws : List ℕ → Verdict → Drawing → Type 0
+Draws log (verdict.Conforms n m) d =
+    IsUndrawn MANY_CALLS.now d
+    ⊎ (IsDrawn 0 d × ShowsAll log (report_text (verdict.Conforms n m)) (string_bytes d.picture))
+Draws log (verdict.Refused told) d =
+    IsUndrawn MANY_CALLS.now d
+    ⊎ (IsDrawn 1 d
+    × ShowsWindow log (report_text (verdict.Refused told)) told (string_bytes d.picture))
+Draws log v d = IsUndrawn (report_text v) d
+
+-- the log is judged in one way, and this is drawn of it
+pub record IsDrawingOf (log : List ℕ) (d : Drawing) : Type 0 where
+  pub end : Verdict
+  pub judged : Judged log end
+  pub draws : Draws log end d
+
+-- the log was drawn: that is the status, and the writers got the picture and what is reported
+pub record DrawnWith (log : List ℕ) (status : ℕ) (out_old out_new err_old err_new : Option (List ℕ))
+    : Type 0 where
+  pub d : Drawing
+  pub is : IsDrawingOf log d
+  pub told : status ≡ d.status
+  pub output : Appends out_old out_new (string_bytes d.picture)
+  pub errors : Appends err_old err_new d.message.items

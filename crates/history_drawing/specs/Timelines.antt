@@ -1,0 +1,70 @@
+-- Calls as bars on a time line.
+use Rattle.std.specs.Prelude.{◌≡◌, ◌≢◌, ℕ, ◌<◌, ◌≤◌, ◌++◌, All, AllPairs, Contains, List, [], Option, None, Some, length}
+use Rattle.std.specs.Borrow.{Bor}
+use Rattle.history_drawing.specs.Calls.{BeginsIn, text_at}
+use Rattle.history_drawing.specs.declared.calls.LogCall.{LogCall}
+use Rattle.history_drawing.specs.declared.timeline.Bar.{Bar}
+use Rattle.history_drawing.specs.declared.timeline.Timeline.{Timeline}
+use Rattle.history_drawing.specs.declared.timeline.Window.{Window}
+
+-- all services are wanted, or the call is on the one of this number: it stands before the call, or
+-- it is that of the first service and none stands there
+abbrev pub IsOn : Option ℕ → Option ℕ → Option ℕ → Type 0
+IsOn None first number = Unit {0}
+IsOn (Some wanted) first (Some number) = number ≡ wanted
+IsOn (Some wanted) first None = first ≡ Some wanted
+
+-- the call begins in this line, and is wanted
+abbrev pub IsWanted : List (Bor (List ℕ)) → Window → ℕ → LogCall → Type 0
+IsWanted lines w k seen = BeginsIn lines k w.last seen × IsOn w.wanted w.service seen.service
+
+-- the row of this index is the caller's
+abbrev pub IsRow : List (Bor (List ℕ)) → ℕ → List ℕ → Type 0
+IsRow rows row caller = (row < length rows) × (text_at rows row ≡ caller)
+
+-- the caller has no row
+abbrev pub IsUnknown : List (Bor (List ℕ)) → List ℕ → Type 0
+IsUnknown rows caller = (k : ℕ) → k < length rows → text_at rows k ≢ caller
+
+-- no two rows are one caller's
+abbrev pub AreApart : List (Bor (List ℕ)) → Type 0
+AreApart rows = (j k : ℕ) → j < k → k < length rows → text_at rows j ≢ text_at rows k
+
+-- the rows that were there stay, and there is one more at most
+abbrev pub Extends : List (Bor (List ℕ)) → List (Bor (List ℕ)) → Type 0
+Extends old new =
+    (more : List (Bor (List ℕ))) × (new ≡ old ++ more) × (length more ≤ 1)
+
+-- a bar is this call, which begins in this line: it is in the row of its caller, with its command
+-- and its end
+pub record IsBarOf (rows : List (Bor (List ℕ))) (line : ℕ) (seen : LogCall) (b : Bar) : Type 0
+  where
+    pub row : IsRow rows b.row seen.caller.now
+    pub command : b.command ≡ seen.command
+    pub begin : b.begin ≡ line
+    pub ends : b.end ≡ seen.end
+
+-- a bar is a wanted call of the lines
+abbrev pub IsBar : List (Bor (List ℕ)) → Window → List (Bor (List ℕ)) → Bar → Type 0
+IsBar lines w rows b =
+    (seen : LogCall) × IsWanted lines w b.begin seen × IsBarOf rows b.begin seen b
+
+-- The bars are all wanted calls that begin in lines from the first one on and above this one, each
+-- once, in the order of their begins. There are 200 at most. Each caller has one row.
+pub record AreBars (lines : List (Bor (List ℕ))) (w : Window) (limit : ℕ)
+    (rows : List (Bor (List ℕ))) (bars : List Bar) : Type 0 where
+  pub each : All (IsBar lines w rows) bars
+  pub all : (k : ℕ) (seen : LogCall) → w.first ≤ k → k < limit → IsWanted lines w k seen
+      → (b : Bar) × Contains bars b × (b.begin ≡ k)
+  pub above : All (λ (b : Bar). (w.first ≤ b.begin) × (b.begin < limit)) bars
+  pub rising : AllPairs (λ (one other : Bar). one.begin < other.begin) bars
+  pub apart : AreApart rows
+  pub few : length bars ≤ 200
+  pub wide : length rows ≤ length bars
+
+-- the bars of a window, with no point, and this line marked
+pub record IsTimeline (lines : List (Bor (List ℕ))) (w : Window) (marked : Option ℕ)
+    (t : Timeline) : Type 0 where
+  pub bars : AreBars lines w w.last t.rows.items t.bars.items
+  pub points : t.points.items ≡ []
+  pub refused : t.refused ≡ marked

@@ -1,0 +1,197 @@
+//! The calls of a log, by its lines.
+ghost use Rattle.std.specs.Prelude.{◌≡◌, ◌<◌, IfNone, IfOk, IfSome, false};
+ghost use Rattle.log_lines.specs.Commands.{NamedCommand};
+ghost use Rattle.log_lines.specs.Lines.{line_seen};
+ghost use Rattle.log_lines.specs.Lines.Line.{begin, call, reply};
+ghost use Rattle.history_drawing.specs.Calls.{BeginsIn, EndsFrom, EndsIn, IsAlone, IsBehind};
+ghost use Rattle.history_drawing.specs.Calls.{Says, is_begin, is_call, is_reply, text_above, text_at};
+ghost use Rattle.history_drawing.specs.declared.calls.LogCall.{LogCall};
+ghost use Rattle.history_drawing.specs.declared.timeline.BarEnd.{BarEnd};
+
+use crate::timeline::BarEnd;
+use line_streams::{after_word, before_byte};
+use log_lines::{LogLine, is_note, read_log_line};
+use std::alloc::{AllocError, Global};
+
+/// A call that begins in a line.
+#[derive(Clone, Copy)]
+pub(crate) struct LogCall<'a> {
+    /// The number of its service, where it is named.
+    pub(crate) service: Option<u64>,
+    /// Its caller; empty where the call is alone.
+    pub(crate) caller: &'a [u8],
+    /// The text of its command.
+    pub(crate) command: &'a [u8],
+    pub(crate) end: BarEnd<'a>,
+}
+
+/// The text of a line.
+pub(crate) fn text_at<'a>(lines: &[&'a [u8]], line: usize) -> &'a [u8]
+    ensures { result.now ≡ text_at lines.now line }
+{
+    if line < lines.len() { lines[line] } else { b"" }
+}
+
+/// What stands behind the first `> `.
+fn behind_mark(text: &[u8]) -> &[u8]
+    ensures { IsBehind text.now result.now }
+{
+    let Some((_, rest)) = before_byte(text, b'>') else {
+        return b"";
+    };
+    match after_word(rest, b" ") {
+        Some(rest) => rest,
+        None => b"",
+    }
+}
+
+/// The text of the last line above this one that is no note.
+fn text_above<'a>(lines: &[&'a [u8]], line: usize) -> &'a [u8]
+    ensures { result.now ≡ text_above lines.now line }
+{
+    let mut at = line;
+    while at > 0 {
+        at -= 1;
+        let text = text_at(lines, at);
+        if !is_note(text) {
+            return text;
+        }
+    }
+    b""
+}
+
+/// How a text, in the line of this number, ends a caller's call.
+fn end_in<'a>(text: &'a [u8], line: usize, caller: &[u8]) -> Option<BarEnd<'a>>
+    ensures some { IfSome result (λ end. EndsIn text.now line caller.now end) }
+    ensures none { IfNone result ((end : BarEnd) → ¬ (EndsIn text.now line caller.now end)) }
+{
+    let Some(rest) = after_word(text, caller) else {
+        return None;
+    };
+    if let Some(words) = after_word(rest, b"< ") {
+        return Some(BarEnd::Answered(line, words));
+    }
+    let Some(rest) = after_word(rest, b"!") else {
+        return None;
+    };
+    if !rest.is_empty() {
+        return None;
+    }
+    Some(BarEnd::Died(line))
+}
+
+/// How a caller's call ends, in lines from one on and above another.
+fn end_from<'a>(lines: &[&'a [u8]], caller: &[u8], first: usize, last: usize) -> BarEnd<'a>
+    ensures { EndsFrom lines.now caller.now first last result }
+{
+    for line in first..last {
+        if let Some(end) = end_in(text_at(lines, line), line, caller) {
+            return end;
+        }
+    }
+    BarEnd::Open
+}
+
+/// The number of the service and the caller of a line that begins a call.
+fn begun<'a>(read: &LogLine<'a>) -> Option<(Option<u64>, &'a [u8])>
+    ensures some { IfSome result (λ found. (c : NamedCommand)
+        × (line_seen read.now ≡ begin found.0 found.1.now c)) }
+    ensures none { IfNone result (is_begin (line_seen read.now) ≡ false) }
+{
+    match read {
+        LogLine::Begin(service, caller, _) => Some((*service, caller)),
+        _ => None,
+    }
+}
+
+/// The words of a line that is a reply.
+fn replied<'a>(read: &LogLine<'a>) -> Option<&'a [u8]>
+    ensures some { IfSome result (λ words. line_seen read.now ≡ reply words.now) }
+    ensures none { IfNone result (is_reply (line_seen read.now) ≡ false) }
+{
+    match read {
+        LogLine::Reply(words) => Some(words),
+        _ => None,
+    }
+}
+
+/// The number of the service of a line that is a call alone.
+fn called(read: &LogLine<'_>) -> Option<Option<u64>>
+    ensures some { IfSome result (λ number. (c : NamedCommand)
+        × (line_seen read.now ≡ call number c)) }
+    ensures none { IfNone result (is_call (line_seen read.now) ≡ false) }
+{
+    match read {
+        LogLine::Call(service, _) => Some(*service),
+        _ => None,
+    }
+}
+
+/// The call whose command stands above the line of its reply.
+fn alone_in<'a>(
+    alloc: Global,
+    lines: &[&'a [u8]],
+    line: usize,
+    words: &'a [u8],
+) -> Result<Option<LogCall<'a>>, AllocError>
+    requires { Says lines.now line (reply words.now) }
+    ensures some { IfOk result (λ found. IfSome found (λ seen. IsAlone lines.now line seen)) }
+    ensures none { IfOk result (λ found. IfNone found ((seen : LogCall)
+        → ¬ (IsAlone lines.now line seen))) }
+{
+    let command = text_above(lines, line);
+    let Some(read) = read_log_line(alloc, command)? else {
+        return Ok(None);
+    };
+    let Some(service) = called(&read) else {
+        return Ok(None);
+    };
+    Ok(Some(LogCall {
+        service,
+        caller: b"",
+        command,
+        end: BarEnd::Answered(line, words),
+    }))
+}
+
+/// The call that begins in this line, with its end above the last one.
+pub(crate) fn call_at<'a>(
+    alloc: Global,
+    lines: &[&'a [u8]],
+    line: usize,
+    last: usize,
+) -> Result<Option<LogCall<'a>>, AllocError>
+    requires { line < last }
+    ensures some { IfOk result (λ found. IfSome found (λ seen.
+        BeginsIn lines.now line last seen)) }
+    ensures none { IfOk result (λ found. IfNone found ((seen : LogCall)
+        → ¬ (BeginsIn lines.now line last seen))) }
+{
+    let text = text_at(lines, line);
+    let Some(read) = read_log_line(alloc, text)? else {
+        return Ok(None);
+    };
+    if let Some((service, caller)) = begun(&read) {
+        return Ok(Some(LogCall {
+            service,
+            caller,
+            command: behind_mark(text),
+            end: end_from(lines, caller, line + 1, last),
+        }));
+    }
+    let Some(words) = replied(&read) else {
+        return Ok(None);
+    };
+    let found = alone_in(alloc, lines, line, words)?;
+    Ok(found)
+}
+
+/// The number of the first service.
+pub(crate) fn first_service(alloc: Global, lines: &[&[u8]]) -> Result<Option<u64>, AllocError> {
+    for line in lines {
+        if let Some(LogLine::Service(service)) = read_log_line(alloc, line)? {
+            return Ok(Some(service.number));
+        }
+    }
+    Ok(None)
+}

@@ -1,0 +1,203 @@
+//! Pictures of logs.
+ghost use Rattle.std.specs.Prelude.{◌≡◌, ◌≤◌, ◌+◌, IfNone, IfOk, IfSome, string_bytes};
+ghost use Rattle.history_logs.specs.Reports.{report_text};
+ghost use Rattle.history_drawing.specs.Drawings.{Draws, IsDrawingOf, IsDrawn, IsPicture, IsUndrawn};
+ghost use Rattle.history_drawing.specs.Drawings.{ShowsAll, ShowsWindow};
+ghost use Rattle.history_drawing.specs.declared.drawing.TheConstants.{MANY_CALLS};
+ghost use Rattle.history_drawing.specs.Places.{IsDrawable};
+
+use crate::calls::{call_at, first_service, text_at};
+use crate::lines::{below_first, lines_of};
+use crate::points::points_of;
+use crate::svg::write_svg;
+use crate::timeline::{BarEnd, Timeline, Window, timeline_of};
+use history_logs::logs::{Refusal, Verdict, order_log, report_log};
+use std::alloc::{AllocError, Global};
+
+/// What is drawn of a log: the status of the program, the picture, and what is reported where there
+/// is none.
+#[derive(Drop)]
+pub struct Drawing {
+    pub status: u8,
+    pub picture: String,
+    pub message: Vec<u8>,
+}
+
+/// What is reported where there are more calls than a picture can have.
+const MANY_CALLS: &[u8] = b"no picture: there are more than 200 calls\n";
+
+/// No picture, and this report.
+fn undrawn(alloc: Global, report: &[u8]) -> Result<Drawing, AllocError>
+    ensures { IfOk result (IsUndrawn report.now) }
+{
+    Ok(Drawing {
+        status: 2,
+        picture: String::new(alloc),
+        message: Vec::from_slice(alloc, report)?,
+    })
+}
+
+/// The picture of a time line, with a report.
+fn picture_of(alloc: Global, timeline: &Timeline<'_>, report: &[u8]) -> Result<String, AllocError>
+    requires { IsDrawable timeline.now }
+    ensures { IfOk result (λ picture. IsPicture report.now timeline.now (string_bytes picture)) }
+{
+    let notes = lines_of(alloc, report)?;
+    let mut picture = String::new(alloc);
+    write_svg(
+        &mut picture,
+        timeline,
+        text_at(&notes, 1),
+        below_first(&notes),
+    )?;
+    Ok(picture)
+}
+
+/// Whether a call is answered in this line.
+fn is_answered(end: &BarEnd<'_>, line: usize) -> bool {
+    match end {
+        BarEnd::Answered(end, _) => *end == line,
+        _ => false,
+    }
+}
+
+/// The number of the service of the call that is answered in this line, one of some lines.
+fn service_of(
+    alloc: Global,
+    lines: &[&[u8]],
+    first: usize,
+    last: usize,
+    refused: usize,
+) -> Result<Option<u64>, AllocError> {
+    for line in first..last {
+        if let Some(call) = call_at(alloc, lines, line, last)? {
+            if is_answered(&call.end, refused) {
+                return Ok(call.service);
+            }
+        }
+    }
+    Ok(None)
+}
+
+/// The lines of a refused reply, with the service of its call.
+fn window_of(
+    alloc: Global,
+    lines: &[&[u8]],
+    told: &Refusal,
+    last: usize,
+) -> Result<Window, AllocError>
+    ensures { IfOk result (λ w. (w.first ≡ told.now.window) × (w.last ≡ last)) }
+{
+    let service = first_service(alloc, lines)?;
+    let named = service_of(alloc, lines, told.window, last, told.line)?;
+    Ok(Window {
+        first: told.window,
+        last,
+        wanted: named.or(service),
+        service,
+    })
+}
+
+/// The picture of the window of a refused reply, which stands in the last line above this one.
+/// `None` where it has too many calls.
+fn draw_window(
+    alloc: Global,
+    log: &[u8],
+    told: &Refusal,
+    last: usize,
+    report: &[u8],
+) -> Result<Option<String>, AllocError>
+    requires order { told.now.window ≤ last }
+    requires last { last ≡ told.now.line + 1 }
+    ensures { IfOk result (λ found. IfSome found (λ picture.
+        ShowsWindow log.now report.now told.now (string_bytes picture))) }
+{
+    let lines = lines_of(alloc, log)?;
+    let window = window_of(alloc, &lines, told, last)?;
+    let Some(timeline) = timeline_of(alloc, &lines, &window, Some(told.line))? else {
+        return Ok(None);
+    };
+    let picture = picture_of(alloc, &timeline, report)?;
+    Ok(Some(picture))
+}
+
+/// The picture of the window of a refused reply, if it is in order.
+fn draw_refused(
+    alloc: Global,
+    log: &[u8],
+    told: &Refusal,
+    report: &[u8],
+) -> Result<Option<String>, AllocError>
+    ensures { IfOk result (λ found. IfSome found (λ picture.
+        ShowsWindow log.now report.now told.now (string_bytes picture))) }
+{
+    let Some(last) = told.line.checked_add(1) else {
+        return Ok(None);
+    };
+    if last < told.window {
+        return Ok(None);
+    }
+    draw_window(alloc, log, told, last, report)
+}
+
+/// The picture of all calls of a log that conforms, with the points at which they took effect.
+/// `None` where there are too many.
+fn draw_whole(alloc: Global, log: &[u8], report: &[u8]) -> Result<Option<String>, AllocError>
+    ensures { IfOk result (λ found. IfSome found (λ picture.
+        ShowsAll log.now report.now (string_bytes picture))) }
+{
+    let lines = lines_of(alloc, log)?;
+    let window = Window {
+        first: 0,
+        last: lines.len(),
+        wanted: None,
+        service: None,
+    };
+    let Some(mut timeline) = timeline_of(alloc, &lines, &window, None)? else {
+        return Ok(None);
+    };
+    let (_, orders) = order_log(alloc, log)?;
+    timeline.points = points_of(alloc, &timeline.bars, &orders)?;
+    let picture = picture_of(alloc, &timeline, report)?;
+    Ok(Some(picture))
+}
+
+/// A picture, or that there are too many calls for one.
+fn drawn(alloc: Global, status: u8, picture: Option<String>) -> Result<Drawing, AllocError>
+    ensures some { IfOk result (λ d. IfSome picture (λ p.
+        IsDrawn status d × (string_bytes d.picture ≡ string_bytes p))) }
+    ensures none { IfOk result (λ d. IfNone picture (IsUndrawn MANY_CALLS.now d)) }
+{
+    match picture {
+        Some(picture) => Ok(Drawing {
+            status,
+            picture,
+            message: Vec::new(alloc),
+        }),
+        None => undrawn(alloc, MANY_CALLS),
+    }
+}
+
+/// What is drawn of a log, by its verdict and the report on it.
+fn draw(alloc: Global, log: &[u8], verdict: &Verdict, report: &[u8]) -> Result<Drawing, AllocError>
+    requires { report.now ≡ report_text verdict.now }
+    ensures { IfOk result (Draws log.now verdict.now) }
+{
+    match verdict {
+        Verdict::Refused(told) => drawn(alloc, 1, draw_refused(alloc, log, told, report)?),
+        Verdict::Conforms(_, _) => drawn(alloc, 0, draw_whole(alloc, log, report)?),
+        Verdict::ManyConfigs(_) => undrawn(alloc, report),
+        Verdict::ManyOpen(_) => undrawn(alloc, report),
+        Verdict::BadLine(_, _) => undrawn(alloc, report),
+    }
+}
+
+/// Judges a log, and draws the window of the first reply that no order explains, or all calls where
+/// it conforms.
+pub fn draw_log(alloc: Global, log: &[u8]) -> Result<Drawing, AllocError>
+    ensures { IfOk result (IsDrawingOf log.now) }
+{
+    let (verdict, report) = report_log(alloc, log)?;
+    let drawing = draw(alloc, log, &verdict, &report)?;
+    Ok(drawing)
+}
