@@ -14,6 +14,8 @@ mod lines;
 #[cfg(test)]
 mod memory;
 #[cfg(test)]
+mod needed;
+#[cfg(test)]
 mod overlapping;
 #[cfg(test)]
 mod random;
