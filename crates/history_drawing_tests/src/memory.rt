@@ -1,0 +1,34 @@
+//! Pictures where memory is refused. With ample memory one is drawn; where one request is refused
+//! (`bench/refuse_memory` does that), it is drawn when that is tried again.
+
+use history_drawing::draw_log;
+use std::process::Abort;
+use std::test::Fail;
+use test_support::memory::may_be_refused;
+
+/// A log in which a caller reads the old state after the new one, and one that conforms.
+static LOGS: [(&str, u8); 2] = [
+    (
+        "service event 7 3 2 2\nregister 1.0.0.1\n= handle 0 0\nA> register 3.0.0.3\nB> nodes\nB< list 1000000000000000000000001 3000000000000000000000003\nB> nodes\nB< list 1000000000000000000000001\nA!\n",
+        1,
+    ),
+    (
+        "service event 7 3 2 2\nA> register 3.0.0.3\nB> nodes\nB< list 3000000000000000000000003\nA< handle 0 0\n",
+        0,
+    ),
+];
+
+#[test]
+fn a_log_is_drawn_whole_or_not_at_all(rt: HostRuntime) -> Result<(), Fail> {
+    for (log, status) in &LOGS {
+        let first = draw_log(rt.alloc(), log.as_bytes());
+        assert!(rt; first.is_ok() || may_be_refused(&rt));
+        let drawing = match first {
+            Ok(drawing) => drawing,
+            Err(_) => draw_log(rt.alloc(), log.as_bytes())?,
+        };
+        assert_eq!(rt; (drawing.status, drawing.message.len()), (*status, 0));
+        assert!(rt; drawing.picture.as_str().ends_with("</text>\n</svg>\n"));
+    }
+    Ok(())
+}
