@@ -2,6 +2,8 @@ mod Begins
 mod Drawable
 mod Drawn
 mod Ends
+mod Many
 mod Parts
+mod Placed
 mod Shown
 mod Split

@@ -1,7 +1,9 @@
 //! Pictures of logs.
-ghost use Rattle.std.specs.Prelude.{◌≡◌, ◌≤◌, ◌+◌, IfNone, IfOk, IfSome, string_bytes};
+ghost use Rattle.std.specs.Prelude.{◌≡◌, ◌≤◌, ◌+◌, IfNone, IfOk, IfSome, length, string_bytes};
+ghost use Rattle.history_logs.specs.Logs.{Judged};
 ghost use Rattle.history_logs.specs.Reports.{report_text};
-ghost use Rattle.history_drawing.specs.Drawings.{Draws, IsDrawingOf, IsDrawn, IsPicture, IsUndrawn};
+ghost use Rattle.history_drawing.specs.Drawings.{Draws, HasManyIn, IsDrawingOf, IsDrawn};
+ghost use Rattle.history_drawing.specs.Drawings.{IsPicture, IsUndrawn, IsWhole, IsWindow};
 ghost use Rattle.history_drawing.specs.Drawings.{ShowsAll, ShowsWindow};
 ghost use Rattle.history_drawing.specs.declared.drawing.TheConstants.{MANY_CALLS};
 ghost use Rattle.history_drawing.specs.Places.{IsDrawable};
@@ -98,22 +100,23 @@ fn window_of(
     })
 }
 
-/// The picture of the window of a refused reply, which stands in the last line above this one.
-/// `None` where it has too many calls.
-fn draw_window(
+/// The picture of the window of a refused reply. `None` where it has too many calls.
+fn draw_refused(
     alloc: Global,
     log: &[u8],
     told: &Refusal,
-    last: usize,
     report: &[u8],
 ) -> Result<Option<String>, AllocError>
-    requires order { told.now.window ≤ last }
-    requires last { last ≡ told.now.line + 1 }
-    ensures { IfOk result (λ found. IfSome found (λ picture.
+    requires order { told.now.window ≤ told.now.line }
+    requires within { told.now.line ≤ length log.now }
+    ensures some { IfOk result (λ found. IfSome found (λ picture.
         ShowsWindow log.now report.now told.now (string_bytes picture))) }
+    ensures none { IfOk result (λ found. IfNone found (HasManyIn (IsWindow log.now told.now))) }
 {
+    // For the proof: a line has a number below the greatest one.
+    let _fits = log.len();
     let lines = lines_of(alloc, log)?;
-    let window = window_of(alloc, &lines, told, last)?;
+    let window = window_of(alloc, &lines, told, told.line + 1)?;
     let Some(timeline) = timeline_of(alloc, &lines, &window, Some(told.line))? else {
         return Ok(None);
     };
@@ -121,30 +124,12 @@ fn draw_window(
     Ok(Some(picture))
 }
 
-/// The picture of the window of a refused reply, if it is in order.
-fn draw_refused(
-    alloc: Global,
-    log: &[u8],
-    told: &Refusal,
-    report: &[u8],
-) -> Result<Option<String>, AllocError>
-    ensures { IfOk result (λ found. IfSome found (λ picture.
-        ShowsWindow log.now report.now told.now (string_bytes picture))) }
-{
-    let Some(last) = told.line.checked_add(1) else {
-        return Ok(None);
-    };
-    if last < told.window {
-        return Ok(None);
-    }
-    draw_window(alloc, log, told, last, report)
-}
-
 /// The picture of all calls of a log that conforms, with the points at which they took effect.
 /// `None` where there are too many.
 fn draw_whole(alloc: Global, log: &[u8], report: &[u8]) -> Result<Option<String>, AllocError>
-    ensures { IfOk result (λ found. IfSome found (λ picture.
+    ensures some { IfOk result (λ found. IfSome found (λ picture.
         ShowsAll log.now report.now (string_bytes picture))) }
+    ensures none { IfOk result (λ found. IfNone found (HasManyIn (IsWhole log.now))) }
 {
     let lines = lines_of(alloc, log)?;
     let window = Window {
@@ -180,7 +165,8 @@ fn drawn(alloc: Global, status: u8, picture: Option<String>) -> Result<Drawing, 
 
 /// What is drawn of a log, by its verdict and the report on it.
 fn draw(alloc: Global, log: &[u8], verdict: &Verdict, report: &[u8]) -> Result<Drawing, AllocError>
-    requires { report.now ≡ report_text verdict.now }
+    requires judged { Judged log.now verdict.now }
+    requires report { report.now ≡ report_text verdict.now }
     ensures { IfOk result (Draws log.now verdict.now) }
 {
     match verdict {

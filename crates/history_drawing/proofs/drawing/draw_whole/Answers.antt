@@ -3,7 +3,7 @@ use Rattle.std.specs.Prelude.{All}
 use Rattle.std.specs.Borrow.{Bor}
 use Rattle.history_drawing.proofs.Drawable.{drawable}
 use Rattle.history_drawing.specs.Points.{IsPoint}
-use Rattle.history_drawing.specs.Timelines.{AreBars}
+use Rattle.history_drawing.specs.Timelines.{AreBars, HasMany}
 use Rattle.history_drawing.specs.declared.timeline.Bar.{Bar}
 use Rattle.history_drawing.specs.declared.timeline.Timeline.{Timeline}
 use Rattle.history_drawing.specs.declared.timeline.Window.{Window}
@@ -11,7 +11,7 @@ use Rattle.history_drawing.proofs.drawing.draw_whole.Goals as goal
 
 pub picture_of-requires : goal.picture_of-requires
 picture_of-requires c =
-    let shown = rw c.in-Some.is at c.in_ok-timeline.ensures in
+    let shown = rw c.in-Some.is at c.in_ok-timeline.ensures.some in
     let points = c.in_ok-timeline-2.field-0 in
     let w : Window =
     record { first = 0; last = c.len.result; wanted = None; service = None } in
@@ -20,9 +20,21 @@ picture_of-requires c =
     (subst (λ (l : List Bar). All (IsPoint l) points.items) c.deref-2.ensures.value
     c.in_ok-timeline-2.ensures)
 
-pub returns : goal.returns
-returns c =
-    let shown = rw c.in-Some.is at c.in_ok-timeline.ensures in
+pub returns-in_default-clause-none : goal.returns-in_default-clause-none
+returns-in_default-clause-none c =
+    let many = rw c.in_default.is at c.in_ok-timeline.ensures.none in
+    let w : Window =
+    record { first = 0; last = c.len.result; wanted = None; service = None } in
+    let last : c.len.result ≡ length c.in_ok-lines.lines.items = search rules in (
+      c.in_ok-lines.lines.items,
+      w,
+      record { are = c.in_ok-lines.ensures; first = refl; last = last; wanted = refl },
+      subst (λ (l : List (Bor (List ℕ))). HasMany l w) c.deref.ensures.value many,
+    )
+
+pub returns-clause-some : goal.returns-clause-some
+returns-clause-some c =
+    let shown = rw c.in-Some.is at c.in_ok-timeline.ensures.some in
     let points = c.in_ok-timeline-2.field-0 in
     let w : Window =
     record { first = 0; last = c.len.result; wanted = None; service = None } in
@@ -30,11 +42,13 @@ returns c =
     let last : c.len.result ≡ length c.in_ok-lines.lines.items = search rules in
     record {
       lines = c.in_ok-lines.lines.items;
-      are = c.in_ok-lines.ensures;
       w = w;
-      first = refl;
-      last = last;
-      wanted = refl;
+      whole = record {
+        are = c.in_ok-lines.ensures;
+        first = refl;
+        last = last;
+        wanted = refl;
+      };
       t = t;
       bars = subst (λ (l : List (Bor (List ℕ))). AreBars l w w.last t.rows.items t.bars.items)
           c.deref.ensures.value shown.bars;

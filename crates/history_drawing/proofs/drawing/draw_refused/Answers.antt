@@ -1,12 +1,12 @@
-use Rattle.std.proofs.Common.{ℕ, List, arith, subst, sym, ◌∙◌}
+use Rattle.std.proofs.Common.{ℕ, List, arith, subst, sym}
 use Rattle.std.specs.Prelude.{All}
 use Rattle.std.specs.Borrow.{Bor}
 use Rattle.std.proofs.lemmas.List.Elements.{All-nil}
 use Rattle.history_drawing.proofs.Drawable.{drawable}
 use Rattle.history_drawing.specs.Points.{IsPoint}
-use Rattle.history_drawing.specs.Timelines.{AreBars}
+use Rattle.history_drawing.specs.Timelines.{AreBars, HasMany}
 use Rattle.history_drawing.specs.declared.timeline.Point.{Point}
-use Rattle.history_drawing.proofs.drawing.draw_window.Goals as goal
+use Rattle.history_drawing.proofs.drawing.draw_refused.Goals as goal
 
 pub timeline_of-requires : goal.timeline_of-requires
 timeline_of-requires c =
@@ -14,23 +14,39 @@ timeline_of-requires c =
 
 pub picture_of-requires : goal.picture_of-requires
 picture_of-requires c =
-    let shown = rw c.in-Some.is at c.in_ok-timeline.ensures in
+    let shown = rw c.in-Some.is at c.in_ok-timeline.ensures.some in
     let t = c.in-Some.timeline in
     drawable _ c.in_ok-window.window t shown.bars
     (subst (λ (l : List Point). All (IsPoint t.bars.items) l) (sym shown.points)
     (All-nil (IsPoint t.bars.items)))
 
-pub returns : goal.returns
-returns c =
-    let shown = rw c.in-Some.is at c.in_ok-timeline.ensures in
+pub returns-in_default-clause-none : goal.returns-in_default-clause-none
+returns-in_default-clause-none c =
+    let many = rw c.in_default.is at c.in_ok-timeline.ensures.none in
+    let w = c.in_ok-window.window in (
+      c.in_ok-lines.lines.items,
+      w,
+      record {
+        are = c.in_ok-lines.ensures;
+        first = c.in_ok-window.ensures.0;
+        last = c.in_ok-window.ensures.1;
+      },
+      subst (λ (l : List (Bor (List ℕ))). HasMany l w) c.deref-2.ensures.value many,
+    )
+
+pub returns-clause-some : goal.returns-clause-some
+returns-clause-some c =
+    let shown = rw c.in-Some.is at c.in_ok-timeline.ensures.some in
     let t = c.in-Some.timeline in
     let w = c.in_ok-window.window in
     record {
       lines = c.in_ok-lines.lines.items;
-      are = c.in_ok-lines.ensures;
       w = w;
-      first = c.in_ok-window.ensures.0;
-      last = c.in_ok-window.ensures.1 ∙ c.requires.last;
+      window = record {
+        are = c.in_ok-lines.ensures;
+        first = c.in_ok-window.ensures.0;
+        last = c.in_ok-window.ensures.1;
+      };
       t = t;
       bars = subst (λ (l : List (Bor (List ℕ))). AreBars l w w.last t.rows.items t.bars.items)
           c.deref-2.ensures.value shown.bars;
