@@ -5,5 +5,6 @@ mod Ends
 mod Many
 mod Parts
 mod Placed
+mod Rising
 mod Shown
 mod Split

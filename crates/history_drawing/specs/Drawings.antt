@@ -5,12 +5,14 @@ use Rattle.std.specs.Io.KnownBytes.{Appends}
 use Rattle.std.specs.List.{flat_map}
 use Rattle.line_streams.specs.Spelling.{HasNo}
 use Rattle.history_logs.specs.Logs.{Judged}
+use Rattle.history_logs.specs.Orders.{HasOrders}
 use Rattle.history_logs.specs.Reports.{report_text}
+use Rattle.history_logs.specs.declared.logs.verdict.Order.{Order}
 use Rattle.history_logs.specs.declared.logs.verdict.Refusal.{Refusal}
 use Rattle.history_logs.specs.declared.logs.verdict.Verdict.{Verdict}
 use Rattle.history_logs.specs.declared.logs.verdict.Verdict.TheVariants as verdict
 use Rattle.history_drawing.specs.Calls.{text_at, texts}
-use Rattle.history_drawing.specs.Points.{IsPoint}
+use Rattle.history_drawing.specs.Points.{ArePoints}
 use Rattle.history_drawing.specs.Svg.{svg_text}
 use Rattle.history_drawing.specs.Timelines.{AreBars, HasMany}
 use Rattle.history_drawing.specs.declared.drawing.Drawing.{Drawing}
@@ -66,15 +68,19 @@ pub record ShowsWindow (log report : List ℕ) (told : Refusal) (picture : List 
   pub refused : t.refused ≡ Some told.line
   pub is : IsPicture report t picture
 
--- The picture of a log that conforms: the calls on all services that begin in its lines, with
--- points that lie in their bars. No reply is marked.
+-- The picture of a log that conforms: the calls on all services that begin in its lines, with the
+-- points of orders that explain the log. No reply is marked.
 pub record ShowsAll (log report picture : List ℕ) : Type 0 where
   pub lines : List (Bor (List ℕ))
   pub w : Window
   pub whole : IsWhole log lines w
   pub t : Timeline
   pub bars : AreBars lines w w.last t.rows.items t.bars.items
-  pub points : All (IsPoint t.bars.items) t.points.items
+  pub verdict : Verdict
+  pub judged : Judged log verdict
+  pub orders : List Order
+  pub explain : HasOrders log verdict orders
+  pub points : ArePoints t.bars.items orders t.points.items
   pub refused : t.refused ≡ None
   pub is : IsPicture report t picture
 
