@@ -11,7 +11,7 @@ use Rattle.history_logs.specs.declared.logs.verdict.Order.{Order}
 use Rattle.history_logs.specs.declared.logs.verdict.Refusal.{Refusal}
 use Rattle.history_logs.specs.declared.logs.verdict.Verdict.{Verdict}
 use Rattle.history_logs.specs.declared.logs.verdict.Verdict.TheVariants as verdict
-use Rattle.history_drawing.specs.Calls.{text_at, texts}
+use Rattle.history_drawing.specs.Calls.{IsFirstService, IsServiceOf, text_at, texts}
 use Rattle.history_drawing.specs.Points.{ArePoints}
 use Rattle.history_drawing.specs.Svg.{svg_text}
 use Rattle.history_drawing.specs.Timelines.{AreBars, HasMany}
@@ -37,12 +37,14 @@ IsPicture report t picture =
     (notes : List (Bor (List ℕ))) × AreLines report notes
     × (picture ≡ svg_text t (text_at notes 1) (drop 2 notes))
 
--- of the lines of the log, this is the window of a refused reply
+-- of the lines of the log, this is the window of a refused reply, with the calls on its service
 pub record IsWindow (log : List ℕ) (told : Refusal) (lines : List (Bor (List ℕ))) (w : Window)
     : Type 0 where
   pub are : AreLines log lines
   pub first : w.first ≡ told.window
   pub last : w.last ≡ told.line + 1
+  pub service : IsFirstService lines w.service
+  pub wanted : IsServiceOf lines w.first w.last told.line w.service w.wanted
 
 -- of the lines of the log, these are all, with the calls on all services
 pub record IsWhole (log : List ℕ) (lines : List (Bor (List ℕ))) (w : Window) : Type 0 where

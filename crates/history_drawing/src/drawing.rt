@@ -1,14 +1,17 @@
 //! Pictures of logs.
-ghost use Rattle.std.specs.Prelude.{◌≡◌, ◌≤◌, ◌+◌, IfNone, IfOk, IfSome, length, string_bytes};
+ghost use Rattle.std.specs.Prelude.{◌≡◌, ◌<◌, ◌≤◌, IfNone, IfOk, IfSome, IsFalse, IsTrue, length};
+ghost use Rattle.std.specs.Prelude.{string_bytes};
 ghost use Rattle.history_logs.specs.Logs.{Judged};
 ghost use Rattle.history_logs.specs.Reports.{report_text};
+ghost use Rattle.history_drawing.specs.Calls.{BeginsIn, IsAnsweredIn, IsElsewhere, IsFirstService};
+ghost use Rattle.history_drawing.specs.Calls.{IsServiceOf};
 ghost use Rattle.history_drawing.specs.Drawings.{Draws, HasManyIn, IsDrawingOf, IsDrawn};
 ghost use Rattle.history_drawing.specs.Drawings.{IsPicture, IsUndrawn, IsWhole, IsWindow};
 ghost use Rattle.history_drawing.specs.Drawings.{ShowsAll, ShowsWindow};
 ghost use Rattle.history_drawing.specs.declared.drawing.TheConstants.{MANY_CALLS};
 ghost use Rattle.history_drawing.specs.Places.{IsDrawable};
 
-use crate::calls::{call_at, first_service, text_at};
+use crate::calls::{LogCall, call_at, first_service, text_at};
 use crate::lines::{below_first, lines_of};
 use crate::points::points_of;
 use crate::svg::write_svg;
@@ -56,29 +59,57 @@ fn picture_of(alloc: Global, timeline: &Timeline<'_>, report: &[u8]) -> Result<S
 }
 
 /// Whether a call is answered in this line.
-fn is_answered(end: &BarEnd<'_>, line: usize) -> bool {
+fn is_answered(end: &BarEnd<'_>, line: usize) -> bool
+    ensures yes { IsTrue result → IsAnsweredIn line end.now }
+    ensures no { IsFalse result → ¬ (IsAnsweredIn line end.now) }
+{
     match end {
         BarEnd::Answered(end, _) => *end == line,
         _ => false,
     }
 }
 
-/// The number of the service of the call that is answered in this line, one of some lines.
+/// The call that begins in this line, if it is answered in the refused one.
+fn answered_at<'a>(
+    alloc: Global,
+    lines: &[&'a [u8]],
+    line: usize,
+    last: usize,
+    refused: usize,
+) -> Result<Option<LogCall<'a>>, AllocError>
+    requires { line < last }
+    ensures some { IfOk result (λ found. IfSome found (λ seen.
+        BeginsIn lines.now line last seen × IsAnsweredIn refused seen.end)) }
+    ensures none { IfOk result (λ found. IfNone found
+        (IsElsewhere lines.now last refused line)) }
+{
+    let Some(call) = call_at(alloc, lines, line, last)? else {
+        return Ok(None);
+    };
+    if is_answered(&call.end, refused) {
+        return Ok(Some(call));
+    }
+    Ok(None)
+}
+
+/// The number of the service of the call that is answered in a refused line: of those that begin in
+/// the lines from one on and above another. That of the first service is given.
 fn service_of(
     alloc: Global,
     lines: &[&[u8]],
     first: usize,
     last: usize,
     refused: usize,
-) -> Result<Option<u64>, AllocError> {
+    service: Option<u64>,
+) -> Result<Option<u64>, AllocError>
+    ensures { IfOk result (IsServiceOf lines.now first last refused service) }
+{
     for line in first..last {
-        if let Some(call) = call_at(alloc, lines, line, last)? {
-            if is_answered(&call.end, refused) {
-                return Ok(call.service);
-            }
+        if let Some(call) = answered_at(alloc, lines, line, last, refused)? {
+            return Ok(call.service.or(service));
         }
     }
-    Ok(None)
+    Ok(service)
 }
 
 /// The lines of a refused reply, with the service of its call.
@@ -88,14 +119,17 @@ fn window_of(
     told: &Refusal,
     last: usize,
 ) -> Result<Window, AllocError>
-    ensures { IfOk result (λ w. (w.first ≡ told.now.window) × (w.last ≡ last)) }
+    ensures lines { IfOk result (λ w. (w.first ≡ told.now.window) × (w.last ≡ last)) }
+    ensures service { IfOk result (λ w. IsFirstService lines.now w.service) }
+    ensures wanted { IfOk result (λ w.
+        IsServiceOf lines.now w.first w.last told.now.line w.service w.wanted) }
 {
     let service = first_service(alloc, lines)?;
-    let named = service_of(alloc, lines, told.window, last, told.line)?;
+    let wanted = service_of(alloc, lines, told.window, last, told.line, service)?;
     Ok(Window {
         first: told.window,
         last,
-        wanted: named.or(service),
+        wanted,
         service,
     })
 }

@@ -3,6 +3,7 @@ use Rattle.std.specs.Prelude.{All}
 use Rattle.std.specs.Borrow.{Bor}
 use Rattle.std.proofs.lemmas.List.Elements.{All-nil}
 use Rattle.history_drawing.proofs.Drawable.{drawable}
+use Rattle.history_drawing.specs.Calls.{IsFirstService, IsServiceOf}
 use Rattle.history_drawing.specs.Points.{IsPoint}
 use Rattle.history_drawing.specs.Timelines.{AreBars, HasMany}
 use Rattle.history_drawing.specs.declared.timeline.Point.{Point}
@@ -10,7 +11,7 @@ use Rattle.history_drawing.proofs.drawing.draw_refused.Goals as goal
 
 pub timeline_of-requires : goal.timeline_of-requires
 timeline_of-requires c =
-    omega (arith, c.in_ok-window.ensures.0, c.in_ok-window.ensures.1, c.requires.order)
+    omega (arith, c.in_ok-window.ensures.lines.0, c.in_ok-window.ensures.lines.1, c.requires.order)
 
 pub picture_of-requires : goal.picture_of-requires
 picture_of-requires c =
@@ -28,8 +29,13 @@ returns-in_default-clause-none c =
       w,
       record {
         are = c.in_ok-lines.ensures;
-        first = c.in_ok-window.ensures.0;
-        last = c.in_ok-window.ensures.1;
+        first = c.in_ok-window.ensures.lines.0;
+        last = c.in_ok-window.ensures.lines.1;
+        service = subst (λ (l : List (Bor (List ℕ))). IsFirstService l w.service)
+            c.deref.ensures.value c.in_ok-window.ensures.service;
+        wanted = subst (λ (l : List (Bor (List ℕ))).
+            IsServiceOf l w.first w.last c.args.told.now.line w.service w.wanted)
+            c.deref.ensures.value c.in_ok-window.ensures.wanted;
       },
       subst (λ (l : List (Bor (List ℕ))). HasMany l w) c.deref-2.ensures.value many,
     )
@@ -44,8 +50,13 @@ returns-clause-some c =
       w = w;
       window = record {
         are = c.in_ok-lines.ensures;
-        first = c.in_ok-window.ensures.0;
-        last = c.in_ok-window.ensures.1;
+        first = c.in_ok-window.ensures.lines.0;
+        last = c.in_ok-window.ensures.lines.1;
+        service = subst (λ (l : List (Bor (List ℕ))). IsFirstService l w.service)
+            c.deref.ensures.value c.in_ok-window.ensures.service;
+        wanted = subst (λ (l : List (Bor (List ℕ))).
+            IsServiceOf l w.first w.last c.args.told.now.line w.service w.wanted)
+            c.deref.ensures.value c.in_ok-window.ensures.wanted;
       };
       t = t;
       bars = subst (λ (l : List (Bor (List ℕ))). AreBars l w w.last t.rows.items t.bars.items)
