@@ -101,7 +101,8 @@ module _ (bars : List Bar) (lines : List ℕ) where
           size = omega (arith, size, s.size);
           calls = subst (λ (l : List ℕ). AllZip (IsPointOf bars) l (ps ++ p ∷ []))
               (sym (take_more lines at 0 within))
-              (all_zipped_more (IsPointOf bars) (take at lines) ps (get_or lines at 0) p s.calls is);
+              (all_zipped_more (IsPointOf bars) (take at lines) ps (get_or lines at 0) p
+              s.calls is);
           numbers = numbers_more ps p s.numbers (omega (arith, f.number, s.number, s.size));
           rising = all_pairs_push IsLeft ps p s.rising lefts;
           number = omega (arith, f.number, s.number);

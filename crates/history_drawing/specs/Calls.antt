@@ -101,7 +101,7 @@ BeginsIn lines k last seen = IsBegun lines k last seen ⊎ IsAlone lines k seen
 abbrev pub NoServiceAbove : List (Bor (List ℕ)) → ℕ → Type 0
 NoServiceAbove lines last = (k : ℕ) (s : ServiceLine) → k < last → ¬ (Says lines k (service s))
 
--- the number of the service that the first line of a service names; none where there is no such line
+-- the number that the first line of a service names; none where there is no such line
 abbrev pub IsFirstService : List (Bor (List ℕ)) → Option ℕ → Type 0
 IsFirstService lines (Some number) =
     (k : ℕ) × (s : ServiceLine) × Says lines k (service s) × (s.number ≡ number)

@@ -18,7 +18,8 @@ loop-line-preserved c =
     let p = c.in-Some.point in (
       ps ++ p ∷ [],
       c.in_ok-push.ensures.items
-          ∙ (ap (λ (l : List Point). l ++ p ∷ []) is ∙ append_assoc c.args.points.now.items ps (p ∷ [])),
+          ∙ (ap (λ (l : List Point). l ++ p ∷ []) is
+          ∙ append_assoc c.args.points.now.items ps (p ∷ [])),
       one_more c.args.bars.now c.args.order.now c.loop-line.line-index ps c.loop-line.before far p
           c.loop-line-test.true c.in-Some.ensures.point c.in-Some.ensures.follows
           c.in-Some.ensures.part,
