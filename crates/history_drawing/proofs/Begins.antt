@@ -1,10 +1,12 @@
 -- The lines in which calls begin.
-use Rattle.std.proofs.Common.{◌≡◌, ◌≢◌, ℕ, false, List, Option, None, Some, IfNone, inl, inr, sym, ◌∙◌}
+use Rattle.std.proofs.Common.{◌≡◌, ◌≢◌, ℕ, false, List, Option, None, Some, IfNone, ◌+◌, ◌<◌, ◌≤◌, inl, inr, subst, sym, ◌∙◌, arith}
+use Rattle.std.proofs.lemmas.Bool.{cases_lt}
 use Rattle.std.specs.Borrow.{Bor}
 use Rattle.log_lines.specs.Lines.{IsLine, Line, line_text}
 use Rattle.log_lines.specs.Lines.Line.{service, call, reply, begin, end, crash, given}
 use Rattle.log_lines.proofs.OneReading.{one_way}
-use Rattle.history_drawing.specs.Calls.{BeginsIn, IsAlone, is_begin, is_call, is_reply, text_above, text_at}
+use Rattle.history_drawing.specs.Calls.{BeginsIn, IsAlone, IsElsewhere, Says, is_begin, is_call, is_reply, is_service, text_above, text_at}
+use Rattle.service_descriptions.specs.declared.replay.lines.service_line.ServiceLine.{ServiceLine}
 use Rattle.history_drawing.specs.declared.calls.LogCall.{LogCall}
 
 module _ (lines : List (Bor (List ℕ))) (k : ℕ) where
@@ -84,6 +86,29 @@ module _ (lines : List (Bor (List ℕ))) (k : ℕ) where
   other_above (given n s) p is o seen a =
       one_way (given n s) (call seen.service a.command) p a.is (sym is ∙ a.above)
 
+  -- another line than that of a service names none
+  pub no_service : (l : Line) → IsLine l → text_at lines k ≡ line_text l
+      → is_service l ≡ false → (s : ServiceLine) → Says lines k (service s) → ⊥
+  no_service (service s) p is o t says = absurd (cc)
+  no_service (call n c) p is o t says =
+      one_way (call n c) (service t) p says.0 (sym is ∙ says.1)
+  no_service (reply ws) p is o t says =
+      one_way (reply ws) (service t) p says.0 (sym is ∙ says.1)
+  no_service (begin n x c) p is o t says =
+      one_way (begin n x c) (service t) p says.0 (sym is ∙ says.1)
+  no_service (end x ws) p is o t says =
+      one_way (end x ws) (service t) p says.0 (sym is ∙ says.1)
+  no_service (crash x) p is o t says =
+      one_way (crash x) (service t) p says.0 (sym is ∙ says.1)
+  no_service (given n s) p is o t says =
+      one_way (given n s) (service t) p says.0 (sym is ∙ says.1)
+
+  pub none_named : (l : Line) → IsLine l → text_at lines k ≡ line_text l → (found : Option ℕ)
+      → IfNone found (is_service l ≡ false)
+      → IfNone found ((s : ServiceLine) → Says lines k (service s) → ⊥)
+  none_named l p is None none = no_service l p is none
+  none_named l p is (Some number) none = tt
+
   -- a line begins calls on one service
   pub same_service : (last : ℕ) (one other : LogCall) → BeginsIn lines k last one
       → BeginsIn lines k last other → one.service ≡ other.service
@@ -101,3 +126,16 @@ module _ (lines : List (Bor (List ℕ))) (k : ℕ) where
   same_service last one other (inr a) (inr b) =
       one_way (call one.service a.command) (call other.service b.command) a.is b.is
       (sym a.above ∙ b.above)
+
+-- of one line more no call is answered in this one
+pub elsewhere_more : (lines : List (Bor (List ℕ))) (first last refused at : ℕ)
+    → ((k : ℕ) → first ≤ k → k < at → IsElsewhere lines last refused k)
+    → IsElsewhere lines last refused at
+    → (k : ℕ) → first ≤ k → k < at + 1 → IsElsewhere lines last refused k
+elsewhere_more lines first last refused at before here k from upto =
+    elim (cases_lt k at) as (λ _. IsElsewhere lines last refused k) [
+      | inl above ↦ before k from above
+      | inr late ↦
+          let same : at ≡ k = omega (arith, upto, late) in
+          subst (λ (n : ℕ). IsElsewhere lines last refused n) same here
+    ]

@@ -1,5 +1,5 @@
 -- Each bar and each point of a time line has a place.
-use Rattle.std.proofs.Common.{◌≡◌, ℕ, ◌≤◌, List, get_or, arith}
+use Rattle.std.proofs.Common.{ℕ, ◌≤◌, List, arith}
 use Rattle.std.specs.Prelude.{All}
 use Rattle.std.specs.Borrow.{Bor}
 use Rattle.std.proofs.lemmas.List.Elements.{All-contains}
@@ -7,7 +7,6 @@ use Rattle.history_drawing.specs.Places.{IsDrawable}
 use Rattle.history_drawing.specs.Points.{IsPoint}
 use Rattle.history_drawing.specs.Timelines.{AreBars}
 use Rattle.history_drawing.specs.declared.timeline.Bar.{Bar}
-use Rattle.history_drawing.specs.declared.timeline.Point.{Point}
 use Rattle.history_drawing.specs.declared.timeline.Timeline.{Timeline}
 use Rattle.history_drawing.specs.declared.timeline.Window.{Window}
 

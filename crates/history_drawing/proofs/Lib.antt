@@ -2,6 +2,9 @@ mod Begins
 mod Drawable
 mod Drawn
 mod Ends
+mod Many
 mod Parts
+mod Placed
+mod Rising
 mod Shown
 mod Split

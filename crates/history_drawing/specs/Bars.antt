@@ -1,5 +1,5 @@
 -- The text of calls and points in a picture.
-use Rattle.std.specs.Prelude.{ℕ, ◌+◌, ◌-◌, ◌==◌, Bool, true, false, List, [], ◌∷◌, ◌++◌, Option, Some, None, codes}
+use Rattle.std.specs.Prelude.{ℕ, ◌+◌, ◌-◌, ◌==◌, Bool, true, false, List, [], ◌++◌, Option, Some, codes}
 use Rattle.std.specs.Fmt.{decimal}
 use Rattle.history_drawing.specs.Escape.{element_text}
 use Rattle.history_drawing.specs.Places.{begin_of, end_of, point_of, top}

@@ -1,10 +1,12 @@
 -- The calls of a log, by the texts of its lines.
-use Rattle.std.specs.Prelude.{◌≡◌, ◌⊎◌, ℕ, zero, suc, ◌+◌, ◌<◌, ◌≤◌, Bool, true, false, List, [], ◌++◌, if◌then◌else◌, codes, get_or, map}
+use Rattle.std.specs.Prelude.{◌≡◌, ◌⊎◌, Option, Some, None, ℕ, zero, suc, ◌+◌, ◌<◌, ◌≤◌, Bool, true, false, List, [], ◌++◌, if◌then◌else◌, codes, get_or, length, map}
+use Rattle.std.specs.Option.{option_or}
 use Rattle.std.specs.Borrow.{Bor}
 use Rattle.line_streams.specs.Spelling.{HasNo}
 use Rattle.log_lines.specs.Commands.{NamedCommand}
 use Rattle.log_lines.specs.Lines.{IsLine, Line, is_note, line_text}
-use Rattle.log_lines.specs.Lines.Line.{begin, call, crash, end, reply}
+use Rattle.log_lines.specs.Lines.Line.{begin, call, crash, end, reply, service}
+use Rattle.service_descriptions.specs.declared.replay.lines.service_line.ServiceLine.{ServiceLine}
 use Rattle.history_drawing.specs.declared.calls.LogCall.{LogCall}
 use Rattle.history_drawing.specs.declared.timeline.BarEnd.TheVariants.{Answered, Died, Open}
 use Rattle.history_drawing.specs.declared.timeline.BarEnd.{BarEnd}
@@ -31,6 +33,11 @@ is_reply _ = false
 abbrev pub is_call : Line → Bool
 is_call (call number command) = true
 is_call _ = false
+
+-- whether a line is that of a service
+abbrev pub is_service : Line → Bool
+is_service (service line) = true
+is_service _ = false
 
 -- the line of this number is this one
 abbrev pub Says : List (Bor (List ℕ)) → ℕ → Line → Type 0
@@ -89,3 +96,34 @@ pub record IsAlone (lines : List (Bor (List ℕ))) (k : ℕ) (seen : LogCall) : 
 -- the call begins in this line
 abbrev pub BeginsIn : List (Bor (List ℕ)) → ℕ → ℕ → LogCall → Type 0
 BeginsIn lines k last seen = IsBegun lines k last seen ⊎ IsAlone lines k seen
+
+-- no service is named above this line
+abbrev pub NoServiceAbove : List (Bor (List ℕ)) → ℕ → Type 0
+NoServiceAbove lines last = (k : ℕ) (s : ServiceLine) → k < last → ¬ (Says lines k (service s))
+
+-- the number that the first line of a service names; none where there is no such line
+abbrev pub IsFirstService : List (Bor (List ℕ)) → Option ℕ → Type 0
+IsFirstService lines (Some number) =
+    (k : ℕ) × (s : ServiceLine) × Says lines k (service s) × (s.number ≡ number)
+    × NoServiceAbove lines k
+IsFirstService lines None = NoServiceAbove lines (length lines)
+
+-- the call is answered in this line
+abbrev pub IsAnsweredIn : ℕ → BarEnd → Type 0
+IsAnsweredIn line (Answered last words) = last ≡ line
+IsAnsweredIn line _ = ⊥
+
+-- no call that begins in this line is answered in that one
+abbrev pub IsElsewhere : List (Bor (List ℕ)) → ℕ → ℕ → ℕ → Type 0
+IsElsewhere lines last line k =
+    ((seen : LogCall) → ¬ (BeginsIn lines k last seen))
+    ⊎ ((seen : LogCall) × BeginsIn lines k last seen × (¬ (IsAnsweredIn line seen.end)))
+
+-- The number of the service of the call, of those that begin in these lines, that is answered in
+-- this one: it stands before the call, or is that of the first service. Where no call is answered
+-- there, it is that of the first service.
+abbrev pub IsServiceOf : List (Bor (List ℕ)) → ℕ → ℕ → ℕ → Option ℕ → Option ℕ → Type 0
+IsServiceOf lines from last line first number =
+    ((k : ℕ) × (seen : LogCall) × (from ≤ k) × (k < last) × BeginsIn lines k last seen
+    × IsAnsweredIn line seen.end × (number ≡ option_or seen.service first))
+    ⊎ (((k : ℕ) → from ≤ k → k < last → IsElsewhere lines last line k) × (number ≡ first))

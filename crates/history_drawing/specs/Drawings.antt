@@ -5,14 +5,16 @@ use Rattle.std.specs.Io.KnownBytes.{Appends}
 use Rattle.std.specs.List.{flat_map}
 use Rattle.line_streams.specs.Spelling.{HasNo}
 use Rattle.history_logs.specs.Logs.{Judged}
+use Rattle.history_logs.specs.Orders.{HasOrders}
 use Rattle.history_logs.specs.Reports.{report_text}
+use Rattle.history_logs.specs.declared.logs.verdict.Order.{Order}
 use Rattle.history_logs.specs.declared.logs.verdict.Refusal.{Refusal}
 use Rattle.history_logs.specs.declared.logs.verdict.Verdict.{Verdict}
 use Rattle.history_logs.specs.declared.logs.verdict.Verdict.TheVariants as verdict
-use Rattle.history_drawing.specs.Calls.{text_at, texts}
-use Rattle.history_drawing.specs.Points.{IsPoint}
+use Rattle.history_drawing.specs.Calls.{IsFirstService, IsServiceOf, text_at, texts}
+use Rattle.history_drawing.specs.Points.{ArePoints}
 use Rattle.history_drawing.specs.Svg.{svg_text}
-use Rattle.history_drawing.specs.Timelines.{AreBars}
+use Rattle.history_drawing.specs.Timelines.{AreBars, HasMany}
 use Rattle.history_drawing.specs.declared.drawing.Drawing.{Drawing}
 use Rattle.history_drawing.specs.declared.drawing.TheConstants.{MANY_CALLS}
 use Rattle.history_drawing.specs.declared.timeline.Timeline.{Timeline}
@@ -35,33 +37,52 @@ IsPicture report t picture =
     (notes : List (Bor (List ℕ))) × AreLines report notes
     × (picture ≡ svg_text t (text_at notes 1) (drop 2 notes))
 
--- The picture of the window of a refused reply: the wanted calls that begin in its lines, and no
--- points. The
--- reply is marked.
-pub record ShowsWindow (log report : List ℕ) (told : Refusal) (picture : List ℕ) : Type 0 where
-  pub lines : List (Bor (List ℕ))
+-- of the lines of the log, this is the window of a refused reply, with the calls on its service
+pub record IsWindow (log : List ℕ) (told : Refusal) (lines : List (Bor (List ℕ))) (w : Window)
+    : Type 0 where
   pub are : AreLines log lines
-  pub w : Window
   pub first : w.first ≡ told.window
   pub last : w.last ≡ told.line + 1
+  pub service : IsFirstService lines w.service
+  pub wanted : IsServiceOf lines w.first w.last told.line w.service w.wanted
+
+-- of the lines of the log, these are all, with the calls on all services
+pub record IsWhole (log : List ℕ) (lines : List (Bor (List ℕ))) (w : Window) : Type 0 where
+  pub are : AreLines log lines
+  pub first : w.first ≡ 0
+  pub last : w.last ≡ length lines
+  pub wanted : w.wanted ≡ None
+
+-- more than 200 calls belong in the picture of such lines
+abbrev pub HasManyIn : (List (Bor (List ℕ)) → Window → Type 0) → Type 0
+HasManyIn Is =
+    (lines : List (Bor (List ℕ))) × (w : Window) × Is lines w × HasMany lines w
+
+-- The picture of the window of a refused reply: the wanted calls that begin in its lines, and no
+-- points. The reply is marked.
+pub record ShowsWindow (log report : List ℕ) (told : Refusal) (picture : List ℕ) : Type 0 where
+  pub lines : List (Bor (List ℕ))
+  pub w : Window
+  pub window : IsWindow log told lines w
   pub t : Timeline
   pub bars : AreBars lines w w.last t.rows.items t.bars.items
   pub points : t.points.items ≡ []
   pub refused : t.refused ≡ Some told.line
   pub is : IsPicture report t picture
 
--- The picture of a log that conforms: calls on all services that begin in its lines, with points
--- that lie in their bars. No reply is marked.
+-- The picture of a log that conforms: the calls on all services that begin in its lines, with the
+-- points of orders that explain the log. No reply is marked.
 pub record ShowsAll (log report picture : List ℕ) : Type 0 where
   pub lines : List (Bor (List ℕ))
-  pub are : AreLines log lines
   pub w : Window
-  pub first : w.first ≡ 0
-  pub last : w.last ≡ length lines
-  pub wanted : w.wanted ≡ None
+  pub whole : IsWhole log lines w
   pub t : Timeline
   pub bars : AreBars lines w w.last t.rows.items t.bars.items
-  pub points : All (IsPoint t.bars.items) t.points.items
+  pub verdict : Verdict
+  pub judged : Judged log verdict
+  pub orders : List Order
+  pub explain : HasOrders log verdict orders
+  pub points : ArePoints t.bars.items orders t.points.items
   pub refused : t.refused ≡ None
   pub is : IsPicture report t picture
 
@@ -79,10 +100,10 @@ pub record IsDrawn (status : ℕ) (d : Drawing) : Type 0 where
 -- what is drawn of a log that is judged so
 abbrev pub Draws : List ℕ → Verdict → Drawing → Type 0
 Draws log (verdict.Conforms n m) d =
-    IsUndrawn MANY_CALLS.now d
+    (IsUndrawn MANY_CALLS.now d × HasManyIn (IsWhole log))
     ⊎ (IsDrawn 0 d × ShowsAll log (report_text (verdict.Conforms n m)) (string_bytes d.picture))
 Draws log (verdict.Refused told) d =
-    IsUndrawn MANY_CALLS.now d
+    (IsUndrawn MANY_CALLS.now d × HasManyIn (IsWindow log told))
     ⊎ (IsDrawn 1 d
     × ShowsWindow log (report_text (verdict.Refused told)) told (string_bytes d.picture))
 Draws log v d = IsUndrawn (report_text v) d

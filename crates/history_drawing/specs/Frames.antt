@@ -1,5 +1,5 @@
 -- The text of what stands around the calls of a picture.
-use Rattle.std.specs.Prelude.{ℕ, ◌==◌, Bool, true, false, List, [], ◌∷◌, ◌++◌, Option, Some, None, if◌then◌else◌, codes}
+use Rattle.std.specs.Prelude.{ℕ, ◌==◌, List, [], ◌∷◌, ◌++◌, Option, Some, None, if◌then◌else◌, codes}
 use Rattle.std.specs.Fmt.{decimal}
 use Rattle.history_drawing.specs.Escape.{element_text}
 use Rattle.history_drawing.specs.Places.{left, own_end}

@@ -2,9 +2,11 @@
 ghost use Rattle.std.specs.Prelude.{◌≡◌, ◌<◌, IfNone, IfOk, IfSome, false};
 ghost use Rattle.log_lines.specs.Commands.{NamedCommand};
 ghost use Rattle.log_lines.specs.Lines.{line_seen};
-ghost use Rattle.log_lines.specs.Lines.Line.{begin, call, reply};
-ghost use Rattle.history_drawing.specs.Calls.{BeginsIn, EndsFrom, EndsIn, IsAlone, IsBehind};
-ghost use Rattle.history_drawing.specs.Calls.{Says, is_begin, is_call, is_reply, text_above, text_at};
+ghost use Rattle.log_lines.specs.Lines.Line.{begin, call, reply, service};
+ghost use Rattle.history_drawing.specs.Calls.{BeginsIn, EndsFrom, EndsIn, IsAlone, IsBehind, IsFirstService};
+ghost use Rattle.history_drawing.specs.Calls.{Says, is_begin, is_call, is_reply, is_service, text_above};
+ghost use Rattle.history_drawing.specs.Calls.{text_at};
+ghost use Rattle.service_descriptions.specs.declared.replay.lines.service_line.ServiceLine.{ServiceLine};
 ghost use Rattle.history_drawing.specs.declared.calls.LogCall.{LogCall};
 ghost use Rattle.history_drawing.specs.declared.timeline.BarEnd.{BarEnd};
 
@@ -186,11 +188,38 @@ pub(crate) fn call_at<'a>(
     Ok(found)
 }
 
+/// The number of the service that a line names.
+fn named(read: &LogLine<'_>) -> Option<u64>
+    ensures some { IfSome result (λ number. (s : ServiceLine)
+        × (line_seen read.now ≡ service s) × (s.number ≡ number)) }
+    ensures none { IfNone result (is_service (line_seen read.now) ≡ false) }
+{
+    match read {
+        LogLine::Service(service) => Some(service.number),
+        _ => None,
+    }
+}
+
+/// The number of the service that the line of this number names.
+fn service_in(alloc: Global, lines: &[&[u8]], line: usize) -> Result<Option<u64>, AllocError>
+    ensures some { IfOk result (λ found. IfSome found (λ number. (s : ServiceLine)
+        × Says lines.now line (service s) × (s.number ≡ number))) }
+    ensures none { IfOk result (λ found. IfNone found ((s : ServiceLine)
+        → ¬ (Says lines.now line (service s)))) }
+{
+    let Some(read) = read_log_line(alloc, text_at(lines, line))? else {
+        return Ok(None);
+    };
+    Ok(named(&read))
+}
+
 /// The number of the first service.
-pub(crate) fn first_service(alloc: Global, lines: &[&[u8]]) -> Result<Option<u64>, AllocError> {
-    for line in lines {
-        if let Some(LogLine::Service(service)) = read_log_line(alloc, line)? {
-            return Ok(Some(service.number));
+pub(crate) fn first_service(alloc: Global, lines: &[&[u8]]) -> Result<Option<u64>, AllocError>
+    ensures { IfOk result (IsFirstService lines.now) }
+{
+    for line in 0..lines.len() {
+        if let Some(number) = service_in(alloc, lines, line)? {
+            return Ok(Some(number));
         }
     }
     Ok(None)

@@ -1,12 +1,17 @@
 //! Pictures of logs.
-ghost use Rattle.std.specs.Prelude.{◌≡◌, ◌≤◌, ◌+◌, IfNone, IfOk, IfSome, string_bytes};
+ghost use Rattle.std.specs.Prelude.{◌≡◌, ◌<◌, ◌≤◌, IfNone, IfOk, IfSome, IsFalse, IsTrue, length};
+ghost use Rattle.std.specs.Prelude.{string_bytes};
+ghost use Rattle.history_logs.specs.Logs.{Judged};
 ghost use Rattle.history_logs.specs.Reports.{report_text};
-ghost use Rattle.history_drawing.specs.Drawings.{Draws, IsDrawingOf, IsDrawn, IsPicture, IsUndrawn};
+ghost use Rattle.history_drawing.specs.Calls.{BeginsIn, IsAnsweredIn, IsElsewhere, IsFirstService};
+ghost use Rattle.history_drawing.specs.Calls.{IsServiceOf};
+ghost use Rattle.history_drawing.specs.Drawings.{Draws, HasManyIn, IsDrawingOf, IsDrawn};
+ghost use Rattle.history_drawing.specs.Drawings.{IsPicture, IsUndrawn, IsWhole, IsWindow};
 ghost use Rattle.history_drawing.specs.Drawings.{ShowsAll, ShowsWindow};
 ghost use Rattle.history_drawing.specs.declared.drawing.TheConstants.{MANY_CALLS};
 ghost use Rattle.history_drawing.specs.Places.{IsDrawable};
 
-use crate::calls::{call_at, first_service, text_at};
+use crate::calls::{LogCall, call_at, first_service, text_at};
 use crate::lines::{below_first, lines_of};
 use crate::points::points_of;
 use crate::svg::write_svg;
@@ -54,29 +59,57 @@ fn picture_of(alloc: Global, timeline: &Timeline<'_>, report: &[u8]) -> Result<S
 }
 
 /// Whether a call is answered in this line.
-fn is_answered(end: &BarEnd<'_>, line: usize) -> bool {
+fn is_answered(end: &BarEnd<'_>, line: usize) -> bool
+    ensures yes { IsTrue result → IsAnsweredIn line end.now }
+    ensures no { IsFalse result → ¬ (IsAnsweredIn line end.now) }
+{
     match end {
         BarEnd::Answered(end, _) => *end == line,
         _ => false,
     }
 }
 
-/// The number of the service of the call that is answered in this line, one of some lines.
+/// The call that begins in this line, if it is answered in the refused one.
+fn answered_at<'a>(
+    alloc: Global,
+    lines: &[&'a [u8]],
+    line: usize,
+    last: usize,
+    refused: usize,
+) -> Result<Option<LogCall<'a>>, AllocError>
+    requires { line < last }
+    ensures some { IfOk result (λ found. IfSome found (λ seen.
+        BeginsIn lines.now line last seen × IsAnsweredIn refused seen.end)) }
+    ensures none { IfOk result (λ found. IfNone found
+        (IsElsewhere lines.now last refused line)) }
+{
+    let Some(call) = call_at(alloc, lines, line, last)? else {
+        return Ok(None);
+    };
+    if is_answered(&call.end, refused) {
+        return Ok(Some(call));
+    }
+    Ok(None)
+}
+
+/// The number of the service of the call that is answered in a refused line: of those that begin in
+/// the lines from one on and above another. That of the first service is given.
 fn service_of(
     alloc: Global,
     lines: &[&[u8]],
     first: usize,
     last: usize,
     refused: usize,
-) -> Result<Option<u64>, AllocError> {
+    service: Option<u64>,
+) -> Result<Option<u64>, AllocError>
+    ensures { IfOk result (IsServiceOf lines.now first last refused service) }
+{
     for line in first..last {
-        if let Some(call) = call_at(alloc, lines, line, last)? {
-            if is_answered(&call.end, refused) {
-                return Ok(call.service);
-            }
+        if let Some(call) = answered_at(alloc, lines, line, last, refused)? {
+            return Ok(call.service.or(service));
         }
     }
-    Ok(None)
+    Ok(service)
 }
 
 /// The lines of a refused reply, with the service of its call.
@@ -86,34 +119,38 @@ fn window_of(
     told: &Refusal,
     last: usize,
 ) -> Result<Window, AllocError>
-    ensures { IfOk result (λ w. (w.first ≡ told.now.window) × (w.last ≡ last)) }
+    ensures lines { IfOk result (λ w. (w.first ≡ told.now.window) × (w.last ≡ last)) }
+    ensures service { IfOk result (λ w. IsFirstService lines.now w.service) }
+    ensures wanted { IfOk result (λ w.
+        IsServiceOf lines.now w.first w.last told.now.line w.service w.wanted) }
 {
     let service = first_service(alloc, lines)?;
-    let named = service_of(alloc, lines, told.window, last, told.line)?;
+    let wanted = service_of(alloc, lines, told.window, last, told.line, service)?;
     Ok(Window {
         first: told.window,
         last,
-        wanted: named.or(service),
+        wanted,
         service,
     })
 }
 
-/// The picture of the window of a refused reply, which stands in the last line above this one.
-/// `None` where it has too many calls.
-fn draw_window(
+/// The picture of the window of a refused reply. `None` where it has too many calls.
+fn draw_refused(
     alloc: Global,
     log: &[u8],
     told: &Refusal,
-    last: usize,
     report: &[u8],
 ) -> Result<Option<String>, AllocError>
-    requires order { told.now.window ≤ last }
-    requires last { last ≡ told.now.line + 1 }
-    ensures { IfOk result (λ found. IfSome found (λ picture.
+    requires order { told.now.window ≤ told.now.line }
+    requires within { told.now.line ≤ length log.now }
+    ensures some { IfOk result (λ found. IfSome found (λ picture.
         ShowsWindow log.now report.now told.now (string_bytes picture))) }
+    ensures none { IfOk result (λ found. IfNone found (HasManyIn (IsWindow log.now told.now))) }
 {
+    // For the proof: a line has a number below the greatest one.
+    let _fits = log.len();
     let lines = lines_of(alloc, log)?;
-    let window = window_of(alloc, &lines, told, last)?;
+    let window = window_of(alloc, &lines, told, told.line + 1)?;
     let Some(timeline) = timeline_of(alloc, &lines, &window, Some(told.line))? else {
         return Ok(None);
     };
@@ -121,30 +158,12 @@ fn draw_window(
     Ok(Some(picture))
 }
 
-/// The picture of the window of a refused reply, if it is in order.
-fn draw_refused(
-    alloc: Global,
-    log: &[u8],
-    told: &Refusal,
-    report: &[u8],
-) -> Result<Option<String>, AllocError>
-    ensures { IfOk result (λ found. IfSome found (λ picture.
-        ShowsWindow log.now report.now told.now (string_bytes picture))) }
-{
-    let Some(last) = told.line.checked_add(1) else {
-        return Ok(None);
-    };
-    if last < told.window {
-        return Ok(None);
-    }
-    draw_window(alloc, log, told, last, report)
-}
-
 /// The picture of all calls of a log that conforms, with the points at which they took effect.
 /// `None` where there are too many.
 fn draw_whole(alloc: Global, log: &[u8], report: &[u8]) -> Result<Option<String>, AllocError>
-    ensures { IfOk result (λ found. IfSome found (λ picture.
+    ensures some { IfOk result (λ found. IfSome found (λ picture.
         ShowsAll log.now report.now (string_bytes picture))) }
+    ensures none { IfOk result (λ found. IfNone found (HasManyIn (IsWhole log.now))) }
 {
     let lines = lines_of(alloc, log)?;
     let window = Window {
@@ -180,7 +199,8 @@ fn drawn(alloc: Global, status: u8, picture: Option<String>) -> Result<Drawing, 
 
 /// What is drawn of a log, by its verdict and the report on it.
 fn draw(alloc: Global, log: &[u8], verdict: &Verdict, report: &[u8]) -> Result<Drawing, AllocError>
-    requires { report.now ≡ report_text verdict.now }
+    requires judged { Judged log.now verdict.now }
+    requires report { report.now ≡ report_text verdict.now }
     ensures { IfOk result (Draws log.now verdict.now) }
 {
     match verdict {

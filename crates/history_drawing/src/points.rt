@@ -1,17 +1,21 @@
 //! Where calls took effect.
-ghost use Rattle.std.specs.Prelude.{◌≡◌, ◌<◌, ◌≤◌, All, Contains, IfOk, IfSome, IsTrue, OnOk};
-ghost use Rattle.history_drawing.specs.Points.{Follows, IsPoint, Reaches};
+ghost use Rattle.std.specs.Prelude.{◌≡◌, ◌≢◌, ◌++◌, ◌<◌, ◌≤◌, ℕ, All, AllPairs, Contains, IfNone};
+ghost use Rattle.std.specs.Prelude.{IfOk, IfSome, IsFalse, IsTrue, List, OnOk};
+ghost use Rattle.history_drawing.specs.Points.{ArePoints, ArePointsOf, Follows, IsPointOf, Reaches};
+ghost use Rattle.history_drawing.specs.declared.timeline.Bar.{Bar};
+ghost use Rattle.history_drawing.specs.declared.timeline.Point.{Point};
 
 use crate::timeline::{Bar, BarEnd, Point};
 use history_logs::logs::Order;
 use std::alloc::{AllocError, Global};
 
-/// How many points one line has at most.
-const MAX_PARTS: usize = 200;
+/// How many points an order has at most.
+const MAX_POINTS: usize = 200;
 
 /// The call that begins in this line.
 fn bar_at<'b, 'a>(bars: &'b [Bar<'a>], line: usize) -> Option<&'b Bar<'a>>
-    ensures { IfSome result (λ bar. Contains bars.now bar.now × (bar.now.begin ≡ line)) }
+    ensures some { IfSome result (λ bar. Contains bars.now bar.now × (bar.now.begin ≡ line)) }
+    ensures none { IfNone result (All (λ (b : Bar). b.begin ≢ line) bars.now) }
 {
     for bar in bars {
         if bar.begin == line {
@@ -23,7 +27,8 @@ fn bar_at<'b, 'a>(bars: &'b [Bar<'a>], line: usize) -> Option<&'b Bar<'a>>
 
 /// Whether the call is not over above this line.
 fn reaches(end: &BarEnd<'_>, line: usize) -> bool
-    ensures { IsTrue result → Reaches end.now line }
+    ensures yes { IsTrue result → Reaches end.now line }
+    ensures no { IsFalse result → ¬ (Reaches end.now line) }
 {
     match end {
         BarEnd::Answered(end, _) => line <= *end,
@@ -36,11 +41,13 @@ fn reaches(end: &BarEnd<'_>, line: usize) -> bool
 /// of the other point, if that is a later one.
 fn point_after(bar: &Bar<'_>, before: &Point) -> Point
     requires number { before.now.number < 200 }
-    requires part { before.now.part < 200 }
+    requires part { before.now.part ≤ before.now.number }
     ensures follows { Follows before.now result }
     ensures row { result.row ≡ bar.now.row }
     ensures begun { bar.now.begin ≤ result.line }
-    ensures few { result.part ≤ 200 }
+    ensures first { (line : ℕ) → bar.now.begin ≤ line → before.now.line ≤ line
+        → result.line ≤ line }
+    ensures part { result.part ≤ result.number }
 {
     if before.line < bar.begin {
         return Point {
@@ -61,10 +68,15 @@ fn point_after(bar: &Bar<'_>, before: &Point) -> Point
 /// The point of the call that begins in this line, behind another one; `None` where there is no
 /// such call, or where it is over above that one.
 fn next_point(bars: &[Bar<'_>], line: usize, before: &Point) -> Option<Point>
-    ensures point { IfSome result (IsPoint bars.now) }
+    requires rising { AllPairs (λ (one other : Bar). one.begin < other.begin) bars.now }
+    requires part { before.now.part ≤ before.now.number }
+    ensures point { IfSome result (IsPointOf bars.now line) }
     ensures follows { IfSome result (Follows before.now) }
+    ensures part { IfSome result (λ p. p.part ≤ p.number) }
+    ensures none { IfNone result (before.now.number < 200 → (p : Point)
+        → before.now.line ≤ p.line → ¬ (IsPointOf bars.now line p)) }
 {
-    if before.number >= MAX_PARTS || before.part >= MAX_PARTS {
+    if before.number >= MAX_POINTS {
         return None;
     }
     let Some(bar) = bar_at(bars, line) else {
@@ -79,8 +91,9 @@ fn next_point(bars: &[Bar<'_>], line: usize, before: &Point) -> Option<Point>
 
 /// Adds a point for each call of an order, as far as each can lie in its bar.
 fn add_order(bars: &[Bar<'_>], order: &[usize], points: &mut Vec<Point>) -> Result<(), AllocError>
-    requires { All (IsPoint bars.now) points.old.items }
-    ensures { OnOk result (All (IsPoint bars.now) points.new.items) }
+    requires { AllPairs (λ (one other : Bar). one.begin < other.begin) bars.now }
+    ensures { OnOk result ((ps : List Point) × (points.new.items ≡ points.old.items ++ ps)
+        × ArePointsOf bars.now order.now ps) }
 {
     let mut before = Point {
         number: 0,
@@ -104,7 +117,8 @@ pub(crate) fn points_of(
     bars: &[Bar<'_>],
     orders: &[Order],
 ) -> Result<Vec<Point>, AllocError>
-    ensures { IfOk result (λ points. All (IsPoint bars.now) points.items) }
+    requires { AllPairs (λ (one other : Bar). one.begin < other.begin) bars.now }
+    ensures { IfOk result (λ points. ArePoints bars.now orders.now points.items) }
 {
     let mut points = Vec::new(alloc);
     for order in orders {

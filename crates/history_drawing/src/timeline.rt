@@ -1,8 +1,8 @@
 //! Calls as bars on a time line.
 
-ghost use Rattle.std.specs.Prelude.{◌≡◌, ◌++◌, ◌∷◌, [], ◌+◌, ◌<◌, ◌≤◌, IfNone, IfOk, IfSome, IsTrue, OnOk, length};
-ghost use Rattle.history_drawing.specs.Timelines.{AreApart, AreBars, Extends, IsBarOf, IsOn, IsRow};
-ghost use Rattle.history_drawing.specs.Timelines.{IsTimeline, IsUnknown, IsWanted};
+ghost use Rattle.std.specs.Prelude.{◌≡◌, ◌++◌, ◌∷◌, [], ◌+◌, ◌<◌, ◌≤◌, IfNone, IfOk, IfSome, IsFalse, IsTrue, OnOk, length};
+ghost use Rattle.history_drawing.specs.Timelines.{AreApart, AreBars, Extends, HasMany, IsBarOf, IsOn};
+ghost use Rattle.history_drawing.specs.Timelines.{IsRow, IsTimeline, IsUnknown, IsWanted};
 ghost use Rattle.history_drawing.specs.declared.calls.LogCall.{LogCall};
 ghost use Rattle.history_drawing.specs.declared.timeline.Bar.{Bar};
 
@@ -169,8 +169,9 @@ fn add_line<'a>(
     requires first { window.now.first ≤ line }
     requires last { line < window.now.last }
     requires bars { AreBars lines.now window.now line rows.old.items bars.old.items }
-    ensures { IfOk result (λ fits. IsTrue fits
+    ensures fits { IfOk result (λ fits. IsTrue fits
         → AreBars lines.now window.now (line + 1) rows.new.items bars.new.items) }
+    ensures many { IfOk result (λ fits. IsFalse fits → HasMany lines.now window.now) }
 {
     let Some(call) = wanted_at(alloc, lines, window, line)? else {
         return Ok(true);
@@ -190,7 +191,9 @@ pub(crate) fn timeline_of<'a>(
     refused: Option<usize>,
 ) -> Result<Option<Timeline<'a>>, AllocError>
     requires { window.now.first ≤ window.now.last }
-    ensures { IfOk result (λ found. IfSome found (λ t. IsTimeline lines.now window.now refused t)) }
+    ensures some { IfOk result (λ found. IfSome found (λ t.
+        IsTimeline lines.now window.now refused t)) }
+    ensures none { IfOk result (λ found. IfNone found (HasMany lines.now window.now)) }
 {
     let mut rows = Vec::new(alloc);
     let mut bars = Vec::new(alloc);

@@ -1,4 +1,4 @@
-use Rattle.std.proofs.Common.{◌≡◌, [], ◌∷◌, ◌∙◌, ℕ, ap, arith, length, sym}
+use Rattle.std.proofs.Common.{[], ◌∙◌, ℕ, ap, arith, length, sym}
 use Rattle.history_drawing.proofs.Ends.{no_mark}
 use Rattle.history_drawing.proofs.Parts.{tail_same}
 use Rattle.history_drawing.proofs.calls.end_in.Goals as goal

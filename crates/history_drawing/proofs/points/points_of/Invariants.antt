@@ -1,6 +1,6 @@
-use Rattle.std.specs.Prelude.{All}
-use Rattle.history_drawing.specs.Points.{IsPoint}
+use Rattle.std.proofs.Common.{take}
+use Rattle.history_drawing.specs.Points.{ArePoints}
 use Rattle.history_drawing.proofs.points.points_of.Given as goal
 
 abbrev pub invariant-loop-order : goal.invariant-loop-order
-invariant-loop-order l = All (IsPoint l.bars) l.points.items
+invariant-loop-order l = ArePoints l.bars (take l.order-index l.orders) l.points.items

@@ -1,15 +1,24 @@
-use Rattle.std.proofs.Common.{◌≡◌, ◌<◌, ◌∷◌, [], ◌++◌, rules, length}
+use Rattle.std.proofs.Common.{◌≡◌, ◌<◌, rules, length}
+use Rattle.history_drawing.proofs.Many.{has_many}
 use Rattle.history_drawing.proofs.Shown.{bars_more, bars_same}
-use Rattle.history_drawing.specs.Timelines.{AreBars, IsWanted}
+use Rattle.history_drawing.specs.Timelines.{IsWanted}
 use Rattle.history_drawing.proofs.timeline.add_line.Goals as goal
 
-pub returns-in_default : goal.returns-in_default
-returns-in_default c = λ fits.
+pub returns-in_default-clause-fits : goal.returns-in_default-clause-fits
+returns-in_default-clause-fits c = λ fits.
     bars_same c.args.lines.now c.args.window.now c.args.line c.args.rows.now.items
     c.args.bars.now.items c.requires.bars (rw c.in_default.is at c.in_ok-call.ensures.none)
 
-pub returns : goal.returns
-returns c = λ fits.
+pub returns-then-len-eq-MAX_CALLS-clause-many : goal.returns-then-len-eq-MAX_CALLS-clause-many
+returns-then-len-eq-MAX_CALLS-clause-many c = λ full.
+    let wanted : IsWanted c.args.lines.now c.args.window.now c.args.line c.in-Some.call =
+    search rules in
+    let all : length c.args.bars.now.items ≡ 200 = search rules in
+    has_many c.args.lines.now c.args.window.now c.args.line c.args.rows.now.items
+    c.args.bars.now.items c.in-Some.call c.requires.bars c.requires.first c.requires.last wanted all
+
+pub returns-clause-fits : goal.returns-clause-fits
+returns-clause-fits c = λ fits.
     let (b, new, is) = c.in_ok-add_bar.ensures.bars in
     let wanted : IsWanted c.args.lines.now c.args.window.now c.args.line c.in-Some.call =
     search rules in

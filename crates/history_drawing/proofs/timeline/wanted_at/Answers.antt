@@ -1,4 +1,4 @@
-use Rattle.std.proofs.Common.{◌≡◌, Option, Some, ℕ, subst}
+use Rattle.std.proofs.Common.{Option, ℕ, subst}
 use Rattle.history_drawing.proofs.Begins.{same_service}
 use Rattle.history_drawing.specs.Timelines.{IsOn}
 use Rattle.history_drawing.proofs.timeline.wanted_at.Goals as goal

@@ -1,0 +1,160 @@
+-- The lines that are told of a refused reply are lines of the log.
+use Rattle.std.proofs.Common.{◌≡◌, ◌≢◌, ◌⊎◌, ℕ, zero, suc, ◌+◌, ◌<◌, ◌≤◌, List, [], ◌∷◌, ◌++◌, All, Contains, Option, Some, None, get_or, length, sum_by, take, inl, inr, ap, refl, subst, sym, ◌∙◌, arith}
+use Rattle.std.proofs.lemmas.Bool.{cases_lt}
+use Rattle.std.proofs.lemmas.List.{append-nil, length-append}
+use Rattle.std.proofs.lemmas.List.Elements.{All-contains}
+use Rattle.std.proofs.lemmas.Option.{get_or_from_slice_get, slice_get_within}
+use Rattle.histories.specs.declared.event.Event.{Event}
+use Rattle.log_lines.specs.Lines.{line_text}
+use Rattle.history_logs.proofs.Answered.{placed_of}
+use Rattle.history_logs.proofs.Kept.{few_step, kept_new, kept_step}
+use Rattle.history_logs.specs.Good.{IsKept}
+use Rattle.history_logs.specs.Logs.{HasGood, Judged, calls_in}
+use Rattle.history_logs.specs.Placed.{IsLineAt, IsPlaced}
+use Rattle.history_logs.specs.Reading.{HasRead, Log}
+use Rattle.history_logs.specs.Reading.HasRead.{nothing as none_read, note as note_read, line as line_read}
+use Rattle.history_logs.specs.Seen.{Service}
+use Rattle.history_logs.specs.declared.logs.verdict.Expected.TheVariants as expected
+use Rattle.history_logs.specs.declared.logs.verdict.Refusal.{Refusal}
+use Rattle.history_logs.specs.declared.logs.verdict.Verdict.TheVariants.{Refused}
+
+-- what holds of all that was read
+record ReadOn (text : List ℕ) (count : ℕ) (log : Log) : Type 0 where
+  kept : IsKept log
+  few : calls_in log ≤ count
+  short : count ≤ length text
+
+-- a line more is one byte more at least
+more_text : (text line : List ℕ) (count : ℕ) → count ≤ length text
+    → count + 1 ≤ length (text ++ (line ++ 10 ∷ []))
+more_text text line count h =
+    omega (arith, h, length-append text (line ++ 10 ∷ []), length-append line (10 ∷ []))
+
+none_in : (services : List Service) → services ≡ []
+    → sum_by (λ (s : Service). length s.calls) services ≤ 0
+none_in services is = subst (λ (l : List Service).
+    sum_by (λ (s : Service). length s.calls) l ≤ 0) (sym is) (omega arith)
+
+read_on : (text : List ℕ) (count : ℕ) (log : Log) → HasRead text count log
+    → ReadOn text count log
+read_on text count log (none_read l services callers waits) = record {
+  kept = kept_new log services callers waits;
+  few = none_in log.services services;
+  short = omega arith;
+}
+read_on text count log (note_read before n l read first none is) =
+    let r = read_on before n l read in
+    record {
+      kept = r.kept;
+      few = omega (arith, r.few);
+      short = more_text before first n r.short;
+    }
+read_on text count log (line_read before n old read l is none new g) =
+    let r = read_on before n old read in
+    record {
+      kept = kept_step old log (n + 1) l r.kept g;
+      few = omega (arith, r.few, few_step old log (n + 1) l g);
+      short = more_text before (line_text l) n r.short;
+    }
+
+no_more : (first after : List ℕ) → [] ≡ first ++ 10 ∷ after → ⊥
+no_more [] after e = absurd (cc)
+no_more (b ∷ first) after e = absurd (cc)
+
+none_or_some : {X : Type 0} (o : Option X) → (o ≡ None) ⊎ (o ≢ None)
+none_or_some None = inl refl
+none_or_some (Some x) = inr (λ e. absurd (cc))
+
+-- the good lines, for themselves
+alone : (text : List ℕ) (count : ℕ) (log : Log) → HasRead text count log
+    → HasGood text count log []
+alone text count log read = record {
+  text = text;
+  read = read;
+  spelled = sym (append-nil text);
+  ends = λ first after none e. absurd (no_more first after e);
+}
+
+-- so the events of the services stand in lines of them
+placed_in : (text : List ℕ) (count : ℕ) (log : Log) → HasRead text count log
+    → {s : Service} → Contains log.services s → All (IsPlaced text) log.services
+placed_in text count log read has =
+    let r = read_on text count log read in
+    let few : calls_in log ≤ length text = omega (arith, r.few, r.short) in
+    let some : 0 < length log.services = omega (arith, has.1) in
+    elim (none_or_some log.waits) as (λ _. All (IsPlaced text) log.services) [
+      | inl none ↦
+          placed_of text log.services None (record {
+            count = count;
+            log = log;
+            rest = [];
+            good = alone text count log read;
+            same = refl;
+            orderly = r.kept.orderly;
+            few = few;
+            ends = (refl, none, some);
+          })
+      | inr waits ↦
+          placed_of text log.services (Some (count + 1, expected.Reply)) (record {
+            count = count;
+            log = log;
+            rest = [];
+            good = alone text count log read;
+            same = refl;
+            orderly = r.kept.orderly;
+            few = few;
+            ends = (inl (refl, waits), refl);
+          })
+    ]
+
+-- the number of a line
+line_in : (bytes : List ℕ) (k : ℕ) (line : List ℕ) → IsLineAt bytes k line → k ≤ length bytes
+line_in bytes zero line at = absurd at
+line_in bytes (suc zero) line at =
+    omega (arith, ap (length {A = ℕ}) at.2, length-append line (10 ∷ at.0))
+line_in bytes (suc (suc k)) line at =
+    let below = line_in at.1 (suc k) line at.4 in
+    omega (arith, below, ap (length {A = ℕ}) at.3, length-append at.0 (10 ∷ at.1))
+
+take_few : {X : Type 0} (n : ℕ) (xs : List X) → length (take n xs) ≤ n
+take_few zero xs = omega arith
+take_few (suc n) [] = omega arith
+take_few (suc n) (x ∷ xs) = omega (arith, take_few n xs)
+
+-- the window of a refused reply begins no later than with its line, which is one of the log
+pub window_in : (bytes : List ℕ) (told : Refusal) → Judged bytes (Refused told)
+    → (told.window ≤ told.line) × (told.line ≤ length bytes)
+unfolding Judged
+window_in bytes told (count, log, rest, good, refusal) =
+    let s = refusal.s in
+    let places = s.places in
+    let place = refusal.place in
+    let w = refusal.is_window in
+    let placed : IsPlaced good.text s =
+    All-contains (IsPlaced good.text) log.services s
+    (placed_in good.text count log good.read refusal.stops.is) refusal.stops.is in
+    let answer = placed.answers place refusal.number told.line refusal.ended refusal.stops.there in
+    let upto : told.line ≤ length good.text =
+    line_in good.text told.line (line_text answer.4.0) answer.4.3 in
+    let there : get_or places place 0 ≡ told.line =
+    get_or_from_slice_get places place told.line 0 refusal.stops.there in
+    let within : place < length places =
+    slice_get_within places place told.line refusal.stops.there in
+    let size : length (take place s.events) ≡ length w.past + length w.inside =
+    ap (length {A = Event}) w.split ∙ length-append w.past w.inside in
+    let early : refusal.window.begin ≤ place =
+    omega (arith, w.begins, size, take_few place s.events) in
+    let opens : get_or places refusal.window.begin 0 ≡ told.window =
+    get_or_from_slice_get places refusal.window.begin told.window 0 refusal.begins in
+    let rises : get_or places refusal.window.begin 0 ≤ get_or places place 0 =
+    elim (cases_lt refusal.window.begin place)
+    as (λ _. get_or places refusal.window.begin 0 ≤ get_or places place 0) [
+      | inl before ↦ placed.rising refusal.window.begin place 0 before within
+      | inr late ↦
+          let same : refusal.window.begin ≡ place = omega (arith, early, late) in
+          subst (λ (k : ℕ). get_or places refusal.window.begin 0 ≤ get_or places k 0) same
+          (omega arith)
+    ] in
+    let long : length bytes ≡ length good.text + length rest =
+    ap (length {A = ℕ}) good.spelled ∙ length-append good.text rest in
+    (omega (arith, rises, opens, there), omega (arith, upto, long))
