@@ -1,7 +1,7 @@
 """The worked scripts, whose replies were worked out by hand from the rules.
 
-They stand in the tests of `service_descriptions` and in docs/SCRIPT.md, and are read there. What
-has another form than a row of texts, or is more than those tests run, stands here.
+They stand in the tests of `service_descriptions`, and are read there. What has another form than a
+row of texts, or is more than those tests run, stands here.
 """
 
 import ast
@@ -59,15 +59,9 @@ def good():
         for file in ("stored_run.rt", "worked.rt")
         for name, text in CONSTANT.findall((TESTS / file).read_text())
     }
-    found = texts(table("worked.rt", "static ROWS: "), names)
-    return [example(), *zip(found[::2], found[1::2], strict=True)]
-
-
-def example():
-    """The example of docs/SCRIPT.md, which is the row `SKIPPED` of the tests."""
-    shown = between(TOP / "docs" / "SCRIPT.md", "## An example\n", "## ")
-    script, replies = re.findall(r"(?:    .*\n)+", shown)
-    return tuple(re.sub("^    ", "", lines, flags=re.M).encode() for lines in (script, replies))
+    skipped = texts(table("worked.rt", "const SKIPPED: "), names)
+    found = skipped + texts(table("worked.rt", "static ROWS: "), names)
+    return list(zip(found[::2], found[1::2], strict=True))
 
 
 def bad():
