@@ -36,8 +36,8 @@ fn config(rt: &(impl Abort + AllocGlobal), text: &str) -> Config {
 /// Whether the text of a configuration gives the same configuration, and no unknown key.
 fn comes_back(rt: &(impl Abort + AllocGlobal), config: &Config) -> bool {
     match what_is_written_is_read_back(rt.alloc(), config) {
-        Ok(Ok(back)) => match back.config {
-            Some(same) => same == *config && back.unknown.is_empty(),
+        Ok(Ok(back)) => match &back.config {
+            Some(same) => *same == *config && back.unknown.is_empty(),
             None => false,
         },
         _ => false,
