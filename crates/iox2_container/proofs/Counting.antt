@@ -1,9 +1,8 @@
 -- How many entries a test holds of.
-use Rattle.iox2_container.proofs.Prelude.{[], ◌&&◌, ◌++◌, ◌+◌, ◌<◌, ◌∙◌, ◌∷◌, ◌≡◌, ◌≤◌, ◌⊎◌, All, All-cons, All-nil, Bool, IsSome, List, MatchBool, MatchOption, None, Option, Some, ℕ, add-one, ap, arith, false, if◌then◌else◌, inl, inr, leb_tells, length, lt-ltb, map, nat_lt, not, refl, same_Some, slice_get, slice_get_read, slice_index_or, suc, sym, take, true}
-use Rattle.iox2_container.specs.Prelude.{AreOthers, Cell, Entry, Found, InsertsOne, IsLastOf, IsNextOf, IsTakenAt, NoneFrom, Occupant, PlaceIsOf, candidates, cell_is_of, entries_from, is_of, shown, staying}
+use Rattle.iox2_container.proofs.Prelude.{[], ◌&&◌, ◌++◌, ◌+◌, ◌<◌, ◌∙◌, ◌∷◌, ◌≡◌, ◌≤◌, ◌⊎◌, All, All-cons, All-nil, Bool, IsSome, List, MatchBool, MatchOption, None, Option, Some, ℕ, add-one, ap, arith, false, if◌then◌else◌, inl, inr, leb_tells, length, lt-ltb, nat_lt, not, refl, same_Some, slice_get, suc, sym, take, true}
+use Rattle.iox2_container.specs.Prelude.{AreOthers, Entry, Found, InsertsOne, IsLastOf, IsNextOf, IsTakenAt, NoneFrom, Occupant, PlaceIsOf, candidates, cell_is_of, entries_from, is_of, staying}
 use Rattle.iox2_container.proofs.AskedInTurn.{entries_split, taken_free, taken_more}
 use Rattle.iox2_container.proofs.CellEntries.{all_before}
-use Rattle.iox2_container.proofs.ShownCells.{shown_at}
 use Rattle.iox2_container.proofs.Sweeping.{over_others}
 
 -- how many entries the test holds of
@@ -44,13 +43,6 @@ counted-append p (e ∷ xs) ys =
 pub few_more : (n m slot : ℕ) (b : Bool) → m ≡ n + one_if b → n ≤ slot → m ≤ slot + 1
 few_more n m slot true e h = omega arith
 few_more n m slot false e h = omega arith
-
--- what was read of a place
-pub place_read : {T N : Type 0} (node : T → ℕ) (id : ℕ) (cells : List (Cell T N)) (at : ℕ)
-    (cell : Cell T N) (has : Bool) → cell ≡ slice_index_or cells at cell → at < length cells
-    → has ≡ cell_is_of node id (shown cell) → PlaceIsOf node id (map shown cells) at has
-place_read node id cells at cell has read within is =
-    (shown cell, shown_at cells at cell (slice_get_read cells _ at cell refl within read), is)
 
 -- the places of cells, by whether an entry of the node stands there
 module _ {T : Type 0} (node : T → ℕ) (id : ℕ) (cells : List (Option (Occupant T))) where
@@ -96,10 +88,6 @@ module _ {T : Type 0} (node : T → ℕ) (id : ℕ) (cells : List (Option (Occup
       (λ k. counted (is_of node id) (entries_from 0 (take k cells)) ≡ 0) 0 n (omega arith) others
       (λ k h o e. rw (add-one k) (omega (arith, counted_cell k o.0 o.1, ap one_if (sym o.2), e)))
       refl
-
-  -- no place is passed over
-  pub others_none : (at : ℕ) → AreOthers node id cells at at
-  others_none at k l h = absurd (omega (arith, l, h))
 
   -- other places, and more of them
   pub others_join : (from i j to : ℕ) → AreOthers node id cells from i

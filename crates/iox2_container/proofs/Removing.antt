@@ -1,6 +1,6 @@
 -- What a removal does.
-use Rattle.iox2_container.proofs.Prelude.{[], ◌+◌, ◌-◌, ◌∙◌, ◌∷◌, ◌≡◌, ◌≤◌, Bool, Err, IsTrue, List, None, Ok, Option, Some, ℕ, ap, arith, length, length-set, refl, slice_set, suc, sym, zero}
-use Rattle.iox2_container.specs.Prelude.{AreRegistry, ContainerRemoveError, Default, Entry, Finds, Handle, InsertsOne, IsNewestEnd, IsUnknownHandle, LockIfLastIndex, Occupant, RegistryHeader, RegistryState, ReleaseMode, RemoveStep, entries_from, lock_after, registry_of, release_state}
+use Rattle.iox2_container.proofs.Prelude.{[], ◌+◌, ◌-◌, ◌∙◌, ◌∷◌, ◌≡◌, ◌≤◌, Bool, IsTrue, List, None, Ok, Option, Some, ℕ, ap, arith, length, length-set, refl, slice_set, suc, sym, zero}
+use Rattle.iox2_container.specs.Prelude.{AreRegistry, Default, Entry, Finds, Handle, InsertsOne, IsNewestEnd, LockIfLastIndex, Occupant, RegistryHeader, RegistryState, ReleaseMode, RemoveStep, entries_from, lock_after, registry_of, release_state}
 use Rattle.iox2_container.proofs.CellEntries.{gains_clear, below_from}
 use Rattle.iox2_container.proofs.Gaining.{length-InsertsOne}
 use Rattle.iox2_container.proofs.Handles.{has_parts}
@@ -73,12 +73,3 @@ module _ {T : Type 0} (a : RegistryHeader) (cells s : List (Option (Occupant T))
           (entry_at handle d, has_parts a handle hs hr, gains, rw (same, left, k.1) refl),
           refl,
         )
-
-pub refused_step : {T : Type 0} (a : RegistryHeader) (cells s : List (Option (Occupant T)))
-    (handle : Handle) (mode : ReleaseMode) (error : ContainerRemoveError)
-    → IsUnknownHandle (registry_of a cells) handle → s ≡ cells
-    → RemoveStep (registry_of a cells) handle mode (Err error) (registry_of a s)
-refused_step {T} a cells s handle mode error none e =
-    let f : List (Option (Occupant T)) → RegistryState T =
-    λ cs. record (registry_of a cells) { capacity = length cs; entries = entries_from 0 cs } in
-    (none, ap f e)

@@ -136,22 +136,6 @@ pub record DigitsSoFar (bytes rest : List ℕ) (value most : ℕ) : Type 0 where
   pub value_is : value ≡ digits_value 10 (take count bytes)
   pub small : value ≤ most
 
--- the first digit alone
-abbrev pub first_digit : (bytes : List ℕ) (first most : ℕ) → 0 < length bytes
-    → IsDigit (get_or bytes 0 0)
-    → first ≡ get_or bytes 0 0 - 48 → first ≤ most → DigitsSoFar bytes (drop 1 bytes) first most
-first_digit bytes first most some digit is small =
-    let one = digit_more bytes 0 0 some tt refl digit in
-    record {
-      count = 1;
-      some = omega arith;
-      within = some;
-      left = refl;
-      digits = one.0;
-      value_is = omega (arith, is, one.1);
-      small = small;
-    }
-
 module _ (bytes rest : List ℕ) (value most : ℕ) (so : DigitsSoFar bytes rest value most) where
   -- what follows begins with a byte
   module _ (b : ℕ) (tail : List ℕ) (begins : rest ≡ b ∷ tail) where

@@ -75,30 +75,14 @@ all_by_index f (x ∷ xs) (y ∷ ys) same each =
     let rest = all_by_index f xs ys (omega (arith, same)) more in
     rw (head, rest) refl
 
-fits : (n m : ℕ) → n ≤ m → nat_le n m ≡ true
-fits n m h = grind (arith, nat_tests)
-
 too_long : (n m : ℕ) → m < n → nat_le n m ≡ false
 too_long n m h = grind (arith, nat_tests)
-
-both : (a pair : Bool) → (a && (pair || true)) ≡ a
-both true true = refl
-both true false = refl
-both false pair = refl
 
 either : (a pair : Bool) → (a && (pair || false)) ≡ (pair && a)
 either true true = refl
 either true false = refl
 either false true = refl
 either false false = refl
-
--- a path through which the path of an expression may lead
-pub writes_above : (start : List ℕ) (ks ls : List (List ℕ)) (l : List ℕ) (pair : Bool)
-    → length ls < length ks
-    → agree ks (ls ++ l ∷ []) ≡ writes (written start ks pair) (ls ++ l ∷ [])
-writes_above start ks ls l pair h =
-    let few : length (ls ++ l ∷ []) ≤ length ks = omega (arith, length-append ls (l ∷ [])) in
-    rw (fits _ _ few) (sym (both _ pair))
 
 -- a path that may lead through that of an expression
 pub writes_below : (start : List ℕ) (ks ls : List (List ℕ)) (l : List ℕ) (pair : Bool)

@@ -134,12 +134,6 @@ pair_seen text at key x other keyed e =
           ∙ ap (λ q. ((q.0.0, true), q.1)) (sym made);
     })))
 
--- no key is no pair
-pub no_pair : (text : List ℕ) (x : (Key × Bool) × List ℕ) → (first text == 91) ≡ false
-    → option_map seen_view (expression text) ≡ Some x → key_equals text ≡ None → ⊥
-unfolding expression
-no_pair text x other e none = none-some x (rw (other, none) at e)
-
 -- a text that goes on with a line
 pub record Line (m : ℕ) (doc final : Document) (text : List ℕ) : Type 0 where
   pub e : Expression
