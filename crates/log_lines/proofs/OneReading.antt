@@ -11,7 +11,7 @@ use Rattle.service_descriptions.specs.declared.replay.machine.command.Command.{C
 use Rattle.service_descriptions.specs.declared.replay.machine.command.Command.TheVariants as command
 use Rattle.service_descriptions.specs.Lines.{HasLine, line_of}
 use Rattle.service_descriptions.proofs.OneReading.{one_service}
-use Rattle.log_lines.specs.Commands.{HasText, NamedCommand, command_text}
+use Rattle.log_lines.specs.Commands.{Begun, HasBegun, HasText, NamedCommand, begun_text, command_text}
 use Rattle.log_lines.specs.Commands.NamedCommand.{numbered, deregister, release}
 use Rattle.log_lines.specs.Laws.{IsAlike, LinesAreReadOneWay, NotesAreNoLines}
 use Rattle.log_lines.specs.Lines.{IsCaller, IsLine, Line, begin_text, given_text, is_note, line_text, number_text}
@@ -33,13 +33,13 @@ one_number m n x y p q e =
     (decimal_injective m n p q same.0, (cons_same (cons_same same.1).1).1)
 
 -- no command is the begin of a call
-pub no_begin : (c d : NamedCommand) (caller : List ℕ) → HasText c → IsCaller caller
+pub no_begin : (c : NamedCommand) (d : Begun) (caller : List ℕ) → HasText c → IsCaller caller
     → command_text c ≢ begin_text caller d
 no_begin c d caller p q e =
     let k = one_kind (command_text c) 1 3 (of_text c p) (record {
       front = caller;
-      back = codes "> " ++ command_text d;
-      comes = subst (λ (t : List ℕ). Comes t caller (codes "> " ++ command_text d)) (sym e)
+      back = codes "> " ++ begun_text d;
+      comes = subst (λ (t : List ℕ). Comes t caller (codes "> " ++ begun_text d)) (sym e)
           (begin_comes caller d q);
       is = refl;
     }) in
@@ -60,17 +60,17 @@ same_kind (begin (Some m) caller c) (call (Some n) d) p q e k =
 same_kind (reply v) (reply w) p q e k = append_cancel_left (codes "= ") v w e
 same_kind (begin None a c) (begin None b d) p q e k = (
   refl,
-  (comes_same (begin_text a c) a (codes "> " ++ command_text c) b (codes "> " ++ command_text d)
+  (comes_same (begin_text a c) a (codes "> " ++ begun_text c) b (codes "> " ++ begun_text d)
       (begin_comes a c p.1)
-      (subst (λ (t : List ℕ). Comes t b (codes "> " ++ command_text d)) (sym e)
+      (subst (λ (t : List ℕ). Comes t b (codes "> " ++ begun_text d)) (sym e)
       (begin_comes b d q.1))).0,
 )
 same_kind (begin (Some m) a c) (begin (Some n) b d) p q e k =
     let same = one_number m n (begin_text a c) (begin_text b d) p.0 q.0 e in (
       ap (λ (i : ℕ). Some i) same.0,
-      (comes_same (begin_text a c) a (codes "> " ++ command_text c) b
-          (codes "> " ++ command_text d) (begin_comes a c p.1)
-          (subst (λ (t : List ℕ). Comes t b (codes "> " ++ command_text d)) (sym same.1)
+      (comes_same (begin_text a c) a (codes "> " ++ begun_text c) b
+          (codes "> " ++ begun_text d) (begin_comes a c p.1)
+          (subst (λ (t : List ℕ). Comes t b (codes "> " ++ begun_text d)) (sym same.1)
           (begin_comes b d q.1))).0,
     )
 same_kind (end a v) (end b w) p q e k =
@@ -119,7 +119,7 @@ one_way a b p q e =
 -- after a number only a call follows, alone or begun
 pub numbered_none : (line rest : List ℕ) (n : ℕ) → n < 2 ^ 64 → line ≡ number_text n ++ rest
     → ((c : NamedCommand) → HasText c → rest ≢ command_text c)
-    → ((caller : List ℕ) (c : NamedCommand) → IsCaller caller → HasText c
+    → ((caller : List ℕ) (c : Begun) → IsCaller caller → HasBegun c
     → rest ≢ begin_text caller c)
     → ((s : State) → HasState s → rest ≢ given_text s)
     → (l : Line) → IsLine l → line ≢ line_text l
@@ -183,7 +183,7 @@ notes_are_none (call (Some n) c) p note =
     (decimal_nonempty n p.0) note
 notes_are_none (reply words) p note = absurd (cc)
 notes_are_none (begin None caller c) p note =
-    letter_no_note (begin_text caller c) caller (codes "> " ++ command_text c)
+    letter_no_note (begin_text caller c) caller (codes "> " ++ begun_text c)
     (begin_comes caller c p.1) p.1.some note
 notes_are_none (begin (Some n) caller c) p note =
     letter_no_note (line_text (begin (Some n) caller c)) (decimal n)

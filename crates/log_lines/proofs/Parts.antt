@@ -10,12 +10,17 @@ use Rattle.service_descriptions.specs.declared.replay.machine.command.Command.{C
 use Rattle.service_descriptions.specs.Lines.{IsLine as IsCommand, line_of, line_text as command_line, role_word}
 use Rattle.service_descriptions.specs.OneWay.{role_one}
 use Rattle.service_descriptions.specs.Script.{IsServiceLine, service_line}
-use Rattle.log_lines.specs.Commands.{HasText, IsHandle, NamedCommand, command_text, handle_text}
+use Rattle.log_lines.specs.Commands.{Begun, HasBegun, HasText, IsHandle, NamedCommand, begun_text, command_text, handle_text, weak_text}
+use Rattle.log_lines.specs.Commands.Begun.{command, weak}
 use Rattle.log_lines.specs.Commands.NamedCommand.{numbered, deregister, release}
 use Rattle.log_lines.specs.Lines.{IsCaller, IsLine, Line, begin_text, given_text, line_text, number_text}
 use Rattle.log_lines.specs.States.{HasState, State, state_text}
 use Rattle.log_lines.specs.Lines.Line.{service, call, reply, begin, end, crash, given}
 use Rattle.log_lines.proofs.Splits.{Comes, Tells, begin_comes, comes_same, crash_comes, end_comes, of_text, one_kind}
+
+-- no role begins the text
+abbrev NoRole : List ℕ → Type 0
+NoRole rest = (a : Role × List ℕ) → a.0 ≢ role.Node → rest ≢ role_word a.0 ++ a.1
 
 -- no text of a removal that names its handle
 abbrev pub NoDeregister : List ℕ → Type 0
@@ -37,6 +42,47 @@ no_text line none one other (numbered c) p e =
 no_text line none one other (deregister slot ticket) p e = one slot ticket p e
 no_text line none one other (release r slot ticket) p e = other r slot ticket p.0 p.1 e
 
+-- what is the text of no command and of no weak listing is begun by no caller
+pub no_begun_text : (line : List ℕ) → ((c : NamedCommand) → HasText c → line ≢ command_text c)
+    → ((r : Role) → line ≢ weak_text r) → (b : Begun) → HasBegun b → line ≢ begun_text b
+no_begun_text line none weaks (command c) p e = none c p e
+no_begun_text line none weaks (weak r) p e = weaks r e
+
+-- the text of a weak listing of ports
+pub weak_ports : (r : Role) → r ≢ role.Node → weak_text r ≡ codes "list? " ++ (role_word r ++ [])
+weak_ports role.Publisher n = refl
+weak_ports role.Subscriber n = refl
+weak_ports role.Listener n = refl
+weak_ports role.Notifier n = refl
+weak_ports role.Server n = refl
+weak_ports role.Client n = refl
+weak_ports role.Reader n = refl
+weak_ports role.Writer n = refl
+weak_ports role.Node n = absurd (n refl)
+
+-- no weak listing, where it is not that of the nodes, nor one of ports
+pub no_weak : (line : List ℕ) → line ≢ codes "nodes?"
+    → ((r : Role) → r ≢ role.Node → line ≢ codes "list? " ++ (role_word r ++ []))
+    → (r : Role) → line ≢ weak_text r
+no_weak line nodes ports role.Node e = nodes e
+no_weak line nodes ports role.Publisher e = ports role.Publisher (λ s. absurd (cc)) e
+no_weak line nodes ports role.Subscriber e = ports role.Subscriber (λ s. absurd (cc)) e
+no_weak line nodes ports role.Listener e = ports role.Listener (λ s. absurd (cc)) e
+no_weak line nodes ports role.Notifier e = ports role.Notifier (λ s. absurd (cc)) e
+no_weak line nodes ports role.Server e = ports role.Server (λ s. absurd (cc)) e
+no_weak line nodes ports role.Client e = ports role.Client (λ s. absurd (cc)) e
+no_weak line nodes ports role.Reader e = ports role.Reader (λ s. absurd (cc)) e
+no_weak line nodes ports role.Writer e = ports role.Writer (λ s. absurd (cc)) e
+
+-- nor where the word for one of ports stands, and no role does
+pub no_weak_role : (line rest : List ℕ) → line ≡ codes "list? " ++ rest → NoRole rest → (r : Role)
+    → line ≢ weak_text r
+no_weak_role line rest is none =
+    no_weak line
+    (λ e. let first : 108 ≡ 110 = (cons_same (sym is ∙ e)).0 in absurd (omega (arith, first)))
+    (λ r n e. none (r, []) n
+    (append_cancel_left (codes "list? ") rest (role_word r ++ []) (sym is ∙ e)))
+
 -- what does not begin with the word
 pub no_deregister : (line : List ℕ) → ((rest : List ℕ) → line ≢ codes "deregister " ++ rest)
     → NoDeregister line
@@ -57,9 +103,6 @@ no_handle line rest is none slot ticket p e =
 pub other_word : (line rest : List ℕ) → line ≡ codes "deregister " ++ rest → NoRelease line
 other_word line rest is r slot ticket p q e =
     let first : 100 ≡ 114 = (cons_same (sym is ∙ e)).0 in absurd (omega (arith, first))
-
-abbrev NoRole : List ℕ → Type 0
-NoRole rest = (a : Role × List ℕ) → a.0 ≢ role.Node → rest ≢ role_word a.0 ++ a.1
 
 pub no_role : (line rest : List ℕ) → line ≡ codes "release " ++ rest → NoRole rest
     → NoRelease line
@@ -89,11 +132,11 @@ no_ticket line rest after last found is p spelled space none r slot ticket q h e
     (sym space ∙ (role_one.same (found, after) (r, more) p q (sym spelled ∙ whole)).1))
 
 module _ (text front back : List ℕ) (c : Comes text front back) where
-  begin_same : (caller : List ℕ) (d : NamedCommand) → IsCaller caller → text ≡ begin_text caller d
-      → (front ≡ caller) × (back ≡ codes "> " ++ command_text d)
+  begin_same : (caller : List ℕ) (d : Begun) → IsCaller caller → text ≡ begin_text caller d
+      → (front ≡ caller) × (back ≡ codes "> " ++ begun_text d)
   begin_same caller d p e =
-      comes_same text front back caller (codes "> " ++ command_text d) c
-      (subst (λ (t : List ℕ). Comes t caller (codes "> " ++ command_text d)) (sym e)
+      comes_same text front back caller (codes "> " ++ begun_text d) c
+      (subst (λ (t : List ℕ). Comes t caller (codes "> " ++ begun_text d)) (sym e)
       (begin_comes caller d p))
 
   end_same : (caller words : List ℕ) → IsCaller caller
@@ -111,8 +154,8 @@ module _ (text front back : List ℕ) (c : Comes text front back) where
       (subst (λ (t : List ℕ). Comes t caller (codes "!")) (sym e) (crash_comes caller p))
 
   -- after a name that is none, no call begins and none ends
-  pub no_caller_begin : (IsCaller front → ⊥) → (caller : List ℕ) (d : NamedCommand)
-      → IsCaller caller → HasText d → text ≢ begin_text caller d
+  pub no_caller_begin : (IsCaller front → ⊥) → (caller : List ℕ) (d : Begun)
+      → IsCaller caller → HasBegun d → text ≢ begin_text caller d
   no_caller_begin none caller d p q e =
       none (subst (λ (n : List ℕ). IsCaller n) (sym (begin_same caller d p e).0) p)
 
@@ -128,8 +171,8 @@ module _ (text front back : List ℕ) (c : Comes text front back) where
 
   -- nor where something else follows the name
   pub no_begin_mark : ((x : List ℕ) → back ≢ codes "> " ++ x) → (caller : List ℕ)
-      (d : NamedCommand) → IsCaller caller → HasText d → text ≢ begin_text caller d
-  no_begin_mark none caller d p q e = none (command_text d) (begin_same caller d p e).1
+      (d : Begun) → IsCaller caller → HasBegun d → text ≢ begin_text caller d
+  no_begin_mark none caller d p q e = none (begun_text d) (begin_same caller d p e).1
 
   pub no_end_mark : ((x : List ℕ) → back ≢ codes "< " ++ x) → (caller words : List ℕ)
       → IsCaller caller → text ≢ caller ++ (codes "< " ++ words)
@@ -159,11 +202,11 @@ module _ (text front back : List ℕ) (c : Comes text front back) where
       absurd (omega (arith, k))
 
   pub no_begun : (rest : List ℕ) → back ≡ codes "> " ++ rest
-      → ((d : NamedCommand) → HasText d → rest ≢ command_text d) → (caller : List ℕ)
-      (d : NamedCommand) → IsCaller caller → HasText d → text ≢ begin_text caller d
+      → ((d : Begun) → HasBegun d → rest ≢ begun_text d) → (caller : List ℕ)
+      (d : Begun) → IsCaller caller → HasBegun d → text ≢ begin_text caller d
   no_begun rest is none caller d p q e =
       none d q
-      (append_cancel_left (codes "> ") rest (command_text d)
+      (append_cancel_left (codes "> ") rest (begun_text d)
       (sym is ∙ (begin_same caller d p e).1))
 
 -- no line, where none of its kinds is there
@@ -173,7 +216,7 @@ pub plain_none : (text : List ℕ) → ((words : List ℕ) → text ≢ codes "=
     → ((caller words : List ℕ) → IsCaller caller → text ≢ caller ++ (codes "< " ++ words))
     → ((caller : List ℕ) → IsCaller caller → text ≢ caller ++ codes "!")
     → ((c : NamedCommand) → HasText c → text ≢ command_text c)
-    → ((caller : List ℕ) (c : NamedCommand) → IsCaller caller → HasText c
+    → ((caller : List ℕ) (c : Begun) → IsCaller caller → HasBegun c
     → text ≢ begin_text caller c)
     → ((s : State) → HasState s → text ≢ given_text s)
     → (l : Line) → IsLine l → text ≢ line_text l
@@ -202,7 +245,7 @@ given_no_command text rest is d p e =
     absurd (omega (arith, k))
 
 pub given_no_begin : (text rest : List ℕ) → text ≡ codes "state " ++ rest → (caller : List ℕ)
-    (d : NamedCommand) → IsCaller caller → HasText d → text ≢ begin_text caller d
+    (d : Begun) → IsCaller caller → HasBegun d → text ≢ begin_text caller d
 given_no_begin text rest is caller d p q e =
     let k =
     one_kind text 5 3 (record {
@@ -212,8 +255,8 @@ given_no_begin text rest is caller d p q e =
       is = refl;
     }) (record {
       front = caller;
-      back = codes "> " ++ command_text d;
-      comes = subst (λ (t : List ℕ). Comes t caller (codes "> " ++ command_text d)) (sym e)
+      back = codes "> " ++ begun_text d;
+      comes = subst (λ (t : List ℕ). Comes t caller (codes "> " ++ begun_text d)) (sym e)
           (begin_comes caller d p);
       is = refl;
     }) in

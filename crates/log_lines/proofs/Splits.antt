@@ -5,7 +5,7 @@ use Rattle.service_descriptions.specs.declared.replay.machine.command.Cleanup.Th
 use Rattle.service_descriptions.specs.declared.replay.machine.command.Command.{Command}
 use Rattle.service_descriptions.specs.declared.replay.machine.command.Command.TheVariants as command
 use Rattle.service_descriptions.specs.Lines.{HasLine, line_of}
-use Rattle.log_lines.specs.Commands.{HasText, NamedCommand, command_text}
+use Rattle.log_lines.specs.Commands.{Begun, HasText, NamedCommand, begun_text, command_text}
 use Rattle.log_lines.specs.Commands.NamedCommand.{numbered, deregister, release}
 use Rattle.log_lines.specs.Lines.{IsCaller, IsLine, IsNameByte, Line, are_letters, begin_text, given_text, line_text, number_text}
 use Rattle.log_lines.specs.States.{State, state_text}
@@ -131,8 +131,8 @@ number_comes n rest h = record {
 }
 
 -- the name of a caller, and what follows it
-pub begin_comes : (caller : List ℕ) (c : NamedCommand) → IsCaller caller
-    → Comes (begin_text caller c) caller (codes "> " ++ command_text c)
+pub begin_comes : (caller : List ℕ) (c : Begun) → IsCaller caller
+    → Comes (begin_text caller c) caller (codes "> " ++ begun_text c)
 begin_comes caller c p =
     record { whole = refl; letters = p.letters; ends = λ e. absurd (cc) }
 
@@ -190,7 +190,7 @@ of_line (reply words) p = record {
 }
 of_line (begin None caller c) p = record {
   front = caller;
-  back = codes "> " ++ command_text c;
+  back = codes "> " ++ begun_text c;
   comes = begin_comes caller c p.1;
   is = refl;
 }
@@ -228,7 +228,7 @@ pub kind_call : (n : Option ℕ) (c : NamedCommand) → (1 ≤ kind (call n c)) 
 kind_call None c = (omega arith, omega arith)
 kind_call (Some n) c = (omega arith, omega arith)
 
-pub kind_begin : (n : Option ℕ) (caller : List ℕ) (c : NamedCommand)
+pub kind_begin : (n : Option ℕ) (caller : List ℕ) (c : Begun)
     → (2 ≤ kind (begin n caller c)) × (kind (begin n caller c) ≤ 3)
 kind_begin None caller c = (omega arith, omega arith)
 kind_begin (Some n) caller c = (omega arith, omega arith)

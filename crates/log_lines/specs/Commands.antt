@@ -5,6 +5,8 @@ use Rattle.iox2_container.specs.declared.container.role.Role.{Role}
 use Rattle.iox2_container.specs.declared.container.role.Role.TheVariants as role
 use Rattle.service_descriptions.specs.declared.replay.machine.command.Command.{Command}
 use Rattle.service_descriptions.specs.Lines.{command_of, line_of, role_word, HasLine}
+use Rattle.log_lines.specs.declared.command.BegunCall.{BegunCall}
+use Rattle.log_lines.specs.declared.command.BegunCall.TheVariants as spelled_begun
 use Rattle.log_lines.specs.declared.command.LogCommand.{LogCommand}
 use Rattle.log_lines.specs.declared.command.LogCommand.TheVariants as spelled
 
@@ -41,3 +43,28 @@ abbrev pub named : LogCommand → NamedCommand
 named (spelled.Numbered c) = numbered (command_of c)
 named (spelled.Deregister slot ticket) = deregister slot ticket
 named (spelled.Release r slot ticket) = release r slot ticket
+
+-- What a caller begins: a command, or a weak listing of the ports of a role, or of the nodes.
+pub data Begun : Type 0 where
+  command : NamedCommand → Begun
+  weak : Role → Begun
+
+-- the text of a weak listing
+abbrev pub weak_text : Role → List ℕ
+weak_text role.Node = codes "nodes?"
+weak_text r = codes "list? " ++ role_word r
+
+-- the text of what a caller begins
+abbrev pub begun_text : Begun → List ℕ
+begun_text (command c) = command_text c
+begun_text (weak r) = weak_text r
+
+-- it has a text
+abbrev pub HasBegun : Begun → Type 0
+HasBegun (command c) = HasText c
+HasBegun (weak r) = Unit {0}
+
+-- what a line begins
+abbrev pub begun_in : BegunCall → Begun
+begun_in (spelled_begun.Command c) = command (named c)
+begun_in (spelled_begun.Weak r) = weak r

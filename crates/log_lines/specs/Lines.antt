@@ -6,7 +6,7 @@ use Rattle.service_descriptions.specs.declared.replay.lines.service_line.Service
 use Rattle.service_descriptions.specs.Script.{IsServiceLine, service_line}
 use Rattle.log_lines.specs.declared.line.LogLine.{LogLine}
 use Rattle.log_lines.specs.declared.line.LogLine.TheVariants as spelled
-use Rattle.log_lines.specs.Commands.{HasText, NamedCommand, command_text, named}
+use Rattle.log_lines.specs.Commands.{Begun, HasBegun, HasText, NamedCommand, begun_in, begun_text, command_text, named}
 use Rattle.log_lines.specs.States.{HasState, State, state_seen, state_text}
 
 -- whether a line is a note: it is empty, or begins with a number sign
@@ -44,8 +44,8 @@ HasNumber None = Unit {0}
 HasNumber (Some number) = number < 2 ^ 64
 
 -- the begin of a call of this caller
-abbrev pub begin_text : List ℕ → NamedCommand → List ℕ
-begin_text caller command = caller ++ (codes "> " ++ command_text command)
+abbrev pub begin_text : List ℕ → Begun → List ℕ
+begin_text caller begun = caller ++ (codes "> " ++ begun_text begun)
 
 -- what is given of a service
 abbrev pub given_text : State → List ℕ
@@ -58,7 +58,7 @@ pub data Line : Type 0 where
   service : ServiceLine → Line
   call : Option ℕ → NamedCommand → Line
   reply : (words : List ℕ) → Line
-  begin : Option ℕ → (caller : List ℕ) → NamedCommand → Line
+  begin : Option ℕ → (caller : List ℕ) → Begun → Line
   end : (caller words : List ℕ) → Line
   crash : (caller : List ℕ) → Line
   given : Option ℕ → State → Line
@@ -68,7 +68,7 @@ abbrev pub line_text : Line → List ℕ
 line_text (service line) = service_line line
 line_text (call number command) = name_text number ++ command_text command
 line_text (reply words) = codes "= " ++ words
-line_text (begin number caller command) = name_text number ++ begin_text caller command
+line_text (begin number caller begun) = name_text number ++ begin_text caller begun
 line_text (end caller words) = caller ++ (codes "< " ++ words)
 line_text (crash caller) = caller ++ codes "!"
 line_text (given number s) = name_text number ++ given_text s
@@ -78,7 +78,7 @@ abbrev pub IsLine : Line → Type 0
 IsLine (service line) = IsServiceLine line
 IsLine (call number command) = HasNumber number × HasText command
 IsLine (reply words) = Unit {0}
-IsLine (begin number caller command) = HasNumber number × IsCaller caller × HasText command
+IsLine (begin number caller begun) = HasNumber number × IsCaller caller × HasBegun begun
 IsLine (end caller words) = IsCaller caller
 IsLine (crash caller) = IsCaller caller
 IsLine (given number s) = HasNumber number × HasState s
@@ -88,7 +88,7 @@ abbrev pub line_seen : LogLine → Line
 line_seen (spelled.Service line) = service line
 line_seen (spelled.Call number command) = call number (named command)
 line_seen (spelled.Reply words) = reply words.now
-line_seen (spelled.Begin number caller command) = begin number caller.now (named command)
+line_seen (spelled.Begin number caller begun) = begin number caller.now (begun_in begun)
 line_seen (spelled.End caller words) = end caller.now words.now
 line_seen (spelled.Crash caller) = crash caller.now
 line_seen (spelled.State number s) = given number (state_seen s)

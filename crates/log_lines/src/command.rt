@@ -1,9 +1,11 @@
 //! Commands as the lines of a log have them.
-ghost use Rattle.std.specs.Prelude.{IfOk};
+ghost use Rattle.std.specs.Prelude.{◌≡◌, ◌≢◌, IfNone, IfOk, IfSome};
 ghost use Rattle.std.specs.Option.{option_map};
 ghost use Rattle.line_streams.specs.Spelling.{Reads};
 ghost use Rattle.service_descriptions.specs.Phrases.{role_phrase};
-ghost use Rattle.log_lines.specs.Commands.{HasText, IsHandle, command_text, handle_text, named};
+ghost use Rattle.iox2_container.specs.declared.container.role.Role.{Role as OneRole};
+ghost use Rattle.log_lines.specs.Commands.{HasBegun, HasText, IsHandle, begun_in, begun_text};
+ghost use Rattle.log_lines.specs.Commands.{command_text, handle_text, named, weak_text};
 
 use iox2_container::container::Role;
 use line_streams::{After, LineEnd, Number, Phrase, Then, after_word};
@@ -19,6 +21,15 @@ pub enum LogCommand {
     Deregister(usize, u64),
     /// Releases the port with this role, slot and ticket.
     Release(Role, usize, u64),
+}
+
+/// What a caller begins.
+#[derive(Drop)]
+pub enum BegunCall {
+    /// A command.
+    Command(LogCommand),
+    /// A listing of the ports of this role, or of the nodes, that need not be a snapshot.
+    Weak(Role),
 }
 
 /// A slot, or a ticket.
@@ -88,4 +99,38 @@ pub(crate) fn read_command(alloc: Global, line: &[u8]) -> Result<Option<LogComma
         return Ok(None);
     };
     Ok(Some(LogCommand::Release(role, slot, ticket)))
+}
+
+/// The role that a weak listing with this text lists.
+fn weak_role(line: &[u8]) -> Option<Role>
+    ensures some { IfSome result (λ r. weak_text r ≡ line.now) }
+    ensures none { IfNone result ((r : OneRole) → line.now ≢ weak_text r) }
+{
+    if line == b"nodes?".as_slice() {
+        return Some(Role::Node);
+    }
+    let Some(rest) = after_word(line, b"list? ") else {
+        return None;
+    };
+    let Some((role, rest)) = role_before(rest) else {
+        return None;
+    };
+    if !rest.is_empty() {
+        return None;
+    }
+    Some(role)
+}
+
+/// What a caller begins with this text.
+pub(crate) fn read_begun(alloc: Global, line: &[u8]) -> Result<Option<BegunCall>, AllocError>
+    ensures { IfOk result (λ found. Reads HasBegun begun_text (option_map begun_in found)
+        line.now) }
+{
+    if let Some(command) = read_command(alloc, line)? {
+        return Ok(Some(BegunCall::Command(command)));
+    }
+    match weak_role(line) {
+        Some(role) => Ok(Some(BegunCall::Weak(role))),
+        None => Ok(None),
+    }
 }

@@ -8,6 +8,6 @@ mod name;
 mod service;
 mod state;
 
-pub use command::LogCommand;
+pub use command::{BegunCall, LogCommand};
 pub use line::{LogLine, is_note, read_log_line};
 pub use state::LogState;

@@ -2,11 +2,11 @@
 ghost use Rattle.std.specs.Prelude.{◌≡◌, ◌≢◌, ◌++◌, ℕ, List, Option, IfNone, IfOk, IfSome, codes};
 ghost use Rattle.std.specs.Option.{option_map};
 ghost use Rattle.line_streams.specs.Spelling.{Reads};
-ghost use Rattle.log_lines.specs.Commands.{HasText, NamedCommand, command_text};
+ghost use Rattle.log_lines.specs.Commands.{Begun, HasBegun, HasText, NamedCommand, command_text};
 ghost use Rattle.log_lines.specs.States.{HasState, State};
 ghost use Rattle.log_lines.specs.Lines.{HasNumber, IsCaller, IsLine, IsLineOf, begin_text, given_text, is_note, line_seen, line_text};
 
-use super::command::{LogCommand, read_command};
+use super::command::{BegunCall, LogCommand, read_begun, read_command};
 use super::name::{is_caller, number_front, split_name};
 use super::service::service_of;
 use super::state::{LogState, read_state};
@@ -24,8 +24,8 @@ pub enum LogLine<'a> {
     Call(Option<u64>, LogCommand),
     /// The words of the reply to the call above.
     Reply(&'a [u8]),
-    /// The begin of a call: the number of its service or none, its caller, and its command.
-    Begin(Option<u64>, &'a [u8], LogCommand),
+    /// The begin of a call: the number of its service or none, its caller, and what it begins.
+    Begin(Option<u64>, &'a [u8], BegunCall),
     /// The end of a caller's call, with the words of its reply.
     End(&'a [u8], &'a [u8]),
     /// The caller died.
@@ -56,8 +56,8 @@ fn call_of<'a>(
     ensures alone { IfOk result (λ found. IfNone found ((command : NamedCommand)
         → HasText command → rest.now ≢ command_text command)) }
     ensures begun { IfOk result (λ found. IfNone found ((caller : List ℕ)
-        (command : NamedCommand) → IsCaller caller → HasText command
-        → rest.now ≢ begin_text caller command)) }
+        (begun : Begun) → IsCaller caller → HasBegun begun
+        → rest.now ≢ begin_text caller begun)) }
 {
     let (caller, after) = split_name(rest);
     let Some(text) = after_word(after, b"> ") else {
@@ -69,8 +69,8 @@ fn call_of<'a>(
     if !is_caller(caller) {
         return Ok(None);
     }
-    match read_command(alloc, text)? {
-        Some(command) => Ok(Some(LogLine::Begin(number, caller, command))),
+    match read_begun(alloc, text)? {
+        Some(begun) => Ok(Some(LogLine::Begin(number, caller, begun))),
         None => Ok(None),
     }
 }
@@ -87,8 +87,8 @@ fn on_service<'a>(
     ensures alone { IfOk result (λ found. IfNone found ((command : NamedCommand)
         → HasText command → rest.now ≢ command_text command)) }
     ensures begun { IfOk result (λ found. IfNone found ((caller : List ℕ)
-        (command : NamedCommand) → IsCaller caller → HasText command
-        → rest.now ≢ begin_text caller command)) }
+        (begun : Begun) → IsCaller caller → HasBegun begun
+        → rest.now ≢ begin_text caller begun)) }
     ensures given { IfOk result (λ found. IfNone found ((s : State) → HasState s
         → rest.now ≢ given_text s)) }
 {
@@ -131,10 +131,11 @@ fn end_of(line: &[u8]) -> Option<LogLine<'_>>
 /// The lines are those of services, the commands of scripts, `= WORDS`, `CALLER> COMMAND`,
 /// `CALLER< WORDS` and `CALLER!`. A caller's name is one to sixteen ASCII letters and digits.
 /// Before a command or a caller that begins one, `7: ` says that it is on the service with this
-/// number. Removals may also be `deregister SLOT TICKET` and `release ROLE SLOT TICKET`. What is
-/// given of a service that was in use is `state nodes USED`, `state nodes USED locked`,
-/// `state ROLE USED`, `state SLOT TICKET register NODE` and `state SLOT TICKET add ROLE PORT NODE`,
-/// also with `7: ` before it. No line has two readings.
+/// number. Removals may also be `deregister SLOT TICKET` and `release ROLE SLOT TICKET`, and a
+/// caller may also begin a weak listing, `list? ROLE` or `nodes?`. What is given of a service that
+/// was in use is `state nodes USED`, `state nodes USED locked`, `state ROLE USED`,
+/// `state SLOT TICKET register NODE` and `state SLOT TICKET add ROLE PORT NODE`, also with `7: `
+/// before it. No line has two readings.
 pub fn read_log_line(alloc: Global, line: &[u8]) -> Result<Option<LogLine<'_>>, AllocError>
     ensures { IfOk result (λ found. Reads IsLine line_text (option_map line_seen found) line.now) }
 {

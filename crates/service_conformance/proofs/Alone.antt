@@ -22,8 +22,11 @@ use Rattle.service_descriptions.specs.Replies.{text_of}
 use Rattle.service_descriptions.specs.Steps.{Run, Serves, ServesDeregister, ServesRelease, ServiceStep, State, handle_in}
 use Rattle.service_descriptions.proofs.Moves.{moves}
 use Rattle.service_descriptions.proofs.Serving.{keeps}
-use Rattle.service_conformance.specs.Alone.{Answered, Gives, IsBare, IsBounded, IsBoundedRegistry, added_role, calls_of, handle_named}
-use Rattle.service_conformance.specs.Calls.{Call, CallStep, WindowStep, answered, at_first, call_of}
+use Rattle.service_conformance.specs.Alone.{Answered, Gives, IsBare, IsBounded, IsBoundedRegistry, added_role, calls_of, handle_named, judged_of}
+use Rattle.service_conformance.specs.Calls.{Call, CallStep, answered, at_first, call_of}
+use Rattle.service_conformance.specs.Judged.{Judged, JudgedStep, WindowStep}
+use Rattle.service_conformance.specs.Judged.Judged.{call}
+use Rattle.service_conformance.specs.Looks.{Watched, unwatched}
 use Rattle.service_conformance.specs.Entries.{MayGive}
 use Rattle.service_conformance.specs.Quiet.{quiet, quiet_state}
 use Rattle.service_conformance.specs.Sides.{ports_at, role_at}
@@ -303,36 +306,49 @@ back (a ∷ told) old bare gives (r ∷ rs) e last run =
       (quiet mid.service, back_step old a bare gives.0 r mid both.0 run.1, rest.1),
     )
 
-some_call : (a b : Call) → Some a ≡ Some b → a ≡ b
-some_call a b e = cc
+some_judged : (a b : Judged) → Some a ≡ Some b → a ≡ b
+some_judged a b e = cc
 
--- the calls from a number on lead as those of a window do
-module _ (all : List Call) where
+abbrev as_judged : List Call → List Judged
+as_judged calls = map (λ (c : Call). call c) calls
+
+-- the calls from a number on lead as those of a window do, where no weak listing looks
+module _ (all : List Judged) where
   leads_there : (calls : List Call) (k : ℕ)
-      → ((at : ℕ) → slice_get calls at ≡ slice_get all (k + at)) → (old new : Service)
-      → Leads (WindowStep 0 all) old (range_with_len k (length calls)) new
-      → CallsLead old calls new
-  leads_there [] k same old new leads = leads
+      → ((at : ℕ) → slice_get (as_judged calls) at ≡ slice_get all (k + at))
+      → (old : Service) (new : Watched)
+      → Leads (WindowStep 0 all) (unwatched old) (range_with_len k (length calls)) new
+      → CallsLead old calls new.service
+  leads_there [] k same old new leads = ap (λ (w : Watched). w.service) leads
   leads_there (c ∷ calls) k same old new leads =
       let step = leads.1 in
       let has = step.1 in
       let at : has.0 ≡ k + 0 = omega (arith, has.1) in
-      let is : step.0 ≡ c =
-      some_call step.0 c (sym has.2 ∙ (ap (slice_get all) at ∙ sym (same 0))) in (
-        leads.0,
-        subst (λ x. CallStep x old leads.0) is step.2,
-        leads_there calls (k + 1) (λ n. same (suc n) ∙ ap (slice_get all) (omega arith)) leads.0
-            new leads.2,
+      let is : step.0 ≡ call c =
+      some_judged step.0 (call c) (sym has.2 ∙ (ap (slice_get all) at ∙ sym (same 0))) in
+      let made : JudgedStep k (call c) (unwatched old) leads.0 =
+      subst (λ x. JudgedStep k x (unwatched old) leads.0) is step.2 in (
+        leads.0.service,
+        made.1,
+        leads_there calls (k + 1) (λ n. same (suc n) ∙ ap (slice_get all) (omega arith))
+            leads.0.service new
+            (subst (λ (w : Watched).
+            Leads (WindowStep 0 all) w (range_with_len (k + 1) (length calls)) new) made.2
+            leads.2),
       )
 
   leads_back : (calls : List Call) (k : ℕ)
-      → ((at : ℕ) → slice_get calls at ≡ slice_get all (k + at)) → (old new : Service)
+      → ((at : ℕ) → slice_get (as_judged calls) at ≡ slice_get all (k + at)) → (old new : Service)
       → CallsLead old calls new
-      → Leads (WindowStep 0 all) old (range_with_len k (length calls)) new
-  leads_back [] k same old new leads = leads
+      → Leads (WindowStep 0 all) (unwatched old) (range_with_len k (length calls)) (unwatched new)
+  leads_back [] k same old new leads = ap unwatched leads
   leads_back (c ∷ calls) k same old new leads = (
-    leads.0,
-    (c, (k, omega arith, ap (slice_get all) (omega arith) ∙ sym (same 0)), leads.1),
+    unwatched leads.0,
+    (
+      call c,
+      (k, omega arith, ap (slice_get all) (omega arith) ∙ sym (same 0)),
+      (refl, leads.1, refl),
+    ),
     leads_back calls (k + 1) (λ n. same (suc n) ∙ ap (slice_get all) (omega arith)) leads.0 new
         leads.2,
   )
@@ -353,43 +369,45 @@ calls_length : (told : List Answered) (handles : List (Option Handle))
 calls_length [] handles = refl
 calls_length (a ∷ told) handles = ap suc (calls_length told (handles ++ a.given ∷ []))
 
-same_places : (calls : List Call) (n : ℕ) → slice_get calls n ≡ slice_get calls (0 + n)
+same_places : (calls : List Judged) (n : ℕ) → slice_get calls n ≡ slice_get calls (0 + n)
 same_places calls n = (let e : n ≡ 0 + n = omega arith in ap (slice_get calls) e)
 
-first_only : (x y : Service) → Contains (x ∷ []) y → x ≡ y
+first_only : (x y : Watched) → Contains (x ∷ []) y → x ≡ y
 first_only x y (zero, within, is) = is
 first_only x y (suc k, within, is) = absurd (omega (arith, within))
 
 pub alone : (old : State) (told : List Answered) → IsBare old
     → AllByRecursion (λ a. Gives old.service.nodes.registry.service a.command a.words a.given) told
-    → IsExplained (WindowStep 0 (calls_of old.handles told)) (calls_alone (length told))
-    (old.service ∷ [])
+    → IsExplained (WindowStep 0 (judged_of old.handles told)) (calls_alone (length told))
+    (unwatched old.service ∷ [])
     ↔ ((replies : List Reply) × (map text_of replies ≡ words_in told)
     × ((new : State) × Run old (commands_in told) replies new))
 alone old told bare gives =
     let calls = calls_of old.handles told in
-    let Step = WindowStep 0 calls in
+    let all = as_judged calls in
+    let start = unwatched old.service in
+    let Step = WindowStep 0 all in
     let order : in_order (length told) ≡ range_with_len 0 (length calls) =
     rising (length told) ∙ ap (range_with_len 0) (sym (calls_length told old.handles)) in (
       λ explained.
           let from = explained.0 in
           let new = explained.2 in
-          let is = first_only old.service from explained.3 in
+          let is = first_only start from explained.3 in
           let leads = ((calls_alone_are_runs Step (length told) from new explained.1).0
           explained.4).1 in
-          there told old bare gives new
-          (leads_there calls calls 0 (same_places calls) old.service new
-          (subst (λ l. Leads Step old.service l new) order
+          there told old bare gives new.service
+          (leads_there all calls 0 (same_places all) old.service new
+          (subst (λ l. Leads Step start l new) order
           (subst (λ s. Leads Step s (in_order (length told)) new) (sym is) leads))),
       λ run.
           let found = back told old bare gives run.0 run.1 run.2.0 run.2.1 in
-          let leads = subst (λ l. Leads Step old.service l found.0) (sym order)
-          (leads_back calls calls 0 (same_places calls) old.service found.0 found.1) in (
-            old.service,
+          let leads = subst (λ l. Leads Step start l (unwatched found.0)) (sym order)
+          (leads_back all calls 0 (same_places all) old.service found.0 found.1) in (
+            start,
             in_order (length told),
-            found.0,
+            unwatched found.0,
             (0, omega arith, refl),
-            (calls_alone_are_runs Step (length told) old.service found.0
+            (calls_alone_are_runs Step (length told) start (unwatched found.0)
                 (in_order (length told))).1 (refl, leads),
           ),
     )

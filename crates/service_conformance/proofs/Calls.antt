@@ -1,13 +1,10 @@
 -- What calls that were seen do.
-use Rattle.std.proofs.Common.{◌≡◌, ◌↔◌, ℕ, zero, suc, ◌+◌, ◌<◌, ◌⊎◌, inl, inr, Bool, true, false, Option, Some, None, Result, Ok, Err, List, [], ◌∷◌, ◌++◌, length, get_or, refl, sym, ◌∙◌, ap, subst, arith}
-use Rattle.std.specs.List.{Contains, slice_get}
+use Rattle.std.proofs.Common.{◌≡◌, ℕ, zero, suc, ◌+◌, ◌<◌, ◌⊎◌, inl, inr, true, false, Option, Some, None, Result, Ok, Err, List, [], ◌∷◌, ◌++◌, length, get_or, refl, sym, ◌∙◌, ap, subst, arith}
+use Rattle.std.specs.List.{Contains}
 use Rattle.std.specs.Prelude.{IfOk}
 use Rattle.std.specs.Global.{Vec}
 use Rattle.std.specs.declared.alloc.AllocError.{AllocError}
 use Rattle.std.proofs.lemmas.List.Elements.{All-push, All-weaker, Contains-append_left, Contains-push}
-use Rattle.std.proofs.lemmas.Option.{slice_get_within}
-use Rattle.histories.specs.declared.left.Left.{Left}
-use Rattle.histories.specs.Frontier.{IsIdle, IsMade, states_in}
 use Rattle.histories.specs.Histories.{AreAll}
 use Rattle.iox2_container.specs.Handle.{Handle}
 use Rattle.iox2_dynamic.specs.Service.{Service}
@@ -27,7 +24,7 @@ use Rattle.service_conformance.specs.declared.conformance.line_reply.LineReply.{
 use Rattle.service_conformance.specs.declared.conformance.possible.Possible.TheVariants as possible
 use Rattle.service_conformance.specs.declared.conformance.possible.PossibleReplies.{PossibleReplies}
 use Rattle.service_conformance.specs.declared.conformance.seen_reply.SeenReply.{SeenReply}
-use Rattle.service_conformance.specs.Calls.{AreRepliesOf, Call, CallStep, ChangesNothing, GivesBelow, HasNumber, IsIdleCall, IsWithin, LacksNumber, LeadsOn, ServesCall, WindowStep, answered, unanswered}
+use Rattle.service_conformance.specs.Calls.{AreRepliesOf, Call, CallStep, ChangesNothing, GivesBelow, IsIdleCall, LeadsOn, ServesCall, answered, unanswered}
 use Rattle.service_conformance.specs.Possible.{ArePossible, IsCovered, MayGiveIn, reply_in}
 use Rattle.service_conformance.specs.Quiet.{CanServe, LeadsTo, is_removal, quiet}
 use Rattle.service_conformance.specs.Seen.{changes_nothing, seen_text}
@@ -41,16 +38,16 @@ one_only : {S : Type 0} (Fact : S → Type 0) (x : S) → Fact x → (k : ℕ) (
 one_only Fact x is zero d h = is
 one_only Fact x is (suc k) d h = absurd (omega arith)
 
-all_of_one : {S : Type 0} (Fact : S → Type 0) (x : S) → Fact x
+pub all_of_one : {S : Type 0} (Fact : S → Type 0) (x : S) → Fact x
     → ((other : S) → Fact other → other ≡ x) → AreAll Fact (x ∷ [])
 all_of_one {S} Fact x is alone =
     (one_only Fact x is, λ value holds. (0, omega arith, sym (alone value holds)))
 
-all_of_none : {S : Type 0} (Fact : S → Type 0) → ((x : S) → ¬ (Fact x)) → AreAll Fact []
+pub all_of_none : {S : Type 0} (Fact : S → Type 0) → ((x : S) → ¬ (Fact x)) → AreAll Fact []
 all_of_none Fact none =
     (λ k d h. absurd (omega arith), λ value holds. absurd (none value holds))
 
-all_as : {S : Type 0} (Fact Other : S → Type 0) (xs : List S) → ((x : S) → Fact x → Other x)
+pub all_as : {S : Type 0} (Fact Other : S → Type 0) (xs : List S) → ((x : S) → Fact x → Other x)
     → ((x : S) → Other x → Fact x) → AreAll Fact xs → AreAll Other xs
 all_as Fact Other xs there back all =
     (All-weaker Fact Other there xs all.0, λ x o. all.1 x (back x o))
@@ -248,70 +245,3 @@ pub replies_found : (call : Call) (s : Service) (found : Result PossibleReplies 
     → IfOk found (AreRepliesOf s call)
 replies_found call s (Ok p) rest all = replies_by_words call s p rest all
 replies_found call s (Err e) rest all = tt
-
-some_same : (a b : Call) → Some a ≡ Some b → a ≡ b
-some_same a b e = cc
-
-module _ (first : ℕ) (calls : List Call) (number : ℕ) where
-  one_call : (a b : Call) → HasNumber first calls number a → HasNumber first calls number b
-      → b ≡ a
-  one_call a b p q =
-      let at : q.0 ≡ p.0 = omega (arith, p.1, q.1) in
-      some_same b a (sym q.2 ∙ (ap (slice_get calls) at ∙ p.2))
-
-  module _ (call : Call) (has : HasNumber first calls number call) (s : Service) where
-    window_all : (xs : List Service) → AreAll (CallStep call s) xs
-        → AreAll (λ new. WindowStep first calls s number new) xs
-    window_all xs =
-        all_as (CallStep call s) (λ new. WindowStep first calls s number new) xs
-        (λ x step. (call, has, step))
-        (λ x step. subst (λ c. CallStep c s x) (one_call call step.0 has step.1) step.2)
-
-    pub window_followed : (found : Result (Left Service) AllocError)
-        → IfOk found (λ left. AreAll (CallStep call s) (states_in left))
-        → IfOk found (λ left. AreAll (λ new. WindowStep first calls s number new) (states_in left))
-    window_followed (Ok left) all = window_all (states_in left) all
-    window_followed (Err e) all = tt
-
-    pub window_made : (made : Result Bool AllocError) (new : Service)
-        → IfOk made (IsMade (CallStep call s) s new)
-        → IfOk made (IsMade (λ x. WindowStep first calls s number x) s new)
-    window_made (Ok true) new all = window_all (new ∷ []) all
-    window_made (Ok false) new same = same
-    window_made (Err e) new is = tt
-
-    pub window_idle : IsIdleCall call s
-        → WindowStep first calls s number s
-        × IsIdle (WindowStep first calls) number
-    window_idle idle = (
-      (call, has, idle.0),
-      λ old new step. idle.1 old new
-          (subst (λ c. CallStep c old new) (one_call call step.0 has step.1) step.2),
-    )
-
-  pub window_none : LacksNumber first calls number → (s : Service)
-      → AreAll (λ new. WindowStep first calls s number new) []
-  window_none lacks s =
-      all_of_none (λ new. WindowStep first calls s number new) (λ x step. lacks step.0 step.1)
-
-pub windows_agree : (first : ℕ) (calls all : List Call)
-    → ((at : ℕ) → at < length calls → slice_get calls at ≡ slice_get all (first + at))
-    → (number : ℕ) → IsWithin first (length calls) number → (old new : Service)
-    → WindowStep first calls old number new ↔ WindowStep 0 all old number new
-windows_agree first calls all same number within old new = (
-  λ step.
-      let has = step.1 in
-      let at = slice_get_within calls has.0 step.0 has.2 in
-      (step.0, (first + has.0, omega (arith, has.1), sym (same has.0 at) ∙ has.2), step.2),
-  λ step.
-      let has = step.1 in
-      let at : has.0 ≡ first + within.0 = omega (arith, has.1, within.2) in (
-        step.0,
-        (
-          within.0,
-          within.2,
-          same within.0 within.1 ∙ (ap (slice_get all) (sym at) ∙ has.2),
-        ),
-        step.2,
-      ),
-)

@@ -1,6 +1,6 @@
 -- What is given of a service that was in use.
-use Rattle.std.proofs.Common.{◌≡◌, ◌≢◌, ℕ, zero, suc, ◌+◌, ◌<◌, ◌≤◌, Bool, true, false, List, [], ◌∷◌, ◌++◌, length, take, refl, sym, ◌∙◌, ap, subst, arith}
-use Rattle.std.specs.Prelude.{All, AllPairs, IfOk, IsTrue, OnErr, Result, Ok, Err, get_or}
+use Rattle.std.proofs.Common.{◌≡◌, ◌≢◌, ℕ, zero, suc, ◌<◌, ◌≤◌, Bool, true, false, List, [], ◌∷◌, ◌++◌, length, take, refl, sym, ◌∙◌, ap, subst, arith}
+use Rattle.std.specs.Prelude.{All, AllPairs, IfOk, OnErr, Result, Ok, Err}
 use Rattle.std.proofs.lemmas.List.{length-append}
 use Rattle.std.proofs.lemmas.List.Elements.{All-head, All-nil, All-cons, All-push, All-tail, All-weaker, filter-append}
 use Rattle.std.proofs.lemmas.List.Quantifiers.{all_pairs_push}
@@ -15,7 +15,7 @@ use Rattle.iox2_dynamic.specs.PortsState.{Side}
 use Rattle.iox2_dynamic.specs.PortsState.Side.{First, Second}
 use Rattle.iox2_dynamic.specs.Service.{IsPortRegistry, IsService, Registered, Service, entries_of_node, first_role, second_role}
 use Rattle.service_conformance.specs.Given.{Becomes, GivesNode, GivesNodes, GivesPort, GivesPorts, IsBefore, IsUnused, MayStand, StandsLast, UsedSo, placed, with_last, with_nodes, with_ports, with_used}
-use Rattle.service_conformance.specs.Sides.{ports_at, role_at, with_ports_at}
+use Rattle.service_conformance.specs.Sides.{ports_at, role_at}
 use Rattle.service_conformance.proofs.Sides.{has_role, lacks, one_side, ports_are}
 
 -- so many tickets of an unused registry make it one

@@ -17,6 +17,9 @@ pub mod DeadSteps
 pub mod IdTexts
 pub mod Seen
 pub mod Calls
+pub mod Looking
+pub mod Judged
 pub mod Fixed
 pub mod Alone
 pub mod Given
+pub mod WeakListings

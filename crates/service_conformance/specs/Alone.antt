@@ -15,7 +15,10 @@ use Rattle.service_descriptions.specs.declared.replay.machine.reply.Reply.{Reply
 use Rattle.service_descriptions.specs.Handles.{KeepsHandles, named}
 use Rattle.service_descriptions.specs.Replies.{text_of}
 use Rattle.service_descriptions.specs.Steps.{Run, State}
-use Rattle.service_conformance.specs.Calls.{Call, WindowStep, answered, call_of}
+use Rattle.service_conformance.specs.Calls.{Call, answered, call_of}
+use Rattle.service_conformance.specs.Judged.{Judged, WindowStep}
+use Rattle.service_conformance.specs.Judged.Judged.{call}
+use Rattle.service_conformance.specs.Looks.{unwatched}
 use Rattle.service_conformance.specs.Quiet.{quiet}
 use Rattle.service_conformance.specs.Words.{handle_words}
 
@@ -70,13 +73,17 @@ pub record IsBare (s : State) : Type 0 where
   pub bare : s.description ≡ None
   pub rest : quiet s.service ≡ s.service
 
+-- the same, as calls that are judged
+abbrev pub judged_of : List (Option Handle) → List Answered → List Judged
+judged_of handles told = map (λ (c : Call). call c) (calls_of handles told)
+
 -- Calls that overlap nothing are a run as scripts have it: some order explains them exactly where
 -- there are replies with these words which are a run of the commands.
 abbrev pub CallsAloneAreRuns : Type 0
 CallsAloneAreRuns =
     (old : State) (told : List Answered) → IsBare old
     → AllByRecursion (λ a. Gives old.service.nodes.registry.service a.command a.words a.given) told
-    → IsExplained (WindowStep 0 (calls_of old.handles told)) (calls_alone (length told))
-    (old.service ∷ [])
+    → IsExplained (WindowStep 0 (judged_of old.handles told)) (calls_alone (length told))
+    (unwatched old.service ∷ [])
     ↔ ((replies : List Reply) × (map text_of replies ≡ map (λ (a : Answered). a.words) told)
     × ((new : State) × Run old (map (λ (a : Answered). a.command) told) replies new))

@@ -1,5 +1,5 @@
 -- Calls as they were seen, and what they do.
-use Rattle.std.specs.Prelude.{◌≡◌, ℕ, ◌+◌, ◌<◌, ◌↔◌, List, [], ◌∷◌, Option, Some, None, slice_get, length}
+use Rattle.std.specs.Prelude.{◌≡◌, ℕ, ◌+◌, ◌<◌, ◌↔◌, List, [], ◌∷◌, Option, Some, None, slice_get}
 use Rattle.iox2_container.specs.Handle.{Handle}
 use Rattle.iox2_dynamic.specs.Service.{Service, IsService}
 use Rattle.service_descriptions.specs.declared.replay.machine.command.Command.{Command}
@@ -73,33 +73,16 @@ abbrev pub IsIdleCall : Call → Service → Type 0
 IsIdleCall call state = CallStep call state state × ChangesNothing call
 
 -- the call has this number among these, the first of which has the first number
-abbrev pub HasNumber : ℕ → List Call → ℕ → Call → Type 0
+abbrev pub HasNumber : {C : Type 0} → ℕ → List C → ℕ → C → Type 0
 HasNumber first calls number call =
     (at : ℕ) × (number ≡ first + at) × (slice_get calls at ≡ Some call)
 
 -- none of them has this number
-abbrev pub LacksNumber : ℕ → List Call → ℕ → Type 0
-LacksNumber first calls number = (call : Call) → ¬ (HasNumber first calls number call)
-
--- the call of this number is one of these, and leads from one service to another
-abbrev pub WindowStep : ℕ → List Call → Service → ℕ → Service → Type 0
-WindowStep first calls old number new =
-    (call : Call) × HasNumber first calls number call × CallStep call old new
+abbrev pub LacksNumber : {C : Type 0} → ℕ → List C → ℕ → Type 0
+LacksNumber {C} first calls number = (call : C) → ¬ (HasNumber first calls number call)
 
 -- these are the replies, by their words, with which the call leads from the service to another
 abbrev pub AreRepliesOf : Service → Call → PossibleReplies → Type 0
 AreRepliesOf s call p =
     (words : List ℕ)
     → AllowsWords p words ↔ ((new : Service) × CallStep (answered call words) s new)
-
--- the number is that of one of so many calls from the first one on
-abbrev pub IsWithin : ℕ → ℕ → ℕ → Type 0
-IsWithin first count number = (at : ℕ) × (at < count) × (number ≡ first + at)
-
--- A window of calls makes those that it has as all calls do.
-abbrev pub WindowsAgree : Type 0
-WindowsAgree =
-    (first : ℕ) (calls all : List Call)
-    → ((at : ℕ) → at < length calls → slice_get calls at ≡ slice_get all (first + at))
-    → (number : ℕ) → IsWithin first (length calls) number → (old new : Service)
-    → WindowStep first calls old number new ↔ WindowStep 0 all old number new

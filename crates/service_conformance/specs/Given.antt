@@ -1,5 +1,5 @@
 -- What is given of a service that was in use.
-use Rattle.std.specs.Prelude.{◌≡◌, ◌≢◌, ◌<◌, ℕ, Bool, true, false, List, [], ◌∷◌, ◌++◌, All}
+use Rattle.std.specs.Prelude.{◌≡◌, ◌≢◌, ◌<◌, ℕ, Bool, true, false, [], ◌∷◌, ◌++◌, All}
 use Rattle.iox2_container.specs.declared.container.role.Role.{Role}
 use Rattle.iox2_container.specs.ContainerState.{container}
 use Rattle.iox2_container.specs.State.{Entry, IsRegistry, RegistryState}

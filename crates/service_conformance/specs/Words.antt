@@ -52,6 +52,7 @@ AllowsWords (replies.One r) words = text_of r ≡ words
 AllowsWords (replies.Handle next) words =
     (slot : ℕ) × (slot < next.capacity) × All (λ t. t ≢ slot) next.taken.items
     × (handle_words slot next.ticket ≡ words)
+AllowsWords (replies.List lists) words = ⊥
 
 -- these are the replies, by their words, with which the steps lead to a service
 abbrev pub ArePossibleWords : (Reply → Service → Type 0) → PossibleReplies → Type 0

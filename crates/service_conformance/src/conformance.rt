@@ -2,7 +2,9 @@
 
 mod calls;
 mod id_word;
+mod judged_call;
 mod line_reply;
+mod look;
 mod placed;
 mod possible;
 mod registry_check;
@@ -13,10 +15,13 @@ mod seen_call;
 mod seen_reply;
 mod service_check;
 mod sides;
+mod watched;
 mod words;
 
 pub use calls::Calls;
-pub use possible::{NextHandle, PossibleReplies};
-pub use seen_call::{SeenCall, possible_replies};
+pub use judged_call::{JudgedCall, possible_replies};
+pub use possible::{NextHandle, Part, PossibleList, PossibleReplies};
+pub use seen_call::SeenCall;
 pub use seen_reply::{ReplyWord, SeenReply, read_reply};
 pub use service_check::ServiceCheck;
+pub use watched::WatchedService;

@@ -8,7 +8,9 @@ use iox2_container::container::{ContainerHandle, Role};
 use iox2_dynamic::dynamic_config::MessagingPatternSettings;
 use iox2_dynamic::dynamic_config::event::DynamicConfigSettings;
 use line_streams::LineEnd;
-use service_conformance::conformance::{Calls, SeenCall, ServiceCheck, read_reply};
+use service_conformance::conformance::{
+    Calls, JudgedCall, SeenCall, ServiceCheck, WatchedService, read_reply,
+};
 use service_descriptions::replay::{LineCommand, command_before};
 use std::alloc::{AllocError, Global};
 use std::process::Abort;
@@ -259,7 +261,7 @@ fn command(alloc: Global, line: &str) -> Result<Option<LineCommand>, AllocError>
 }
 
 /// The calls as they were seen.
-fn calls_of(alloc: Global, calls: &[Call]) -> Result<Vec<SeenCall>, AllocError> {
+fn calls_of(alloc: Global, calls: &[Call]) -> Result<Vec<JudgedCall>, AllocError> {
     let mut list = Vec::new(alloc);
     for (line, named, words) in calls {
         let handle = match named {
@@ -269,7 +271,7 @@ fn calls_of(alloc: Global, calls: &[Call]) -> Result<Vec<SeenCall>, AllocError> 
             None => None,
         };
         if let Some(command) = command(alloc, line)? {
-            let mut call = SeenCall::new(command, handle);
+            let mut call = JudgedCall::call(SeenCall::new(command, handle));
             if let Some(reply) = read_reply(alloc, words.as_bytes())? {
                 call.answer(reply);
             }
@@ -280,7 +282,7 @@ fn calls_of(alloc: Global, calls: &[Call]) -> Result<Vec<SeenCall>, AllocError> 
 }
 
 /// What becomes of a history.
-fn judged(alloc: Global, calls: &[SeenCall], events: &[Event]) -> Result<Found, AllocError> {
+fn judged(alloc: Global, calls: &[JudgedCall], events: &[Event]) -> Result<Found, AllocError> {
     let settings = MessagingPatternSettings::Event(DynamicConfigSettings {
         number_of_listeners: 2,
         number_of_notifiers: 2,
@@ -290,7 +292,8 @@ fn judged(alloc: Global, calls: &[SeenCall], events: &[Event]) -> Result<Found, 
         first: 0,
         calls,
     };
-    let states = [ServiceCheck::new(alloc, &settings, 3, 7)];
+    let service = ServiceCheck::new(alloc, &settings, 3, 7);
+    let states = [WatchedService::new(alloc, &service)?];
     match judge(alloc, &machine, &states, events)? {
         Verdict::Explained(front) => Ok(Found::Left(front.configs.len())),
         Verdict::Refused(at) => Ok(Found::Refused(at)),

@@ -1,23 +1,24 @@
 //! The calls of a history, as a machine.
 ghost use Rattle.std.specs.Prelude.{IfNone, IfSome};
-ghost use Rattle.service_conformance.specs.Calls.{HasNumber, LacksNumber, WindowStep};
+ghost use Rattle.service_conformance.specs.Calls.{HasNumber, LacksNumber};
+ghost use Rattle.service_conformance.specs.Judged.{WindowStep};
 
-use super::seen_call::SeenCall;
-use super::service_check::ServiceCheck;
+use super::judged_call::JudgedCall;
+use super::watched::WatchedService;
 use histories::{Left, Machine};
 use std::alloc::{AllocError, Global};
 
 /// The calls of a history, or some that follow one another: the first of them has the first number.
-/// A state is what the service must hold.
+/// A state is what the service must hold, with the weak listings that look at it.
 #[derive(Drop)]
 pub struct Calls<'a> {
     pub alloc: Global,
     pub first: usize,
-    pub calls: &'a [SeenCall],
+    pub calls: &'a [JudgedCall],
 }
 
 /// The call of this number.
-fn call_at(calls: &[SeenCall], first: usize, number: usize) -> Option<&SeenCall>
+fn call_at(calls: &[JudgedCall], first: usize, number: usize) -> Option<&JudgedCall>
     ensures some { IfSome result (λ call. HasNumber first calls.now number call.now) }
     ensures none { IfNone result (LacksNumber first calls.now number) }
 {
@@ -28,36 +29,40 @@ fn call_at(calls: &[SeenCall], first: usize, number: usize) -> Option<&SeenCall>
 }
 
 impl<'a> Machine for Calls<'a> {
-    type State = ServiceCheck;
+    type State = WatchedService;
 
     ghost Step = { λ m old call new. WindowStep m.first m.calls.now old call new };
 
-    fn follow(&self, state: &ServiceCheck, call: usize) -> Result<Left<ServiceCheck>, AllocError> {
+    fn follow(
+        &self,
+        state: &WatchedService,
+        call: usize,
+    ) -> Result<Left<WatchedService>, AllocError> {
         match call_at(self.calls, self.first, call) {
-            Some(made) => made.follow(self.alloc, state),
+            Some(made) => made.follow(self.alloc, call, state),
             None => Ok(Left::Nothing),
         }
     }
 
-    fn make(&self, state: &mut ServiceCheck, call: usize) -> Result<bool, AllocError> {
+    fn make(&self, state: &mut WatchedService, call: usize) -> Result<bool, AllocError> {
         match call_at(self.calls, self.first, call) {
-            Some(made) => made.make(self.alloc, state),
+            Some(made) => made.make(self.alloc, call, state),
             None => Ok(false),
         }
     }
 
-    fn is_idle(&self, state: &ServiceCheck, call: usize) -> bool {
+    fn is_idle(&self, state: &WatchedService, call: usize) -> bool {
         match call_at(self.calls, self.first, call) {
-            Some(made) => made.is_idle(self.alloc, state),
+            Some(made) => made.is_idle(self.alloc, call, state),
             None => false,
         }
     }
 
-    fn copied(&self, state: &ServiceCheck) -> Result<ServiceCheck, AllocError> {
+    fn copied(&self, state: &WatchedService) -> Result<WatchedService, AllocError> {
         state.copied(self.alloc)
     }
 
-    fn same(&self, one: &ServiceCheck, other: &ServiceCheck) -> bool {
+    fn same(&self, one: &WatchedService, other: &WatchedService) -> bool {
         one.same(other)
     }
 }

@@ -4,8 +4,8 @@ use super::line_reply::LineReply;
 use service_descriptions::replay::Reply;
 
 /// One of the three registries of a service.
-#[derive(Clone, Copy, Debug)]
-pub(super) enum Part {
+#[derive(Clone, Copy, Debug, PartialEq, Eq)]
+pub enum Part {
     /// The nodes.
     Nodes,
     /// The ports of the pattern's first kind.
@@ -34,6 +34,15 @@ pub struct NextHandle {
     pub taken: Vec<usize>,
 }
 
+/// The ids for which the reply to a weak listing is refused.
+#[derive(Debug, Drop)]
+pub struct PossibleList {
+    /// Those that the reply has not, and that were there all the while.
+    pub missing: Vec<u128>,
+    /// Those that the reply has, and of which none was there.
+    pub unseen: Vec<u128>,
+}
+
 /// The replies that a run could give, for readers of logs.
 #[derive(Debug, Drop)]
 pub enum PossibleReplies {
@@ -41,4 +50,6 @@ pub enum PossibleReplies {
     One(Reply),
     /// Each of these handles.
     Handle(NextHandle),
+    /// The list that was seen, with the missing ids and without the unseen ones.
+    List(PossibleList),
 }

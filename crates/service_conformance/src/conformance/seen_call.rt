@@ -290,14 +290,3 @@ impl SeenCall {
         state.possible_replies(alloc, &[self.handle], &self.command)
     }
 }
-
-/// The replies with which the call leads on from this state.
-pub fn possible_replies(
-    alloc: Global,
-    state: &ServiceCheck,
-    call: &SeenCall,
-) -> Result<PossibleReplies, AllocError>
-    ensures { IfOk result (AreRepliesOf state.now call.now) }
-{
-    call.replies(alloc, state)
-}

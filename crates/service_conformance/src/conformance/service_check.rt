@@ -1,12 +1,12 @@
 //! What a service must hold, by the commands and replies that were seen.
-ghost use Rattle.std.specs.Prelude.{◌≡◌, ◌↔◌, ◌-◌, ◌^◌, ◌||◌, IfOk, IsTrue};
+ghost use Rattle.std.specs.Prelude.{◌≡◌, ◌↔◌, ◌-◌, ◌^◌, ◌||◌, IfNone, IfOk, IfSome, IsTrue};
 ghost use Rattle.std.specs.List.{list_any};
 ghost use Rattle.iox2_dynamic.specs.Ports.{has_ports_of};
 ghost use Rattle.iox2_dynamic.specs.Service.{IsService, capacities_in, fresh_service};
 ghost use Rattle.iox2_dynamic.specs.Steps.{is_last_of_ports};
 ghost use Rattle.service_conformance.specs.Dead.{after_dead, ports_after, stays};
 ghost use Rattle.service_conformance.specs.Quiet.{ports_at_rest, quiet};
-ghost use Rattle.service_conformance.specs.Sides.{ports_at, side_of};
+ghost use Rattle.service_conformance.specs.Sides.{HasPart, LacksPart, ports_at, side_of};
 
 mod following;
 mod given;
@@ -14,7 +14,9 @@ mod replies_possible;
 mod reply_told;
 mod seeing;
 
+use super::possible::Part;
 use super::registry_check::RegistryCheck;
+use super::sides::{part, side};
 use iox2_config::hash::PatternKind;
 use iox2_container::container::Role;
 use iox2_dynamic::dynamic_config::{MessagingPatternSettings, PortDetails, PortRoles};
@@ -201,6 +203,20 @@ impl ServiceCheck {
         ensures rest { quiet self.now ≡ self.now }
     {
         self.pattern
+    }
+
+    /// The part that a role names, if the pattern has it.
+    pub fn part_of(&self, role: Role) -> Option<Part>
+        ensures none { IfNone result (LacksPart self.now.pattern role) }
+        ensures some { IfSome result (HasPart self.now.pattern role) }
+    {
+        if role == Role::Node {
+            return Some(Part::Nodes);
+        }
+        let Some(first) = side(self.pattern, role) else {
+            return None;
+        };
+        Some(part(first))
     }
 
     /// The nodes.

@@ -40,4 +40,4 @@ returns-in-None-2-clause-begun c =
       letters = c.split_name.ensures.name;
       ends = c.split_name.ensures.ends;
     }) c.in-Some.text.now c.in-Some.ensures.some
-    (rw c.in-None-2.is at c.in_ok-command-2.ensures)
+    (rw c.in-None-2.is at c.in_ok-begun.ensures)

@@ -1,12 +1,14 @@
 //! The replies that a call may have, and who is there.
-ghost use Rattle.std.specs.Prelude.{◌≡◌, ◌++◌, IfOk, None};
+ghost use Rattle.std.specs.Prelude.{◌≡◌, ◌++◌, IfOk, None, map};
 ghost use Rattle.iox2_container.specs.Steps.{listed};
+ghost use Rattle.service_conformance.specs.Looks.{ids_in};
 ghost use Rattle.service_conformance.specs.Possible.{IsCovered};
 ghost use Rattle.service_conformance.specs.Words.{ArePossibleWords, IsNextIn};
 ghost use Rattle.service_descriptions.specs.Lines.{command_of};
 ghost use Rattle.service_descriptions.specs.Steps.{Serves};
 
 use super::super::possible::{NextHandle, Part, Possible, PossibleReplies};
+use super::super::says::Printed;
 use super::ServiceCheck;
 use iox2_container::container::ContainerHandle;
 use iox2_dynamic::dynamic_config::PortDetails;
@@ -14,7 +16,33 @@ use iox2_ids::identifiers::UniqueNodeId;
 use service_descriptions::replay::LineCommand;
 use std::alloc::{AllocError, Global};
 
+/// The ids that are printed of the items.
+fn ids_of<T: Printed>(alloc: Global, items: &[T]) -> Result<Vec<u128>, AllocError>
+    ensures { IfOk result (λ ids. ids.items ≡ map T.id items.now) }
+{
+    let mut ids = Vec::new(alloc);
+    for item in items {
+        ids.push(item.printed())?;
+    }
+    Ok(ids)
+}
+
 impl ServiceCheck {
+    /// The ids that a list of the part has.
+    pub(in super::super) fn ids_in(
+        &self,
+        alloc: Global,
+        part: Part,
+    ) -> Result<Vec<u128>, AllocError>
+        ensures { IfOk result (λ ids. ids.items ≡ ids_in self.now part) }
+    {
+        match part {
+            Part::Nodes => ids_of(alloc, &self.nodes.listed(alloc)?),
+            Part::First => ids_of(alloc, &self.first.listed(alloc)?),
+            Part::Second => ids_of(alloc, &self.second.listed(alloc)?),
+        }
+    }
+
     /// The handles that the registry of the part may give next, where an add is not refused.
     fn next_in(&self, alloc: Global, part: Part) -> Result<NextHandle, AllocError>
         ensures { IfOk result (IsNextIn self.now part) }

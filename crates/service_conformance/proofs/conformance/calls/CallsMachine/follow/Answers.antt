@@ -1,4 +1,4 @@
-use Rattle.service_conformance.proofs.Calls.{window_followed, window_none}
+use Rattle.service_conformance.proofs.Judged.{window_followed, window_none}
 use Rattle.service_conformance.proofs.conformance.calls.CallsMachine.follow.Goals as goal
 
 pub returns-in-Some : goal.returns-in-Some

@@ -1,4 +1,4 @@
-use Rattle.service_conformance.proofs.Calls.{window_idle}
+use Rattle.service_conformance.proofs.Judged.{window_idle}
 use Rattle.service_conformance.proofs.conformance.calls.CallsMachine.is_idle.Goals as goal
 
 pub returns-in-Some : goal.returns-in-Some

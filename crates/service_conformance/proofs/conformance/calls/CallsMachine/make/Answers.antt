@@ -1,4 +1,4 @@
-use Rattle.service_conformance.proofs.Calls.{window_made}
+use Rattle.service_conformance.proofs.Judged.{window_made}
 use Rattle.service_conformance.proofs.conformance.calls.CallsMachine.make.Goals as goal
 
 pub returns-in-Some : goal.returns-in-Some

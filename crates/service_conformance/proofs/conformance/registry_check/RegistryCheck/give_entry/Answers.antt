@@ -1,6 +1,6 @@
-use Rattle.std.proofs.Common.{◌≡◌, refl, sym, subst, rules}
+use Rattle.std.proofs.Common.{refl, sym, subst, rules}
 use Rattle.iox2_container.specs.State.{IsRegistry}
-use Rattle.service_conformance.specs.Given.{MayStand, placed}
+use Rattle.service_conformance.specs.Given.{placed}
 use Rattle.service_conformance.proofs.Given.{last_is, stands_is, stands_only}
 use Rattle.service_conformance.proofs.conformance.registry_check.RegistryCheck.give_entry.Goals as goal
 

@@ -1,7 +1,7 @@
-use Rattle.std.proofs.Common.{◌<◌, ◌∙◌, refl, rules, subst, sym}
+use Rattle.std.proofs.Common.{◌∙◌, refl, rules, sym}
 use Rattle.iox2_dynamic.specs.Details.{node_of}
 use Rattle.iox2_dynamic.specs.PortsState.Side.{First, Second}
-use Rattle.iox2_dynamic.specs.Service.{IsService, Service, entries_of_node}
+use Rattle.iox2_dynamic.specs.Service.{IsService}
 use Rattle.service_conformance.specs.Given.{with_ports}
 use Rattle.service_conformance.specs.ServiceFields.{service_of}
 use Rattle.service_conformance.specs.Sides.{ports_at}

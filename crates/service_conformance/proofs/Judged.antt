@@ -1,0 +1,144 @@
+-- What is judged leads from one state to another.
+use Rattle.std.proofs.Common.{◌≡◌, ◌↔◌, ℕ, zero, suc, ◌+◌, ◌<◌, Bool, true, false, Some, Result, Ok, Err, List, [], ◌∷◌, length, map, refl, sym, ◌∙◌, ap, subst, arith}
+use Rattle.std.specs.List.{Contains, slice_get}
+use Rattle.std.specs.Prelude.{◌==◌, IfOk}
+use Rattle.std.specs.declared.alloc.AllocError.{AllocError}
+use Rattle.std.proofs.lemmas.Bool.Decides.{nat_tests}
+use Rattle.std.proofs.lemmas.List.Elements.{All-map, All-weaker}
+use Rattle.std.proofs.lemmas.Option.{slice_get_within}
+use Rattle.histories.specs.declared.left.Left.{Left}
+use Rattle.histories.specs.Frontier.{IsIdle, IsMade, states_in}
+use Rattle.histories.specs.Histories.{AreAll}
+use Rattle.iox2_dynamic.specs.Service.{Service}
+use Rattle.service_conformance.specs.Calls.{Call, CallStep, ChangesNothing, HasNumber, IsIdleCall, LacksNumber}
+use Rattle.service_conformance.specs.Judged.{CallLeaves, IsIdleJudged, IsWithin, Judged, JudgedStep, WindowStep}
+use Rattle.service_conformance.specs.Looks.{IsWatched, Look, Watched, watched}
+use Rattle.service_conformance.proofs.Calls.{all_as, all_of_none}
+
+contains_map : {X Y : Type 0} (f : X → Y) (xs : List X) (x : X) → Contains xs x
+    → Contains (map f xs) (f x)
+contains_map f [] x (k, h, is) = absurd (omega (arith, h))
+contains_map f (y ∷ xs) x (zero, h, is) = (0, omega arith, ap f is)
+contains_map f (y ∷ xs) x (suc k, h, is) =
+    let r = contains_map f xs x (k, omega (arith, h), is) in (suc r.0, omega (arith, r.1), r.2)
+
+-- the call leaves these, and the weak listings look at them
+pub call_leaves : (c : Call) (w : Watched) (xs : List Service) → IsWatched w
+    → AreAll (CallStep c w.service) xs
+    → AreAll (CallLeaves c w) (map (λ s. watched s w.looks) xs)
+call_leaves c w xs is all = (
+  All-map (CallLeaves c w) (λ s. watched s w.looks) xs
+      (All-weaker (CallStep c w.service) (λ s. CallLeaves c w (watched s w.looks))
+      (λ s step. (is, step, refl)) xs all.0),
+  λ v leaves.
+      subst (λ (x : Watched). Contains (map (λ s. watched s w.looks) xs) x) (sym leaves.2)
+      (contains_map (λ s. watched s w.looks) xs v.service (all.1 v.service leaves.1)),
+)
+
+-- what is left by what the call leaves of the service
+pub follow_leaves : (c : Call) (w : Watched) → IsWatched w → (s : Service) → s ≡ w.service
+    → (xs : List Service) → AreAll (CallStep c s) xs → (ys : List Watched)
+    → ys ≡ map (λ s. watched s w.looks) xs → AreAll (CallLeaves c w) ys
+follow_leaves c w is s same xs all ys they =
+    subst (λ (l : List Watched). AreAll (CallLeaves c w) l) (sym they)
+    (call_leaves c w xs is (subst (λ (x : Service). AreAll (CallStep c x) xs) same all))
+
+-- a call that is made where no weak listing looks
+pub made_leaves : (c : Call) (w : Watched) (made : Result Bool AllocError) (s : Service)
+    → IsWatched w → w.looks ≡ [] → IfOk made (IsMade (CallStep c w.service) w.service s)
+    → IfOk made (IsMade (CallLeaves c w) w (record { service = s; looks = w.looks }))
+made_leaves c w (Ok true) s is none all =
+    let same : watched s w.looks ≡ record { service = s; looks = w.looks } = rw none refl in
+    subst (λ (x : Watched). AreAll (CallLeaves c w) (x ∷ [])) same
+    (call_leaves c w (s ∷ []) is all)
+made_leaves c w (Ok false) s is none same =
+    ap (λ (x : Service). record { service = x; looks = w.looks }) same
+made_leaves c w (Err e) s is none all = tt
+
+pub none_of : (looks : List Look) (b : Bool) → b ≡ (length looks == 0) → b ≡ true → looks ≡ []
+none_of [] b is t = refl
+none_of (l ∷ looks) b is t =
+    let said : (length (l ∷ looks) == 0) ≡ true = sym is ∙ t in
+    let none : length (l ∷ looks) ≡ 0 = grind (arith, nat_tests, said) in
+    absurd (omega (arith, none))
+
+-- a call that changes nothing
+pub changes_none : (c : Call) → ChangesNothing c → (old new : Watched) → CallLeaves c old new
+    → new ≡ old
+changes_none c none old new (i, step, is) =
+    is ∙ (ap (λ (s : Service). watched s old.looks) (none old.service new.service step)
+    ∙ ap (λ (l : List Look). record { service = old.service; looks = l }) i)
+
+pub idle_leaves : (c : Call) (w : Watched) → IsWatched w → IsIdleCall c w.service
+    → CallLeaves c w w × ((old new : Watched) → CallLeaves c old new → new ≡ old)
+idle_leaves c w is idle = (
+  (is, idle.0, ap (λ (l : List Look). record { service = w.service; looks = l }) (sym is)),
+  changes_none c idle.1,
+)
+
+some_same : (a b : Judged) → Some a ≡ Some b → a ≡ b
+some_same a b e = cc
+
+module _ (first : ℕ) (calls : List Judged) (number : ℕ) where
+  one_call : (a b : Judged) → HasNumber first calls number a → HasNumber first calls number b
+      → b ≡ a
+  one_call a b p q =
+      let at : q.0 ≡ p.0 = omega (arith, p.1, q.1) in
+      some_same b a (sym q.2 ∙ (ap (slice_get calls) at ∙ p.2))
+
+  module _ (call : Judged) (has : HasNumber first calls number call) (s : Watched) where
+    window_all : (xs : List Watched) → AreAll (JudgedStep number call s) xs
+        → AreAll (λ new. WindowStep first calls s number new) xs
+    window_all xs =
+        all_as (JudgedStep number call s) (λ new. WindowStep first calls s number new) xs
+        (λ x step. (call, has, step))
+        (λ x step. subst (λ c. JudgedStep number c s x) (one_call call step.0 has step.1) step.2)
+
+    pub window_followed : (found : Result (Left Watched) AllocError)
+        → IfOk found (λ left. AreAll (JudgedStep number call s) (states_in left))
+        → IfOk found (λ left. AreAll (λ new. WindowStep first calls s number new) (states_in left))
+    window_followed (Ok left) all = window_all (states_in left) all
+    window_followed (Err e) all = tt
+
+    pub window_made : (made : Result Bool AllocError) (new : Watched)
+        → IfOk made (IsMade (JudgedStep number call s) s new)
+        → IfOk made (IsMade (λ x. WindowStep first calls s number x) s new)
+    window_made (Ok true) new all = window_all (new ∷ []) all
+    window_made (Ok false) new same = same
+    window_made (Err e) new is = tt
+
+    pub window_idle : JudgedStep number call s s × IsIdleJudged number call
+        → WindowStep first calls s number s
+        × IsIdle (WindowStep first calls) number
+    window_idle idle = (
+      (call, has, idle.0),
+      λ old new step. idle.1 old new
+          (subst (λ c. JudgedStep number c old new) (one_call call step.0 has step.1) step.2),
+    )
+
+  pub window_none : LacksNumber first calls number → (s : Watched)
+      → AreAll (λ new. WindowStep first calls s number new) []
+  window_none lacks s =
+      all_of_none (λ new. WindowStep first calls s number new) (λ x step. lacks step.0 step.1)
+
+pub windows_agree : (first : ℕ) (calls all : List Judged)
+    → ((at : ℕ) → at < length calls → slice_get calls at ≡ slice_get all (first + at))
+    → (number : ℕ) → IsWithin first (length calls) number → (old new : Watched)
+    → WindowStep first calls old number new ↔ WindowStep 0 all old number new
+windows_agree first calls all same number within old new = (
+  λ step.
+      let has = step.1 in
+      let at = slice_get_within calls has.0 step.0 has.2 in
+      (step.0, (first + has.0, omega (arith, has.1), sym (same has.0 at) ∙ has.2), step.2),
+  λ step.
+      let has = step.1 in
+      let at : has.0 ≡ first + within.0 = omega (arith, has.1, within.2) in (
+        step.0,
+        (
+          within.0,
+          within.2,
+          same within.0 within.1 ∙ (ap (slice_get all) (sym at) ∙ has.2),
+        ),
+        step.2,
+      ),
+)

@@ -1,0 +1,261 @@
+-- Weak listings lack nothing where their replies see enough.
+use Rattle.std.proofs.Common.{◌≡◌, ◌⊎◌, inl, inr, ℕ, zero, suc, Bool, true, false, List, [], ◌∷◌, length, refl, sym, ◌∙◌, ap, subst, arith}
+use Rattle.std.specs.Prelude.{◌==◌, ◌&&◌, filter, if◌then◌else◌, not}
+use Rattle.std.specs.List.{AllByRecursion, Contains, list_any}
+use Rattle.std.proofs.lemmas.Bool.Decides.{nat_tests}
+use Rattle.iox2_dynamic.specs.Service.{Service}
+use Rattle.service_conformance.specs.declared.conformance.possible.Part.{Part}
+use Rattle.service_conformance.specs.Looks.{Look, ids_in, is_among, look_of, looks_after, without}
+use Rattle.service_conformance.specs.WeakLaws.{IsThere, WeakListingsSeeEnough, looks_through}
+use Rattle.service_conformance.proofs.Looking.{seen_of}
+
+by_cases : (P : Type 0) (b : Bool) → (b ≡ true → P) → (b ≡ false → P) → P
+by_cases P true then_so else_so = then_so refl
+by_cases P false then_so else_so = else_so refl
+
+not_true : (b : Bool) → b ≡ true → not b ≡ true → ⊥
+not_true true t n = absurd (cc)
+not_true false t n = absurd (cc)
+
+-- a service at which an id is settled
+abbrev Settles : (Service → ℕ → Bool) → List Service → ℕ → Type 0
+Settles Test services id = (s : Service) × Contains services s × (Test s id ≡ true)
+
+module _ (Test : Service → ℕ → Bool) where
+  -- the ids that services settle not, one after the other
+  abbrev left : List Service → List ℕ → List ℕ
+  left [] ids = ids
+  left (s ∷ services) ids = left services (filter (λ id. not (Test s id)) ids)
+
+  left_none : (services : List Service) → left services [] ≡ []
+  left_none [] = refl
+  left_none (s ∷ services) = left_none services
+
+  abbrev settled : List Service → ℕ → Bool
+  settled services id = list_any (λ s. Test s id) services
+
+  left_one : (services : List Service) (id : ℕ) (ids : List ℕ)
+      → left services (id ∷ ids)
+      ≡ (if settled services id then left services ids else id ∷ left services ids)
+  left_one [] id ids = refl
+  left_one (s ∷ services) id ids =
+      let rest = left_one services id (filter (λ i. not (Test s i)) ids) in
+      by_cases _ (Test s id) (λ t. rw t refl) (λ f. rw f rest)
+
+  settled_by : (services : List Service) (id : ℕ) → settled services id ≡ true
+      → Settles Test services id
+  settled_by [] id e = absurd (cc)
+  settled_by (s ∷ services) id e =
+      by_cases _ (Test s id) (λ t. (s, (0, omega arith, refl), t)) (λ f.
+      let rest : settled services id ≡ true = rw f at e in
+      let r = settled_by services id rest in
+      (r.0, (suc r.1.0, omega (arith, r.1.1), r.1.2), r.2))
+
+  settled_one : (services : List Service) (id : ℕ) → Settles Test services id
+      → settled services id ≡ true
+  settled_one [] id (s, (k, h, is), t) = absurd (omega (arith, h))
+  settled_one (x ∷ services) id (s, (zero, h, is), t) =
+      let first : Test x id ≡ true = subst (λ y. Test y id ≡ true) (sym is) t in rw first refl
+  settled_one (x ∷ services) id (s, (suc k, h, is), t) =
+      let rest = settled_one services id (s, (k, omega (arith, h), is), t) in
+      by_cases _ (Test x id) (λ first. rw first refl) (λ none. rw none rest)
+
+  -- none is left exactly where each is settled
+  none_left : (services : List Service) (ids : List ℕ) → left services ids ≡ []
+      → AllByRecursion (Settles Test services) ids
+  none_left services [] e = tt
+  none_left services (id ∷ ids) e =
+      by_cases _ (settled services id) (λ t.
+      let same : left services (id ∷ ids) ≡ left services ids =
+      left_one services id ids ∙ rw t refl in
+      (settled_by services id t, none_left services ids (sym same ∙ e))) (λ f.
+      let same : left services (id ∷ ids) ≡ id ∷ left services ids =
+      left_one services id ids ∙ rw f refl in
+      let bars : id ∷ left services ids ≡ [] = sym same ∙ e in
+      absurd (cc))
+
+  all_settled : (services : List Service) (ids : List ℕ)
+      → AllByRecursion (Settles Test services) ids → left services ids ≡ []
+  all_settled services [] all = left_none services
+  all_settled services (id ∷ ids) all =
+      let t = settled_one services id all.0 in
+      left_one services id ids ∙ (rw t refl ∙ all_settled services ids all.1)
+
+abbrev was_there : Part → Service → ℕ → Bool
+was_there p s id = is_among (ids_in s p) id
+
+abbrev was_away : Part → Service → ℕ → Bool
+was_away p s id = not (is_among (ids_in s p) id)
+
+twice_not : (test : ℕ → Bool) (ids : List ℕ) → filter test ids ≡ filter (λ i. not (not (test i))) ids
+twice_not test [] = refl
+twice_not test (id ∷ ids) =
+    let rest = twice_not test ids in
+    by_cases _ (test id) (λ t. rw t (ap (λ (l : List ℕ). id ∷ l) rest)) (λ f. rw f rest)
+
+looks_none : (services : List Service) → looks_through services [] ≡ []
+looks_none [] = refl
+looks_none (s ∷ services) = looks_none services
+
+-- the weak listing lacks nothing exactly where all ids are settled
+record NoneLeft (l : Look) (services : List Service) : Type 0 where
+  pub unseen : left (was_there l.part) services l.unseen ≡ []
+  pub lasting : left (was_away l.part) services l.lasting ≡ []
+
+empty_of : (ids : List ℕ) → (length ids == 0) ≡ true → ids ≡ []
+empty_of [] e = refl
+empty_of (id ∷ ids) e =
+    let none : length (id ∷ ids) ≡ 0 = grind (arith, nat_tests, e) in
+    absurd (omega (arith, none))
+
+both_true : (a b : Bool) → (a && b) ≡ true → (a ≡ true) × (b ≡ true)
+both_true true true e = (refl, refl)
+both_true true false e = absurd (cc)
+both_true false b e = absurd (cc)
+
+module _ (s : Service) (l : Look) where
+  abbrev next : Look
+  next = seen_of (ids_in s l.part) l
+
+  abbrev is_over : Bool
+  is_over = length next.unseen == 0 && length next.lasting == 0
+
+  next_left : (services : List Service) → NoneLeft next services → NoneLeft l (s ∷ services)
+  next_left services n = record {
+    unseen = n.unseen;
+    lasting = ap (left (was_away l.part) services)
+        (sym (twice_not (is_among (ids_in s l.part)) l.lasting)) ∙ n.lasting;
+  }
+
+  left_next : (services : List Service) → NoneLeft l (s ∷ services) → NoneLeft next services
+  left_next services n = record {
+    unseen = n.unseen;
+    lasting = ap (left (was_away l.part) services)
+        (twice_not (is_among (ids_in s l.part)) l.lasting) ∙ n.lasting;
+  }
+
+  over_left : (services : List Service) → is_over ≡ true → NoneLeft next services
+  over_left services t =
+      let both = both_true (length next.unseen == 0) (length next.lasting == 0) t in
+      record {
+        unseen = ap (left (was_there l.part) services) (empty_of next.unseen both.0)
+            ∙ left_none (was_there l.part) services;
+        lasting = ap (left (was_away l.part) services) (empty_of next.lasting both.1)
+            ∙ left_none (was_away l.part) services;
+      }
+
+  over_now : NoneLeft next [] → is_over ≡ true
+  over_now n = rw (n.unseen, n.lasting) refl
+
+one_next : (s : Service) (l : Look) → is_over s l ≡ false → looks_after s (l ∷ []) ≡ next s l ∷ []
+one_next s l f = rw f refl
+
+none_next : (s : Service) (l : Look) → is_over s l ≡ true → looks_after s (l ∷ []) ≡ []
+none_next s l t = rw t refl
+
+through_left : (s : Service) (services : List Service) (l : Look)
+    → looks_through (s ∷ services) (l ∷ []) ≡ [] → NoneLeft l (s ∷ services)
+through_left s [] l e =
+    by_cases _ (is_over s l) (λ t. next_left s l [] (over_left s l [] t))
+    (λ f. let bars : next s l ∷ [] ≡ [] = sym (one_next s l f) ∙ e in absurd (cc))
+through_left s (x ∷ more) l e =
+    by_cases _ (is_over s l) (λ t. next_left s l (x ∷ more) (over_left s l (x ∷ more) t))
+    (λ f. next_left s l (x ∷ more)
+    (through_left x more (next s l)
+    (ap (λ (o : List Look). looks_through (x ∷ more) o) (sym (one_next s l f)) ∙ e)))
+
+left_through : (s : Service) (services : List Service) (l : Look) → NoneLeft l (s ∷ services)
+    → looks_through (s ∷ services) (l ∷ []) ≡ []
+left_through s [] l n = none_next s l (over_now s l (left_next s l [] n))
+left_through s (x ∷ more) l n =
+    by_cases _ (is_over s l)
+    (λ t. ap (λ (o : List Look). looks_through (x ∷ more) o) (none_next s l t)
+    ∙ looks_none (x ∷ more))
+    (λ f. ap (λ (o : List Look). looks_through (x ∷ more) o) (one_next s l f)
+    ∙ left_through x more (next s l) (left_next s l (x ∷ more) n))
+
+-- an id of a list that is not in the reply is among those of the list without the reply
+kept_one : (P : ℕ → Type 0) (reply ids : List ℕ) (id : ℕ) → AllByRecursion P (without reply ids)
+    → is_among ids id ≡ true → is_among reply id ≡ false → P id
+kept_one P reply [] id all here away = absurd (cc)
+kept_one P reply (x ∷ ids) id all here away =
+    let later : is_among ids id ≡ true → P id =
+    λ rest. by_cases _ (is_among reply x)
+    (λ t. kept_one P reply ids id
+    (subst (λ (l : List ℕ). AllByRecursion P l) (left_out t) all) rest away)
+    (λ n. kept_one P reply ids id
+    (subst (λ (l : List ℕ). AllByRecursion P l) (kept_in n) all).1 rest away) in
+    by_cases _ (x == id) (λ t.
+    let same : x ≡ id = grind (arith, nat_tests, t) in
+    let gone : is_among reply x ≡ false =
+    subst (λ i. is_among reply i ≡ false) (sym same) away in
+    subst P same (subst (λ (l : List ℕ). AllByRecursion P l) (kept_in gone) all).0)
+    (λ f. later (rw f at here))
+  where
+    left_out : is_among reply x ≡ true → without reply (x ∷ ids) ≡ without reply ids
+    left_out t = rw t refl
+
+    kept_in : is_among reply x ≡ false → without reply (x ∷ ids) ≡ x ∷ without reply ids
+    kept_in f = rw f refl
+
+kept_all : (P : ℕ → Type 0) (reply ids : List ℕ) → ((id : ℕ) → is_among reply id ≡ false → P id)
+    → AllByRecursion P (without reply ids)
+kept_all P reply [] each = tt
+kept_all P reply (x ∷ ids) each =
+    let rest = kept_all P reply ids each in
+    by_cases _ (is_among reply x) (λ t. rw t rest) (λ f. rw f (each x f, rest))
+
+-- an id is there in all, or away in one
+there_or_away : (p : Part) (id : ℕ) (services : List Service)
+    → AllByRecursion (IsThere p id) services ⊎ Settles (was_away p) services id
+there_or_away p id [] = inl tt
+there_or_away p id (s ∷ services) =
+    let rest = there_or_away p id services in
+    by_cases _ (is_among (ids_in s p) id) (λ t. more rest t)
+    (λ f. inr (s, (0, omega arith, refl), rw f refl))
+  where
+    more : AllByRecursion (IsThere p id) services ⊎ Settles (was_away p) services id
+        → is_among (ids_in s p) id ≡ true
+        → AllByRecursion (IsThere p id) (s ∷ services) ⊎ Settles (was_away p) (s ∷ services) id
+    more (inl all) t = inl (t, all)
+    more (inr one) t = inr (one.0, (suc one.1.0, omega (arith, one.1.1), one.1.2), one.2)
+
+all_there : (p : Part) (id : ℕ) (services : List Service) (s : Service)
+    → AllByRecursion (IsThere p id) services → Contains services s → is_among (ids_in s p) id ≡ true
+all_there p id [] s all (k, h, is) = absurd (omega (arith, h))
+all_there p id (x ∷ services) s all (zero, h, is) =
+    subst (λ y. is_among (ids_in y p) id ≡ true) is all.0
+all_there p id (x ∷ services) s all (suc k, h, is) =
+    all_there p id services s all.1 (k, omega (arith, h), is)
+
+pub enough : WeakListingsSeeEnough
+enough number p reply first others =
+    let services = first ∷ others in
+    let l = look_of number p reply first in
+    let Away = Settles (was_away p) services in (
+      λ none.
+          let n = through_left first others l none in
+          let away = none_left (was_away p) services l.lasting n.lasting in
+          record {
+            seen = none_left (was_there p) services reply n.unseen;
+            lasting = λ id all. by_cases _ (is_among reply id) (λ t. t) (λ f.
+                let one = kept_one Away reply (ids_in first p) id away all.0 f in
+                absurd (not_true (is_among (ids_in one.0 p) id)
+                (all_there p id services one.0 all one.1) one.2));
+          },
+      λ so.
+          left_through first others l (record {
+            unseen = all_settled (was_there p) services reply so.seen;
+            lasting = all_settled (was_away p) services l.lasting
+                (kept_all Away reply (ids_in first p) (λ id f.
+                either (Away id) (there_or_away p id services)
+                (λ all. not_both (is_among reply id) (so.lasting id all) f)));
+          }),
+    )
+  where
+    either : {A : Type 0} (B : Type 0) → A ⊎ B → (A → ⊥) → B
+    either B (inl a) not = absurd (not a)
+    either B (inr b) not = b
+
+    not_both : (b : Bool) → b ≡ true → b ≡ false → ⊥
+    not_both b t f = (let z : true ≡ false = sym t ∙ f in cc)

@@ -1,0 +1,10 @@
+use Rattle.std.proofs.Common.{ℕ, ◌∙◌, ap, rules}
+use Rattle.std.specs.Prelude.{filter, not}
+use Rattle.std.proofs.lemmas.Fn.{filter_same}
+use Rattle.service_conformance.specs.Looks.{is_among}
+use Rattle.service_conformance.proofs.conformance.look.without.Goals as goal
+
+pub returns : goal.returns
+returns c =
+    filter_same _ _ _ (λ x b f' k. search rules) _ _ c.retain.ensures.filtered
+    ∙ ap (filter (λ (id : ℕ). not (is_among c.args.others.now id))) c.in_ok-left.ensures.items

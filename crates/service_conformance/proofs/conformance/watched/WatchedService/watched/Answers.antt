@@ -1,0 +1,9 @@
+use Rattle.std.proofs.Common.{◌≡◌, List, subst, sym}
+use Rattle.service_conformance.specs.Looks.{Look, looks_after}
+use Rattle.service_conformance.proofs.Looking.{looks_twice}
+use Rattle.service_conformance.proofs.conformance.watched.WatchedService.watched.Goals as goal
+
+pub invariant_of-result : goal.invariant_of-result
+invariant_of-result c =
+    subst (λ (l : List Look). looks_after c.args.service l ≡ l) (sym c.in_ok-looks.ensures)
+    (looks_twice c.args.service c.args.looks.now)
