@@ -14,7 +14,7 @@ module _ (lines : List (Bor (List ℕ))) (k : ℕ) where
   pub no_line : (last : ℕ) → ((l : Line) → IsLine l → text_at lines k ≢ line_text l)
       → (seen : LogCall) → BeginsIn lines k last seen → ⊥
   no_line last none seen (inl b) =
-      none (begin seen.service seen.caller.now b.command) b.says.0 b.says.1
+      none (begin seen.service seen.caller.now b.begun) b.says.0 b.says.1
   no_line last none seen (inr a) = none (reply a.words.now) a.says.0 a.says.1
 
   -- nor does another line than a begin and a reply
@@ -22,29 +22,29 @@ module _ (lines : List (Bor (List ℕ))) (k : ℕ) where
       → is_begin l ≡ false → is_reply l ≡ false → (seen : LogCall)
       → BeginsIn lines k last seen → ⊥
   no_call last (service s) p is b r seen (inl h) =
-      one_way (service s) (begin seen.service seen.caller.now h.command) p h.says.0
+      one_way (service s) (begin seen.service seen.caller.now h.begun) p h.says.0
       (sym is ∙ h.says.1)
   no_call last (service s) p is b r seen (inr h) =
       one_way (service s) (reply h.words.now) p h.says.0 (sym is ∙ h.says.1)
   no_call last (call n c) p is b r seen (inl h) =
-      one_way (call n c) (begin seen.service seen.caller.now h.command) p h.says.0
+      one_way (call n c) (begin seen.service seen.caller.now h.begun) p h.says.0
       (sym is ∙ h.says.1)
   no_call last (call n c) p is b r seen (inr h) =
       one_way (call n c) (reply h.words.now) p h.says.0 (sym is ∙ h.says.1)
   no_call last (reply ws) p is b r seen h = absurd (cc)
   no_call last (begin n x c) p is b r seen h = absurd (cc)
   no_call last (end x ws) p is b r seen (inl h) =
-      one_way (end x ws) (begin seen.service seen.caller.now h.command) p h.says.0
+      one_way (end x ws) (begin seen.service seen.caller.now h.begun) p h.says.0
       (sym is ∙ h.says.1)
   no_call last (end x ws) p is b r seen (inr h) =
       one_way (end x ws) (reply h.words.now) p h.says.0 (sym is ∙ h.says.1)
   no_call last (crash x) p is b r seen (inl h) =
-      one_way (crash x) (begin seen.service seen.caller.now h.command) p h.says.0
+      one_way (crash x) (begin seen.service seen.caller.now h.begun) p h.says.0
       (sym is ∙ h.says.1)
   no_call last (crash x) p is b r seen (inr h) =
       one_way (crash x) (reply h.words.now) p h.says.0 (sym is ∙ h.says.1)
   no_call last (given n s) p is b r seen (inl h) =
-      one_way (given n s) (begin seen.service seen.caller.now h.command) p h.says.0
+      one_way (given n s) (begin seen.service seen.caller.now h.begun) p h.says.0
       (sym is ∙ h.says.1)
   no_call last (given n s) p is b r seen (inr h) =
       one_way (given n s) (reply h.words.now) p h.says.0 (sym is ∙ h.says.1)
@@ -54,7 +54,7 @@ module _ (lines : List (Bor (List ℕ))) (k : ℕ) where
       → ((seen : LogCall) → IsAlone lines k seen → ⊥)
       → (seen : LogCall) → BeginsIn lines k last seen → ⊥
   no_begin last words is none seen (inl b) =
-      one_way (reply words) (begin seen.service seen.caller.now b.command) tt b.says.0
+      one_way (reply words) (begin seen.service seen.caller.now b.begun) tt b.says.0
       (sym is ∙ b.says.1)
   no_begin last words is none seen (inr a) = none seen a
 

@@ -3,7 +3,7 @@ use Rattle.std.specs.Prelude.{◌≡◌, ◌⊎◌, Option, Some, None, ℕ, zer
 use Rattle.std.specs.Option.{option_or}
 use Rattle.std.specs.Borrow.{Bor}
 use Rattle.line_streams.specs.Spelling.{HasNo}
-use Rattle.log_lines.specs.Commands.{NamedCommand}
+use Rattle.log_lines.specs.Commands.{Begun, NamedCommand}
 use Rattle.log_lines.specs.Lines.{IsLine, Line, is_note, line_text}
 use Rattle.log_lines.specs.Lines.Line.{begin, call, crash, end, reply, service}
 use Rattle.service_descriptions.specs.declared.replay.lines.service_line.ServiceLine.{ServiceLine}
@@ -77,8 +77,8 @@ IsBehind text rest =
 -- A caller begins the call in this line: it is as the line says, and ends as one above the last
 -- line says.
 pub record IsBegun (lines : List (Bor (List ℕ))) (k last : ℕ) (seen : LogCall) : Type 0 where
-  pub command : NamedCommand
-  pub says : Says lines k (begin seen.service seen.caller.now command)
+  pub begun : Begun
+  pub says : Says lines k (begin seen.service seen.caller.now begun)
   pub text : IsBehind (text_at lines k) seen.command.now
   pub ends : EndsFrom lines seen.caller.now (k + 1) last seen.end
 

@@ -1,6 +1,6 @@
 //! The calls of a log, by its lines.
 ghost use Rattle.std.specs.Prelude.{◌≡◌, ◌<◌, IfNone, IfOk, IfSome, false};
-ghost use Rattle.log_lines.specs.Commands.{NamedCommand};
+ghost use Rattle.log_lines.specs.Commands.{Begun, NamedCommand};
 ghost use Rattle.log_lines.specs.Lines.{line_seen};
 ghost use Rattle.log_lines.specs.Lines.Line.{begin, call, reply, service};
 ghost use Rattle.history_drawing.specs.Calls.{BeginsIn, EndsFrom, EndsIn, IsAlone, IsBehind, IsFirstService};
@@ -96,8 +96,8 @@ fn end_from<'a>(lines: &[&'a [u8]], caller: &[u8], first: usize, last: usize) ->
 
 /// The number of the service and the caller of a line that begins a call.
 fn begun<'a>(read: &LogLine<'a>) -> Option<(Option<u64>, &'a [u8])>
-    ensures some { IfSome result (λ found. (c : NamedCommand)
-        × (line_seen read.now ≡ begin found.0 found.1.now c)) }
+    ensures some { IfSome result (λ found. (b : Begun)
+        × (line_seen read.now ≡ begin found.0 found.1.now b)) }
     ensures none { IfNone result (is_begin (line_seen read.now) ≡ false) }
 {
     match read {

@@ -19,7 +19,7 @@ pub above_new : (bytes : List ℕ) (log : Log) → log.services ≡ []
     → ((name : List ℕ) → log.callers name ≡ None) → log.waits ≡ None → IsAbove bytes log bytes 1
 above_new bytes log services callers waits =
     let none : calls_in log ≡ 0 =
-    ap (λ (l : List Service). sum_by (λ (s : Service). length s.calls) l) services in
+    ap (λ (l : List Service). sum_by (λ (s : Service). length s.commands) l) services in
     record {
       text = [];
       count = 0;

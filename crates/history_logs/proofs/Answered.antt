@@ -10,23 +10,26 @@ use Rattle.histories.specs.Histories.{IsOpen, StandsAt}
 use Rattle.histories.proofs.Events.{stands_cases, stands_within}
 use Rattle.iox2_dynamic.specs.Service as dynamic
 use Rattle.line_streams.specs.Spelling.{HasNo}
+use Rattle.log_lines.specs.Commands.{Begun}
+use Rattle.log_lines.specs.Commands.Begun.{command, weak}
 use Rattle.log_lines.specs.Lines.{IsLine, Line, line_text}
 use Rattle.log_lines.specs.Lines.Line.{service, call, reply, begin, end, crash, given}
 use Rattle.service_conformance.specs.declared.conformance.seen_reply.SeenReply.{SeenReply}
-use Rattle.service_conformance.specs.Calls.{Call, answered}
-use Rattle.service_conformance.specs.Seen.{seen_text}
+use Rattle.service_conformance.specs.declared.conformance.possible.Part.{Part}
+use Rattle.service_conformance.specs.Judged.{Judged, judged_answered, shown}
+use Rattle.service_conformance.specs.Judged.Judged.{call as judged_call, starts, stops}
 use Rattle.service_descriptions.specs.declared.replay.lines.service_line.ServiceLine.{ServiceLine}
 use Rattle.history_logs.specs.declared.logs.service.LogCall.{LogCall}
 use Rattle.history_logs.specs.declared.logs.verdict.Expected.{Expected}
 use Rattle.history_logs.specs.Good.{IsKept, IsOrderly, IsReadTo}
-use Rattle.history_logs.specs.Placed.{Answers, IsAnsweredIn, IsLineAt, IsPlaced}
+use Rattle.history_logs.specs.Placed.{Answers, IsAnsweredIn, IsLineAt, IsPlaced, IsSaidIn}
 use Rattle.history_logs.specs.Reading.{Dies, GoesOn, HasRead, Log, Says}
 use Rattle.history_logs.specs.Reading.HasRead.{nothing as none_read, note as note_read, line as line_read}
 use Rattle.history_logs.specs.declared.logs.callers.CallerState.{CallerState}
 use Rattle.history_logs.specs.declared.logs.callers.CallerState.TheVariants as caller
 use Rattle.history_logs.proofs.Kept.{kept_new, kept_step}
 use Rattle.history_logs.proofs.Orderly.{open_new}
-use Rattle.history_logs.specs.Seen.{Service, calls_answered, started, unseen, with_begin, with_crash, with_end}
+use Rattle.history_logs.specs.Seen.{Begins, Service, called, calls_answered, calls_shown, changed, start_of, started, starting, stopping, unseen, with_begin, with_crash, with_end, with_look, with_over, with_part}
 
 -- so it is above a line: the events stand in these lines, and replies where their calls end,
 -- whatever follows
@@ -57,24 +60,66 @@ get_last [] y (suc i) x h e = absurd (omega (arith, h))
 get_last (z ∷ xs) y zero x h e = absurd (omega (arith, h))
 get_last (z ∷ xs) y (suc i) x h e = get_last xs y i x (omega (arith, h)) e
 
-get_answered : (calls : List Call) (number : ℕ) (r : SeenReply) (c : Call)
-    → slice_get calls number ≡ Some c
-    → slice_get (calls_answered calls number r) number ≡ Some (answered c (seen_text r))
-get_answered [] number r c e = absurd (cc)
-get_answered (x ∷ calls) zero r c e = ap (λ o. Some (answered o (seen_text r))) (some_is x c e)
+get_changed : (f : Judged → Judged) (calls : List Judged) (number : ℕ) (c : Judged)
+    → slice_get calls number ≡ Some c → slice_get (changed f calls number) number ≡ Some (f c)
+get_changed f [] number c e = absurd (cc)
+get_changed f (x ∷ calls) zero c e = ap (λ o. Some (f o)) (some_is x c e)
   where
-    some_is : (a b : Call) → Some a ≡ Some b → a ≡ b
+    some_is : (a b : Judged) → Some a ≡ Some b → a ≡ b
     some_is a b e = cc
-get_answered (x ∷ calls) (suc number) r c e = get_answered calls number r c e
+get_changed f (x ∷ calls) (suc number) c e = get_changed f calls number c e
 
-get_unanswered : (calls : List Call) (number other : ℕ) (r : SeenReply) → other ≢ number
-    → slice_get (calls_answered calls number r) other ≡ slice_get calls other
-get_unanswered [] number other r n = refl
-get_unanswered (x ∷ calls) zero zero r n = absurd (n refl)
-get_unanswered (x ∷ calls) zero (suc other) r n = refl
-get_unanswered (x ∷ calls) (suc number) zero r n = refl
-get_unanswered (x ∷ calls) (suc number) (suc other) r n =
-    get_unanswered calls number other r (λ e. n (ap suc e))
+get_unchanged : (f : Judged → Judged) (calls : List Judged) (number other : ℕ) → other ≢ number
+    → slice_get (changed f calls number) other ≡ slice_get calls other
+get_unchanged f [] number other n = refl
+get_unchanged f (x ∷ calls) zero zero n = absurd (n refl)
+get_unchanged f (x ∷ calls) zero (suc other) n = refl
+get_unchanged f (x ∷ calls) (suc number) zero n = refl
+get_unchanged f (x ∷ calls) (suc number) (suc other) n =
+    get_unchanged f calls number other (λ e. n (ap suc e))
+
+-- where a reply is shown, what is said stays said
+said_shown : (bytes : List ℕ) (c : Judged) (r : SeenReply) (k : ℕ) → IsSaidIn bytes c k
+    → IsSaidIn bytes (shown c r) k
+said_shown bytes (judged_call c) r k said = said
+said_shown bytes (starts p ids) r k said = tt
+said_shown bytes (stops start seen) r k said = said
+
+-- what stands at a number after it was shown
+record StandsShown (calls : List Judged) (number : ℕ) (c : Judged) (r : SeenReply) : Type 0 where
+  pub now : Judged
+  pub there : slice_get calls number ≡ Some now
+  pub says : (bytes : List ℕ) (k : ℕ) → IsSaidIn bytes c k → IsSaidIn bytes now k
+
+stands_shown : (calls : List Judged) (start : Option ℕ) (number : ℕ) (c : Judged) (r : SeenReply)
+    → slice_get calls number ≡ Some c → StandsShown (calls_shown calls start r) number c r
+stands_shown calls None number c r e =
+    record { now = c; there = e; says = λ bytes k said. said }
+stands_shown calls (Some start) number c r e =
+    elim (cases_eq number start)
+    as (λ _. StandsShown (calls_shown calls (Some start) r) number c r) [
+      | inl same ↦ record {
+        now = shown c r;
+        there = subst
+            (λ n. slice_get (changed (λ x. shown x r) calls n) number ≡ Some (shown c r)) same
+            (get_changed (λ x. shown x r) calls number c e);
+        says = λ bytes k said. said_shown bytes c r k said;
+      }
+      | inr other ↦ record {
+        now = c;
+        there = get_unchanged (λ x. shown x r) calls start number other ∙ e;
+        says = λ bytes k said. said;
+      }
+    ]
+
+said_answered : (bytes : List ℕ) (c : Judged) (r : SeenReply) (k : ℕ) (l : Line) (words : List ℕ)
+    → Says words r → IsLine l → Answers l words → IsLineAt bytes k (line_text l)
+    → IsSaidIn bytes (judged_answered c r) k
+said_answered bytes (judged_call c) r k l words says is answer at =
+    (words, ap (λ (w : List ℕ). Some w) says.text, (l, is, answer, at))
+said_answered bytes (starts p ids) r k l words says is answer at = tt
+said_answered bytes (stops start seen) r k l words says is answer at =
+    (words, ap (λ (w : List ℕ). Some w) says.text, (l, is, answer, at))
 
 push_rising : (ps : List ℕ) (count k : ℕ) → AllPairs (λ (one other : ℕ). one ≤ other) ps
     → All (λ p. p ≤ count) ps → count ≤ k
@@ -118,23 +163,54 @@ module _ (text : List ℕ) (count : ℕ) (s : Service) (p : PlacedTo text count 
 
   module _ (k : ℕ) (h : count ≤ k) where
     -- a call begins in this line
-    pub placed_begin : (c : LogCall) → PlacedTo text k (with_begin s c k)
-    placed_begin c = record {
+    placed_part : (c : LogCall) → PlacedTo text k (with_part s c k)
+    placed_part c = record {
       long = both_long s.places k s.events (Begin (length s.calls)) p.long;
       rising = push_rising s.places count k p.rising p.upto h;
       upto = push_upto s.places count k p.upto h;
       answers = λ place number line at is rest.
           elim (stands_cases s.events (Begin (length s.calls)) place (End number) at)
-          as (λ _. IsAnsweredIn (text ++ rest) (with_begin s c k) number line) [
+          as (λ _. IsAnsweredIn (text ++ rest) (with_part s c k) number line) [
             | inl before ↦
                 let lt : place < length s.places =
                 omega (arith, p.long, stands_within s.events place (End number) before) in
                 let a = p.answers place number line before
                 (get_back s.places k place line lt is) rest in
-                (a.0, a.1, get_on s.calls c.seen number a.0 a.2, a.3, a.4)
+                (a.0, get_on s.calls c.seen number a.0 a.1, a.2)
             | inr last ↦ let no_end = last.1 in absurd (cc)
           ];
     }
+
+    pub placed_begin : (c : LogCall) → PlacedTo text k (with_begin s c k)
+    placed_begin c =
+        let p = placed_part c in
+        record { long = p.long; rising = p.rising; upto = p.upto; answers = p.answers }
+
+    -- what starts to look is over
+    placed_over : (over : ℕ) (part : Part) (ids : Option (List ℕ))
+        → slice_get s.calls over ≡ Some (starts part ids) → PlacedTo text k (with_over s over k)
+    placed_over over part ids called = record {
+      long = both_long s.places k s.events (End over) p.long;
+      rising = push_rising s.places count k p.rising p.upto h;
+      upto = push_upto s.places count k p.upto h;
+      answers = λ place number line at is rest.
+          elim (stands_cases s.events (End over) place (End number) at)
+          as (λ _. IsAnsweredIn (text ++ rest) (with_over s over k) number line) [
+            | inl before ↦
+                let lt : place < length s.places =
+                omega (arith, p.long, stands_within s.events place (End number) before) in
+                p.answers place number line before (get_back s.places k place line lt is) rest
+            | inr last ↦
+                let same : over ≡ number = over_is over number last.1 in (
+                  starts part ids,
+                  subst (λ n. slice_get s.calls n ≡ Some (starts part ids)) same called,
+                  tt,
+                )
+          ];
+    }
+      where
+        over_is : (a b : ℕ) → End a ≡ End b → a ≡ b
+        over_is a b e = cc
 
     -- the caller of a call died
     pub placed_crash : (dead : ℕ) → PlacedTo text k (with_crash s dead k)
@@ -154,7 +230,7 @@ module _ (text : List ℕ) (count : ℕ) (s : Service) (p : PlacedTo text count 
     }
 
     -- a call that is open was answered in this line
-    pub placed_end : (ended : ℕ) (r : SeenReply) (c : Call) (l : Line) (words : List ℕ)
+    pub placed_end : (ended : ℕ) (r : SeenReply) (c : Judged) (l : Line) (words : List ℕ)
         → IsOpen s.events ended → slice_get s.calls ended ≡ Some c → Says words r → IsLine l
         → Answers l words → ((rest : List ℕ) → IsLineAt (text ++ rest) k (line_text l))
         → PlacedTo text k (with_end s ended r k)
@@ -173,24 +249,27 @@ module _ (text : List ℕ) (count : ℕ) (s : Service) (p : PlacedTo text count 
                 (place, inl (subst (λ n. StandsAt s.events place (End n)) same before)) in
                 let a = p.answers place number line before
                 (get_back s.places k place line lt is) rest in
-                (a.0, a.1, get_unanswered s.calls ended number r other ∙ a.2, a.3, a.4)
+                let sh = stands_shown s.calls (start_of s.calls ended) number a.0 r a.1 in (
+                  sh.now,
+                  get_unchanged (λ x. judged_answered x r)
+                      (calls_shown s.calls (start_of s.calls ended) r) ended number other
+                      ∙ sh.there,
+                  sh.says (text ++ rest) line a.2,
+                )
             | inr last ↦
                 let same : ended ≡ number = end_is ended number last.1 in
                 let here : k ≡ line =
-                get_last s.places k place line (last.0 ∙ sym p.long) is in (
-                  answered c (seen_text r),
-                  words,
+                get_last s.places k place line (last.0 ∙ sym p.long) is in
+                let sh = stands_shown s.calls (start_of s.calls ended) ended c r called in (
+                  judged_answered sh.now r,
                   subst
                       (λ n. slice_get (calls_answered s.calls ended r) n
-                      ≡ Some (answered c (seen_text r)))
-                      same (get_answered s.calls ended r c called),
-                  ap (λ (w : List ℕ). Some w) says.text,
-                  (
-                    l,
-                    is_line,
-                    answer,
-                    subst (λ n. IsLineAt (text ++ rest) n (line_text l)) here (there rest),
-                  ),
+                      ≡ Some (judged_answered sh.now r))
+                      same
+                      (get_changed (λ x. judged_answered x r)
+                      (calls_shown s.calls (start_of s.calls ended) r) ended sh.now sh.there),
+                  said_answered (text ++ rest) sh.now r line l words says is_line answer
+                      (subst (λ n. IsLineAt (text ++ rest) n (line_text l)) here (there rest)),
                 )
           ];
     }
@@ -280,6 +359,27 @@ module _ (text : List ℕ) (count : ℕ) where
       (placed_crash text count d.0 (all_at Now ss at d.0 all d.1) (count + 1) (omega arith) number)
       d.2
 
+  placed_look : (s : Service) (part : Part) → Now s → Next (with_look s part (count + 1))
+  placed_look s part p =
+      let k = count + 1 in
+      let n = length s.calls in
+      let one = with_begin s (starting part) k in
+      let first : Next one = placed_begin text count s p k (omega arith) (starting part) in
+      let second : Next (with_over one n k) =
+      placed_over text k one first k (omega arith) n part None
+      (get_end s.calls (starting part).seen) in
+      placed_part text k (with_over one n k) second k (omega arith) (stopping n)
+
+  placed_begun : (s t : Service) (b : Begun) (current : ℕ) → Now s → Begins s b (count + 1) t current
+      → Next t
+  placed_begun s t (command c) current p begins =
+      subst Next (sym begins.0)
+      (placed_begin text count s p (count + 1) (omega arith) (called s c))
+  placed_begun s t (weak r) current p (inl looks) =
+      subst Next (sym looks.2) (placed_look s looks.0 p)
+  placed_begun s t (weak r) current p (inr lists) =
+      subst Next (sym lists.1) (placed_begin text count s p (count + 1) (omega arith) _)
+
   placed_step : (old new : Log) (l : Line) → IsKept old → All Now old.services
       → GoesOn old (count + 1) l new → IsLine l
       → ((rest : List ℕ) → IsLineAt (text ++ rest) (count + 1) (line_text l))
@@ -288,7 +388,7 @@ module _ (text : List ℕ) (count : ℕ) where
       subst (λ (x : Log). All Next x.services) (sym g.2)
       (All-push Next old.services (unseen line) (all_later old.services all)
       (placed_new text (count + 1) line))
-  placed_step old new (call number command) kept all g is there =
+  placed_step old new (call number c) kept all g is there =
       subst (λ (x : Log). All Next x.services) (sym g.4) (all_later old.services all)
   placed_step old new (reply words) kept all g is there =
       let s = g.2 in
@@ -301,11 +401,10 @@ module _ (text : List ℕ) (count : ℕ) where
       (reply words) words (open_new s g.1 k orderly) (get_end s.calls g.1.seen) g.6 tt refl there in
       set_next old.services new.services g.0 _ all ended
       (ap (λ (x : Log). x.services) g.7)
-  placed_step old new (begin number name command) kept all g is there =
+  placed_step old new (begin number name begun) kept all g is there =
       let s = g.1 in
-      set_next old.services new.services g.0 (with_begin s _ (count + 1)) all
-      (placed_begin text count s (all_at Now old.services g.0 s all g.3.there) (count + 1)
-      (omega arith) _) g.5
+      set_next old.services new.services g.0 g.5.0 all
+      (placed_begun s g.5.0 begun g.5.1 (all_at Now old.services g.0 s all g.3.there) g.5.2) g.5.3
   placed_step old new (end name words) kept all g is there =
       let s = g.2 in
       let k = count + 1 in

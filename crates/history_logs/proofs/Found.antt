@@ -13,8 +13,8 @@ use Rattle.history_windows.specs.declared.window.Cut.{Cut}
 use Rattle.history_windows.specs.declared.window.Cut.TheVariants as cut
 use Rattle.history_windows.specs.declared.window.Window.{Window}
 use Rattle.history_windows.specs.Windows.{IsStop, IsVerdict, IsWhole}
-use Rattle.iox2_dynamic.specs.Service as dynamic
-use Rattle.service_conformance.specs.Calls.{Call, WindowStep}
+use Rattle.service_conformance.specs.Judged.{Judged, WindowStep}
+use Rattle.service_conformance.specs.Looks.{Watched}
 use Rattle.history_logs.specs.declared.logs.verdict.Verdict.{Verdict}
 use Rattle.history_logs.specs.declared.logs.verdict.Verdict.TheVariants.{Conforms, Refused, ManyConfigs, ManyOpen, BadLine}
 use Rattle.history_logs.specs.Good.{IsOrderly}
@@ -206,28 +206,28 @@ pub first_none : IsFirstFound [] None
 first_none = All-nil IsSeenRightly
 
 -- the verdict on the fields of a service is one on the service
-pub verdict_of : (s : Service) (calls : List Call) (states : List dynamic.Service)
-    (events : List Event) (v : WindowVerdict dynamic.Service) → calls ≡ s.calls → states ≡ news s
+pub verdict_of : (s : Service) (calls : List Judged) (states : List Watched)
+    (events : List Event) (v : WindowVerdict Watched) → calls ≡ s.calls → states ≡ news s
     → events ≡ s.events → IsVerdict (WindowStep 0 calls) states events v
     → IsVerdict (StepOf s) (news s) s.events v
 verdict_of s calls states events v a b e x =
-    subst (λ (l : List Call). IsVerdict (WindowStep 0 l) (news s) s.events v) a
-    (subst (λ (l : List dynamic.Service). IsVerdict (WindowStep 0 calls) l s.events v) b
+    subst (λ (l : List Judged). IsVerdict (WindowStep 0 l) (news s) s.events v) a
+    (subst (λ (l : List Watched). IsVerdict (WindowStep 0 calls) l s.events v) b
     (subst (λ (l : List Event). IsVerdict (WindowStep 0 calls) states l v) e x))
 
 -- the same of a verdict on all of what was seen
-pub whole_of : (s : Service) (calls : List Call) (states : List dynamic.Service)
-    (events : List Event) (v : WindowVerdict dynamic.Service) → calls ≡ s.calls → states ≡ news s
+pub whole_of : (s : Service) (calls : List Judged) (states : List Watched)
+    (events : List Event) (v : WindowVerdict Watched) → calls ≡ s.calls → states ≡ news s
     → events ≡ s.events → IsWhole (WindowStep 0 calls) states events v
     → IsWhole (StepOf s) (news s) s.events v
 whole_of s calls states events v a b e x =
-    subst (λ (l : List Call). IsWhole (WindowStep 0 l) (news s) s.events v) a
-    (subst (λ (l : List dynamic.Service). IsWhole (WindowStep 0 calls) l s.events v) b
+    subst (λ (l : List Judged). IsWhole (WindowStep 0 l) (news s) s.events v) a
+    (subst (λ (l : List Watched). IsWhole (WindowStep 0 calls) l s.events v) b
     (subst (λ (l : List Event). IsWhole (WindowStep 0 calls) states l v) e x))
 
 -- what is told by what was found
-pub explored : (s : Service) (c : Cut) (found : WindowVerdict dynamic.Service)
-    (told : Result (Window dynamic.Service) (ℕ × Verdict))
+pub explored : (s : Service) (c : Cut) (found : WindowVerdict Watched)
+    (told : Result (Window Watched) (ℕ × Verdict))
     → IsVerdict (StepOf s) (news s) s.events found
     → (c ≡ cut.Never → IsWhole (StepOf s) (news s) s.events found) → IsToldOf s found told
     → Explores s c told

@@ -87,7 +87,7 @@ judged_found bytes services bad (BadLine line e) r f = absurd f.1.2
 -- nothing was found, and no line is bad
 pub judged_conforms : (bytes : List ℕ) (services : List Service) (n m : ℕ)
     → IsReadTo bytes services None → AreJudged services None
-    → n ≡ sum_by (λ (s : Service). length s.calls) services → m ≡ length services
+    → n ≡ sum_by (λ (s : Service). length s.commands) services → m ≡ length services
     → Judged bytes (Conforms n m)
 unfolding Judged
 judged_conforms bytes services n m r all calls count = (
@@ -96,7 +96,7 @@ judged_conforms bytes services n m r all calls count = (
   subst (λ (l : List ℕ). HasGood bytes r.count r.log l) r.ends.0 r.good,
   r.ends.1,
   subst (λ (ss : List Service). All IsSeenRightly ss) (sym r.same) all,
-  calls ∙ ap (λ (ss : List Service). sum_by (λ (s : Service). length s.calls) ss) (sym r.same),
+  calls ∙ ap (λ (ss : List Service). sum_by (λ (s : Service). length s.commands) ss) (sym r.same),
   count ∙ ap (λ (ss : List Service). length ss) (sym r.same),
   subst (λ x. 0 < x) (ap (λ (ss : List Service). length ss) r.same ∙ sym count) r.ends.2,
 )
@@ -121,16 +121,16 @@ pub judged_end : (bytes : List ℕ) (services : List Service) (bad : Option (ℕ
     → IsReadTo bytes services bad → AreJudged services None
     → Judged bytes (end_verdict services bad)
 judged_end bytes services None r all =
-    judged_conforms bytes services (sum_by (λ (s : Service). length s.calls) services)
+    judged_conforms bytes services (sum_by (λ (s : Service). length s.commands) services)
     (length services) r all refl refl
 judged_end bytes services (Some bad) r all = judged_bad bytes services bad.0 bad.1 r all
 
 -- no more calls were read than the log has bytes
 pub few_calls : (bytes : List ℕ) (services : List Service) (bad : Option (ℕ × Expected))
     → IsReadTo bytes services bad
-    → sum_by (λ (s : Service). length s.calls) services ≤ length bytes
+    → sum_by (λ (s : Service). length s.commands) services ≤ length bytes
 few_calls bytes services bad r =
-    subst (λ (ss : List Service). sum_by (λ (s : Service). length s.calls) ss ≤ length bytes)
+    subst (λ (ss : List Service). sum_by (λ (s : Service). length s.commands) ss ≤ length bytes)
     r.same r.few
 
 -- one service more

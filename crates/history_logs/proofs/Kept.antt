@@ -9,9 +9,10 @@ use Rattle.std.proofs.lemmas.List.Sums.{sum_by-cons, sum_by_push}
 use Rattle.std.proofs.lemmas.Option.{slice_get_within}
 use Rattle.histories.specs.declared.event.Event.{Event}
 use Rattle.histories.specs.Histories.{IsOpen}
+use Rattle.log_lines.specs.Commands.{Begun}
+use Rattle.log_lines.specs.Commands.Begun.{command, weak}
 use Rattle.log_lines.specs.Lines.{Line}
 use Rattle.log_lines.specs.Lines.Line.{service, call, reply, begin, end, crash, given}
-use Rattle.service_conformance.specs.Calls.{Call}
 use Rattle.service_descriptions.specs.declared.replay.lines.service_line.ServiceLine.{ServiceLine}
 use Rattle.history_logs.specs.declared.logs.callers.CallerState.{CallerState}
 use Rattle.history_logs.specs.declared.logs.callers.CallerState.TheVariants as caller
@@ -19,10 +20,10 @@ use Rattle.history_logs.specs.declared.logs.service.LogCall.{LogCall}
 use Rattle.history_logs.specs.Good.{Apart, IsKept, IsOpenOn, IsOrderly, number_of}
 use Rattle.history_logs.specs.Logs.{calls_in}
 use Rattle.history_logs.specs.Reading.{Dies, GoesOn, IsNew, IsSane, Log, Sets}
-use Rattle.history_logs.specs.Seen.{HasAll, Service, called, started, unseen, with_begin, with_crash, with_end}
+use Rattle.history_logs.specs.Seen.{Begins, HasAll, Service, started, unseen, with_begin, with_crash, with_end}
 use Rattle.history_logs.proofs.Callers.{other_bytes, same_bytes}
 use Rattle.history_logs.proofs.Named.{numbers, numbers_new, numbers_set}
-use Rattle.history_logs.proofs.Orderly.{length_answered, not_open, open_alone, open_begun, open_crashed, open_ended, open_new, orderly_alone, orderly_begin, orderly_crash, orderly_end, orderly_new, orderly_started}
+use Rattle.history_logs.proofs.Orderly.{begun_of, open_alone, open_crashed, open_ended, orderly_alone, orderly_crash, orderly_end, orderly_new, orderly_started}
 
 cases_name : (a b : List ℕ) → (a ≡ b) ⊎ (a ≢ b)
 cases_name a b = cases (bytes_eq a b) refl
@@ -287,7 +288,7 @@ kept_given old at s t k none there orderly events own = record {
 pub kept_step : (old new : Log) (k : ℕ) (l : Line) → IsKept old → GoesOn old k l new → IsKept new
 kept_step old new k (service line) kept g =
     subst IsKept (sym g.2) (kept_service old line kept g.0 g.1)
-kept_step old new k (call number command) kept g =
+kept_step old new k (call number c) kept g =
     subst IsKept (sym g.4) (kept_call old g.0 g.1 _ kept g.3.there)
 kept_step old new k (reply words) kept g =
     let s = g.2 in
@@ -295,20 +296,22 @@ kept_step old new k (reply words) kept g =
     subst IsKept (sym g.7)
     (kept_alone old g.0 s (with_end (with_begin s g.1 k) (length s.calls) g.3 k) kept g.5
     (orderly_alone s g.1 g.3 k orderly) refl (λ m o. open_alone s g.1 g.3 k m orderly o))
-kept_step old new k (begin number name command) kept g =
+kept_step old new k (begin number name begun) kept g =
     let s = g.1 in
-    let c = called s command in
+    let t = g.5.0 in
+    let current = g.5.1 in
     let orderly = all_get IsOrderly old.services g.0 s kept.orderly g.3.there in
-    kept_sets old new g.0 s (with_begin s c k) name (caller.Calls g.0 (length s.calls)) kept
-    g.3.there (orderly_begin s c k orderly) refl g.5 g.6 g.7
+    let is = begun_of s t begun k current orderly g.5.2 in
+    kept_sets old new g.0 s t name (caller.Calls g.0 current) kept
+    g.3.there is.orderly is.number g.5.3 g.5.4 g.5.5
     (λ b m e.
     let at : g.0 ≡ b = cc in
-    let is : length s.calls ≡ m = cc in (
+    let same : current ≡ m = cc in (
       sym at,
-      subst (λ n. IsOpen (with_begin s c k).events n) is (open_new s c k orderly),
-      λ o. not_open s orderly (subst (λ n. IsOpen s.events n) (sym is) o),
+      subst (λ n. IsOpen t.events n) same is.now,
+      λ o. is.fresh (subst (λ n. IsOpen s.events n) (sym same) o),
     ))
-    (λ other m ne does here. open_begun s c k m here)
+    (λ other m ne does here. is.still m here)
 kept_step old new k (end name words) kept g =
     let s = g.2 in
     let number = g.1 in
@@ -333,7 +336,7 @@ kept_step old new k (given number what) kept g =
 
 -- how many calls were read after one line more
 abbrev calls_of : Service → ℕ
-calls_of s = length s.calls
+calls_of s = length s.commands
 
 sum_set : (ss : List Service) (at : ℕ) (s t : Service) → slice_get ss at ≡ Some s
     → calls_of t ≤ calls_of s + 1 → sum_by calls_of (slice_set ss at t) ≤ sum_by calls_of ss + 1
@@ -349,6 +352,16 @@ sum_set (x ∷ ss) (suc at) s t there less =
       sum_by-cons calls_of x (slice_set ss at t),
       sum_by-cons calls_of x ss,
     )
+
+-- what begins is one command more
+begins_few : (s t : Service) (b : Begun) (k current : ℕ) → Begins s b k t current
+    → calls_of t ≤ calls_of s + 1
+begins_few s t (command c) k current begins =
+    omega (arith, ap calls_of begins.0, length-append s.commands (length s.calls ∷ []))
+begins_few s t (weak r) k current (inl looks) =
+    omega (arith, ap calls_of looks.2, length-append s.commands (length s.calls ∷ []))
+begins_few s t (weak r) k current (inr lists) =
+    omega (arith, ap calls_of lists.1, length-append s.commands (length s.calls ∷ []))
 
 sum_push : (ss : List Service) (line : ServiceLine)
     → sum_by calls_of (ss ++ unseen line ∷ []) ≡ sum_by calls_of ss
@@ -373,7 +386,7 @@ sum_step : (old new : Log) (k : ℕ) (l : Line) → GoesOn old k l new
     → sum_by calls_of new.services ≤ sum_by calls_of old.services + 1
 sum_step old new k (service line) g =
     omega (arith, ap (λ (x : Log). sum_by calls_of x.services) g.2, sum_push old.services line)
-sum_step old new k (call number command) g =
+sum_step old new k (call number c) g =
     omega (arith, ap (λ (x : Log). sum_by calls_of x.services) g.4)
 sum_step old new k (reply words) g =
     let s = g.2 in
@@ -382,27 +395,21 @@ sum_step old new k (reply words) g =
       arith,
       ap (λ (x : Log). sum_by calls_of x.services) g.7,
       sum_set old.services g.0 s t g.5
-          (omega (
-            arith,
-            length_answered (s.calls ++ g.1.seen ∷ []) (length s.calls) g.3,
-            length-append s.calls (g.1.seen ∷ []),
-          )),
+          (omega (arith, length-append s.commands (length s.calls ∷ []))),
     )
-sum_step old new k (begin number name command) g =
-    let s = g.1 in
+sum_step old new k (begin number name begun) g =
     omega (
       arith,
-      ap (λ (l : List Service). sum_by calls_of l) g.5,
-      sum_set old.services g.0 s (with_begin s (called s command) k) g.3.there
-          (omega (arith, length-append s.calls ((called s command).seen ∷ []))),
+      ap (λ (l : List Service). sum_by calls_of l) g.5.3,
+      sum_set old.services g.0 g.1 g.5.0 g.3.there
+          (begins_few g.1 g.5.0 begun k g.5.1 g.5.2),
     )
 sum_step old new k (end name words) g =
     let s = g.2 in
     omega (
       arith,
       ap (λ (l : List Service). sum_by calls_of l) g.8,
-      sum_set old.services g.0 s (with_end s g.1 g.3 k) g.6
-          (omega (arith, length_answered s.calls g.1 g.3)),
+      sum_set old.services g.0 s (with_end s g.1 g.3 k) g.6 (omega arith),
     )
 sum_step old new k (crash name) g = sum_dies old.services new.services k (old.callers name) g.1
 sum_step old new k (given number what) g =

@@ -13,6 +13,7 @@ pub mod LinesAt
 pub mod MadeLines
 pub mod Named
 pub mod Refused
+pub mod Starts
 pub mod Refusing
 pub mod Reports
 pub mod Streams

@@ -19,37 +19,38 @@ use Rattle.history_windows.specs.Windows.{IsCut, IsStop, IsWindowOf}
 use Rattle.history_windows.proofs.Following.{history_front}
 use Rattle.history_windows.proofs.Leaving.{explained_of}
 use Rattle.history_windows.proofs.Trying.{formed_history, formed_inside, sound_formed}
-use Rattle.iox2_dynamic.specs.Service as dynamic
-use Rattle.service_conformance.specs.Calls.{Call, CallStep, ChangesNothing, WindowStep}
+use Rattle.service_conformance.specs.Judged.{IsIdleJudged, Judged, JudgedStep, WindowStep}
+use Rattle.service_conformance.specs.Looks.{Watched}
 use Rattle.history_logs.specs.Good.{IsOrderly}
 use Rattle.history_logs.specs.Judging.{BeginBelow}
-use Rattle.history_logs.specs.Logs.{AreNeededLines, StepOf, events_from, line_begun, news}
+use Rattle.history_logs.specs.Logs.{AreNeededLines, StepOf, events_from, line_begun, lines_begun, news}
 use Rattle.history_logs.specs.Seen.{Service}
 
-some_call : (a b : Call) → Some a ≡ Some b → a ≡ b
+some_call : (a b : Judged) → Some a ≡ Some b → a ≡ b
 some_call a b e = cc
 
 -- a call whose reply says that nothing changed, by its number
-pub idle_call : (calls : List Call) (number : ℕ) (x : Call) → number < length calls
-    → x ≡ get_or calls number x → ChangesNothing x → IsIdle (WindowStep 0 calls) number
+pub idle_call : (calls : List Judged) (number : ℕ) (x : Judged) → number < length calls
+    → x ≡ get_or calls number x → ((n : ℕ) → IsIdleJudged n x)
+    → IsIdle (WindowStep 0 calls) number
 idle_call calls number x h is none old new step =
     let has = step.1 in
     let at : has.0 ≡ number = omega (arith, has.1) in
     let there : slice_get calls number ≡ Some x =
-    slice_get-get_or calls number x h ∙ ap (λ (c : Call). Some c) (sym is) in
+    slice_get-get_or calls number x h ∙ ap (λ (c : Judged). Some c) (sym is) in
     let same : step.0 ≡ x =
     some_call step.0 x (sym has.2 ∙ (ap (slice_get calls) at ∙ there)) in
-    none old new (subst (λ (c : Call). CallStep c old new) same step.2)
+    none number old new (subst (λ (c : Judged). JudgedStep number c old new) same step.2)
 
 -- which of the first calls change nothing
-pub record IdleTo (calls : List Call) (count : ℕ) (said : List Bool) : Type 0 where
+pub record IdleTo (calls : List Judged) (count : ℕ) (said : List Bool) : Type 0 where
   pub long : length said ≡ count
   pub idle : AreIdle (WindowStep 0 calls) said
 
-pub idle_none : (calls : List Call) → IdleTo calls 0 []
+pub idle_none : (calls : List Judged) → IdleTo calls 0 []
 idle_none calls = record { long = refl; idle = λ call is_so. absurd (cc) }
 
-pub idle_push : (calls : List Call) (count : ℕ) (idle news : List Bool) (b : Bool)
+pub idle_push : (calls : List Judged) (count : ℕ) (idle news : List Bool) (b : Bool)
     → IdleTo calls count idle → (b ≡ true → IsIdle (WindowStep 0 calls) count)
     → news ≡ idle ++ b ∷ [] → IdleTo calls (count + 1) news
 idle_push calls count idle news b t more new = record {
@@ -218,7 +219,7 @@ module _ (s : Service) (o : IsOrderly s) (begin place : ℕ) (within : begin ≤
     pub needed_lines : (kept : ℕ → Bool) (past window : List Event) (begins lines : List ℕ)
         → past ≡ take begin upto → window ≡ drop begin upto → begins ≡ s.begins
         → AreNeeded (StepOf s) (news s) past window kept
-        → lines ≡ flat_map (line_begun begins) (events_of kept window)
+        → lines ≡ lines_begun begins (events_of kept window)
         → AreNeededLines s begin place refused lines
     needed_lines kept past window begins lines p w b needed is =
         let n : AreNeeded (StepOf s) (news s) (take begin s.events) (events_from s begin place)
@@ -239,8 +240,8 @@ module _ (s : Service) (o : IsOrderly s) (begin place : ℕ) (within : begin ≤
               (subst (λ (l : List Event).
               AreNeeded (StepOf s) (news s) (take begin s.events) l kept) window_last n);
           begin_in = is
-              ∙ (ap (λ (l : List ℕ). flat_map (line_begun l) (events_of kept window)) b
-              ∙ ap (λ (l : List Event). flat_map (line_begun s.begins) (events_of kept l)) w);
+              ∙ (ap (λ (l : List ℕ). lines_begun l (events_of kept window)) b
+              ∙ ap (λ (l : List Event). lines_begun s.begins (events_of kept l)) w);
         }
 
   -- the same of what is said to be that
@@ -267,16 +268,16 @@ module _ (s : Service) (o : IsOrderly s) (begin place : ℕ) (within : begin ≤
       (subst (λ (l : List Event). IsHistory (take begin upto ++ l)) (sym (window_is s.events))
       parts_history)
 
-  module _ (calls : List Call) (states : List dynamic.Service) (evs : List Event)
+  module _ (calls : List Judged) (states : List Watched) (evs : List Event)
       (c : calls ≡ s.calls) (n : states ≡ news s) (e : evs ≡ s.events) where
     pub given_cut : HasCut (StepOf s) (news s) (take begin s.events)
         → HasCut (WindowStep 0 calls) states (take begin (take (place + 1) evs))
     given_cut cut =
         subst
-        (λ (l : List Call). HasCut (WindowStep 0 l) states (take begin (take (place + 1) evs)))
+        (λ (l : List Judged). HasCut (WindowStep 0 l) states (take begin (take (place + 1) evs)))
         (sym c)
         (subst
-        (λ (l : List dynamic.Service). HasCut (StepOf s) l (take begin (take (place + 1) evs)))
+        (λ (l : List Watched). HasCut (StepOf s) l (take begin (take (place + 1) evs)))
         (sym n)
         (subst (λ (l : List Event). HasCut (StepOf s) (news s) (take begin (take (place + 1) l)))
         (sym e) (subst (λ (l : List Event). HasCut (StepOf s) (news s) l) (sym past_is) cut)))
@@ -286,9 +287,9 @@ module _ (s : Service) (o : IsOrderly s) (begin place : ℕ) (within : begin ≤
       pub given_refused : ¬ (IsExplained (WindowStep 0 calls)
           (take begin (take (place + 1) evs) ++ window_of evs) states)
       given_refused =
-          subst (λ (l : List Call). ¬ (IsExplained (WindowStep 0 l)
+          subst (λ (l : List Judged). ¬ (IsExplained (WindowStep 0 l)
           (take begin (take (place + 1) evs) ++ window_of evs) states)) (sym c)
-          (subst (λ (l : List dynamic.Service). ¬ (IsExplained (StepOf s)
+          (subst (λ (l : List Watched). ¬ (IsExplained (StepOf s)
           (take begin (take (place + 1) evs) ++ window_of evs) l)) (sym n)
           (subst (λ (l : List Event). ¬ (IsExplained (StepOf s)
           (take begin (take (place + 1) l) ++ window_of l) (news s))) (sym e)
@@ -299,7 +300,7 @@ module _ (s : Service) (o : IsOrderly s) (begin place : ℕ) (within : begin ≤
           → others ≡ left_out
           → AreNeeded (WindowStep 0 calls) states (take begin (take (place + 1) evs))
           (window_of evs) (is_kept left_out)
-          → lines ≡ flat_map (line_begun begins) (events_of (is_kept others) (window_of evs))
+          → lines ≡ lines_begun begins (events_of (is_kept others) (window_of evs))
           → AreNeededLines s begin place refused lines
       given_lines left_out others begins lines b o needed is =
           let past : List Event = take begin (take (place + 1) evs) in
@@ -308,13 +309,13 @@ module _ (s : Service) (o : IsOrderly s) (begin place : ℕ) (within : begin ≤
           needed_lines stops refused ended kept past window begins lines
           (ap (λ (l : List Event). take begin (take (place + 1) l)) e)
           (window_is evs ∙ ap (λ (l : List Event). drop begin (take (place + 1) l)) e) b
-          (subst (λ (l : List dynamic.Service). AreNeeded (StepOf s) l past window kept) n
-          (subst (λ (l : List Call). AreNeeded (WindowStep 0 l) states past window kept) c needed))
+          (subst (λ (l : List Watched). AreNeeded (StepOf s) l past window kept) n
+          (subst (λ (l : List Judged). AreNeeded (WindowStep 0 l) states past window kept) c needed))
           (is
-          ∙ ap (λ (l : List Bool). flat_map (line_begun begins) (events_of (is_kept l) window)) o)
+          ∙ ap (λ (l : List Bool). lines_begun begins (events_of (is_kept l) window)) o)
 
 -- the window of a reply that is refused
-module _ (s : Service) (place : ℕ) (w : Window dynamic.Service) (within : place < length s.events)
+module _ (s : Service) (place : ℕ) (w : Window Watched) (within : place < length s.events)
     (is : IsWindowOf (StepOf s) (news s) (take place s.events) w) where
   pub begin_within : w.begin ≤ place
   begin_within =

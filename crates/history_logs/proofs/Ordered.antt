@@ -9,7 +9,7 @@ use Rattle.histories.proofs.Counting.{times_at}
 use Rattle.history_windows.specs.declared.window.Window.{Window}
 use Rattle.history_windows.specs.Windows.{IsFirstOrder, IsOrder}
 use Rattle.history_windows.proofs.Ordering.{first_explains}
-use Rattle.iox2_dynamic.specs.Service as dynamic
+use Rattle.service_conformance.specs.Looks.{Watched}
 use Rattle.history_logs.specs.declared.logs.verdict.Order.{Order}
 use Rattle.history_logs.specs.declared.logs.verdict.Verdict.{Verdict}
 use Rattle.history_logs.specs.declared.logs.verdict.Verdict.TheVariants.{Conforms, Refused, ManyConfigs, ManyOpen, BadLine}
@@ -35,7 +35,7 @@ begins_more begins calls i lines more all h within new =
     (zip_push (BeginsAt begins) (take i calls) lines call (get_or begins call 0) all
     (slice_get-get_or begins call 0 within)))
 
-module _ (s : Service) (o : IsOrderly s) (window : Window dynamic.Service) (calls : List ℕ)
+module _ (s : Service) (o : IsOrderly s) (window : Window Watched) (calls : List ℕ)
     (f : IsFrontOf (StepOf s) window.front s.events (news s))
     (some : 0 < length window.front.configs.items) (is : IsFirstOrder window.front calls) where
   explains : IsOrder (StepOf s) s.events (news s) calls

@@ -1,5 +1,5 @@
 -- What happened on a service stays a history.
-use Rattle.std.proofs.Common.{◌≡◌, ◌≢◌, ℕ, zero, suc, ◌+◌, ◌<◌, ◌≤◌, List, [], ◌∷◌, ◌++◌, None, length, take, refl, sym, ◌∙◌, ap, subst, arith, inl, inr}
+use Rattle.std.proofs.Common.{◌≡◌, ◌≢◌, ℕ, zero, suc, ◌+◌, ◌<◌, ◌≤◌, List, [], ◌∷◌, ◌++◌, Option, Some, None, length, take, refl, sym, ◌∙◌, ap, subst, arith, inl, inr}
 use Rattle.std.proofs.lemmas.Bool.{cases_lt}
 use Rattle.std.proofs.lemmas.List.{length-append, length-set, take-append-le}
 use Rattle.std.proofs.Math.Seq.{take-append_seam}
@@ -10,11 +10,14 @@ use Rattle.histories.proofs.Events.{open_begin_now, open_begin_still, open_end_s
 use Rattle.histories.proofs.Verdicts.{begun_none, counts_begin, counts_crash, counts_end, next_of, numbered_more, numbered_none}
 use Rattle.iox2_dynamic.specs.Service as dynamic
 use Rattle.service_conformance.specs.declared.conformance.seen_reply.SeenReply.{SeenReply}
-use Rattle.service_conformance.specs.Calls.{Call}
+use Rattle.service_conformance.specs.declared.conformance.possible.Part.{Part}
+use Rattle.service_conformance.specs.Judged.{Judged, judged_answered, shown}
+use Rattle.log_lines.specs.Commands.{Begun}
+use Rattle.log_lines.specs.Commands.Begun.{command, weak}
 use Rattle.service_descriptions.specs.declared.replay.lines.service_line.ServiceLine.{ServiceLine}
 use Rattle.history_logs.specs.declared.logs.service.LogCall.{LogCall}
-use Rattle.history_logs.specs.Good.{IsOrderly}
-use Rattle.history_logs.specs.Seen.{Service, calls_answered, started, unseen, with_begin, with_crash, with_end}
+use Rattle.history_logs.specs.Good.{IsOrderly, number_of}
+use Rattle.history_logs.specs.Seen.{Begins, Service, called, calls_answered, calls_shown, changed, start_of, started, starting, stopping, unseen, with_begin, with_crash, with_end, with_look, with_over, with_part}
 
 -- one more in both lists
 pub both : {X Y : Type 0} (xs : List X) (ys : List Y) (x : X) (y : Y) → length xs ≡ length ys
@@ -61,11 +64,22 @@ orderly_started s start o = record {
   numbered = o.numbered;
 }
 
-pub length_answered : (calls : List Call) (number : ℕ) (r : SeenReply)
+length_changed : (f : Judged → Judged) (calls : List Judged) (number : ℕ)
+    → length (changed f calls number) ≡ length calls
+length_changed f [] number = refl
+length_changed f (c ∷ calls) zero = refl
+length_changed f (c ∷ calls) (suc number) = ap suc (length_changed f calls number)
+
+pub length_shown : (calls : List Judged) (start : Option ℕ) (r : SeenReply)
+    → length (calls_shown calls start r) ≡ length calls
+length_shown calls None r = refl
+length_shown calls (Some start) r = length_changed (λ c. shown c r) calls start
+
+pub length_answered : (calls : List Judged) (number : ℕ) (r : SeenReply)
     → length (calls_answered calls number r) ≡ length calls
-length_answered [] number r = refl
-length_answered (c ∷ calls) zero r = refl
-length_answered (c ∷ calls) (suc number) r = ap suc (length_answered calls number r)
+length_answered calls number r =
+    length_changed (λ c. judged_answered c r) (calls_shown calls (start_of calls number) r) number
+    ∙ length_shown calls (start_of calls number) r
 
 -- the next call has not begun
 fresh : (s : Service) → IsOrderly s → begins (length s.calls) s.events ≡ 0
@@ -79,9 +93,9 @@ fresh s o =
 pub not_open : (s : Service) → IsOrderly s → ¬ (IsOpen s.events (length s.calls))
 not_open s o live = absurd (omega (arith, live.0, fresh s o))
 
-pub orderly_begin : (s : Service) (c : LogCall) (k : ℕ) → IsOrderly s
-    → IsOrderly (with_begin s c k)
-orderly_begin s c k o =
+pub orderly_part : (s : Service) (c : LogCall) (k : ℕ) → IsOrderly s
+    → IsOrderly (with_part s c k)
+orderly_part s c k o =
     let n = length s.calls in
     let may : MayFollow s.events (Begin n) = sym o.counts in
     let more = counts_begin (begun s.events) n s.events refl in
@@ -97,6 +111,43 @@ orderly_begin s c k o =
       sound = sound_begin s.events n o.sound (fresh s o);
       numbered = numbered_more s.events (Begin n) o.numbered (next_of s.events (Begin n) may);
     }
+
+-- what the commands are does not count
+orderly_same : (s : Service) (commands : List ℕ) → IsOrderly s
+    → IsOrderly (record s { commands = commands })
+orderly_same s commands o = record {
+  all = record {
+    adds = o.all.adds;
+    given = o.all.given;
+    begins = o.all.begins;
+    places = o.all.places;
+  };
+  history = o.history;
+  counts = o.counts;
+  sound = o.sound;
+  numbered = o.numbered;
+}
+
+pub orderly_begin : (s : Service) (c : LogCall) (k : ℕ) → IsOrderly s
+    → IsOrderly (with_begin s c k)
+orderly_begin s c k o =
+    orderly_same (with_part s c k) (s.commands ++ length s.calls ∷ []) (orderly_part s c k o)
+
+pub orderly_over : (s : Service) (number k : ℕ) → IsOrderly s → IsOpen s.events number
+    → IsOrderly (with_over s number k)
+orderly_over s number k o live = record {
+  all = record {
+    adds = o.all.adds;
+    given = o.all.given;
+    begins = o.all.begins;
+    places = both s.places s.events k (End number) o.all.places;
+  };
+  history = history_push s.events (End number) o.history live;
+  counts = sym (counts_end (begun s.events) number s.events refl) ∙ o.counts;
+  sound = sound_end s.events (End number) number (inl refl) o.sound live.0;
+  numbered = numbered_more s.events (End number) o.numbered
+      (next_of s.events (End number) live);
+}
 
 pub orderly_end : (s : Service) (number : ℕ) (r : SeenReply) (k : ℕ) → IsOrderly s
     → IsOpen s.events number → IsOrderly (with_end s number r k)
@@ -162,3 +213,63 @@ pub open_alone : (s : Service) (c : LogCall) (r : SeenReply) (k x : ℕ) → IsO
 open_alone s c r k x o live =
     open_ended (with_begin s c k) (length s.calls) r k x (open_begun s c k x live)
     (λ e. not_open s o (subst (λ n. IsOpen s.events n) e live))
+
+-- what begins makes an orderly service, in which it is open, and keeps what is open
+pub record IsBegun (s t : Service) (current : ℕ) : Type 0 where
+  pub orderly : IsOrderly t
+  pub number : number_of t ≡ number_of s
+  pub now : IsOpen t.events current
+  pub fresh : ¬ (IsOpen s.events current)
+  pub still : (x : ℕ) → IsOpen s.events x → IsOpen t.events x
+  pub few : length t.commands ≤ length s.commands + 1
+
+begun_call : (s : Service) (c : LogCall) (k : ℕ) → IsOrderly s
+    → IsBegun s (with_begin s c k) (length s.calls)
+begun_call s c k o = record {
+  orderly = orderly_begin s c k o;
+  number = refl;
+  now = open_new s c k o;
+  fresh = not_open s o;
+  still = λ x live. open_begun s c k x live;
+  few = omega (arith, length-append s.commands (length s.calls ∷ []));
+}
+
+-- no call from the next one on is open
+above_fresh : (s : Service) → IsOrderly s → (n : ℕ) → length s.calls ≤ n → ¬ (IsOpen s.events n)
+above_fresh s o n h live = absurd (omega (arith, o.numbered n live.0, o.counts, h))
+
+begun_look : (s : Service) (p : Part) (k : ℕ) → IsOrderly s
+    → IsBegun s (with_look s p k) (length s.calls + 1)
+begun_look s p k o =
+    let n = length s.calls in
+    let one = with_begin s (starting p) k in
+    let two = with_over one n k in
+    let first = orderly_begin s (starting p) k o in
+    let second : IsOrderly two = orderly_over one n k first (open_new s (starting p) k o) in
+    let long : length two.calls ≡ n + 1 = length-append s.calls ((starting p).seen ∷ []) in
+    record {
+      orderly = orderly_part two (stopping n) k second;
+      number = refl;
+      now = subst (λ m. IsOpen (with_look s p k).events m) long (open_new two (stopping n) k second);
+      fresh = above_fresh s o (n + 1) (omega arith);
+      still = λ x live.
+          open_begun two (stopping n) k x
+          (open_end_still one.events (End n) n x (inl refl) (open_begun s (starting p) k x live)
+          (λ e. not_open s o (subst (λ m. IsOpen s.events m) e live)));
+      few = omega (arith, length-append s.commands (n ∷ []));
+    }
+
+pub begun_of : (s t : Service) (b : Begun) (k current : ℕ) → IsOrderly s → Begins s b k t current
+    → IsBegun s t current
+begun_of s t (command c) k current o begins =
+    subst (λ (n : ℕ). IsBegun s t n) (sym begins.1)
+    (subst (λ (x : Service). IsBegun s x (length s.calls)) (sym begins.0)
+    (begun_call s (called s c) k o))
+begun_of s t (weak r) k current o (inl looks) =
+    subst (λ (n : ℕ). IsBegun s t n) (sym looks.3)
+    (subst (λ (x : Service). IsBegun s x (length s.calls + 1)) (sym looks.2)
+    (begun_look s looks.0 k o))
+begun_of s t (weak r) k current o (inr lists) =
+    subst (λ (n : ℕ). IsBegun s t n) (sym lists.2)
+    (subst (λ (x : Service). IsBegun s x (length s.calls)) (sym lists.1)
+    (begun_call s _ k o))

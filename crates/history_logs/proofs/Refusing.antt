@@ -9,22 +9,23 @@ use Rattle.histories.proofs.Cutting.{begins-append}
 use Rattle.history_windows.specs.declared.window.Stop.TheVariants as stop
 use Rattle.history_windows.specs.declared.window.Window.{Window}
 use Rattle.history_windows.specs.Windows.{IsStop, IsWindowOf}
-use Rattle.iox2_dynamic.specs.Service as dynamic
 use Rattle.log_lines.specs.Lines.{IsLine, Line, line_text}
-use Rattle.service_conformance.specs.Calls.{Call}
+use Rattle.service_conformance.specs.Judged.{Judged}
+use Rattle.service_conformance.specs.Looks.{Watched}
 use Rattle.history_logs.specs.declared.logs.verdict.Refusal.{Refusal}
 use Rattle.history_logs.specs.Good.{IsOrderly}
 use Rattle.history_logs.specs.Placed.{Answers, HasAnswers, IsLineAt}
 use Rattle.history_logs.specs.Judging.{AreBelow, IsRefusedIn, IsToldAt}
 use Rattle.history_logs.specs.Logs.{AreNeededLines, StepOf, news}
 use Rattle.history_logs.specs.Seen.{Service}
+use Rattle.history_logs.proofs.Starts.{says_of}
 
 module _ (s : Service) (o : IsOrderly s) where
   -- the calls that begin are those of the service
   begin_within : (number : ℕ) → 0 < begins number s.events → number < length s.calls
   begin_within number h = omega (arith, o.numbered number h, o.counts)
 
-  module _ (place : ℕ) (w : Window dynamic.Service) (within : place < length s.events)
+  module _ (place : ℕ) (w : Window Watched) (within : place < length s.events)
       (is : IsWindowOf (StepOf s) (news s) (take place s.events) w) where
     pub window_below : AreBelow w.front.slots.items (length s.begins)
     window_below slot number has =
@@ -63,7 +64,7 @@ module _ (s : Service) (o : IsOrderly s) where
         pub call_within : call < length s.calls
         call_within =
             let a = answers place call line ended at in
-            slice_get_within s.calls call a.0 a.2
+            slice_get_within s.calls call a.0 a.1
 
         pub refused_in : (words : List ℕ)
             → ((seen : Line) (said : List ℕ) → IsLine seen → Answers seen said
@@ -71,19 +72,20 @@ module _ (s : Service) (o : IsOrderly s) where
             → IsStop (StepOf s) (news s) s.events place stop.Refused
             → (lines : List ℕ) → AreNeededLines s w.begin place call lines
             → (told : Refusal) → told.words.items ≡ words → told.needed.items ≡ lines
-            → ((c : Call) → slice_get s.calls call ≡ Some c → IsToldAt s place c w told)
+            → ((c : Judged) → slice_get s.calls call ≡ Some c → IsToldAt s place c w told)
             → IsRefusedIn s told.line told
         refused_in words said stops lines needed told its them tells =
             let a = answers place call line ended at in
-            let t = tells a.0 a.2 in
+            let t = tells a.0 a.1 in
+            let b = says_of bytes s place call line a.0 o stops ended a.1 a.2 in
             record {
               place = place;
               stops = record { stops = stops; there = t.ended };
               number = call;
               ended = ended;
               call = a.0;
-              called = a.2;
-              words = a.3 ∙ ap Some (sym (its ∙ said a.4.0 a.1 a.4.1 a.4.2 a.4.3));
+              called = a.1;
+              words = b.1 ∙ ap Some (sym (its ∙ said b.2.0 b.0 b.2.1 b.2.2 b.2.3));
               window = w;
               is_window = is;
               is_told = t;

@@ -5,8 +5,8 @@ use Rattle.std.proofs.lemmas.List.{take_more}
 use Rattle.std.proofs.lemmas.Option.{slice_get_read}
 use Rattle.histories.specs.declared.front.Config.{Config}
 use Rattle.iox2_container.specs.Steps.{listed}
-use Rattle.iox2_dynamic.specs.Service as dynamic
-use Rattle.service_conformance.specs.Calls.{AreRepliesOf, Call}
+use Rattle.service_conformance.specs.Judged.{AreJudgedReplies, Judged}
+use Rattle.service_conformance.specs.Looks.{Watched}
 use Rattle.history_logs.specs.declared.logs.verdict.Configuration.{Configuration}
 use Rattle.history_logs.specs.Judging.{AreLines}
 use Rattle.history_logs.specs.Logs.{IsTold}
@@ -23,15 +23,16 @@ pub zip_none : {A B : Type 0} (R : A → B → Type 0) → AllZip R [] []
 zip_none R = tt
 
 -- what is told of a configuration
-pub told_of : (s : Service) (call : ℕ) (x : Call) (slots : List (Option ℕ))
-    (config : Config dynamic.Service) (told : Configuration) (begins : List ℕ) (calls : List Call)
+pub told_of : (s : Service) (call : ℕ) (x : Judged) (slots : List (Option ℕ))
+    (config : Config Watched) (told : Configuration) (begins : List ℕ) (calls : List Judged)
     → begins ≡ s.begins → calls ≡ s.calls → call < length s.calls → x ≡ get_or calls call x
     → AreLines begins slots config.waiting told.made.items
-    → AreRepliesOf config.state x told.possible
-    → told.nodes.items ≡ listed config.state.nodes.registry
+    → AreJudgedReplies config.state x told.possible
+    → told.nodes.items ≡ listed config.state.service.nodes.registry
     → told.ports.items
-    ≡ listed config.state.ports.first.registry ++ listed config.state.ports.second.registry
-    → (c : Call) × (slice_get s.calls call ≡ Some c) × IsTold s c slots config told
+    ≡ listed config.state.service.ports.first.registry
+    ++ listed config.state.service.ports.second.registry
+    → (c : Judged) × (slice_get s.calls call ≡ Some c) × IsTold s c slots config told
 told_of s call x slots config told begins calls b k h is made possible nodes ports =
     let lines = subst (λ l. AreLines l slots config.waiting told.made.items) b made in (
       x,
@@ -47,12 +48,12 @@ told_of s call x slots config told begins calls b k h is made possible nodes por
     )
 
 -- one configuration more
-pub told_more : (s : Service) (call : ℕ) (x : Call) (slots : List (Option ℕ))
-    (configs : List (Config dynamic.Service)) (i : ℕ) (d : Config dynamic.Service)
+pub told_more : (s : Service) (call : ℕ) (x : Judged) (slots : List (Option ℕ))
+    (configs : List (Config Watched)) (i : ℕ) (d : Config Watched)
     (told news : List Configuration) (one : Configuration)
     → AllZip (IsTold s x slots) (take i configs) told → i < length configs
     → d ≡ get_or configs i d
-    → (c : Call) × (slice_get s.calls call ≡ Some c) × IsTold s c slots d one
+    → (c : Judged) × (slice_get s.calls call ≡ Some c) × IsTold s c slots d one
     → slice_get s.calls call ≡ Some x → news ≡ told ++ one ∷ []
     → AllZip (IsTold s x slots) (take (i + 1) configs) news
 told_more s call x slots configs i d told news one all h is t at new =
@@ -60,23 +61,23 @@ told_more s call x slots configs i d told news one all h is t at new =
     let here : IsTold s x slots d one = subst (λ c. IsTold s c slots d one) same t.2 in
     let more : take (i + 1) configs ≡ take i configs ++ d ∷ [] =
     take_more configs i d h
-    ∙ ap (λ (e : Config dynamic.Service). take i configs ++ e ∷ []) (sym is) in
+    ∙ ap (λ (e : Config Watched). take i configs ++ e ∷ []) (sym is) in
     subst (λ (l : List Configuration). AllZip (IsTold s x slots) (take (i + 1) configs) l) (sym new)
     (subst
-    (λ (l : List (Config dynamic.Service)). AllZip (IsTold s x slots) l (told ++ one ∷ []))
+    (λ (l : List (Config Watched)). AllZip (IsTold s x slots) l (told ++ one ∷ []))
     (sym more) (zip_push (IsTold s x slots) (take i configs) told d one all here))
   where
-    same_call : (a b : Call) → slice_get s.calls call ≡ Some a → slice_get s.calls call ≡ Some b
+    same_call : (a b : Judged) → slice_get s.calls call ≡ Some a → slice_get s.calls call ≡ Some b
         → a ≡ b
     same_call a b one other = some_is a b (sym one ∙ other)
       where
-        some_is : (a b : Call) → Some a ≡ Some b → a ≡ b
+        some_is : (a b : Judged) → Some a ≡ Some b → a ≡ b
         some_is a b e = cc
 
 -- the same configurations
-pub zip_as : (s : Service) (x : Call) (slots others : List (Option ℕ))
-    (configs same : List (Config dynamic.Service)) (told : List Configuration) → others ≡ slots
+pub zip_as : (s : Service) (x : Judged) (slots others : List (Option ℕ))
+    (configs same : List (Config Watched)) (told : List Configuration) → others ≡ slots
     → same ≡ configs → AllZip (IsTold s x others) same told → AllZip (IsTold s x slots) configs told
 zip_as s x slots others configs same told e f all =
     subst (λ (l : List (Option ℕ)). AllZip (IsTold s x l) configs told) e
-    (subst (λ (l : List (Config dynamic.Service)). AllZip (IsTold s x others) l told) f all)
+    (subst (λ (l : List (Config Watched)). AllZip (IsTold s x others) l told) f all)

@@ -14,8 +14,8 @@ use Rattle.history_windows.specs.declared.window.Stop.{Stop}
 use Rattle.history_windows.specs.declared.window.Stop.TheVariants as stop
 use Rattle.history_windows.specs.declared.window.Window.{Window}
 use Rattle.history_windows.specs.Windows.{IsStop, IsWindowOf}
-use Rattle.iox2_dynamic.specs.Service as dynamic
-use Rattle.service_conformance.specs.Calls.{Call}
+use Rattle.service_conformance.specs.Judged.{Judged, words_of}
+use Rattle.service_conformance.specs.Looks.{Watched}
 use Rattle.history_logs.specs.declared.logs.verdict.Expected.{Expected}
 use Rattle.history_logs.specs.declared.logs.verdict.Order.{Order}
 use Rattle.history_logs.specs.declared.logs.verdict.Refusal.{Refusal}
@@ -59,7 +59,7 @@ BeginBelow events count =
     (place call : ℕ) → StandsAt events place (Begin call) → call < count
 
 -- what is told of the reply in the event of this place, but for its words and the needed calls
-pub record IsToldAt (s : Service) (place : ℕ) (call : Call) (window : Window dynamic.Service)
+pub record IsToldAt (s : Service) (place : ℕ) (call : Judged) (window : Window Watched)
     (told : Refusal) : Type 0 where
   pub ended : slice_get s.places place ≡ Some told.line
   pub opened : slice_get s.places window.begin ≡ Some told.window
@@ -77,10 +77,10 @@ pub record IsRefusedIn (s : Service) (k : ℕ) (told : Refusal) : Type 0 where
   pub stops : StopsIn s k place stop.Refused
   pub number : ℕ
   pub ended : StandsAt s.events place (End number)
-  pub call : Call
+  pub call : Judged
   pub called : slice_get s.calls number ≡ Some call
-  pub words : call.words ≡ Some told.words.items
-  pub window : Window dynamic.Service
+  pub words : words_of call ≡ Some told.words.items
+  pub window : Window Watched
   pub is_window : IsWindowOf (StepOf s) (news s) (take place s.events) window
   pub is_told : IsToldAt s place call window told
   pub needed : AreNeededLines s window.begin place number told.needed.items
@@ -101,14 +101,14 @@ IsFoundOf s (Some found) = IsFound s found.0 found.1
 
 -- what is told by what was found of the service: the window that it ends in, where orders explain
 -- all
-abbrev pub IsToldOf : Service → FoundOf dynamic.Service → Result (Window dynamic.Service)
+abbrev pub IsToldOf : Service → FoundOf Watched → Result (Window Watched)
     (ℕ × Verdict) → Type 0
 IsToldOf s what (Ok window) = what ≡ found.Explained window
 IsToldOf s what (Err told) = IsFound s told.0 told.1
 
 -- What was seen of the service is explained, and ends in the window. Where it was never cut, the
 -- configurations of the window are those of all orders that explain it. Else this is found of it.
-abbrev pub Explores : Service → Cut → Result (Window dynamic.Service) (ℕ × Verdict) → Type 0
+abbrev pub Explores : Service → Cut → Result (Window Watched) (ℕ × Verdict) → Type 0
 Explores s where_cut (Ok window) =
     IsSeenRightly s × (0 < length window.front.configs.items)
     × (where_cut ≡ cut.Never → IsFrontOf (StepOf s) window.front s.events (news s))
@@ -139,5 +139,5 @@ AreJudged services (Some v) = (k : ℕ) × IsFirstFound services (Some (k, v))
 -- the verdict where orders explain all that was seen of the services
 abbrev pub end_verdict : List Service → Option (ℕ × Expected) → Verdict
 end_verdict services None =
-    verdict.Conforms (sum_by (λ (s : Service). length s.calls) services) (length services)
+    verdict.Conforms (sum_by (λ (s : Service). length s.commands) services) (length services)
 end_verdict services (Some bad) = verdict.BadLine bad.0 bad.1

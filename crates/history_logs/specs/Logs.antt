@@ -1,6 +1,6 @@
 -- What a log is judged to be.
-use Rattle.std.specs.Prelude.{◌≡◌, ◌≢◌, ◌⊎◌, ℕ, ◌+◌, ◌<◌, List, [], ◌∷◌, ◌++◌, All, Bool, Contains, Option, Some, None, IsTrue, codes, drop, filter, get_or, length, ltb, slice_get, sum_by, take, true}
-use Rattle.std.specs.List.{AllZip, flat_map}
+use Rattle.std.specs.Prelude.{◌≡◌, ◌≢◌, ◌⊎◌, ℕ, ◌+◌, ◌<◌, List, [], ◌∷◌, ◌++◌, All, Bool, Contains, Option, Some, None, IsTrue, codes, drop, eqb, filter, get_or, length, ltb, slice_get, sum_by, take, true}
+use Rattle.std.specs.List.{AllZip, dedup, flat_map}
 use Rattle.std.specs.Int.{bit_at}
 use Rattle.histories.specs.declared.event.Event.{Event}
 use Rattle.histories.specs.declared.event.Event.TheVariants.{Begin, Crash, End}
@@ -13,10 +13,10 @@ use Rattle.history_windows.specs.declared.window.Window.{Window}
 use Rattle.history_windows.specs.Needed.{AreNeeded, events_of}
 use Rattle.history_windows.specs.Windows.{IsStop, IsWindowOf}
 use Rattle.iox2_container.specs.Steps.{listed}
-use Rattle.iox2_dynamic.specs.Service as dynamic
 use Rattle.line_streams.specs.Spelling.{HasNo}
 use Rattle.log_lines.specs.Lines.{IsLine, Line, is_note, line_text}
-use Rattle.service_conformance.specs.Calls.{Call, AreRepliesOf, WindowStep}
+use Rattle.service_conformance.specs.Judged.{AreJudgedReplies, Judged as Call, WindowStep, words_of}
+use Rattle.service_conformance.specs.Looks.{Watched, unwatched}
 use Rattle.service_conformance.specs.declared.conformance.seen_reply.SeenReply.{SeenReply}
 use Rattle.service_descriptions.specs.declared.replay.lines.service_line.ServiceLine.{ServiceLine}
 use Rattle.service_descriptions.specs.Script.{IsServiceLine, service_line}
@@ -46,12 +46,12 @@ pub record HasGood (bytes : List ℕ) (count : ℕ) (log : Log) (rest : List ℕ
 
 -- the calls on the service lead from one state to another; each with the reply that is seen in the
 -- good lines, or with any reply where none is
-abbrev pub StepOf : Service → dynamic.Service → ℕ → dynamic.Service → Type 0
+abbrev pub StepOf : Service → Watched → ℕ → Watched → Type 0
 StepOf s = WindowStep 0 s.calls
 
--- what the service is before its first call
-abbrev pub news : Service → List dynamic.Service
-news s = s.start ∷ []
+-- what the service is before its first call, where no weak listing looks at it
+abbrev pub news : Service → List Watched
+news s = unwatched s.start ∷ []
 
 -- an order of the calls on it explains all that was seen of the service
 abbrev pub IsSeenRightly : Service → Type 0
@@ -82,28 +82,34 @@ abbrev pub BeginsIn : Service → ℕ → ℕ → Type 0
 BeginsIn s number k = BeginsAt s.begins number k
 
 -- the call has this slot, and was made
-abbrev pub IsMade : List (Option ℕ) → Config dynamic.Service → ℕ → Type 0
+abbrev pub IsMade : List (Option ℕ) → Config Watched → ℕ → Type 0
 IsMade slots config number =
     (slot : ℕ) × HasSlot slots slot number × (bit_at config.waiting slot ≡ 0)
 
 -- What is told of a configuration in which the call was refused: the lines in which the open calls
 -- begin that were made, the replies that it could have had, and who is there.
 pub record IsTold (s : Service) (call : Call) (slots : List (Option ℕ))
-    (config : Config dynamic.Service) (told : Configuration) : Type 0 where
+    (config : Config Watched) (told : Configuration) : Type 0 where
   pub made : All (λ k. (number : ℕ) × IsMade slots config number × BeginsIn s number k)
       told.made.items
   pub each : (number k : ℕ) → IsMade slots config number → BeginsIn s number k
       → Contains told.made.items k
-  pub possible : AreRepliesOf config.state call told.possible
-  pub nodes : told.nodes.items ≡ listed config.state.nodes.registry
+  pub possible : AreJudgedReplies config.state call told.possible
+  pub nodes : told.nodes.items ≡ listed config.state.service.nodes.registry
   pub ports : told.ports.items
-      ≡ listed config.state.ports.first.registry ++ listed config.state.ports.second.registry
+      ≡ listed config.state.service.ports.first.registry
+      ++ listed config.state.service.ports.second.registry
 
 -- the line in which the call of the event begins, if it begins with it, by those of all calls
 abbrev pub line_begun : List ℕ → Event → List ℕ
 line_begun begins (Begin call) = get_or begins call 0 ∷ []
 line_begun begins (End call) = []
 line_begun begins (Crash call) = []
+
+-- the lines in which the calls of the events begin, each once: a weak listing is two calls that
+-- begin in one line
+abbrev pub lines_begun : List ℕ → List Event → List ℕ
+lines_begun begins events = dedup eqb (flat_map (line_begun begins) events)
 
 -- the events of the service from one place up to another
 abbrev pub events_from : Service → ℕ → ℕ → List Event
@@ -116,7 +122,7 @@ pub record AreNeededLines (s : Service) (begin place refused : ℕ) (lines : Lis
   pub kept : ℕ → Bool
   pub needed : AreNeeded (StepOf s) (news s) (take begin s.events) (events_from s begin place) kept
   pub is_kept : kept refused ≡ true
-  pub begin_in : lines ≡ flat_map (line_begun s.begins) (events_of kept (events_from s begin place))
+  pub begin_in : lines ≡ lines_begun s.begins (events_of kept (events_from s begin place))
 
 -- What is told of a reply that no order explains: its line and its words, the line in which the
 -- window begins, the lines of the calls that are needed, and each configuration that what is above
@@ -129,8 +135,8 @@ pub record IsRefusal (services : List Service) (told : Refusal) : Type 0 where
   pub ended : StandsAt s.events place (End number)
   pub call : Call
   pub called : slice_get s.calls number ≡ Some call
-  pub words : call.words ≡ Some told.words.items
-  pub window : Window dynamic.Service
+  pub words : words_of call ≡ Some told.words.items
+  pub window : Window Watched
   pub is_window : IsWindowOf (StepOf s) (news s) (take place s.events) window
   pub begins : slice_get s.places window.begin ≡ Some told.window
   pub needed : AreNeededLines s window.begin place number told.needed.items
@@ -178,9 +184,9 @@ IsBad log rest e =
     ⊎ ((text : List ℕ) × (after : List ℕ) × HasNo 10 text × (rest ≡ text ++ 10 ∷ after)
     × (¬ (IsTrue (is_note text))) × IsBadText log text e))
 
--- how many calls were read
+-- how many calls were read, of which a weak listing is one
 abbrev pub calls_in : Log → ℕ
-calls_in log = sum_by (λ (s : Service). length s.calls) log.services
+calls_in log = sum_by (λ (s : Service). length s.commands) log.services
 
 -- The log may be judged so.
 -- Conforms: all its lines are good, no call waits for its reply, there is a service, and of each an

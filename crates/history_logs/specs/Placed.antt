@@ -5,7 +5,8 @@ use Rattle.histories.specs.Histories.{StandsAt}
 use Rattle.line_streams.specs.Spelling.{HasNo}
 use Rattle.log_lines.specs.Lines.{IsLine, Line, line_text}
 use Rattle.log_lines.specs.Lines.Line.{service, call, reply, begin, end, crash}
-use Rattle.service_conformance.specs.Calls.{Call}
+use Rattle.service_conformance.specs.Judged.{Judged, words_of}
+use Rattle.service_conformance.specs.Judged.Judged.{starts}
 use Rattle.history_logs.specs.Seen.{Service}
 
 -- the line ends a call with these words
@@ -23,12 +24,17 @@ IsLineAt bytes (suc (suc k)) line =
     (first : List ℕ) × (after : List ℕ) × HasNo 10 first × (bytes ≡ first ++ 10 ∷ after)
     × IsLineAt after (suc k) line
 
+-- it has the words of its reply, and they stand in this line; a weak listing that starts has none
+abbrev pub IsSaidIn : List ℕ → Judged → ℕ → Type 0
+IsSaidIn bytes (starts p ids) k = Unit {0}
+IsSaidIn bytes c k =
+    (words : List ℕ) × (words_of c ≡ Some words)
+    × ((l : Line) × IsLine l × Answers l words × IsLineAt bytes k (line_text l))
+
 -- the call of this number has the words of its reply, and they stand in this line
 abbrev pub IsAnsweredIn : List ℕ → Service → ℕ → ℕ → Type 0
 IsAnsweredIn bytes s number k =
-    (c : Call) × (words : List ℕ) × (slice_get s.calls number ≡ Some c)
-    × (c.words ≡ Some words)
-    × ((l : Line) × IsLine l × Answers l words × IsLineAt bytes k (line_text l))
+    (c : Judged) × (slice_get s.calls number ≡ Some c) × IsSaidIn bytes c k
 
 -- where a call was answered, its words are seen, and they stand in the line of the answer
 abbrev pub HasAnswers : List ℕ → Service → Type 0

@@ -16,7 +16,7 @@ use Rattle.history_logs.specs.declared.logs.callers.CallerState.TheVariants as c
 use Rattle.history_logs.specs.declared.logs.service.LogCall.{LogCall}
 use Rattle.history_logs.specs.declared.logs.verdict.Expected.{Expected}
 use Rattle.history_logs.specs.declared.logs.verdict.Expected.TheVariants as expected
-use Rattle.history_logs.specs.Seen.{HasAll, Service, called, started, unseen, with_begin, with_crash, with_end}
+use Rattle.history_logs.specs.Seen.{Begins, HasAll, Service, called, started, unseen, with_begin, with_crash, with_end}
 
 -- What was read: the services, what each caller does (`None` where it has begun no call), and the
 -- call alone that waits for its reply, with the index of its service.
@@ -94,11 +94,12 @@ GoesOn old k (reply words) new =
       services = slice_set old.services at (with_end (with_begin s c k) (length s.calls) r k);
       waits = None;
     })
-GoesOn old k (begin number name command) new =
+GoesOn old k (begin number name begun) new =
     (at : ℕ) × (s : Service) × (old.waits ≡ None) × IsNamed number old.services at s
     × MayBegin (old.callers name)
-    × (new.services ≡ slice_set old.services at (with_begin s (called s command) k))
-    × Sets old.callers name (caller.Calls at (length s.calls)) new.callers × (new.waits ≡ None)
+    × ((t : Service) × (current : ℕ) × Begins s begun k t current
+    × (new.services ≡ slice_set old.services at t)
+    × Sets old.callers name (caller.Calls at current) new.callers × (new.waits ≡ None))
 GoesOn old k (end name words) new =
     (at : ℕ) × (number : ℕ) × (s : Service) × (r : SeenReply) × (old.waits ≡ None)
     × (old.callers name ≡ Some (caller.Calls at number))

@@ -13,6 +13,7 @@ use Rattle.history_logs.specs.declared.logs.verdict.Refusal.{Refusal}
 use Rattle.history_logs.specs.declared.logs.verdict.Verdict.{Verdict}
 use Rattle.history_logs.specs.declared.logs.verdict.Verdict.TheVariants as verdict
 use Rattle.service_conformance.specs.declared.conformance.possible.NextHandle.{NextHandle}
+use Rattle.service_conformance.specs.declared.conformance.possible.PossibleList.{PossibleList}
 use Rattle.service_conformance.specs.declared.conformance.possible.PossibleReplies.{PossibleReplies}
 use Rattle.service_conformance.specs.declared.conformance.possible.PossibleReplies.TheVariants as replies
 use Rattle.history_logs.specs.Logs.{Judged}
@@ -28,10 +29,17 @@ next_text next =
     ++ ((codes ", SLOT below " ++ decimal next.capacity)
     ++ (codes " and none of:" ++ flat_map number_word next.taken.items))
 
+-- the ids with which, and without which, the list would do that was seen
+abbrev pub lists_text : PossibleList → List ℕ
+lists_text lists =
+    (codes "the list with:" ++ flat_map id_word lists.missing.items)
+    ++ (codes ", without:" ++ flat_map id_word lists.unseen.items)
+
 -- the replies that a run gives
 abbrev pub possible_text : PossibleReplies → List ℕ
 possible_text (replies.One r) = text_of r
 possible_text (replies.Handle next) = next_text next
+possible_text (replies.List lists) = lists_text lists
 
 -- the lines in which calls begin that were made
 abbrev pub made_text : List ℕ → List ℕ

@@ -1,5 +1,5 @@
 -- What was seen of a service.
-use Rattle.std.specs.Prelude.{◌≡◌, ℕ, zero, suc, List, [], ◌∷◌, ◌++◌, Option, Some, None, get_or, length}
+use Rattle.std.specs.Prelude.{◌≡◌, ◌⊎◌, ◌+◌, ℕ, zero, suc, List, [], ◌∷◌, ◌++◌, Option, Some, None, get_or, length, slice_get}
 use Rattle.std.specs.List.{slice_set}
 use Rattle.histories.specs.declared.event.Event.{Event}
 use Rattle.histories.specs.declared.event.Event.TheVariants.{Begin, End, Crash}
@@ -8,12 +8,16 @@ use Rattle.iox2_container.specs.declared.container.role.Role.TheVariants as role
 use Rattle.iox2_container.specs.Handle.{Handle}
 use Rattle.iox2_dynamic.specs.Details.{role_of}
 use Rattle.iox2_dynamic.specs.Service as dynamic
-use Rattle.log_lines.specs.Commands.{NamedCommand}
+use Rattle.log_lines.specs.Commands.{Begun, NamedCommand}
+use Rattle.log_lines.specs.Commands.Begun.{command as begun_command, weak}
 use Rattle.log_lines.specs.Commands.NamedCommand.{numbered, deregister, release}
 use Rattle.service_conformance.specs.declared.conformance.seen_reply.SeenReply.{SeenReply}
 use Rattle.service_conformance.specs.declared.conformance.seen_reply.SeenReply.TheVariants as reply
-use Rattle.service_conformance.specs.Calls.{Call, answered, call_of}
-use Rattle.service_conformance.specs.Seen.{seen_text}
+use Rattle.service_conformance.specs.declared.conformance.possible.Part.{Part}
+use Rattle.service_conformance.specs.Calls.{call_of}
+use Rattle.service_conformance.specs.Judged.{Judged, judged_answered, shown, stopped}
+use Rattle.service_conformance.specs.Judged.Judged.{call, starts, stops}
+use Rattle.service_conformance.specs.Sides.{HasPart, LacksPart}
 use Rattle.history_logs.specs.declared.logs.service.LogCall.{LogCall}
 use Rattle.service_descriptions.specs.declared.replay.lines.service_line.ServiceLine.{ServiceLine}
 use Rattle.service_descriptions.specs.Script.{first_state}
@@ -22,15 +26,17 @@ use Rattle.service_descriptions.specs.declared.replay.machine.command.Command.Th
 
 -- A service of a log, what it is before its first call, and what was seen of it: its calls by their
 -- begins, each with the role of the entry that its command adds, if it adds one, the handle that
--- its reply gave, if it gave one, and the line in which it begins; and the events, each with its
+-- its reply gave, if it gave one, and the line in which it begins; the number of the call with
+-- which each command begins, since a weak listing is two of them; and the events, each with its
 -- line.
 pub record Service : Type 0 where
   pub line : ServiceLine
   pub start : dynamic.Service
-  pub calls : List Call
+  pub calls : List Judged
   pub adds : List (Option Role)
   pub given : List (Option Handle)
   pub begins : List ℕ
+  pub commands : List ℕ
   pub events : List Event
   pub places : List ℕ
 
@@ -50,6 +56,7 @@ unseen line = record {
   adds = [];
   given = [];
   begins = [];
+  commands = [];
   events = [];
   places = [];
 }
@@ -60,9 +67,14 @@ role_added (command.Register id) = Some role.Node
 role_added (command.Add details) = Some (role_of details)
 role_added _ = None
 
--- the handle that the call of this number gave, by what is above
+-- the handle that a call gave, by what is above
+abbrev pub given_at : Service → Option ℕ → Option Handle
+given_at s None = None
+given_at s (Some number) = get_or s.given number None
+
+-- the handle that the command of this number gave, by what is above
 abbrev pub given_by : Service → ℕ → Option Handle
-given_by s number = get_or s.given number None
+given_by s number = given_at s (slice_get s.commands number)
 
 -- the handle that a command names, by what is above
 abbrev pub handle_named : Service → Command → Option Handle
@@ -77,13 +89,14 @@ handle_in s r slot ticket =
 
 -- the call of a command, by what is above
 abbrev pub called : Service → NamedCommand → LogCall
-called s (numbered c) = record { seen = call_of c (handle_named s c); adds = role_added c }
+called s (numbered c) =
+    record { seen = call (call_of c (handle_named s c)); adds = role_added c }
 called s (deregister slot ticket) = record {
-  seen = call_of (command.Deregister 0) (Some (handle_in s role.Node slot ticket));
+  seen = call (call_of (command.Deregister 0) (Some (handle_in s role.Node slot ticket)));
   adds = None;
 }
 called s (release r slot ticket) = record {
-  seen = call_of (command.Release 0) (Some (handle_in s r slot ticket));
+  seen = call (call_of (command.Release 0) (Some (handle_in s r slot ticket)));
   adds = None;
 }
 
@@ -92,24 +105,79 @@ abbrev pub given_in : Service → Option Role → SeenReply → Option Handle
 given_in s (Some r) (reply.Handle slot ticket) = Some (handle_in s r slot ticket)
 given_in s _ _ = None
 
--- a call begins in this line
-abbrev pub with_begin : Service → LogCall → ℕ → Service
-with_begin s c line = record {
+-- a call begins in this line, and is no command of its own
+abbrev pub with_part : Service → LogCall → ℕ → Service
+with_part s c line = record {
   line = s.line;
   start = s.start;
   calls = s.calls ++ c.seen ∷ [];
   adds = s.adds ++ c.adds ∷ [];
   given = s.given ++ None ∷ [];
   begins = s.begins ++ line ∷ [];
+  commands = s.commands;
   events = s.events ++ Begin (length s.calls) ∷ [];
   places = s.places ++ line ∷ [];
 }
 
+-- a call begins in this line
+abbrev pub with_begin : Service → LogCall → ℕ → Service
+with_begin s c line =
+    record (with_part s c line) { commands = s.commands ++ length s.calls ∷ [] }
+
+-- the call of this number is over in this line, and has no reply
+abbrev pub with_over : Service → ℕ → ℕ → Service
+with_over s number line = record s {
+  events = s.events ++ End number ∷ [];
+  places = s.places ++ line ∷ [];
+}
+
+-- a weak listing of a part that starts to look, and one that stops, whose replies were not seen
+abbrev pub starting : Part → LogCall
+starting p = record { seen = starts p None; adds = None }
+
+abbrev pub stopping : ℕ → LogCall
+stopping start = record { seen = stops start None; adds = None }
+
+-- A weak listing of a part begins in this line: it starts to look at once, and then stops until it
+-- ends.
+abbrev pub with_look : Service → Part → ℕ → Service
+with_look s p line =
+    with_part (with_over (with_begin s (starting p) line) (length s.calls) line)
+    (stopping (length s.calls)) line
+
+-- What begins in this line makes another service of one, and what is open then has this number. A
+-- weak listing of ports that the pattern has not is a listing.
+abbrev pub Begins : Service → Begun → ℕ → Service → ℕ → Type 0
+Begins s (begun_command c) line new number =
+    (new ≡ with_begin s (called s c) line) × (number ≡ length s.calls)
+Begins s (weak r) line new number =
+    ((p : Part) × HasPart s.start.pattern r p × (new ≡ with_look s p line)
+    × (number ≡ length s.calls + 1))
+    ⊎ (LacksPart s.start.pattern r
+    × (new ≡ with_begin s (called s (numbered (command.List r))) line)
+    × (number ≡ length s.calls))
+
+-- the calls, of which the one of this number is another
+abbrev pub changed : (Judged → Judged) → List Judged → ℕ → List Judged
+changed f [] number = []
+changed f (c ∷ calls) zero = f c ∷ calls
+changed f (c ∷ calls) (suc number) = c ∷ changed f calls number
+
+-- the number with which the weak listing began that stops with the call of this number
+abbrev pub start_of : List Judged → ℕ → Option ℕ
+start_of [] number = None
+start_of (c ∷ calls) zero = stopped c
+start_of (c ∷ calls) (suc number) = start_of calls number
+
+-- the calls, where this is the reply to the weak listing that began with this number
+abbrev pub calls_shown : List Judged → Option ℕ → SeenReply → List Judged
+calls_shown calls None r = calls
+calls_shown calls (Some start) r = changed (λ c. shown c r) calls start
+
 -- the calls, of which the one of this number was answered so
-abbrev pub calls_answered : List Call → ℕ → SeenReply → List Call
-calls_answered [] number r = []
-calls_answered (c ∷ calls) zero r = answered c (seen_text r) ∷ calls
-calls_answered (c ∷ calls) (suc number) r = c ∷ calls_answered calls number r
+abbrev pub calls_answered : List Judged → ℕ → SeenReply → List Judged
+calls_answered calls number r =
+    changed (λ c. judged_answered c r) (calls_shown calls (start_of calls number) r) number
 
 -- the call of this number was answered so in this line
 abbrev pub with_end : Service → ℕ → SeenReply → ℕ → Service

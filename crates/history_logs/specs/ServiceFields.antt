@@ -11,6 +11,7 @@ service_of c = record {
   adds = c.adds.items;
   given = c.given.items;
   begins = c.begins.items;
+  commands = c.commands.items;
   events = c.events.items;
   places = c.places.items;
 }

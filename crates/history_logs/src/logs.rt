@@ -28,19 +28,19 @@ pub use verdict::{Configuration, Expected, Order, Refusal, Verdict};
 
 /// How many calls were read.
 fn count_calls(services: &[LogService]) -> usize
-    requires { sum_by (λ (s : Service). length s.calls) services.now < 2 ^ 64 }
-    ensures { result ≡ sum_by (λ (s : Service). length s.calls) services.now }
+    requires { sum_by (λ (s : Service). length s.commands) services.now < 2 ^ 64 }
+    ensures { result ≡ sum_by (λ (s : Service). length s.commands) services.now }
 {
     let mut count = 0usize;
     for service in services {
-        count += service.calls().len();
+        count += service.commands().len();
     }
     count
 }
 
 /// The verdict where orders explain all that was seen of the services.
 fn end_verdict(services: &[LogService], bad: Option<(usize, Expected)>) -> Verdict
-    requires { sum_by (λ (s : Service). length s.calls) services.now < 2 ^ 64 }
+    requires { sum_by (λ (s : Service). length s.commands) services.now < 2 ^ 64 }
     ensures { result ≡ end_verdict services.now bad }
 {
     match bad {
@@ -78,6 +78,9 @@ fn judge(
 /// or not. `7: ` before a command or a begin says that it is on the service with that number; it
 /// may be left out where no other service is above. Lines that are empty or begin with `#` may
 /// stand anywhere. Every line ends with a newline.
+///
+/// `A> list? ROLE` and `A> nodes?` begin a weak listing, which need not be a snapshot: it has each
+/// id that was there all through it, and none that never was during it.
 ///
 /// The calls on a service are numbered by their begins, from 0. A number stands for the handle that
 /// the call's reply gave, where that reply stands above the line of the begin, else for none.

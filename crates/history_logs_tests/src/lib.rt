@@ -33,3 +33,5 @@ mod states;
 mod streams;
 #[cfg(test)]
 mod texts;
+#[cfg(test)]
+mod weak;

@@ -8,7 +8,7 @@ ghost use Rattle.histories.specs.declared.event.Event.TheVariants as event;
 ghost use Rattle.histories.specs.Histories.{StandsAt};
 ghost use Rattle.history_windows.specs.Windows.{IsStop, IsVerdict, IsWindowOf};
 ghost use Rattle.log_lines.specs.Lines.{IsLine, Line, line_seen, line_text};
-ghost use Rattle.service_conformance.specs.Calls.{Call};
+ghost use Rattle.service_conformance.specs.Judged.{Judged};
 ghost use Rattle.history_logs.specs.Good.{IsOrderly};
 ghost use Rattle.history_logs.specs.Judging.{AreBelow, AreJudged, AreLines, AreLinesTo, Explores};
 ghost use Rattle.history_logs.specs.Judging.{IsFoundOf, IsRefusedIn, IsToldAt, IsToldOf, earlier};
@@ -22,7 +22,7 @@ use histories::{Config, Event, Machine};
 use history_windows::{Cut, Verdict as Found, Window, judge_windows};
 use line_streams::before_byte;
 use log_lines::{LogLine, read_log_line};
-use service_conformance::conformance::{Calls, ServiceCheck, possible_replies};
+use service_conformance::conformance::{Calls, WatchedService, possible_replies};
 use std::alloc::{AllocError, Global};
 
 /// Whether the call of the slot waits.
@@ -81,20 +81,20 @@ fn configuration(
     alloc: Global,
     service: &LogService,
     slots: &[Option<usize>],
-    config: &Config<ServiceCheck>,
+    config: &Config<WatchedService>,
     call: usize,
 ) -> Result<Configuration, AllocError>
     requires few { length slots.now ≤ 64 }
     requires below { AreBelow slots.now (length service.now.begins) }
     requires within { call < length service.now.calls }
-    ensures { IfOk result (λ told. (c : Call) × (slice_get service.now.calls call ≡ Some c)
+    ensures { IfOk result (λ told. (c : Judged) × (slice_get service.now.calls call ≡ Some c)
         × IsTold service.now c slots.now config.now told) }
 {
     Ok(Configuration {
         made: lines_made(alloc, service.begins(), slots, config.waiting)?,
         possible: possible_replies(alloc, &config.state, &service.calls()[call])?,
-        nodes: config.state.nodes_listed(alloc)?,
-        ports: config.state.ports_listed(alloc)?,
+        nodes: config.state.service().nodes_listed(alloc)?,
+        ports: config.state.service().ports_listed(alloc)?,
     })
 }
 
@@ -103,13 +103,13 @@ fn configurations(
     alloc: Global,
     service: &LogService,
     slots: &[Option<usize>],
-    configs: &[Config<ServiceCheck>],
+    configs: &[Config<WatchedService>],
     call: usize,
 ) -> Result<Vec<Configuration>, AllocError>
     requires few { length slots.now ≤ 64 }
     requires below { AreBelow slots.now (length service.now.begins) }
     requires within { call < length service.now.calls }
-    ensures { IfOk result (λ told. (c : Call) → slice_get service.now.calls call ≡ Some c
+    ensures { IfOk result (λ told. (c : Judged) → slice_get service.now.calls call ≡ Some c
         → AllZip (IsTold service.now c slots.now) configs.now told.items) }
 {
     let mut told = Vec::new(alloc);
@@ -180,7 +180,7 @@ fn refusal(
     call: usize,
     words: Vec<u8>,
     needed: Vec<usize>,
-    window: &Window<ServiceCheck>,
+    window: &Window<WatchedService>,
 ) -> Result<Refusal, AllocError>
     requires few { length window.now.front.slots.items ≤ 64 }
     requires below { AreBelow window.now.front.slots.items (length service.now.begins) }
@@ -188,7 +188,7 @@ fn refusal(
     requires place { place < length service.now.places }
     requires begin { window.now.begin < length service.now.places }
     ensures given { IfOk result (λ told. (told.words ≡ words) × (told.needed ≡ needed)) }
-    ensures told { IfOk result (λ told. (c : Call) → slice_get service.now.calls call ≡ Some c
+    ensures told { IfOk result (λ told. (c : Judged) → slice_get service.now.calls call ≡ Some c
         → IsToldAt service.now place c window.now told) }
 {
     let front = &window.front;
@@ -228,7 +228,7 @@ fn refused(
     log: &[u8],
     service: &LogService,
     place: usize,
-    window: &Window<ServiceCheck>,
+    window: &Window<WatchedService>,
 ) -> Result<Refusal, AllocError>
     requires orderly { IsOrderly service.now }
     requires placed { IsPlaced log.now service.now }
@@ -251,8 +251,8 @@ fn told_of(
     alloc: Global,
     log: &[u8],
     service: &LogService,
-    found: Found<ServiceCheck>,
-) -> Result<Result<Window<ServiceCheck>, (usize, Verdict)>, AllocError>
+    found: Found<WatchedService>,
+) -> Result<Result<Window<WatchedService>, (usize, Verdict)>, AllocError>
     requires orderly { IsOrderly service.now }
     requires placed { IsPlaced log.now service.now }
     requires found { IsVerdict (StepOf service.now) (news service.now) service.now.events found }
@@ -282,7 +282,7 @@ pub(super) fn explore(
     log: &[u8],
     service: &LogService,
     cut: Cut,
-) -> Result<Result<Window<ServiceCheck>, (usize, Verdict)>, AllocError>
+) -> Result<Result<Window<WatchedService>, (usize, Verdict)>, AllocError>
     requires orderly { IsOrderly service.now }
     requires placed { IsPlaced log.now service.now }
     ensures { IfOk result (Explores service.now cut) }
@@ -292,7 +292,7 @@ pub(super) fn explore(
         first: 0,
         calls: service.calls(),
     };
-    let states = first_states(alloc, &machine, service)?;
+    let states = first_states(alloc, service)?;
     let found = judge_windows(alloc, &machine, &states, service.events(), cut)?;
     told_of(alloc, log, service, found)
 }

@@ -8,32 +8,31 @@ ghost use Rattle.histories.specs.Histories.{StandsAt};
 ghost use Rattle.history_windows.specs.declared.window.Stop.TheVariants as stop;
 ghost use Rattle.history_windows.specs.Needed.{AreIdle, HasCut, events_of, is_kept};
 ghost use Rattle.history_windows.specs.Windows.{IsStop};
-ghost use Rattle.service_conformance.specs.Calls.{WindowStep};
+ghost use Rattle.service_conformance.specs.Judged.{WindowStep};
 ghost use Rattle.history_logs.specs.Good.{IsOrderly};
 ghost use Rattle.history_logs.specs.Judging.{BeginBelow};
-ghost use Rattle.history_logs.specs.Logs.{AreNeededLines, StepOf, line_begun, news};
+ghost use Rattle.history_logs.specs.Logs.{AreNeededLines, StepOf, line_begun, lines_begun, news};
 
 use super::service::LogService;
 use histories::{Event, Machine};
 use history_windows::{calls_left_out, is_kept};
-use service_conformance::conformance::{Calls, SeenCall, ServiceCheck};
+use service_conformance::conformance::{Calls, JudgedCall, WatchedService};
 use std::alloc::{AllocError, Global};
 
 /// What the service is before its first call, alone.
 pub(super) fn first_states(
     alloc: Global,
-    machine: &Calls<'_>,
     service: &LogService,
-) -> Result<Vec<ServiceCheck>, AllocError>
+) -> Result<Vec<WatchedService>, AllocError>
     ensures { IfOk result (λ states. states.items ≡ news service.now) }
 {
     let mut states = Vec::new(alloc);
-    states.push(machine.copied(service.start())?)?;
+    states.push(WatchedService::new(alloc, service.start())?)?;
     Ok(states)
 }
 
 /// Whether the call of this number is known to change nothing, and is not the refused one.
-fn is_idle(calls: &[SeenCall], number: usize, refused: usize) -> bool
+fn is_idle(calls: &[JudgedCall], number: usize, refused: usize) -> bool
     requires { number < length calls.now }
     ensures { IsTrue result → IsIdle (WindowStep 0 calls.now) number }
 {
@@ -44,7 +43,7 @@ fn is_idle(calls: &[SeenCall], number: usize, refused: usize) -> bool
 }
 
 /// Which of the calls are known to change nothing, but for the refused one.
-fn idle_calls(alloc: Global, calls: &[SeenCall], refused: usize) -> Result<Vec<bool>, AllocError>
+fn idle_calls(alloc: Global, calls: &[JudgedCall], refused: usize) -> Result<Vec<bool>, AllocError>
     ensures { IfOk result (λ idle. AreIdle (WindowStep 0 calls.now) idle.items) }
 {
     let mut idle = Vec::new(alloc);
@@ -90,7 +89,7 @@ fn add_begun(
     }
 }
 
-/// The lines in which the calls of the events begin that are not left out.
+/// The lines in which the calls of the events begin that are not left out, each once.
 fn lines_begun(
     alloc: Global,
     begins: &[usize],
@@ -99,12 +98,13 @@ fn lines_begun(
 ) -> Result<Vec<usize>, AllocError>
     requires { BeginBelow events.now (length begins.now) }
     ensures { IfOk result (λ lines. lines.items
-        ≡ flat_map (line_begun begins.now) (events_of (is_kept left_out.now) events.now)) }
+        ≡ lines_begun begins.now (events_of (is_kept left_out.now) events.now)) }
 {
     let mut lines = Vec::new(alloc);
     for event in events {
         add_begun(begins, left_out, *event, &mut lines)?;
     }
+    lines.dedup();
     Ok(lines)
 }
 
@@ -131,7 +131,7 @@ pub(super) fn lines_needed(
         first: 0,
         calls: service.calls(),
     };
-    let states = first_states(alloc, &machine, service)?;
+    let states = first_states(alloc, service)?;
     let idle = idle_calls(alloc, service.calls(), refused)?;
     let events = &service.events()[..place + 1];
     let past = &events[..begin];

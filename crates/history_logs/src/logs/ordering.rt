@@ -12,7 +12,7 @@ use super::judging::{earlier, explore};
 use super::service::LogService;
 use super::verdict::{Order, Verdict};
 use history_windows::{Cut, Window, order_in};
-use service_conformance::conformance::ServiceCheck;
+use service_conformance::conformance::WatchedService;
 use std::alloc::{AllocError, Global};
 
 /// The lines in which these calls begin.
@@ -31,7 +31,7 @@ fn lines_of(alloc: Global, begins: &[usize], calls: &[usize]) -> Result<Vec<usiz
 fn order_of(
     alloc: Global,
     service: &LogService,
-    window: &Window<ServiceCheck>,
+    window: &Window<WatchedService>,
 ) -> Result<Order, AllocError>
     requires orderly { IsOrderly service.now }
     requires front { IsFrontOf (StepOf service.now) window.now.front service.now.events

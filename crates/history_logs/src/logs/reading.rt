@@ -1,6 +1,6 @@
 //! Reading a log line by line.
 ghost use Rattle.std.specs.Prelude.{◌≡◌, ◌≢◌, ◌<◌, ℕ, List, [], None, Some, IfNone, IfOk, IfSome, IsTrue, length, slice_get};
-ghost use Rattle.log_lines.specs.Commands.{HasText, named as named_command};
+ghost use Rattle.log_lines.specs.Commands.{HasBegun, HasText, begun_in, named as named_command};
 ghost use Rattle.log_lines.specs.Lines.Line.{service as service_line, call as call_line};
 ghost use Rattle.log_lines.specs.Lines.Line.{begin as begin_line, end as end_line, crash as crash_line};
 ghost use Rattle.log_lines.specs.Lines.Line.{given as given_line};
@@ -17,7 +17,7 @@ use super::callers::{CallerState, Callers, refuses_begin};
 use super::service::{LogCall, LogService};
 use super::verdict::Expected;
 use line_streams::{after_word, before_byte};
-use log_lines::{LogCommand, LogLine, LogState, is_note, read_log_line};
+use log_lines::{BegunCall, LogCommand, LogLine, LogState, is_note, read_log_line};
 use service_conformance::conformance::{SeenReply, read_reply};
 use service_descriptions::replay::ServiceLine;
 use std::alloc::{AllocError, Global};
@@ -154,13 +154,13 @@ impl Reading {
         alloc: Global,
         number: Option<u64>,
         caller: &[u8],
-        command: LogCommand,
+        begun: BegunCall,
         line: usize,
     ) -> Result<Option<Expected>, AllocError>
         requires waits { self.old.waits ≡ None }
-        requires text { HasText (named_command command) }
+        requires text { HasBegun (begun_in begun) }
         ensures { IfOk result (λ found. Does (log_of self.old) line
-            (begin_line number caller.now (named_command command)) found (log_of self.new)) }
+            (begin_line number caller.now (begun_in begun)) found (log_of self.new)) }
     {
         let Some(at) = service_named(&self.services, number) else {
             return Ok(Some(Expected::Call));
@@ -168,9 +168,7 @@ impl Reading {
         if let Some(expected) = refuses_begin(self.callers.state_of(caller)) {
             return Ok(Some(expected));
         }
-        let service = &mut self.services[at];
-        let call = service.call(command);
-        let number = service.begin(call, line)?;
+        let number = self.services[at].begin_call(begun, line)?;
         self.callers
             .set(alloc, caller, CallerState::Calls(at, number))?;
         Ok(None)
@@ -198,7 +196,7 @@ impl Reading {
                 let Some(reply) = read_reply(alloc, words)? else {
                     return Ok(Some(Expected::Reply));
                 };
-                self.services[at].end(number, reply, line)?;
+                self.services[at].end(alloc, number, reply, line)?;
                 self.callers.set(alloc, caller, CallerState::Idle)?;
                 Ok(None)
             }
@@ -252,7 +250,7 @@ impl Reading {
         };
         let service = &mut self.services[at];
         let number = service.begin(call, line)?;
-        service.end(number, reply, line)?;
+        service.end(alloc, number, reply, line)?;
         Ok(None)
     }
 
@@ -275,8 +273,8 @@ impl Reading {
             LogLine::Service(service) => self.service(alloc, service),
             LogLine::Call(number, command) => Ok(self.call(number, command)),
             LogLine::Reply(_) => Ok(Some(Expected::Call)),
-            LogLine::Begin(number, caller, command) => {
-                self.begin(alloc, number, caller, command, line)
+            LogLine::Begin(number, caller, begun) => {
+                self.begin(alloc, number, caller, begun, line)
             }
             LogLine::End(caller, words) => self.end(alloc, caller, words, line),
             LogLine::Crash(caller) => self.crash(alloc, caller, line),

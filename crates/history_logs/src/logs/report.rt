@@ -2,7 +2,7 @@
 ghost use Rattle.std.specs.Prelude.{◌≡◌, ◌++◌, OnOk, codes, decimal};
 ghost use Rattle.std.specs.List.{flat_map};
 ghost use Rattle.history_logs.specs.Reports.{attached_text, choice_text, config_text, conforms_text};
-ghost use Rattle.history_logs.specs.Reports.{expected_text, number_word};
+ghost use Rattle.history_logs.specs.Reports.{expected_text, lists_text, number_word};
 ghost use Rattle.history_logs.specs.Reports.{line_of, made_text, next_text, order_text};
 ghost use Rattle.history_logs.specs.Reports.{possible_text, refusal_text, report_text, services_text};
 ghost use Rattle.history_logs.specs.Reports.{window_text};
@@ -12,7 +12,7 @@ use super::verdict::{Configuration, Expected, Order, Refusal, Verdict};
 use iox2_dynamic::dynamic_config::PortDetails;
 use iox2_ids::identifiers::{Hexadecimal, UniqueNodeId};
 use itoa::Buffer;
-use service_conformance::conformance::{NextHandle, PossibleReplies};
+use service_conformance::conformance::{NextHandle, PossibleList, PossibleReplies};
 use service_descriptions::replay::{Reply, write_reply};
 use std::alloc::AllocError;
 
@@ -93,6 +93,27 @@ fn append_next(next: &NextHandle, out: &mut Vec<u8>) -> Result<(), AllocError>
     Ok(())
 }
 
+/// Appends ids.
+fn append_ids(ids: &[u128], out: &mut Vec<u8>) -> Result<(), AllocError>
+    ensures { OnOk result (out.new.items ≡ out.old.items ++ flat_map id_word ids.now) }
+{
+    for id in ids {
+        append_id(*id, out)?;
+    }
+    Ok(())
+}
+
+/// Appends the ids for which the reply to a weak listing is refused.
+fn append_list(lists: &PossibleList, out: &mut Vec<u8>) -> Result<(), AllocError>
+    ensures { OnOk result (out.new.items ≡ out.old.items ++ lists_text lists.now) }
+{
+    out.extend_from_slice(b"the list with:")?;
+    append_ids(&lists.missing, out)?;
+    out.extend_from_slice(b", without:")?;
+    append_ids(&lists.unseen, out)?;
+    Ok(())
+}
+
 /// Appends the replies that a run gives.
 fn append_possible(possible: &PossibleReplies, out: &mut Vec<u8>) -> Result<(), AllocError>
     ensures { OnOk result (out.new.items ≡ out.old.items ++ possible_text possible.now) }
@@ -100,6 +121,7 @@ fn append_possible(possible: &PossibleReplies, out: &mut Vec<u8>) -> Result<(), 
     match possible {
         PossibleReplies::One(reply) => append_words(reply, out),
         PossibleReplies::Handle(next) => append_next(next, out),
+        PossibleReplies::List(lists) => append_list(lists, out),
     }
 }
 

@@ -1,20 +1,23 @@
 //! What was seen of a service.
-ghost use Rattle.std.specs.Prelude.{◌≡◌, ◌<◌, OnOk, IfOk, Some, None, get_or, length};
-ghost use Rattle.log_lines.specs.Commands.{HasText, named};
+ghost use Rattle.std.specs.Prelude.{◌≡◌, ◌+◌, ◌<◌, OnOk, IfOk, Some, None, get_or, length};
+ghost use Rattle.log_lines.specs.Commands.{HasBegun, HasText, begun_in, named};
+ghost use Rattle.log_lines.specs.Commands.Begun.{weak};
 ghost use Rattle.log_lines.specs.States.{state_seen};
 ghost use Rattle.service_conformance.specs.Given.{Becomes};
 ghost use Rattle.service_descriptions.specs.Lines.{command_of};
 ghost use Rattle.service_descriptions.specs.Script.{first_state};
 ghost use Rattle.history_logs.specs.Good.{Starts};
 ghost use Rattle.history_logs.specs.Reading.{Gives};
-ghost use Rattle.history_logs.specs.Seen.{HasAll, called, given_by, given_in, handle_in, handle_named};
-ghost use Rattle.history_logs.specs.Seen.{role_added, unseen, with_begin, with_crash, with_end};
+ghost use Rattle.history_logs.specs.Seen.{Begins, HasAll, calls_shown, called, given_by, given_in};
+ghost use Rattle.history_logs.specs.Seen.{handle_in, handle_named, role_added, start_of};
+ghost use Rattle.history_logs.specs.Seen.{unseen, with_begin, with_crash, with_end};
+ghost use Rattle.history_logs.specs.Seen.{with_look, with_over, with_part};
 
 use histories::Event;
 use iox2_container::container::{ContainerHandle, Role};
 use iox2_dynamic::dynamic_config::MessagingPatternSettings;
-use log_lines::{LogCommand, LogState};
-use service_conformance::conformance::{SeenCall, SeenReply, ServiceCheck};
+use log_lines::{BegunCall, LogCommand, LogState};
+use service_conformance::conformance::{JudgedCall, Part, SeenCall, SeenReply, ServiceCheck};
 use service_descriptions::replay::{LineCommand, ServiceLine};
 use std::alloc::{AllocError, Global};
 use std::marker::Model;
@@ -22,22 +25,23 @@ use std::marker::Model;
 /// A call of a log, and the role of the entry that its command adds.
 #[derive(Drop)]
 pub(super) struct LogCall {
-    pub(super) seen: SeenCall,
+    pub(super) seen: JudgedCall,
     pub(super) adds: Option<Role>,
 }
 
 /// A service of a log, what it is before its first call, and what was seen of it: its calls by
-/// their begins, the roles of the entries
-/// that they add, the handles that their replies gave, the line in which each begins, what
-/// happened, and the line of each event.
+/// their begins, the roles of the entries that they add, the handles that their replies gave, the
+/// line in which each begins, the call with which each command begins, what happened, and the line
+/// of each event.
 #[derive(Drop)]
 pub(super) struct LogService {
     line: ServiceLine,
     start: ServiceCheck,
-    calls: Vec<SeenCall>,
+    calls: Vec<JudgedCall>,
     adds: Vec<Option<Role>>,
     given: Vec<Option<ContainerHandle>>,
     begins: Vec<usize>,
+    commands: Vec<usize>,
     events: Vec<Event>,
     places: Vec<usize>,
 }
@@ -70,6 +74,26 @@ fn new_service(alloc: Global, line: &ServiceLine) -> ServiceCheck
     ServiceCheck::new(alloc, &settings, line.max_nodes, line.number)
 }
 
+/// This is the reply to the weak listing that stops with the call of this number, if it is one.
+fn show(
+    alloc: Global,
+    calls: &mut Vec<JudgedCall>,
+    number: usize,
+    reply: &SeenReply,
+) -> Result<(), AllocError>
+    requires { number < length calls.old.items }
+    ensures { OnOk result (calls.new.items
+        ≡ calls_shown calls.old.items (start_of calls.old.items number) reply.now) }
+{
+    let Some(start) = calls[number].stopped() else {
+        return Ok(());
+    };
+    if start < calls.len() {
+        calls[start].show(alloc, reply)?;
+    }
+    Ok(())
+}
+
 /// This is given of a service that was in use. Returns whether it can be so.
 fn give(start: &mut ServiceCheck, given: LogState) -> Result<bool, AllocError>
     ensures { IfOk result (λ yes.
@@ -96,6 +120,7 @@ impl LogService {
             adds: Vec::new(alloc),
             given: Vec::new(alloc),
             begins: Vec::new(alloc),
+            commands: Vec::new(alloc),
             events: Vec::new(alloc),
             places: Vec::new(alloc),
         }
@@ -106,6 +131,13 @@ impl LogService {
         ensures { result.now ≡ self.now.line }
     {
         &self.line
+    }
+
+    /// The number of the call with which each command begins.
+    pub(super) fn commands(&self) -> &[usize]
+        ensures { result.now ≡ self.now.commands }
+    {
+        &self.commands
     }
 
     /// What it is before its first call.
@@ -127,7 +159,7 @@ impl LogService {
     }
 
     /// The calls, by their begins.
-    pub(super) fn calls(&self) -> &[SeenCall]
+    pub(super) fn calls(&self) -> &[JudgedCall]
         ensures { result.now ≡ self.now.calls }
     {
         &self.calls
@@ -154,12 +186,15 @@ impl LogService {
         &self.places
     }
 
-    /// The handle that the call of this number gave, by what is above.
+    /// The handle that the command of this number gave, by what is above.
     fn given_by(&self, number: usize) -> Option<ContainerHandle>
         ensures { result ≡ given_by self.now number }
     {
-        if number < self.given.len() {
-            self.given[number]
+        let Some(call) = self.commands.get(number) else {
+            return None;
+        };
+        if *call < self.given.len() {
+            self.given[*call]
         } else {
             None
         }
@@ -194,31 +229,31 @@ impl LogService {
                 let handle = self.named_by(&command);
                 let adds = added(&command);
                 LogCall {
-                    seen: SeenCall::new(command, handle),
+                    seen: JudgedCall::call(SeenCall::new(command, handle)),
                     adds,
                 }
             }
             LogCommand::Deregister(slot, ticket) => LogCall {
-                seen: SeenCall::new(
+                seen: JudgedCall::call(SeenCall::new(
                     LineCommand::Deregister(0),
                     Some(self.handle(Role::Node, slot, ticket)),
-                ),
+                )),
                 adds: None,
             },
             LogCommand::Release(role, slot, ticket) => LogCall {
-                seen: SeenCall::new(
+                seen: JudgedCall::call(SeenCall::new(
                     LineCommand::Release(0),
                     Some(self.handle(role, slot, ticket)),
-                ),
+                )),
                 adds: None,
             },
         }
     }
 
-    /// A call begins in this line. Returns its number. Where memory was refused, the service is not
-    /// to be used any more.
-    pub(super) fn begin(&mut self, call: LogCall, line: usize) -> Result<usize, AllocError>
-        ensures begun { OnOk result (self.new ≡ with_begin self.old call line) }
+    /// A call begins in this line, and is no command of its own. Returns its number. Where memory
+    /// was refused, the service is not to be used any more.
+    fn begin_part(&mut self, call: LogCall, line: usize) -> Result<usize, AllocError>
+        ensures begun { OnOk result (self.new ≡ with_part self.old call line) }
         ensures number { IfOk result (λ number. number ≡ length self.old.calls) }
     {
         let number = self.calls.len();
@@ -230,6 +265,75 @@ impl LogService {
         self.events.push(Event::Begin(number))?;
         self.places.push(line)?;
         Ok(number)
+    }
+
+    /// A call begins in this line. Returns its number. Where memory was refused, the service is not
+    /// to be used any more.
+    pub(super) fn begin(&mut self, call: LogCall, line: usize) -> Result<usize, AllocError>
+        ensures begun { OnOk result (self.new ≡ with_begin self.old call line) }
+        ensures number { IfOk result (λ number. number ≡ length self.old.calls) }
+    {
+        self.commands.push(self.calls.len())?;
+        self.begin_part(call, line)
+    }
+
+    /// The call of this number is over in this line, and has no reply. Where memory was refused,
+    /// the service is not to be used any more.
+    fn finish(&mut self, number: usize, line: usize) -> Result<(), AllocError>
+        ensures { OnOk result (self.new ≡ with_over self.old number line) }
+    {
+        self.events.push(Event::End(number))?;
+        self.places.push(line)?;
+        Ok(())
+    }
+
+    /// A weak listing of a part begins in this line. Returns the number of the call that is open.
+    /// Where memory was refused, the service is not to be used any more.
+    fn look(&mut self, part: Part, line: usize) -> Result<usize, AllocError>
+        ensures looks { OnOk result (self.new ≡ with_look self.old part line) }
+        ensures number { IfOk result (λ number. number ≡ length self.old.calls + 1) }
+    {
+        let start = LogCall {
+            seen: JudgedCall::starts(part),
+            adds: None,
+        };
+        let number = self.begin(start, line)?;
+        self.finish(number, line)?;
+        let stop = LogCall {
+            seen: JudgedCall::stops(number),
+            adds: None,
+        };
+        self.begin_part(stop, line)
+    }
+
+    /// A weak listing of the ports of a role, or of the nodes, begins in this line. Returns the
+    /// number of the call that is open. Where memory was refused, the service is not to be used any
+    /// more.
+    fn begin_weak(&mut self, role: Role, line: usize) -> Result<usize, AllocError>
+        ensures { IfOk result (λ current. Begins self.old (weak role) line self.new current) }
+    {
+        match self.start.part_of(role) {
+            Some(part) => self.look(part, line),
+            None => {
+                let call = self.call(LogCommand::Numbered(LineCommand::List(role)));
+                self.begin(call, line)
+            }
+        }
+    }
+
+    /// What a caller begins in this line. Returns the number of the call that is open. Where memory
+    /// was refused, the service is not to be used any more.
+    pub(super) fn begin_call(&mut self, begun: BegunCall, line: usize) -> Result<usize, AllocError>
+        requires { HasBegun (begun_in begun) }
+        ensures { IfOk result (λ current. Begins self.old (begun_in begun) line self.new current) }
+    {
+        match begun {
+            BegunCall::Command(command) => {
+                let call = self.call(command);
+                self.begin(call, line)
+            }
+            BegunCall::Weak(role) => self.begin_weak(role, line),
+        }
     }
 
     /// The handle that a reply gives to a call that adds an entry of this role.
@@ -248,6 +352,7 @@ impl LogService {
     /// not to be used any more.
     pub(super) fn end(
         &mut self,
+        alloc: Global,
         number: usize,
         reply: SeenReply,
         line: usize,
@@ -258,6 +363,7 @@ impl LogService {
     {
         let given = self.given_in(self.adds[number], &reply);
         self.given[number] = given;
+        show(alloc, &mut self.calls, number, &reply)?;
         self.calls[number].answer(reply);
         self.events.push(Event::End(number))?;
         self.places.push(line)?;

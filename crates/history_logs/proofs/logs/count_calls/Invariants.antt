@@ -4,4 +4,4 @@ use Rattle.history_logs.proofs.logs.count_calls.Given as goal
 
 abbrev pub invariant-loop-service : goal.invariant-loop-service
 invariant-loop-service l =
-    l.count ≡ sum_by (λ (s : Service). length s.calls) (take l.service-index l.services)
+    l.count ≡ sum_by (λ (s : Service). length s.commands) (take l.service-index l.services)

@@ -1,7 +1,10 @@
-use Rattle.std.proofs.Common.{Some, ◌∙◌, ap}
+use Rattle.std.proofs.Common.{Some, List, ◌∙◌, ap, arith, eqb, flat_map, take_all}
+use Rattle.std.specs.List.{dedup}
+use Rattle.std.proofs.lemmas.List.Filters.{dedup_is}
 use Rattle.std.proofs.lemmas.Option.{slice_get-get_or}
 use Rattle.histories.specs.declared.event.Event.{Event}
-use Rattle.history_windows.specs.Needed.{is_kept}
+use Rattle.history_windows.specs.Needed.{events_of, is_kept}
+use Rattle.history_logs.specs.Logs.{line_begun}
 use Rattle.history_logs.proofs.Needing.{lines_more}
 use Rattle.history_logs.proofs.logs.needed.lines_begun.Goals as goal
 
@@ -16,3 +19,11 @@ loop-event-preserved c =
     lines_more c.args.begins.now (is_kept c.args.left_out.now) c.args.events.now
     c.loop-event.event-index _ c.loop-event.lines.items _ c.loop-event-test.true
     c.loop-event.invariant c.in_ok-add_begun.ensures
+
+pub returns : goal.returns
+returns c =
+    dedup_is eqb _ _ c.dedup.ensures.filtered
+    ∙ ap (dedup eqb) (c.loop-event.invariant
+    ∙ ap (λ (l : List Event). flat_map (line_begun c.args.begins.now)
+    (events_of (is_kept c.args.left_out.now) l))
+    (take_all c.loop-event.event-index c.args.events.now (omega (arith, c.loop-event-test.false))))

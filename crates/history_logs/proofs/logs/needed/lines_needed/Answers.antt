@@ -1,5 +1,5 @@
 use Rattle.std.proofs.Common.{Bool, List, ◌∙◌, ap, arith, length, subst, sym}
-use Rattle.service_conformance.specs.Calls.{Call, WindowStep}
+use Rattle.service_conformance.specs.Judged.{Judged, WindowStep}
 use Rattle.history_windows.specs.Needed.{AreIdle}
 use Rattle.history_logs.proofs.LinesAt.{if_ok}
 use Rattle.history_logs.proofs.Needing.{given_below, given_cut, given_history, given_lines, given_refused}
@@ -20,7 +20,7 @@ calls_left_out-requires c =
       refused = given_refused s o c.args.begin c.args.place c.requires.within c.calls.result.now
           c.deref.result.now c.events.result.now c.calls.ensures states c.events.ensures
           c.requires.stops c.args.refused c.requires.ended;
-      idle = subst (λ (l : List Call). AreIdle (WindowStep 0 l) c.deref-2.result.now)
+      idle = subst (λ (l : List Judged). AreIdle (WindowStep 0 l) c.deref-2.result.now)
           (c.calls-2.ensures ∙ sym c.calls.ensures)
           (subst (λ (l : List Bool). AreIdle (WindowStep 0 c.calls-2.result.now) l)
           (sym c.deref-2.ensures.value) c.in_ok-idle.ensures);

@@ -1,5 +1,5 @@
 use Rattle.std.proofs.Common.{ap}
-use Rattle.log_lines.specs.Commands.{named}
+use Rattle.log_lines.specs.Commands.{begun_in}
 use Rattle.log_lines.specs.Lines.{line_seen}
 use Rattle.log_lines.specs.States.{state_seen}
 use Rattle.log_lines.specs.Lines.Line.{service, begin, end, crash, given}
@@ -15,7 +15,7 @@ pub returns-in-Begin : goal.returns-in-Begin
 returns-in-Begin c =
     let arm = c.in-Begin in
     ok_is c.begin.result _ _ (line_seen c.args.read)
-    (begin arm.number arm.caller.now (named arm.command)) c.args.line (ap line_seen arm.is)
+    (begin arm.number arm.caller.now (begun_in arm.begun)) c.args.line (ap line_seen arm.is)
     c.begin.ensures
 
 pub returns-in-End : goal.returns-in-End

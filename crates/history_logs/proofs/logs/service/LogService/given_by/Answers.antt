@@ -1,0 +1,15 @@
+use Rattle.std.proofs.Common.{◌≡◌, ℕ, None, List, Some, ◌∙◌, ap, slice_get, subst, sym, arith}
+use Rattle.std.proofs.lemmas.Option.{slice_get-get_or}
+use Rattle.history_logs.specs.Seen.{Service, given_by}
+use Rattle.history_logs.specs.ServiceFields.{service_of}
+use Rattle.history_logs.proofs.Answering.{given_past}
+use Rattle.history_logs.proofs.logs.service.LogService.given_by.Goals as goal
+
+pub returns-else-call-len : goal.returns-else-call-len
+returns-else-call-len c =
+    subst (λ (v : Service). None ≡ given_by v c.args.number) c.self.view_is
+    (given_past (service_of c.self.inside) c.args.number c.in-Some.call.now
+    (ap (λ (l : List ℕ). slice_get l c.args.number) (sym c.deref.ensures.value)
+    ∙ (slice_get-get_or c.deref.result.now c.args.number 0 c.in-Some.ensures.lookup.3.0
+    ∙ ap (λ (n : ℕ). Some n) (sym (c.in-Some.ensures.lookup.3.1 0))))
+    (omega (arith, c.if-call-len.false, c.len.ensures)))
