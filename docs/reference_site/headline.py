@@ -137,10 +137,19 @@ class Headline:
             for module in done:
                 yield from (d for d in crate.definitions if d.module == module)
 
+    def commented(self, part):
+        """The definitions, each with its comment, or none where this was just said."""
+        said = None
+        for found in part:
+            about = self.project.crates[found.crate].abouts[found.module]
+            yield found, "" if found.comment in (said, about) else found.comment
+            said = found.comment
+
     def counts(self):
         """How many definitions each list needs, and their lines with the comments above them."""
         for part in self.parts:
-            lines = sum(d.text.strip().count("\n") + 1 + (len(d.comment) + 96) // 97 for d in part)
+            lines = sum(found.text.strip().count("\n") + 1 + (len(comment) + 96) // 97
+                        for found, comment in self.commented(part))
             yield f"{plural(len(part), 'definition')} in {lines} lines"
 
     def summary(self, inline):
@@ -171,20 +180,21 @@ class Headline:
                         models.append(f"<h3><code>{shown.item.name}</code></h3>" + "".join(
                             parts.clauses(m, scope) for m in members))
         module, texts = None, []
-        for found in [d for part in self.parts for d in part]:
+        for found, comment in [each for part in self.parts for each in self.commented(part)]:
             if (found.crate, found.module) != module:
                 module = (found.crate, found.module)
                 about = parts.inline(self.project.crates[found.crate].abouts[found.module], None)
                 texts.append(f"<h3>{found.crate}: {found.module}</h3><p>{about}</p>")
-            texts.append(f"<p>{parts.inline(found.comment, None)}</p>"
-                         f"<pre>{parts.contract(found.text, found.scope, found.name)}</pre>")
+            if comment:
+                texts.append(f"<p>{parts.inline(comment, None)}</p>")
+            texts.append(f"<pre>{parts.contract(found.text, found.scope, found.name)}</pre>")
         names = ", ".join(f"<code>{parts_of[-1]}</code>" for parts_of in sorted(self.trusted))
         return (
-            "<p>Each sentence of the headline, and the clauses that carry it. Below, all definitions "
-            "that these clauses cite, and nothing else, each after those that it uses: "
-            f"{', and for the last sentences '.join(self.counts())}. Who believes them, and the "
-            f"{len(self.trusted)} definitions of the toolchain's library that they cite, need not "
-            "read anything else.</p>"
+            "<p>Each sentence of the headline, and the clauses that carry it. Below stand all "
+            "definitions that these clauses cite, and nothing else, each after those that it uses: "
+            f"{', and for the last sentences '.join(self.counts())}. With the {len(self.trusted)} "
+            "definitions of the toolchain's library that they cite, they say all that the clauses "
+            "mean.</p>"
             f"<h2>Sentences</h2>{''.join(rows)}"
             f"<h2>What contracts see of the types</h2>{''.join(models)}"
             f"<h2>Definitions</h2>{''.join(texts)}"
