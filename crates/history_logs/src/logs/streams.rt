@@ -1,6 +1,6 @@
 //! Logs that come from a stream.
-ghost use Rattle.std.specs.Prelude.{◌≡◌, ◌<◌, IfOk, IfSome, OnOk, true};
-ghost use Rattle.std.specs.Io.KnownBytes.{Appends, IsAtEnd};
+ghost use Rattle.std.specs.Prelude.{◌≡◌, ◌<◌, IfOk, IfSome, true};
+ghost use Rattle.std.specs.Io.KnownBytes.{IsAtEnd};
 ghost use Rattle.line_streams.specs.Streams.{IsFlushed};
 ghost use Rattle.history_logs.specs.Logs.{Judged};
 ghost use Rattle.history_logs.specs.Orders.{IsTextOf, ReportedWith};
@@ -8,88 +8,64 @@ ghost use Rattle.history_logs.specs.Reports.{Reported, on_errors, on_output, sta
 
 use super::verdict::Verdict;
 use super::{report_log, witness_log};
-use line_streams::{Sink, Source, read_all, write_whole};
+use line_streams::{Outcome, Sink, Source, Status, report_failure, run_filter, write_whole};
 use std::alloc::{AllocError, Global};
 use std::io;
 
-/// The status of a verdict.
-fn status(verdict: &Verdict) -> u8
-    ensures { result ≡ status_of verdict.now }
-{
-    match verdict {
-        Verdict::Conforms(_, _) => 0,
-        Verdict::Refused(_) => 1,
-        Verdict::ManyConfigs(_) | Verdict::ManyOpen(_) | Verdict::BadLine(_, _) => 2,
+/// The verdict on a log, and the text that reports it.
+#[derive(Drop)]
+struct Judgement {
+    verdict: Verdict,
+    text: Vec<u8>,
+}
+
+impl Outcome for Judgement {
+    ghost status = { λ j. status_of j.verdict };
+
+    ghost on_output = { λ j. on_output j.verdict j.text.items };
+
+    ghost on_errors = { λ j. on_errors j.verdict j.text.items };
+
+    fn status(&self) -> u8 {
+        let status = match &self.verdict {
+            Verdict::Conforms(_, _) => Status::Good,
+            Verdict::Refused(_) => Status::Faulty,
+            Verdict::ManyConfigs(_) | Verdict::ManyOpen(_) | Verdict::BadLine(_, _) => {
+                Status::Unusable
+            }
+        };
+        status.number()
+    }
+
+    fn output(&self) -> &[u8] {
+        match &self.verdict {
+            Verdict::Conforms(_, _) | Verdict::Refused(_) => self.text.as_slice(),
+            Verdict::ManyConfigs(_) | Verdict::ManyOpen(_) | Verdict::BadLine(_, _) => &[],
+        }
+    }
+
+    fn write_errors<E: Sink>(&self, errors: &mut E) -> io::Result<()> {
+        match &self.verdict {
+            Verdict::Conforms(_, _) | Verdict::Refused(_) => Ok(()),
+            Verdict::ManyConfigs(_) | Verdict::ManyOpen(_) | Verdict::BadLine(_, _) => {
+                write_whole(errors, &self.text)
+            }
+        }
     }
 }
 
 /// Judges the log: the verdict, and the text that reports it, with the orders if they are wanted.
-fn judged(alloc: Global, log: &[u8], with_orders: bool) -> Result<(Verdict, Vec<u8>), AllocError>
-    ensures judged { IfOk result (λ found. Judged log.now found.0) }
-    ensures text { IfOk result (λ found. IsTextOf with_orders log.now found.0 found.1.items) }
+fn judged(alloc: Global, log: &[u8], with_orders: bool) -> Result<Judgement, AllocError>
+    ensures judged { IfOk result (λ found. Judged log.now found.verdict) }
+    ensures text { IfOk result (λ found.
+        IsTextOf with_orders log.now found.verdict found.text.items) }
 {
-    if with_orders {
-        witness_log(alloc, log)
+    let (verdict, text) = if with_orders {
+        witness_log(alloc, log)?
     } else {
-        report_log(alloc, log)
-    }
-}
-
-/// Writes the text of a verdict where it belongs, and flushes both writers.
-fn report<W: Sink, E: Sink>(
-    output: &mut W,
-    errors: &mut E,
-    verdict: &Verdict,
-    text: &[u8],
-) -> io::Result<()>
-    ensures output { OnOk result
-        (Appends (W.contents output.old) (W.contents output.new) (on_output verdict.now text.now)) }
-    ensures errors { OnOk result
-        (Appends (E.contents errors.old) (E.contents errors.new) (on_errors verdict.now text.now)) }
-    ensures flushed { OnOk result
-        (IsFlushed W.Flushes output.new × IsFlushed E.Flushes errors.new) }
-{
-    match verdict {
-        Verdict::ManyConfigs(_) | Verdict::ManyOpen(_) | Verdict::BadLine(_, _) => {
-            write_whole(errors, text)?;
-        }
-        Verdict::Conforms(_, _) | Verdict::Refused(_) => write_whole(output, text)?,
-    }
-    output.flush_pieces()?;
-    errors.flush_pieces()
-}
-
-/// Judges the log that the reader gives, and answers the status unless a stream fails.
-fn run<R: Source, W: Sink, E: Sink>(
-    alloc: Global,
-    input: &mut R,
-    output: &mut W,
-    errors: &mut E,
-    with_orders: bool,
-) -> io::Result<u8>
-    ensures range { IfOk result (λ status. status < 4) }
-    ensures reported { IfOk result (λ status. status < 3 → IfSome (R.remaining input.old)
-        (λ log. ReportedWith with_orders log status (W.contents output.old) (W.contents output.new)
-        (E.contents errors.old) (E.contents errors.new))) }
-    ensures flushed { IfOk result (λ status. status < 3
-        → IsFlushed W.Flushes output.new × IsFlushed E.Flushes errors.new) }
-    ensures read { IfOk result (λ status. status < 3 → IsAtEnd (R.remaining input.new)) }
-{
-    let end = match read_all(alloc, input)? {
-        Ok(log) => judged(alloc, &log, with_orders),
-        Err(why) => Err(why),
+        report_log(alloc, log)?
     };
-    match end {
-        Ok((verdict, text)) => {
-            report(output, errors, &verdict, &text)?;
-            Ok(status(&verdict))
-        }
-        Err(_) => {
-            write_whole(errors, b"no memory\n")?;
-            errors.flush_pieces()?;
-            Ok(3)
-        }
-    }
+    Ok(Judgement { verdict, text })
 }
 
 /// Judges the log that the reader gives, reports it, with the orders if they are wanted, and
@@ -109,14 +85,10 @@ fn answer<R: Source, W: Sink, E: Sink>(
         → IsFlushed W.Flushes output.new × IsFlushed E.Flushes errors.new }
     ensures read { result < 3 → IsAtEnd (R.remaining input.new) }
 {
-    match run(alloc, input, output, errors, with_orders) {
-        Ok(status) => status,
-        Err(_) => {
-            // Where this fails too, the status alone tells it.
-            let _told = write_whole(errors, b"a stream failed\n");
-            3
-        }
-    }
+    let end = run_filter(alloc, input, output, errors, |log| {
+        judged(alloc, &log?, with_orders)
+    });
+    report_failure(errors, end)
 }
 
 /// Judges the log that the reader gives, and answers the status of the program.
