@@ -100,6 +100,13 @@ has_witness() {
         diff - <(printf 'conforms, 1 calls on 1 service\nservice 7\n3\n')
 }
 run "archive: iox2-conform --witness" has_witness
+# Progress is shown on a terminal alone.
+has_no_progress() {
+    printf 'service event 7 1 0 0\nnodes\n= list\n' |
+        "$prefix/bin/iox2-conform" --progress --witness 2>&1 |
+        diff - <(printf 'conforms, 1 calls on 1 service\nservice 7\n3\n')
+}
+run "archive: iox2-conform --progress" has_no_progress
 for program in replay describe conform; do
     run "archive: iox2-$program" repeats $program
 done

@@ -120,19 +120,6 @@ module _ (text front back : List ℕ) (c : Comes text front back) where
   no_crash_more rest is some caller p e =
       some (append_cancel_left (codes "!") rest [] (sym is ∙ (crash_same caller p e).1))
 
-  -- the begin of a call is no command
-  pub no_command : (rest : List ℕ) → back ≡ codes "> " ++ rest → (d : NamedCommand) → HasText d
-      → text ≢ command_text d
-  no_command rest is d p e =
-      let k =
-      one_kind text 3 1 (record {
-        front = front;
-        back = codes "> " ++ rest;
-        comes = subst (λ (b : List ℕ). Comes text front b) is c;
-        is = refl;
-      }) (subst (λ (t : List ℕ). Tells t 1) (sym e) (of_text d p)) in
-      absurd (omega (arith, k))
-
   pub no_begun : (rest : List ℕ) → back ≡ codes "> " ++ rest
       → ((d : NamedCommand) → HasText d → rest ≢ command_text d) → (caller : List ℕ)
       (d : NamedCommand) → IsCaller caller → HasText d → text ≢ begin_text caller d
