@@ -191,7 +191,8 @@ module _ {S : Type 0} where
         (IsNextOther Step slots from slot other)
         (IsNextBeside Step slots from slot (other + 1)) old mid new
         (λ k r. elim (cases_order r.0 other)
-        as (λ _. IsNextBeside Step slots from slot other k ⊎ IsNextOther Step slots from slot other k) [
+        as (λ _. IsNextBeside Step slots from slot other k
+        ⊎ IsNextOther Step slots from slot other k) [
           | inl e ↦ inr (subst (λ i. IsNextOther Step slots from slot i k) e r.2)
           | inr (inl less) ↦ inl (r.0, less, r.2)
           | inr (inr more) ↦ absurd (omega (arith, r.1))
@@ -224,7 +225,8 @@ module _ {S : Type 0} where
         gathers_then (IsNextBeside Step slots from slot (length slots))
         (IsNextAt Step slots from slot) (IsNext Step slots from) old mid new
         (λ k r. elim (cases_order r.0 slot)
-        as (λ _. IsNextBeside Step slots from slot (length slots) k ⊎ IsNextAt Step slots from slot k) [
+        as (λ _. IsNextBeside Step slots from slot (length slots) k
+        ⊎ IsNextAt Step slots from slot k) [
           | inl e ↦ inr (subst (λ i. IsNextAt Step slots from i k) e r.2)
           | inr (inl less) ↦ inl (r.0, r.1, ((λ e. absurd (omega (arith, less, e))), r.2))
           | inr (inr more) ↦ inl (r.0, r.1, ((λ e. absurd (omega (arith, more, e))), r.2))

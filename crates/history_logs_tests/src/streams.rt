@@ -34,13 +34,7 @@ fn judge(alloc: Global, log: &str, failing: [Option<u64>; 3]) -> Ended {
     };
     let mut output = sink(alloc, of_output);
     let mut errors = sink(alloc, of_errors);
-    let status = check_streams(
-        alloc,
-        &mut input,
-        &mut output,
-        &mut errors,
-        &mut NoProgress,
-    );
+    let status = check_streams(alloc, &mut input, &mut output, &mut errors, &mut NoProgress);
     Ended {
         status,
         output: output.bytes,

@@ -7,7 +7,7 @@ use line_streams::{Sink, write_whole};
 use std::alloc::{AllocError, Global};
 use std::time::{Clock, Duration, Instant};
 
-/// What is told how far a log was read.
+/// What is shown of how far a log was read.
 pub trait Progress {
     /// The bytes that it wrote, where they are known.
     ghost contents: { Self → Option (List ℕ) };

@@ -334,9 +334,13 @@ impl Reading {
         ensures { IfOk result (λ found.
             TakesLine (log_of self.old) line text.now found (log_of self.new)) }
     {
+        // To take a call that is not there costs as much as to take one.
+        if self.waits.is_none() {
+            return self.next(alloc, text, line);
+        }
         match self.waits.take() {
             Some((at, call)) => self.reply(alloc, at, call, text, line),
-            None => self.next(alloc, text, line),
+            None => unreachable!(),
         }
     }
 
@@ -379,8 +383,8 @@ impl Reading {
     }
 }
 
-/// Reads the good lines of a log, and tells how many. Returns what was read, and the first line that is not what is
-/// expected, if there is one.
+/// Reads the good lines of a log, and counts them. Returns what was read, and the first line that
+/// is not what is expected, if there is one.
 #[tactic(auto, using(crate::proofs::Above::read_missing, crate::proofs::Above::read_whole, crate::proofs::Above::above_room))]
 pub(super) fn read_log<P: Progress>(
     alloc: Global,

@@ -158,7 +158,7 @@ fn answer<R: Source, W: Sink, E: Sink, P: Progress>(
 /// - 3: memory was refused, and `no memory` was written to `errors`; or a read, a write or a flush
 ///   failed, for any cause, and it was tried to write `a stream failed` to `errors`.
 ///
-/// Progress is told how many lines were read, and ends before the first of this is written.
+/// Progress counts the lines as they are read, and ends before the first of this is written.
 pub fn check_streams<R: Source, W: Sink, E: Sink, P: Progress>(
     alloc: Global,
     input: &mut R,
