@@ -1,27 +1,34 @@
-"""Typed calls: `bench_calls` beside `plain_calls`, a program without proofs. Each takes lines of a
-call, the places of a service, a number of rounds and of calls in a round; a round sets up the same
-whatever the number of calls. So the instructions of a call are the difference of two runs that
-differ in that number alone."""
+#!/usr/bin/env python3
+"""Typed calls: `bench_calls` beside `plain_calls`, a program without proofs, and calls from C and
+Rust beside plain programs of the same calls, and from C beside those inside. Alone it prints these
+tables. A program takes lines of a call, the places of a service, a number of rounds and of calls in
+a round; a round sets up the same whatever the number of calls. So the instructions of a call are
+the difference of two runs that differ in that number alone."""
 
+import os
+import shutil
 import subprocess
 import sys
 import tempfile
 from pathlib import Path
 from typing import NamedTuple
 
-import marks
+sys.dont_write_bytecode = True
+
 import measure
 
 HERE = Path(__file__).resolve().parent
 PLAIN = HERE / "plain_calls"
-PROVED = HERE.parent / "crates" / "bench_calls"
+FFI = HERE / "ffi"
 DEBIAN = Path("/usr/share/cargo/registry")
+ARCHIVE = HERE.parent / "bindings" / "out" / "libiox2sd.a"
 
 
 class Call(NamedTuple):
     """A call with the places of its service (nodes, subscribers, publishers; for a layout the size
     of the header, the alignment and the size of an element), how often it is made in each of some
-    rounds, and its mark, the most of the plain program's instructions."""
+    rounds, and its mark, the most that its instructions come to beside those of the other
+    program."""
 
     name: str
     places: str
@@ -30,10 +37,21 @@ class Call(NamedTuple):
     many: int
     mark: float = 1.0
 
+    def instructions(self, programs, work):
+        """Instructions of one call in each of the programs."""
+        scripts = []
+        for calls in (self.few, self.many):
+            script = Path(work) / f"{calls}"
+            script.write_text(f"{self.name} {self.places} {self.rounds} {calls}\n")
+            measure.check_same(programs, script)
+            scripts.append(script)
+        made = self.rounds * (self.many - self.few)
+        counted = ([measure.instructions(program, script) for script in scripts] for program in programs)
+        return [measure.difference(many, few, made) for few, many in counted]
+
 
 DEFAULT, LARGE, SIZES, NONE = "20 8 2", "500 250 250", "40 8 24", "0 0 0"
-
-CALLS = [
+SINGLE = [
     Call("register", DEFAULT, 50, 10, 20),
     Call("register", LARGE, 2, 250, 500),
     Call("attach", DEFAULT, 50, 4, 8),
@@ -54,48 +72,104 @@ CALLS = [
     Call("verification", NONE, 1, 100, 200, 0.78),
     Call("hash-text", NONE, 1, 100, 200, 1.18),
 ]
+BESIDE_PLAIN_CPP = [
+    Call("attach-release", "1 8 2", 1, 100, 200, 1.1),
+    Call("attach-release", "19 8 2", 1, 100, 200, 1.1),
+    Call("ports", "1 15 0", 1, 100, 200, 1.1),
+    Call("ports", "1 999 0", 1, 10, 20, 1.1),
+    Call("port", DEFAULT, 1, 100, 200, 1.1),
+]
+BEYOND_INSIDE = [
+    Call("register", DEFAULT, 50, 10, 20, 12),
+    *(Call(name, DEFAULT, 50, 4, 8, 12) for name in ("attach", "release", "deregister", "death")),
+]
+# Inside, it is one read, as in the plain program.
+BEYOND_A_READ = [Call("is-locked", DEFAULT, 1, 100, 200, 12)]
+BESIDE_PLAIN_RUST = [
+    *(Call(name, DEFAULT, 1, 100, 200, 1.5) for name in ("port", "attach-release")),
+    Call("death", DEFAULT, 50, 0, 2, 1.5),
+    *(Call(name, DEFAULT, 1, 100, 200, 1.5) for name in ("ports", "ports-of", "count", "make")),
+]
+# A death that keeps all ports. Where it takes n log n, 16,000 take 16 * log(16,000) / log(1,000) times
+# as much as 1,000, which is 22.4.
+KEPT = [Call("keep", f"1 {kept} 0", 1, 2, 4, 22.5) for kept in (1_000, 16_000)]
+
+
+def table(pair, by, rows, programs, work):
+    """Prints a row for each call, if there are programs, and gives what each came to and its mark."""
+    compared = {"Ratio": measure.ratio, "More": measure.difference}[by]
+    if programs:
+        print(f"\n| {pair} | Nodes, subscribers, publishers | Instructions a call | {by} | Mark |\n|---|---|---|---|---|", flush=True)
+    found = []
+    for call in rows:
+        figures = call.instructions(programs, work) if programs else [None, None]
+        mark = measure.Mark(f"{pair}: {call.name} {call.places}", compared(*figures), call.mark)
+        if programs:
+            places = "" if call.places in (SIZES, NONE) else call.places.replace(" ", ", ")
+            cells = [call.name, places, measure.pair(",.0f", *figures), mark.of(), f"{mark.most:g}"]
+            print("| " + " | ".join(cells) + ", missed" * mark.is_missed() + " |", flush=True)
+        found.append(mark)
+    return found
+
+
+def growth(programs, work):
+    """Prints what a death takes that keeps all of many ports, and gives its mark."""
+    few, many = (call.instructions(programs, work) if programs else [None, None] for call in KEPT)
+    mark = measure.Mark("From C: 16,000 ports kept, times 1,000", measure.ratio(many[0], few[0]), KEPT[0].mark)
+    if programs:
+        pairs = " and ".join(measure.pair(",.0f", *figures) for figures in (few, many))
+        print(f"\nA death that keeps 1,000 and 16,000 ports, from C / plain C++: {pairs}, growth {mark.of()}, at most {mark.most}{', missed' * mark.is_missed()}", flush=True)
+    return mark
+
+
+def run(*command, **more):
+    subprocess.run(command, check=True, **more)
 
 
 def built():
-    """The paths of both programs, which are built first: `plain_calls` each time, the proved one
-    where it is missing. `None` where there are not the libraries of which `plain_calls` is made."""
+    """The paths of the programs of calls inside: the plain one is built each time, the proved one
+    where it is missing. `None` where there are not the libraries of which the plain one is made."""
     if not all(any(DEBIAN.glob(f"{library}-*")) for library in ("sha1", "base64")):
-        return None
-    subprocess.run(["cargo", "build", "--release", "--quiet", "--offline"], cwd=PLAIN, check=True)
-    proved = PROVED / "out" / "bench_calls"
-    if not proved.exists():
-        with open(PROVED / "stdin", "rb") as stdin:
-            subprocess.run(["rt", "run"], cwd=PROVED, stdin=stdin, stdout=subprocess.DEVNULL, check=True)
-    return [str(proved), str(PLAIN / "target" / "release" / "plain_calls")]
-
-
-def measured(programs, call, work):
-    """Instructions of one call in each of the programs."""
-    scripts = []
-    for calls in (call.few, call.many):
-        script = Path(work) / f"{calls}"
-        script.write_text(f"{call.name} {call.places} {call.rounds} {calls}\n")
-        scripts.append(script)
-        fault = measure.check_same(programs, script)
-        if fault:
-            sys.exit(f"{script.read_text()}: {fault}")
-    few, many = scripts
-    made = call.rounds * (call.many - call.few)
-    return [measure.difference(measure.instructions(program, many), measure.instructions(program, few), made) for program in programs]
-
-
-def table(programs):
-    """Prints a row for each call, and gives what each came to and its mark."""
-    if programs is None:
         print("Single calls are not measured: librust-sha1-dev and librust-base64-dev are not installed.")
-        return [marks.Mark(f"{call.name} {call.places}", None, call.mark) for call in CALLS]
-    print("| Call | Nodes, subscribers, publishers | Instructions a call | Ratio | Mark |\n|---|---|---|---|---|", flush=True)
-    found = []
-    for call in CALLS:
-        places = call.places.replace(" ", ", ") if call.places in (DEFAULT, LARGE) else ""
-        with tempfile.TemporaryDirectory() as work:
-            proved, plain = measured(programs, call, work)
-        mark = marks.Mark(f"{call.name} {call.places}", marks.ratio(proved, plain), call.mark)
-        print(f"| {call.name} | {places} | {marks.pair(',.0f', proved, plain)} | {mark.of()}{', missed' * mark.is_missed()} | {call.mark} |", flush=True)
-        found.append(mark)
-    return found
+        return None
+    run("cargo", "build", "--release", "--quiet", "--offline", cwd=PLAIN)
+    return [measure.proved("bench_calls"), str(PLAIN / "target" / "release" / "plain_calls")]
+
+
+def built_for_c(work):
+    """The paths of the programs of `ffi`: on the library, and the plain one."""
+    include = f"-I{HERE.parent / 'include'}"
+    c = ["cc", "-std=c99", "-O2", include, FFI / "calls.c"]
+    run(*c, ARCHIVE, "-o", work / "from_c")
+    run(*c, "-DPLAIN", "-c", "-o", work / "calls.o")
+    run("g++", "-std=c++17", "-O2", include, FFI / "plain.cpp", work / "calls.o", "-o", work / "plain")
+    return [str(work / "from_c"), str(work / "plain")]
+
+
+def built_for_rust():
+    """The paths of the programs of `ffi/rust`: on the crate, and the plain one."""
+    run("cargo", "build", "--release", "--quiet", "--offline", cwd=FFI / "rust", env={**os.environ, "IOX2SD_LIB_DIR": str(ARCHIVE.parent)})
+    return [str(FFI / "rust" / "target" / "release" / name) for name in ("from_rust", "plain")]
+
+
+def tables():
+    """Prints a table for each pair of programs, and gives what each call came to and its mark."""
+    inside, c, rust = built(), None, None
+    with tempfile.TemporaryDirectory() as folder:
+        work = Path(folder)
+        absent = [tool for tool in ("cc", "g++", "cargo") if shutil.which(tool) is None]
+        absent += [] if ARCHIVE.exists() else ["bindings/out/libiox2sd.a"]
+        if absent:
+            print(f"Calls from C and Rust are not measured: there is no {', no '.join(absent)}.")
+        else:
+            c, rust = built_for_c(work), built_for_rust()
+        found = table("Inside / plain", "Ratio", SINGLE, inside, work)
+        found += table("From C / plain C++", "Ratio", BESIDE_PLAIN_CPP, c, work)
+        found.append(growth(c, work))
+        found += table("From C / inside", "More", BEYOND_INSIDE, c and inside and [c[0], inside[0]], work)
+        found += table("From C / plain C++", "More", BEYOND_A_READ, c, work)
+        return found + table("From Rust / plain Rust", "Ratio", BESIDE_PLAIN_RUST, rust, work)
+
+
+if __name__ == "__main__":
+    measure.print_summary(tables())

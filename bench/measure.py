@@ -1,13 +1,55 @@
-"""What a program's run costs, beside time: instructions and memory. A figure is `None` where what
-gives it is not installed."""
+"""What a program's run costs, beside time: instructions and memory, and the marks of such figures.
+A figure is `None` where what gives it is not installed."""
 
 import os
 import re
 import shutil
 import subprocess
+import sys
+import tempfile
+from typing import NamedTuple
 
 SECONDS = 300
 GNU_TIME = "/usr/bin/time"
+
+
+class Mark(NamedTuple):
+    """What a figure is, and the most that it may be."""
+
+    name: str
+    figure: float
+    most: float
+
+    def of(self):
+        return "-" if self.figure is None else f"{self.figure:,.2f}"
+
+    def is_missed(self):
+        return self.figure is not None and round(self.figure, 2) > self.most
+
+
+def ratio(one, other):
+    return None if one is None or other is None else one / other
+
+
+def difference(more, fewer, times=1):
+    """By how much one figure is above another, for each time."""
+    return None if more is None or fewer is None else (more - fewer) / times
+
+
+def pair(form, one, other, unit=""):
+    """Two figures as the tables have them."""
+    return "-" if one is None or other is None else f"{one:{form}} / {other:{form}}{unit}"
+
+
+def print_summary(found):
+    """Prints how many marks there are, and which are missed. Ends where nothing was measured."""
+    missed = [mark for mark in found if mark.is_missed()]
+    left_out = sum(mark.figure is None for mark in found)
+    print(f"\nMarks: {len(found)}, missed: {len(missed)}" + f", not measured: {left_out}" * (left_out > 0))
+    for mark in missed:
+        print(f"{mark.name}: {mark.of()}, mark {mark.most:,}")
+    if left_out == len(found):
+        sys.exit("nothing was measured")
 
 
 def missing():
@@ -16,43 +58,45 @@ def missing():
     return [f"{tool} ({figures})" for tool, figures in needed if shutil.which(tool) is None]
 
 
-def difference(more, fewer, times):
-    """By how much one figure is above another, for each time."""
-    return None if more is None or fewer is None else (more - fewer) / times
+def told_by(command, script):
+    """What a command, if it is installed, says of a program's run on a file, on standard error."""
+    if shutil.which(command[0]) is None:
+        return None
+    with open(script, "rb") as stdin:
+        return subprocess.run(command, stdin=stdin, stdout=subprocess.DEVNULL, stderr=subprocess.PIPE, timeout=SECONDS, check=True).stderr
 
 
 def instructions(program, script):
     """How many instructions the program takes on the file, by callgrind."""
-    if shutil.which("valgrind") is None:
-        return None
-    command = ["valgrind", "--tool=callgrind", f"--callgrind-out-file={os.devnull}", program]
-    with open(script, "rb") as stdin:
-        ran = subprocess.run(command, stdin=stdin, stdout=subprocess.DEVNULL, stderr=subprocess.PIPE, timeout=SECONDS, check=True)
-    return int(re.search(rb"Collected : (\d+)", ran.stderr)[1])
+    told = told_by(["valgrind", "--tool=callgrind", f"--callgrind-out-file={os.devnull}", program], script)
+    return told and int(re.search(rb"Collected : (\d+)", told)[1])
 
 
 def peak(program, script):
     """The program's peak memory on the file, in bytes, by GNU time, since a child of this process
     counts its memory too."""
-    if shutil.which(GNU_TIME) is None:
-        return None
-    with open(script, "rb") as stdin:
-        command = [GNU_TIME, "-f", "%M", program]
-        ran = subprocess.run(command, stdin=stdin, stdout=subprocess.DEVNULL, stderr=subprocess.PIPE, timeout=SECONDS, check=True)
-    return int(ran.stderr) << 10
+    told = told_by([GNU_TIME, "-f", "%M", program], script)
+    return told and int(told) << 10
 
 
 def check_same(programs, script):
-    """Both programs show the same for the file, without a refusal. Where they do not, says how."""
-    shown = [subprocess.run([program], stdin=open(script, "rb"), capture_output=True, timeout=SECONDS) for program in programs]
-    if len({(each.returncode, each.stdout, each.stderr) for each in shown}) > 1:
-        return "the programs show different output or errors"
-    if shown[0].returncode != 0:
-        return f"it is not carried out: {shown[0].stderr}"
-    return None
+    """Ends where the programs do not show the same for the file, or one refuses it."""
+    shown = []
+    for program in programs:
+        with open(script, "rb") as stdin:
+            ended = subprocess.run([program], stdin=stdin, capture_output=True, timeout=SECONDS)
+        shown.append((ended.returncode, ended.stdout, ended.stderr))
+    if len(set(shown)) > 1 or shown[0][0] != 0:
+        kept = shutil.copy(script, tempfile.mkdtemp())
+        why = "it is not carried out" if len(set(shown)) == 1 else "the programs show different output or errors"
+        sys.exit(f"{why}: {shown[0][2]}; the script is left at {kept}")
 
 
-def valgrind_version():
-    if shutil.which("valgrind") is None:
-        return "no valgrind"
-    return subprocess.run(["valgrind", "--version"], capture_output=True, text=True, check=True).stdout.strip()
+def proved(crate):
+    """The path of the program of a crate, which is proved and built where it is missing."""
+    folder = os.path.join(os.path.dirname(os.path.abspath(__file__)), "..", "crates", crate)
+    program = os.path.normpath(os.path.join(folder, "out", crate))
+    if not os.path.exists(program):
+        with open(os.path.join(folder, "stdin"), "rb") as stdin:
+            subprocess.run(["rt", "run"], cwd=folder, stdin=stdin, stdout=subprocess.DEVNULL, check=True)
+    return program

@@ -5,59 +5,40 @@
 # bindings/build.sh comes first. The last line is 'N passed, N failed'.
 set -uo pipefail
 cd "$(dirname "$0")"
-work=$(mktemp -d)
-trap 'rm -rf "$work"' EXIT
-passed=0 failed=0
-has() { command -v "$1" > "$work/which" 2>&1 || { echo "not found: $1"; return 1; }; }
-
-run() {
-    local name=$1
-    shift
-    if "$@" > "$work/log" 2>&1; then
-        echo "passed: $name"
-        passed=$((passed + 1))
-    else
-        echo "FAILED: $name"
-        cat "$work/log"
-        failed=$((failed + 1))
-        return 1
-    fi
-}
-
-races() { valgrind --quiet --tool=helgrind --error-exitcode=9 "$@"; }
-
-leaks() { valgrind --quiet --leak-check=full --show-leak-kinds=all --error-exitcode=9 "$@"; }
+. ./testing.sh
 
 warnings=(-Wall -Wextra -Wpedantic -Wconversion -Werror)
 
-# compiler, library, source, standard and further options
+# compiler, source, options
+compiles() {
+    rm -f "$work/caller"
+    run "$1 ${*:3} $2 compiles" "$1" -O2 "${@:3}" "${warnings[@]}" -I../include "$2" \
+        out/libiox2sd.a -pthread -o "$work/caller"
+}
+
+# compiler, ways with commas between them (leaks after plain), source, options
 runs() {
+    local name="$1 ${*:4} $3" way
     has "$1" || return 0
-    local name="$1 ${*:5}${5:+ }$3"
-    run "$name compiles" "$1" -O2 "${@:4}" "${warnings[@]}" -I../include "$3" "out/lib$2.a" \
-        -pthread -o "$work/caller" && run "$name runs" "$work/caller"
+    for way in ${2//,/ }; do
+        case $way in
+        plain) compiles "$1" "${@:3}" && run "$name runs" "$work/caller" ;;
+        leaks) has valgrind && run "$name under valgrind" valgrind --quiet --leak-check=full \
+            --show-leak-kinds=all --error-exitcode=9 "$work/caller" ;;
+        races) has valgrind && compiles "$1" "${@:3}" -g && run "$name under helgrind" valgrind \
+            --quiet --tool=helgrind --error-exitcode=9 "$work/caller" ;;
+        *) compiles "$1" "${@:3}" "-fsanitize=${way/+/,}" -fno-sanitize-recover=all -g -O1 &&
+            run "$name with -fsanitize=${way/+/,}" "$work/caller" ;;
+        esac
+    done
 }
 
-# The same, and under valgrind.
-caller() {
-    has "$1" || return 0
-    runs "$@" && if has valgrind; then run "$1 $3 under valgrind" leaks "$work/caller"; fi
-}
-
-# compiler, sanitizers, source, standard and further options
-sanitized() {
-    runs "$1" iox2sd "$3" "${@:4}" "-fsanitize=$2" -fno-sanitize-recover=all -g -O1
-}
-
-# The names that a library exports, from outside.
-exported() { nm "$@" | awk 'NF == 3 { print $3 }' | sort -u; }
-
+# The archive and the library export the functions of the headers alone.
 same_exports() {
-    exported -g --defined-only out/libiox2sd.a > "$work/archive"
-    exported -D --defined-only out/libiox2sd.so.2 > "$work/shared"
+    nm -g --defined-only out/libiox2sd.a | awk 'NF == 3 { print $3 }' | sort -u > "$work/archive"
     [ -s "$work/archive" ] && ! grep -v '^iox2sd_' "$work/archive" &&
-        diff "$work/archive" <(sed -n 's/^\(iox2sd_[a-z0-9_]*\)@@IOX2SD_.*/\1/p' "$work/shared") &&
-        ./symbols out/libiox2sd.so.2
+        nm -D --defined-only out/libiox2sd.so.2 | sed -n 's/.* \(iox2sd_[a-z0-9_]*\)@@IOX2SD_.*/\1/p' |
+        sort | diff "$work/archive" - && ./symbols out/libiox2sd.so.2
 }
 
 # An example prints the lines that stand below 'It prints:' at its head.
@@ -68,21 +49,17 @@ prints_what_it_says() {
 
 example() {
     has "$1" || return 0
-    run "$1 $2 compiles" "$1" "-std=$3" "${warnings[@]}" -O2 -I../include "$2" out/libiox2sd.a \
-        -o "$work/caller" && run "$1 $2 prints what it says" prints_what_it_says "$2" "$work/caller"
+    compiles "$1" "$2" "-std=$3" && run "$1 $2 prints what it says" prints_what_it_says "$2" "$work/caller"
 }
 
-# The statuses of the header are those of the crate that has them: a number has one name, and a name
-# one number.
+# The statuses of the header are those of the crate that has them. In each, a name and a number stand
+# once, or it would not compile.
 same_statuses() {
-    sed -n '/^enum iox2sd_status_number {/,/^}/s/^ *IOX2SD_STATUS_\([A-Z0-9_]*\) = \([0-9]*\).*/\2 \1/p' ../include/iox2sd.h |
-        awk '{ n = split($2, words, "_"); name = ""
-               for (i = 1; i <= n; i++) name = name substr(words[i], 1, 1) tolower(substr(words[i], 2))
-               print $1, name }' | sort > "$work/header"
-    sed -n 's/^    \([A-Z][A-Za-z0-9]*\) = \([0-9]*\),$/\2 \1/p' \
-        ../crates/iox2sd_common/src/status.rt | sort > "$work/statuses"
-    [ -s "$work/header" ] && diff "$work/header" "$work/statuses" &&
-        [ -z "$(cut -d ' ' -f 1 "$work/header" | uniq -d)$(cut -d ' ' -f 2 "$work/header" | sort | uniq -d)" ]
+    sed -n '/^enum iox2sd_status_number {/,/^}/s/^ *IOX2SD_STATUS_\([A-Z0-9_]* = [0-9]*\).*/\1/p' \
+        ../include/iox2sd.h | sort > "$work/header"
+    [ -s "$work/header" ] &&
+        sed -n 's/^    \([A-Z][A-Za-z0-9]* = [0-9]*\),$/\1/p' ../crates/iox2sd_common/src/status.rt |
+        sed 's/\B[A-Z]/_&/g' | tr a-z A-Z | sort | diff "$work/header" -
 }
 
 # No instruction is beyond those that every x86-64 has.
@@ -167,46 +144,39 @@ headers_compile() {
     done
 }
 
-wrapped=-Wl,--wrap=malloc,--wrap=calloc,--wrap=realloc,--wrap=free
+allocations=-Wl,--wrap=malloc,--wrap=realloc
 for compiler in gcc clang; do
     if has "$compiler"; then
         run "$compiler: each header compiles alone, in C99" headers_compile "$compiler" -std=c99 -x c
         run "$compiler: each header compiles alone, in C++11" \
             headers_compile "$compiler" -std=c++11 -x c++
     fi
-    for source in c/test_service.c c/test_values.c c/test_satisfies.c c/test_walk.c \
-        c/test_threads.c c/test_header.c; do
-        caller "$compiler" iox2sd "$source" -std=c99
-        sanitized "$compiler" address,undefined "$source" -std=c99
-    done
-    sanitized "$compiler" thread c/test_threads.c -std=c99
-    wrapped_log=-Wl,--wrap=malloc,--wrap=calloc,--wrap=realloc
-    caller "$compiler" iox2sd c/test_log.c -std=c99 "$wrapped_log"
-    for sanitizer in address,undefined thread; do
-        sanitized "$compiler" "$sanitizer" c/test_log.c -std=c99 "$wrapped_log"
-    done
-    if has valgrind; then
-        runs "$compiler" iox2sd c/test_threads.c -std=c99 -g &&
-            run "$compiler c/test_threads.c under helgrind" races "$work/caller"
-    fi
-    for source in c/test_script.c c/test_conform.c c/test_config.c; do
-        caller "$compiler" iox2sd "$source" -std=c99 -Wl,--wrap=malloc,--wrap=realloc
-    done
-    sanitized "$compiler" address,undefined c/test_config.c -std=c99 \
-        -Wl,--wrap=malloc,--wrap=realloc
-    for source in c/test_memory.c c/test_questions.c; do
-        runs "$compiler" iox2sd "$source" -std=c99 -D_GNU_SOURCE "$wrapped"
-    done
-    runs "$compiler" iox2sd c/test_stack.c -std=c99 -D_GNU_SOURCE
-    runs "$compiler" iox2sd c/test_time.c -std=c99
+    while read -r -u 3 ways source options; do
+        runs "$compiler" "$ways" "c/$source" -std=c99 $options
+    done 3<< END
+plain,leaks,address+undefined test_service.c
+plain,leaks,address+undefined test_values.c
+plain,leaks,address+undefined test_satisfies.c
+plain,leaks,address+undefined test_walk.c
+plain,leaks,address+undefined,thread,races test_threads.c
+plain,leaks,address+undefined test_header.c
+plain,leaks,address+undefined,thread test_log.c $allocations,--wrap=calloc
+plain,leaks test_script.c $allocations
+plain,leaks test_conform.c $allocations
+plain,leaks,address+undefined test_config.c $allocations
+plain test_memory.c -D_GNU_SOURCE $allocations,--wrap=calloc,--wrap=free
+plain test_questions.c -D_GNU_SOURCE $allocations,--wrap=calloc,--wrap=free
+plain test_stack.c -D_GNU_SOURCE
+plain test_time.c
+END
     for source in ../examples/{builder,monitor,settings}.c; do
         example "$compiler" "$source" c99
     done
 done
-wrapped_settings=-Wl,--wrap=iox2sd_script_run_at,--wrap=iox2sd_service_create_at
+settings=-Wl,--wrap=iox2sd_script_run_at,--wrap=iox2sd_service_create_at
 for name in {global,publish_subscribe,event,request_response}_{defaults,settings_check_at} \
     blackboard_defaults; do
-    wrapped_settings+=,--wrap=iox2sd_$name
+    settings+=,--wrap=iox2sd_$name
 done
 # Whether a compiler's standard library has <format>.
 has_format() {
@@ -272,25 +242,22 @@ for compiler in g++ clang++; do
                 -x c++ "../include/$header"
         done
     done
-    if has_format "$compiler"; then runs "$compiler" iox2sd cpp/test_format.cpp -std=c++20; fi
-    runs "$compiler" iox2sd cpp/test_enumerators.cpp -std=c++17
-    runs "$compiler" iox2sd cpp/test_fwd.cpp -std=c++17
-    runs "$compiler" iox2sd cpp/test_fields.cpp -std=c++17 "$wrapped_settings"
-    caller "$compiler" iox2sd c/test_values.cpp -std=c++11
-    for source in cpp/test_values.cpp cpp/test_results.cpp cpp/test_satisfies.cpp \
-        cpp/test_service.cpp cpp/test_config.cpp cpp/test_conform.cpp; do
-        caller "$compiler" iox2sd "$source" -std=c++17
-        runs "$compiler" iox2sd "$source" -std=c++20
-        sanitized "$compiler" address,undefined "$source" -std=c++17
+    if has_format "$compiler"; then runs "$compiler" plain cpp/test_format.cpp -std=c++20; fi
+    while read -r -u 3 ways source options; do
+        runs "$compiler" "$ways" "$source" $options
+    done 3<< END
+plain cpp/test_enumerators.cpp -std=c++17
+plain cpp/test_fwd.cpp -std=c++17
+plain cpp/test_fields.cpp -std=c++17 $settings
+plain,leaks c/test_values.cpp -std=c++11
+plain,address+undefined cpp/test_memory.cpp -std=c++17
+thread,races cpp/test_service.cpp -std=c++17
+plain cpp/test_service.cpp -std=c++17 -fno-exceptions -fno-rtti
+END
+    for source in cpp/test_{values,results,satisfies,service,config,conform}.cpp; do
+        runs "$compiler" plain,leaks,address+undefined "$source" -std=c++17
+        runs "$compiler" plain "$source" -std=c++20
     done
-    runs "$compiler" iox2sd cpp/test_memory.cpp -std=c++17
-    sanitized "$compiler" address,undefined cpp/test_memory.cpp -std=c++17
-    sanitized "$compiler" thread cpp/test_service.cpp -std=c++17
-    if has valgrind; then
-        runs "$compiler" iox2sd cpp/test_service.cpp -std=c++17 -g &&
-            run "$compiler cpp/test_service.cpp under helgrind" races "$work/caller"
-    fi
-    runs "$compiler" iox2sd cpp/test_service.cpp -std=c++17 -fno-exceptions -fno-rtti
     for source in cpp/examples/*.cpp ../examples/{builder,monitor,settings}.cpp; do
         example "$compiler" "$source" c++17
     done
@@ -304,7 +271,6 @@ if has g++; then
     fi
 fi
 run "statuses agree" same_statuses
-if has python3; then run "the structs are those of the table" ./fields; fi
 if has objdump && [ "$(uname -m)" = x86_64 ]; then
     run "libiox2sd runs on every x86-64" baseline
 fi
@@ -329,8 +295,7 @@ alike() {
 # compiler, name, its ending and standard
 compiled() {
     has "$1" || return 0
-    run "$1 $2.$3 compiles" "$1" "$4" "${warnings[@]}" -O2 -I../include "../examples/$2.$3" \
-        out/libiox2sd.a -o "$work/caller" &&
+    compiles "$1" "../examples/$2.$3" "$4" &&
         run "$1 $2.$3 prints the same as the others" alike "$2" "$work/caller"
 }
 
@@ -486,5 +451,4 @@ if has python3; then
 fi
 # Last, so that it sees what all tests left in the checkout.
 if has rt; then run "rt ci starts again in this checkout" ./starts_again; fi
-echo "$passed passed, $failed failed"
-[ "$failed" -eq 0 ] && [ "$passed" -gt 0 ]
+finish

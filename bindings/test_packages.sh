@@ -12,7 +12,7 @@ if [ "${1:-}" != inside ]; then
     trap 'rm -rf "$work"' EXIT
     ./package.sh "$work/dist" > "$work/log" 2>&1 || { cat "$work/log"; exit 1; }
     ./package.sh "$work/again" > "$work/log" 2>&1 || { cat "$work/log"; exit 1; }
-    cp -r ../examples test_packages.sh "$work"
+    cp -r ../examples testing.sh test_packages.sh "$work"
     for program in replay describe conform; do
         mkdir "$work/$program" && cp "../crates/iox2_$program"/st* "$work/$program"
     done
@@ -27,18 +27,7 @@ if [ "${1:-}" != inside ]; then
 fi
 
 work=$2
-passed=0 failed=0
-has() { command -v "$1" > /dev/null || { echo "not found: $1"; return 1; }; }
-run() {
-    if "${@:2}" > "$work/log" 2>&1; then
-        echo "passed: $1"
-        passed=$((passed + 1))
-    else
-        echo "FAILED: $1"
-        cat "$work/log"
-        failed=$((failed + 1))
-    fi
-}
+. ./testing.sh
 prints() { diff <("${@:2}") "$1"; }
 printf 'slot 0 of service 7\nit is locked\n' > "$work/expected"
 
@@ -99,15 +88,18 @@ has_witness() {
     printf 'service event 7 1 0 0\nnodes\n= list\n' | "$prefix/bin/iox2-conform" --witness |
         diff - <(printf 'conforms, 1 calls on 1 service\nservice 7\n3\n')
 }
-run "archive: iox2-conform --witness" has_witness
-for program in replay describe conform; do
-    run "archive: iox2-$program" repeats $program
-done
-for program in describe conform; do
-    run "archive: iox2-$program --version" has_version iox2-$program
-    run "archive: iox2-$program with a bad argument" refuses_argument iox2-$program
-done
-run "archive: iox2-replay with any argument" ignores
+# Progress is shown on a terminal alone.
+has_no_progress() {
+    printf 'service event 7 1 0 0
+nodes
+= list
+' |
+        "$prefix/bin/iox2-conform" --progress --witness 2>&1 |
+        diff - <(printf 'conforms, 1 calls on 1 service
+service 7
+3
+')
+}
 # The stored run of the program that reads files by their names.
 checks() {
     local words
@@ -115,15 +107,25 @@ checks() {
     (cd "$work/check/data" && "$prefix/bin/iox2-check" "${words[@]}") > "$work/printed"
     [ $? = "$(cat "$work/check/status")" ] && diff "$work/printed" "$work/check/stdout"
 }
-run "archive: iox2-check" checks
-run "archive: iox2-check --version" has_version iox2-check
-run "archive: iox2-check with a bad argument" refuses_argument iox2-check
 default_is_documented() {
     "$prefix/bin/iox2-check" --default | diff - "$prefix/share/doc/iox2sd/iceoryx2.toml"
 }
+# A program with these words has status 3 where what it writes goes nowhere.
+fails_to_write() { "$prefix/bin/iox2-$1" "${@:3}" < "$2" > /dev/full; [ $? = 3 ]; }
+run "archive: iox2-conform --witness" has_witness
+run "archive: iox2-conform --progress" has_no_progress
+run "archive: iox2-replay with any argument" ignores
+run "archive: iox2-check" checks
 run "archive: iox2-check --default" default_is_documented
-cannot_write() { "$prefix/bin/iox2-check" --schema > /dev/full; [ $? = 3 ]; }
-run "archive: iox2-check where nothing can be written" cannot_write
+run "archive: iox2-check where nothing can be written" fails_to_write check /dev/null --schema
+for program in replay describe conform; do
+    run "archive: iox2-$program" repeats $program
+    run "archive: iox2-$program where nothing can be written" fails_to_write $program "$work/$program/stdin"
+done
+for program in describe conform check; do
+    run "archive: iox2-$program --version" has_version iox2-$program
+    run "archive: iox2-$program with a bad argument" refuses_argument iox2-$program
+done
 # What bash completes for the words of a command line, of which the last is completed.
 completes() {
     bash -c '. "$1"; COMP_WORDS=("${@:2}"); COMP_CWORD=$(($# - 2)); _iox2_check; printf "%s\n" "${COMPREPLY[@]}"' \
@@ -135,13 +137,6 @@ completes_options() {
         [ "$(completes iox2-check "$work/check/ar")" = "$work/check/args" ]
 }
 run "archive: completions of iox2-check" completes_options
-fails_to_write() {
-    "$prefix/bin/iox2-$1" < "$work/$1/stdin" > /dev/full
-    [ $? = 3 ]
-}
-for program in replay describe conform; do
-    run "archive: iox2-$program where nothing can be written" fails_to_write $program
-done
 if has man; then
     for program in iox2-replay iox2-describe iox2-conform iox2-check; do
         run "archive: man $program" has_manual $program "usage: $program"
@@ -209,5 +204,4 @@ if has dpkg; then
 fi
 if has lintian; then run "lintian" lintian --allow-root --fail-on error "$work"/dist/*.deb; fi
 
-echo "$passed passed, $failed failed"
-[ "$failed" -eq 0 ]
+finish

@@ -1,8 +1,8 @@
 #include "iox2sd_config.h"
 #include <stdio.h>
 
-/* A node joins an event service with the capacities of iceoryx2.toml and the number 7, and leaves.
- * Its id is a process, seconds, nanoseconds and a counter. */
+/* A node joins an event service with the number 7 and the capacities of iceoryx2.toml (of less than
+ * 64 KiB), and leaves. Its id is a process, seconds, nanoseconds and a counter. */
 static iox2sd_status join_and_leave(iox2sd_service *service) {
     static uint8_t text[65536];
     iox2sd_config config;

@@ -3,10 +3,10 @@
 #include "iox2sd_config.hpp"
 using namespace iox2sd;
 
-// A node joins an event service with the capacities of iceoryx2.toml and the number 7, and leaves.
+// A node joins an event service with the number 7 and the capacities of iceoryx2.toml, and leaves.
 Result<DeregisterNodeState> join_and_leave() {
     const auto file = Config::from_toml_file("iceoryx2.toml");
-    if (!file) return file.status();
+    if (!file) return file.error();
     auto service = Service::create(file->config.event, 7);
     if (!service) return service.error();
     const auto id = UniqueNodeId::create(1, 0, 0, 1);  // process, seconds, nanoseconds, counter

@@ -6,14 +6,9 @@ IOX2SD_LIBRARY names the library."""
 import dataclasses
 import enum
 import sys
-from collections.abc import Callable, Iterator
-from typing import Any, TypeVar
 
 import iox2sd
 from iox2sd import Status
-
-_Given = TypeVar("_Given")
-_Answer = Callable[["Line"], "list[str]"]
 
 
 class NotExpressed(Exception):
@@ -23,53 +18,43 @@ class NotExpressed(Exception):
 class Answered(Exception):
     """The line was answered by a refusal."""
 
-    def __init__(self, *fields: object) -> None:
-        self.fields = fields
-
 
 # ---- Words of a line ----
 
 
 class Line:
-    def __init__(self, text: str) -> None:
-        self.words: "Iterator[str]" = iter(text.split())
+    def __init__(self, text):
+        self.words = iter(text.split())
 
-    def word(self) -> str:
-        return next(self.words)
+    def number(self):
+        return int(next(self.words))
 
-    def number(self) -> int:
-        return int(self.word())
-
-    def numbers(self, count: int) -> "list[int]":
+    def numbers(self, count):
         return [self.number() for _ in range(count)]
 
-    def text(self) -> "str | None":
+    def text(self):
         """The text of a word of `x` and hexadecimal digits; None for bytes that are no UTF-8."""
         try:
-            return bytes.fromhex(self.word()[1:]).decode()
+            return bytes.fromhex(next(self.words)[1:]).decode()
         except UnicodeDecodeError:
             return None
 
-    def choice(self, kind: "Callable[[int], _Given]") -> "_Given | None":
+    def choice(self, kind):
         """The member of an enumeration that has a number, or None."""
         try:
             return kind(self.number())
         except ValueError:
             return None
 
-    def id(self, kind: "Callable[..., _Given]") -> _Given:
+    def id(self, kind):
         return kind(*self.numbers(4))
 
-    def node(self) -> iox2sd.UniqueNodeId:
-        return self.id(iox2sd.UniqueNodeId)
-
-    def handle(self) -> iox2sd.ContainerHandle:
-        number = self.number()
-        role = given(self.choice(iox2sd.Role))
+    def handle(self):
+        number, role = self.number(), given(self.choice(iox2sd.Role))
         return iox2sd.ContainerHandle(number, role, *self.numbers(2))
 
 
-def given(value: "_Given | None") -> _Given:
+def given(value):
     """What a line gives, where this language has it."""
     if value is None:
         raise NotExpressed
@@ -79,84 +64,74 @@ def given(value: "_Given | None") -> _Given:
 # ---- Fields of an answer ----
 
 
-def shown(value: object) -> str:
+def shown(value):
     """A value as the field of an answer."""
     if value is None:
         return "none"
-    if isinstance(value, enum.Enum):
+    if isinstance(value, (enum.Enum, iox2sd.EventId)):
         return str(value.value)
     if isinstance(value, bool):
         return str(int(value))
     if isinstance(value, iox2sd.Duration):
         return f"{value.seconds}.{value.nanoseconds}"
-    if isinstance(value, iox2sd.EventId):
-        return str(value.value)
     return str(value)
 
 
-def digits(text: str) -> str:
+def digits(text):
     return "x" + text.encode().hex()
 
 
-def done(*fields: object) -> "list[str]":
-    return [str(Status.DONE), *map(shown, fields)]
+def said(status, *fields):
+    return [str(status), *map(shown, fields)]
 
 
-def refused(status: Status, *fields: object) -> Answered:
-    return Answered(str(status), *map(shown, fields))
+def done(*fields):
+    return said(Status.DONE, *fields)
 
 
-def why(error: iox2sd.RefusedError) -> "list[object]":
+def refused(status, *fields):
+    return Answered(said(status, *fields))
+
+
+def why(error):
     """What was wrong with a text, and where."""
-    return [str(error.status), 0 if error.at is None else error.at]
+    return error.status, error.at or 0
 
 
 # ---- Texts ----
 
 
-def checked(kind: "Callable[[str], str]") -> _Answer:
-    def answer(line: Line) -> "list[str]":
+def checked(kind):
+    def answer(line):
         text = given(line.text())
         try:
             return done(digits(kind(text)))
         except iox2sd.RefusedError as error:
-            raise Answered(*why(error)) from None
+            raise refused(*why(error)) from None
 
     return answer
 
 
-def made(kind: "Callable[[str], _Given]", text: "str | None", status: Status) -> _Given:
-    """A text that is refused by a status of its own."""
+def made(kind, text, *refusal):
+    """A text that is refused by a status of its own, with further fields."""
     text = given(text)
     try:
         return kind(text)
     except iox2sd.RefusedError:
-        raise refused(status) from None
+        raise refused(*refusal) from None
 
 
-def prefixed(line: Line) -> "list[str]":
-    return done(digits(iox2sd.InternalServiceName.prefixed(given(line.text()))))
+def joined(kind, join):
+    def answer(line):
+        first, second = given(line.text()), given(line.text())
+        path = made(iox2sd.Path, first, Status.BAD_PATH)
+        return done(digits(join(path, made(kind, second, Status.BAD_ENTRY))))
+
+    return answer
 
 
-def prefix(line: Line) -> "list[str]":
-    return done(iox2sd.ServiceName.has_iox2_prefix(given(line.text())))
-
-
-def join(line: Line) -> "list[str]":
-    first, second = given(line.text()), given(line.text())
-    path = made(iox2sd.Path, first, Status.BAD_PATH)
-    return done(digits(path.add_path_entry(made(iox2sd.Path, second, Status.BAD_ENTRY))))
-
-
-def file_join(line: Line) -> "list[str]":
-    first, second = given(line.text()), given(line.text())
-    path = made(iox2sd.Path, first, Status.BAD_PATH)
-    file = made(iox2sd.FileName, second, Status.BAD_ENTRY)
-    return done(digits(iox2sd.FilePath.from_path_and_file(path, file)))
-
-
-def hashed(kind: "Callable[[str], iox2sd.ServiceName]") -> _Answer:
-    def answer(line: Line) -> "list[str]":
+def hashed(kind):
+    def answer(line):
         pattern = given(line.choice(iox2sd.MessagingPattern))
         name = made(kind, line.text(), Status.BAD_SERVICE_NAME)
         return done(digits(iox2sd.ServiceHash.new(name, pattern)))
@@ -164,12 +139,8 @@ def hashed(kind: "Callable[[str], iox2sd.ServiceName]") -> _Answer:
     return answer
 
 
-def default_text(line: Line) -> "list[str]":
-    return done(digits(iox2sd.default_text(given(line.choice(iox2sd.DefaultText)))))
-
-
-def below(directory: "Callable[[iox2sd.GlobalConfig], iox2sd.Path]") -> _Answer:
-    def answer(line: Line) -> "list[str]":
+def below(directory):
+    def answer(line):
         root = made(iox2sd.Path, line.text(), Status.BAD_PATH)
         return done(digits(directory(iox2sd.GlobalConfig(root_path=root))))
 
@@ -179,66 +150,54 @@ def below(directory: "Callable[[iox2sd.GlobalConfig], iox2sd.Path]") -> _Answer:
 # ---- Attributes ----
 
 
-def put_pairs(line: Line, bad_key: Status, bad_value: Status, put: "Callable[..., object]") -> None:
-    """Puts pairs into a set or a verifier one after another."""
-    pairs = [(line.text(), line.text()) for _ in range(line.number())]
-    for place, (key_text, value_text) in enumerate(pairs):
+def pairs(line, bad_key, bad_value):
+    """Pairs one after another, each with its number; the first that is none is refused."""
+    texts = [(line.text(), line.text()) for _ in range(line.number())]
+    for place, (key, value) in enumerate(texts):
         bad = bad_key
-        key_text, value_text = given(key_text), given(value_text)
+        key, value = given(key), given(value)
         try:
-            key = iox2sd.AttributeKey(key_text)
+            key = iox2sd.AttributeKey(key)
             bad = bad_value
-            value = iox2sd.AttributeValue(value_text)
+            value = iox2sd.AttributeValue(value)
         except iox2sd.RefusedError as error:
-            raise refused(bad, place, *why(error)) from None
-        put(place, key, value)
+            status, at = why(error)
+            raise refused(bad, place, str(status), at) from None
+        yield place, key, value
 
 
-def read_set(line: Line) -> iox2sd.AttributeSet:
+def read_set(line):
     specifier = iox2sd.AttributeSpecifier()
-
-    def put(place: int, key: iox2sd.AttributeKey, value: iox2sd.AttributeValue) -> None:
-        nonlocal specifier
+    for place, key, value in pairs(line, Status.BAD_KEY, Status.BAD_VALUE):
         try:
             specifier = specifier.define(key, value)
         except iox2sd.TooManyError as error:
             raise refused(error.status, place) from None
-
-    put_pairs(line, Status.BAD_KEY, Status.BAD_VALUE, put)
     return specifier.attributes
 
 
-def sorted_(line: Line) -> "list[str]":
-    pairs = read_set(line)
-    return done(*(digits(text) for pair in pairs for text in (pair.key, pair.value)))
+def sorted_(line):
+    return done(*(digits(text) for pair in read_set(line) for text in (pair.key, pair.value)))
 
 
-def values(line: Line) -> "list[str]":
+def values(line):
     asked, index = given(line.text()), line.number()
     pairs = read_set(line)
     key = made(iox2sd.AttributeKey, asked, Status.BAD_ASKED_KEY)
     value = pairs.key_value(key, index)
-    found = [str(Status.NO_SUCH_VALUE)] if value is None else done(digits(value))
+    found = said(Status.NO_SUCH_VALUE) if value is None else done(digits(value))
     return done(pairs.number_of_key_values(key)) + found
 
 
-def read_verifier(line: Line) -> iox2sd.AttributeVerifier:
+def read_verifier(line):
     verifier = iox2sd.AttributeVerifier()
-
-    def put(place: int, key: iox2sd.AttributeKey, value: iox2sd.AttributeValue) -> None:
-        nonlocal verifier
+    for place, key, value in pairs(line, Status.BAD_REQUIRED_KEY, Status.BAD_REQUIRED_VALUE):
         try:
             verifier = verifier.require(key, value)
         except (iox2sd.TooManyError, iox2sd.TooManyRequiredError):  # Of pairs alone, and with keys.
             raise refused(iox2sd.TooManyRequiredError.status, place) from None
-
-    put_pairs(line, Status.BAD_REQUIRED_KEY, Status.BAD_REQUIRED_VALUE, put)
     for place in range(line.number()):
-        text = given(line.text())
-        try:
-            key = iox2sd.AttributeKey(text)
-        except iox2sd.RefusedError:
-            raise refused(Status.BAD_ASKED_KEY, place) from None
+        key = made(iox2sd.AttributeKey, line.text(), Status.BAD_ASKED_KEY, place)
         try:
             verifier = verifier.require_key(key)
         except iox2sd.TooManyRequiredError as error:
@@ -246,7 +205,7 @@ def read_verifier(line: Line) -> iox2sd.AttributeVerifier:
     return verifier
 
 
-def verify(line: Line) -> "list[str]":
+def verify(line):
     pairs = read_set(line)
     verifier = read_verifier(line)
     try:
@@ -262,7 +221,7 @@ def verify(line: Line) -> "list[str]":
 # ---- Messages ----
 
 
-def details(line: Line, *side: int) -> iox2sd.MessageTypeDetails:
+def details(line, *side):
     """Details of a message; the first part that is no type is refused with a side, if one is
     given, and the number of the part.
     """
@@ -277,13 +236,13 @@ def details(line: Line, *side: int) -> iox2sd.MessageTypeDetails:
     return iox2sd.MessageTypeDetails(*parts)
 
 
-def layout(line: Line) -> "list[str]":
+def layout(line):
     elements = line.number()
     found = details(line).sample_layout(elements)
     return done(found.size, found.alignment)
 
 
-def places(line: Line) -> "list[str]":
+def places(line):
     header = line.number()
     found = details(line).places(header)
     return done(found.user_header, found.payload)
@@ -292,7 +251,7 @@ def places(line: Line) -> "list[str]":
 PARTS = ["the opener's header", "the opener's user header", "the opener's payload"]
 
 
-def compatible(line: Line) -> "list[str]":
+def compatible(line):
     opener, service = details(line, 0), details(line, 1)
     try:
         opener.check_compatible_to(service)
@@ -301,39 +260,12 @@ def compatible(line: Line) -> "list[str]":
     return done()
 
 
-def samples(line: Line) -> "list[str]":
-    subscribers, buffer_size, borrowed, history, loaned = line.numbers(5)
-    settings = iox2sd.PublishSubscribeSettings(
-        max_subscribers=subscribers,
-        subscriber_max_buffer_size=buffer_size,
-        subscriber_max_borrowed_samples=borrowed,
-        publisher_history_size=history,
-        publisher_max_loaned_samples=loaned,
-    )
-    return done(settings.required_amount_of_samples_per_data_segment())
+def chunks(kind, required, *names):
+    """The number of chunks that are required with settings, of which a line has these."""
+    return lambda line: done(required(kind(**dict(zip(names, line.numbers(len(names)))))))
 
 
-def requests(line: Line) -> "list[str]":
-    servers, active, loaned = line.numbers(3)
-    settings = iox2sd.RequestResponseSettings(
-        max_servers=servers, max_active_requests_per_client=active, max_loaned_requests=loaned
-    )
-    return done(settings.required_amount_of_chunks_per_client_data_segment())
-
-
-def responses(line: Line) -> "list[str]":
-    clients, active, buffer_size, borrowed, loaned = line.numbers(5)
-    settings = iox2sd.RequestResponseSettings(
-        max_clients=clients,
-        max_active_requests_per_client=active,
-        max_response_buffer_size=buffer_size,
-        max_borrowed_responses_per_pending_response=borrowed,
-        server_max_loaned_responses_per_request=loaned,
-    )
-    return done(settings.required_amount_of_chunks_per_server_data_segment())
-
-
-# ---- Settings ----
+# ---- Settings and ids ----
 
 SETTINGS = [
     iox2sd.PublishSubscribeSettings,
@@ -343,15 +275,12 @@ SETTINGS = [
 ]
 
 
-def fields_of(settings: Any) -> "list[str]":
+def defaults(line):
+    settings = SETTINGS[line.number()]()
     return done(*(getattr(settings, field.name) for field in dataclasses.fields(settings)))
 
 
-def defaults(line: Line) -> "list[str]":
-    return fields_of(SETTINGS[line.number()]())
-
-
-def global_defaults(_: Line) -> "list[str]":
+def global_defaults(_):
     shared = iox2sd.GlobalConfig()
     service, node = shared.service, shared.node
     return done(
@@ -362,15 +291,12 @@ def global_defaults(_: Line) -> "list[str]":
     )
 
 
-def duration(line: Line) -> "list[str]":
+def duration(line):
     iox2sd.Duration(*line.numbers(2))
     return done()
 
 
-# ---- Ids ----
-
-
-def ids(line: Line) -> "list[str]":
+def ids(line):
     parts = line.numbers(4)
     one, other = iox2sd.UniqueServiceId(*parts), line.id(iox2sd.UniqueServiceId)
     answer = done(one, other, one < other, other < one)
@@ -382,17 +308,6 @@ def ids(line: Line) -> "list[str]":
 
 # ---- One service, kept from line to line ----
 
-KINDS: "dict[iox2sd.Role, tuple[Any, Any]]" = {
-    iox2sd.Role.PUBLISHER: (iox2sd.PublisherDetails, iox2sd.UniquePublisherId),
-    iox2sd.Role.SUBSCRIBER: (iox2sd.SubscriberDetails, iox2sd.UniqueSubscriberId),
-    iox2sd.Role.NOTIFIER: (iox2sd.NotifierDetails, iox2sd.UniqueNotifierId),
-    iox2sd.Role.LISTENER: (iox2sd.ListenerDetails, iox2sd.UniqueListenerId),
-    iox2sd.Role.CLIENT: (iox2sd.ClientDetails, iox2sd.UniqueClientId),
-    iox2sd.Role.SERVER: (iox2sd.ServerDetails, iox2sd.UniqueServerId),
-    iox2sd.Role.READER: (iox2sd.ReaderDetails, iox2sd.UniqueReaderId),
-    iox2sd.Role.WRITER: (iox2sd.WriterDetails, iox2sd.UniqueWriterId),
-}
-SEGMENT = "data_segment_type"
 NUMBERS = [
     "number_of_samples",
     "buffer_size",
@@ -401,7 +316,7 @@ NUMBERS = [
     "number_of_requests",
     "response_buffer_size",
     "max_slice_len",
-    SEGMENT,
+    "data_segment_type",
     "max_number_of_segments",
 ]
 
@@ -409,7 +324,7 @@ service = iox2sd.DynamicConfig.event(0, max_nodes=0, max_listeners=0, max_notifi
 service.close()
 
 
-def make(line: Line) -> "list[str]":
+def make(line):
     global service
     service.close()
     pattern = given(line.choice(iox2sd.MessagingPattern))
@@ -419,115 +334,92 @@ def make(line: Line) -> "list[str]":
     return done()
 
 
-def handle(found: iox2sd.ContainerHandle) -> "list[str]":
+def handle(found):
     return done(found.service_number, found.role, found.slot, found.ticket)
 
 
-def register(line: Line) -> "list[str]":
-    return handle(service.register_node_id(line.node()))
-
-
-def deregister(line: Line) -> "list[str]":
-    return [str(Status(service.deregister_node_id(line.handle()).value))]
-
-
-def release(line: Line) -> "list[str]":
+def release(line):
     service.release_port(line.handle())
     return done()
 
 
-def attach(line: Line) -> "list[str]":
+def attach(line):
     role = line.choice(iox2sd.Role)
     port_id, node_id = line.numbers(4), line.numbers(4)
-    numbers: "dict[str, Any]" = {name: line.number() for name in NUMBERS[:-2]}
-    segment, numbers[NUMBERS[-1]] = line.choice(iox2sd.DataSegmentType), line.number()
-    if role is None or role not in KINDS:
-        raise NotExpressed
-    kind, id_kind = KINDS[role]
-    names = {field.name for field in dataclasses.fields(kind)}
-    values = {name: number for name, number in numbers.items() if name in names}
-    if SEGMENT in names:
-        values[SEGMENT] = given(segment)
-    values[f"{role.name.lower()}_id"] = id_kind(*port_id)
+    numbers = dict(zip(NUMBERS, line.numbers(7)))
+    numbers["data_segment_type"] = line.choice(iox2sd.DataSegmentType)
+    numbers["max_number_of_segments"] = line.number()
+    name = given(role).name.capitalize()
+    kind = getattr(iox2sd, f"{name}Details", None)
+    names = {field.name for field in dataclasses.fields(given(kind))}
+    values = {name: given(number) for name, number in numbers.items() if name in names}
+    values[f"{name.lower()}_id"] = getattr(iox2sd, f"Unique{name}Id")(*port_id)
     return handle(service.attach(kind(node_id=iox2sd.UniqueNodeId(*node_id), **values)))
 
 
-def dead(line: Line) -> "list[str]":
+def dead(line):
     node = line.numbers(4)
     kept = [line.id(iox2sd.UniquePublisherId) for _ in range(line.number())]
     gone = service.remove_dead_node_id(iox2sd.UniqueNodeId(*node), kept)
-    return [str(Status(gone.state.value)), shown(gone.first), shown(gone.second)]
+    return said(Status(gone.state.value), gone.first, gone.second)
 
 
-def of_role(question: "Callable[[iox2sd.Role], object]") -> _Answer:
-    return lambda line: done(question(given(line.choice(iox2sd.Role))))
+def of_role(question):
+    return lambda line: done(question(service, given(line.choice(iox2sd.Role))))
 
 
-def port_field(port: iox2sd.PortDetails) -> str:
+def port_field(port):
     numbers = [shown(getattr(port, name, 0)) for name in NUMBERS]
     return ":".join([shown(port.role), str(port.port_id), str(port.node_id), *numbers])
 
 
-def find_node(line: Line) -> "list[str]":
-    return done(service.node(line.handle()))
-
-
-def find_port(line: Line) -> "list[str]":
-    return done(port_field(service.port(line.handle())))
-
-
-def ports(line: Line) -> "list[str]":
+def ports(line):
     role = given(line.choice(iox2sd.Role))
     return done(*map(port_field, service.list_ports(role)))
 
 
-def ports_of(line: Line) -> "list[str]":
-    return done(*map(port_field, service.ports_of(line.node())))
-
-
 # ---- Calls by name ----
 
-CALLS: "dict[str, _Answer]" = {
+CALLS = {
     "service_name": checked(iox2sd.ServiceName),
     "internal_name": checked(iox2sd.InternalServiceName),
-    "prefixed": prefixed,
-    "prefix": prefix,
+    "prefixed": lambda line: done(digits(iox2sd.InternalServiceName.prefixed(given(line.text())))),
+    "prefix": lambda line: done(iox2sd.ServiceName.has_iox2_prefix(given(line.text()))),
     "key": checked(iox2sd.AttributeKey),
     "value": checked(iox2sd.AttributeValue),
     "path": checked(iox2sd.Path),
     "file_name": checked(iox2sd.FileName),
     "file_path": checked(iox2sd.FilePath),
     "restricted_name": checked(iox2sd.RestrictedFileName),
-    "join": join,
-    "file_join": file_join,
+    "join": joined(iox2sd.Path, iox2sd.Path.add_path_entry),
+    "file_join": joined(iox2sd.FileName, iox2sd.FilePath.from_path_and_file),
     "hash": hashed(iox2sd.ServiceName),
     "internal_hash": hashed(iox2sd.InternalServiceName),
-    "default_text": default_text,
+    "default_text": lambda line: done(
+        digits(iox2sd.default_text(given(line.choice(iox2sd.DefaultText))))),
     "service_directory": below(iox2sd.GlobalConfig.service_dir),
     "node_directory": below(iox2sd.GlobalConfig.node_dir),
     "sorted": sorted_,
-    "values": values,
-    "verify": verify,
-    "layout": layout,
-    "places": places,
-    "compatible": compatible,
-    "samples": samples,
-    "requests": requests,
-    "responses": responses,
-    "defaults": defaults,
-    "global_defaults": global_defaults,
-    "duration": duration,
-    "ids": ids,
-    "make": make,
-    "register": register,
-    "deregister": deregister,
-    "attach": attach,
-    "release": release,
-    "dead": dead,
-    "count": of_role(lambda role: service.count_ports(role)),
-    "max": of_role(lambda role: service.max_ports(role)),
-    "room": of_role(lambda role: service.has_room(role)),
-    "has_role": of_role(lambda role: service.has_role(role)),
+    "samples": chunks(
+        iox2sd.PublishSubscribeSettings,
+        iox2sd.PublishSubscribeSettings.required_amount_of_samples_per_data_segment,
+        "max_subscribers", "subscriber_max_buffer_size", "subscriber_max_borrowed_samples",
+        "publisher_history_size", "publisher_max_loaned_samples"),
+    "requests": chunks(
+        iox2sd.RequestResponseSettings,
+        iox2sd.RequestResponseSettings.required_amount_of_chunks_per_client_data_segment,
+        "max_servers", "max_active_requests_per_client", "max_loaned_requests"),
+    "responses": chunks(
+        iox2sd.RequestResponseSettings,
+        iox2sd.RequestResponseSettings.required_amount_of_chunks_per_server_data_segment,
+        "max_clients", "max_active_requests_per_client", "max_response_buffer_size",
+        "max_borrowed_responses_per_pending_response", "server_max_loaned_responses_per_request"),
+    "register": lambda line: handle(service.register_node_id(line.id(iox2sd.UniqueNodeId))),
+    "deregister": lambda line: said(Status(service.deregister_node_id(line.handle()).value)),
+    "count": of_role(iox2sd.DynamicConfig.count_ports),
+    "max": of_role(iox2sd.DynamicConfig.max_ports),
+    "room": of_role(iox2sd.DynamicConfig.has_room),
+    "has_role": of_role(iox2sd.DynamicConfig.has_role),
     "room_for_node": lambda _: done(service.has_room_for_node),
     "locked": lambda _: done(service.is_locked),
     "number_of_nodes": lambda _: done(service.number_of_nodes),
@@ -535,25 +427,25 @@ CALLS: "dict[str, _Answer]" = {
     "pattern": lambda _: done(service.messaging_pattern),
     "service_number": lambda _: done(service.service_number),
     "roles": lambda _: done(*service.port_roles),
-    "find_node": find_node,
-    "find_port": find_port,
+    "find_node": lambda line: done(service.node(line.handle())),
+    "find_port": lambda line: done(port_field(service.port(line.handle()))),
     "nodes": lambda _: done(*service.list_node_ids()),
-    "ports": ports,
-    "ports_of": ports_of,
+    "ports_of": lambda line: done(
+        *map(port_field, service.ports_of(line.id(iox2sd.UniqueNodeId)))),
 }
-
-
-def answer(text: str) -> str:
-    line = Line(text)
-    try:
-        return "\t".join(CALLS[line.word()](line))
-    except NotExpressed:
-        return "-"
-    except Answered as answered:
-        return "\t".join(map(str, answered.fields))
-    except iox2sd.RefusedError as error:
-        return str(error.status)
+for function in (values, verify, layout, places, compatible, defaults, global_defaults, duration, ids,
+                 make, attach, release, dead, ports):
+    CALLS[function.__name__] = function
 
 
 for text in sys.stdin:
-    print(answer(text))
+    line = Line(text)
+    try:
+        answer = CALLS[next(line.words)](line)
+    except NotExpressed:
+        answer = ["-"]
+    except Answered as answered:
+        answer = answered.args[0]
+    except iox2sd.RefusedError as error:
+        answer = [str(error.status)]
+    print("\t".join(answer))

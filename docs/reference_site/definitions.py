@@ -20,6 +20,10 @@ class Definition:
     text: str
     scope: dict
 
+    @property
+    def href(self):
+        return f"{self.crate}-definitions.html#{self.module}.{self.name}"
+
 
 @dataclass(frozen=True)
 class Taken:

@@ -1,12 +1,12 @@
-"""Writes the parts of a page: code and doc text with links, clauses and edits."""
+"""Writes the parts of a page: code, clauses and doc text with links."""
 
 import html
 import re
 
 WORD = re.compile(r"[^\W\d][\w']*(?:\.[^\W\d][\w']*)*")
 NAME = re.compile(r"(?:\w+::)*\w+")
-RESULT_WORDS = {"self", "Self", "pub", "fn", "const", "unsafe", "extern", "mut", "struct", "enum",
-                "trait", "type", "where", "for", "impl", "usize", "u64", "u32", "u8", "bool", "str"}
+STRING = re.compile(r'("(?:[^"\\]|\\.)*")')
+LINK = re.compile(r"\[`(?P<link>[^`]+)`\](?:\((?P<path>[^)]+)\))?|`(?P<code>[^`]+)`")
 
 
 def escape(text):
@@ -18,6 +18,10 @@ def breakable(name):
     return re.sub("(_|::|/)", r"\1<wbr>", escape(name))
 
 
+def code(name, href):
+    return f'<a href="{escape(href)}"><code>{breakable(name)}</code></a>'
+
+
 def plural(count, what):
     return f"{count} {what}" if count == 1 else f"{count} {what}s"
 
@@ -26,35 +30,31 @@ def first_sentence(doc):
     return re.split(r"(?<=[.!?])\s", doc.strip().split("\n\n")[0].replace("\n", " "))[0]
 
 
+def cited(text, scope):
+    """The names in a clause or a definition that stand for something, and what."""
+    for match in WORD.finditer(STRING.sub("", text)):
+        name = match[0].partition(".")[0]
+        if name in scope:
+            yield name, scope[name]
+
+
 class Parts:
     """The parts of the pages of one project."""
 
     def __init__(self, project):
         self.project = project
-        self.problems = []
-        self.edits_shown = set()
-
-    # Where things stand.
-
-    def shown_link(self, shown, name=None):
-        anchor = shown.anchor + (f".{name}" if name else "")
-        return f"{shown.module.crate}.html#{anchor}"
-
-    def definition_link(self, found):
-        return f"{found.crate}-definitions.html#{found.module}.{found.name}"
+        self.problems = set()
 
     def target(self, taken):
         """The link and the meaning of a name in a contract, or none for a name of the library."""
         taken = self.project.origin(taken)
         found = self.project.definition(taken)
         if found:
-            return self.definition_link(found), found.comment
+            return found.href, found.comment
         if taken.crate in self.project.crates and taken.path[0].isupper():
-            self.problems.append(f"no definition {taken.crate}.specs.{taken.path}.{taken.name}")
+            self.problems.add(f"no definition {taken.crate}.specs.{taken.path}.{taken.name}")
         shown = self.project.type_declared(taken)
-        return (self.shown_link(shown), first_sentence(shown.item.doc)) if shown else None
-
-    # Text with links.
+        return (shown.href, first_sentence(shown.item.doc)) if shown else None
 
     def contract(self, text, scope, own=""):
         """A clause, or the definition `own`, in which each other name of ours is a link."""
@@ -64,108 +64,82 @@ class Parts:
             if not target:
                 return match[0]
             return f'<a href="{target[0]}" title="{escape(target[1])}">{head}</a>{dot}{rest}'
-        return "".join(WORD.sub(link, escape(part)) if not part.startswith('"') else escape(part)
-                       for part in re.split(r'("(?:[^"\\]|\\.)*")', text))
+        return "".join(escape(part) if part.startswith('"') else WORD.sub(link, escape(part))
+                       for part in STRING.split(text))
 
     def code(self, text, module):
         """Code in which each public type of the repository is a link."""
         def link(match):
-            name = match[0].rpartition("::")[2]
-            shown = None if name in RESULT_WORDS else self.project.type_named(module, name)
-            return f'<a href="{self.shown_link(shown)}">{match[0]}</a>' if shown else match[0]
+            shown = self.project.type_named(module, match[0].rpartition("::")[2])
+            return f'<a href="{shown.href}">{match[0]}</a>' if shown else match[0]
         return NAME.sub(link, escape(text))
 
     def prose(self, doc, module):
-        """Doc text: paragraphs, lists, code between backticks, and links to items."""
+        """Doc text: paragraphs, lists, code, and links to items."""
         parts = []
-        for block in re.split(r"\n\s*\n", doc.strip()):
-            if not block.strip():
-                continue
+        for block in filter(str.strip, re.split(r"\n\s*\n", doc.strip())):
             lines = block.split("\n")
             if all(line.startswith(("- ", "  ")) for line in lines):
                 entries = re.split(r"(?:^|\n)- ", block)[1:]
-                parts.append("<ul>" + "".join(f"<li>{self.inline(e, module)}" for e in entries)
-                             + "</ul>")
+                rows = "".join(f"<li>{self.inline(entry, module)}" for entry in entries)
+                parts.append(f"<ul>{rows}</ul>")
             elif all(line.startswith("    ") for line in lines) or block.startswith("```"):
-                code = "\n".join(line for line in lines if not line.startswith("```"))
-                parts.append(f"<pre>{escape(code)}</pre>")
+                text = "\n".join(line for line in lines if not line.startswith("```"))
+                parts.append(f"<pre>{escape(text)}</pre>")
             else:
                 parts.append(f"<p>{self.inline(block, module)}</p>")
         return "\n".join(parts)
 
-    def inline(self, text, module):
+    def inline(self, text, module=None):
         def replace(match):
             if match["link"]:
-                href = self.item_link(match["path"] or match["link"], module)
-                return f'<a href="{href}"><code>{escape(match["link"])}</code></a>'
-            return f"<code>{escape(match['code'])}</code>"
-        pattern = r"\[`(?P<link>[^`]+)`\](?:\((?P<path>[^)]+)\))?|`(?P<code>[^`]+)`"
-        parts, at = [], 0
-        for match in re.finditer(pattern, text):
-            parts += [escape(text[at : match.start()]), replace(match)]
-            at = match.end()
-        return "".join(parts + [escape(text[at:])])
+                return code(match["link"], self.item_link(match["path"] or match["link"], module))
+            return f"<code>{match['code']}</code>"
+        return LINK.sub(replace, html.escape(text, quote=False))
 
     def item_link(self, path, module):
         """Where `[`Type::method`]` of a doc text leads; what leads nowhere is noted."""
         *owners, name = [p for p in path.split("::") if p not in ("super", "crate", "self")]
         owner = self.project.type_named(module, owners[-1]) if owners else None
-        if owner and any(m.name == name for m, _, _ in owner.methods):
-            return self.shown_link(owner, name)
+        if owner and any(method.name == name for method, _, _ in owner.methods):
+            return f"{owner.href}.{name}"
         if owner and any(re.match(rf"{name}\b", m.signature) for m in owner.item.members):
-            # A variant stands with its type.
-            return self.shown_link(owner)
-        shown = self.project.type_named(module, name)
-        if not shown:
-            found = [s for s in self.project.crates[module.crate].shown.values()
-                     if s.item.name == name]
-            shown = found[0] if found else None
-        if not shown:
-            self.problems.append(f"{module.file}: no page has what [`{path}`] leads to")
-            return "#"
-        return self.shown_link(shown)
+            return owner.href  # A variant stands with its type.
+        of_crate = self.project.crates[module.crate].shown.values()
+        shown = self.project.type_named(module, name) or next(
+            (s for s in of_crate if s.item.name == name), None)
+        if shown:
+            return shown.href
+        self.problems.add(f"{module.file}: no page has what [`{path}`] leads to")
+        return "#"
 
-    # Parts of an item.
+    def clauses(self, items, scope):
+        """The clauses of items."""
+        rows = "".join(
+            f'<div class="{c.kind}"><dt>{escape(f"{c.kind} {c.name}".removeprefix("ghost "))}</dt>'
+            f"<dd><code>{self.contract(c.text, scope)}</code></dd></div>"
+            for item in items for c in item.clauses)
+        return f'<dl class="clauses">{rows}</dl>' if rows else ""
 
-    def clauses(self, item, scope):
-        rows = []
-        for clause in item.clauses:
-            label = clause.name if clause.kind == "ghost" else f"{clause.kind} {clause.name}"
-            rows.append(f'<div class="{clause.kind}"><dt>{escape(label)}</dt>'
-                        f"<dd><code>{self.contract(clause.text, scope)}</code></dd></div>")
-        return f'<dl class="clauses">{"".join(rows)}</dl>' if rows else ""
-
-    def named(self, items, scope):
-        """The definitions that clauses name, each with its comment and, folded, its text."""
-        rows = {}
-        for item in items:
-            for clause in item.clauses:
-                for match in WORD.finditer(re.sub(r'"[^"]*"', "", clause.text)):
-                    name = match[0].partition(".")[0]
-                    if name in scope and name not in rows:
-                        rows[name] = self.meaning(name, scope[name])
-        return f'<div class="named">{"".join(rows.values())}</div>' if any(rows.values()) else ""
+    def explained(self, items, scope):
+        """The clauses of items, and the definitions that they name, each with its comment and,
+        folded, its text."""
+        named = {name: taken for item in items for clause in item.clauses
+                 for name, taken in cited(clause.text, scope)}
+        meanings = "".join(self.meaning(name, taken) for name, taken in named.items())
+        return self.clauses(items, scope) + (
+            f'<div class="named">{meanings}</div>' if meanings else "")
 
     def meaning(self, name, taken):
         """A name with its comment and its text, or nothing for a name of the library."""
         target = self.target(taken)
         if not target or not target[1]:
             return ""
-        line = (f'<a href="{target[0]}"><code>{escape(name)}</code></a>: '
-                f"{self.inline(target[1], None)}")
+        line = f"{code(name, target[0])}: {self.inline(target[1])}"
         found = self.project.definition(taken)
-        if not found:
-            return f"<p>{line}</p>"
-        text = self.contract(found.text, found.scope, found.name)
-        return f"<details><summary>{line}</summary><pre>{text}</pre></details>"
+        return f"<details><summary>{line}</summary>{self.text(found)}</details>" if found else (
+            f"<p>{line}</p>")
 
-    def edits(self, edits, with_function=False):
-        if not edits:
-            return ""
-        self.edits_shown.update(e.path for e in edits)
-        rows = "".join("<li><details><summary>"
-                       + (f"<code>{escape(e.function)}</code>: " if with_function else "")
-                       + f"{escape(e.mistake)}</summary><pre>{escape(e.text)}</pre></details>"
-                       for e in edits)
-        return (f"<details class=more><summary>{plural(len(edits), 'must-fail edit')}"
-                f"</summary><ul>{rows}</ul></details>")
+    def text(self, found):
+        """The text of a definition."""
+        return f"<pre>{self.contract(found.text, found.scope, found.name)}</pre>"

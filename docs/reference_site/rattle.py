@@ -1,20 +1,19 @@
 """Reads the items of a file of Rattle: doc text, signatures, conditions and promises.
 
-It is a reader of what `rt fmt` laid out, and not a compiler: it raises what it does not know.
+It is a reader of what `rt fmt` laid out, by indentation, and not a compiler: it raises what it does
+not know.
 """
 
 import re
 from dataclasses import dataclass, field
 
-OPENING = {"(": ")", "[": "]", "{": "}"}
-HEAD = re.compile(
-    r"(?P<visible>pub(\([a-z: ]+\))? )?(const |unsafe |extern \"C\" )*"
-    r"(?P<kind>fn|struct|enum|trait|impl|mod|use|type|const|static|ghost)\b"
-)
-CLAUSE = re.compile(
-    r"(\s|//[^\n]*\n)*(?P<kind>requires|ensures)\*?(?P<name> [\w ]+?)? \{"
-)
-CHARACTER = re.compile(r"'(\\.[^']*|[^'\\])'")
+HEAD = re.compile(r"(?P<visible>pub(\([a-z: ]+\))? )?(const |unsafe |extern \"C\" )*"
+                  r"(?P<kind>fn|struct|enum|trait|impl|mod|use|type|const|static|ghost)\b(?: (?P<name>\w+))?")
+FIELD = re.compile(r"(?P<visible>pub(\([a-z: ]+\))? )?(?P<name>\w+)")
+CLAUSE = re.compile(r"(?P<kind>requires|ensures)\*?(?P<name> [\w ]+?)? \{")
+MACRO = re.compile(r"[\w:]+!\s*\w*\s*[({\[]")
+# A text is one line, whatever its lines.
+TEXT = re.compile(r"//[^\n]*|'(?:\\.[^']*|[^'\\])'|\"(?:[^\"\\]|\\.)*\"", re.S)
 
 
 class Unreadable(Exception):
@@ -40,237 +39,110 @@ class Item:
     doc: str
     signature: str
     attributes: list
-    line: int
     clauses: list = field(default_factory=list)
     members: list = field(default_factory=list)
-    body: str = ""
-
-    @property
-    def is_test(self):
-        return any(a.startswith("#[test") for a in self.attributes)
 
     @property
     def is_for_tests(self):
         return any(a.startswith("#[cfg(test") for a in self.attributes)
 
 
-@dataclass
-class Source:
-    """A file: its own doc text and its items."""
-
-    doc: str
-    items: list
-
-
-def skip_string(text, at):
-    """The place after the string that begins at `at`."""
-    at += 1
-    while text[at] != '"':
-        at += 2 if text[at] == "\\" else 1
-    return at + 1
-
-
-def skip_token(text, at, is_clause):
-    """The place after the comment, string, character or other sign at `at`."""
-    if text[at] == '"':
-        return skip_string(text, at)
-    if is_clause:
-        return at + 1
-    if text.startswith("//", at):
-        return (text.find("\n", at) + 1) or len(text)
-    character = CHARACTER.match(text, at) if text[at] == "'" else None
-    return character.end() if character else at + 1
-
-
-def skip_brackets(text, at, is_clause=False):
-    """The place after the bracket that closes the one at `at`."""
-    awaited = [OPENING[text[at]]]
-    at += 1
-    while awaited:
-        if text[at] in OPENING:
-            awaited.append(OPENING[text[at]])
-        elif text[at] == awaited[-1]:
-            awaited.pop()
-        at = skip_token(text, at, is_clause)
-    return at
-
-
-def find_end(text, at, ends, is_clause=False):
-    """The first place from `at` on, outside of brackets, where one of the signs `ends` stands."""
-    while text[at] not in ends:
-        at = skip_brackets(text, at, is_clause) if text[at] in OPENING else skip_token(
-            text, at, is_clause
-        )
-    return at
-
-
-def signature_end(text, at):
-    """Where the head of a function ends: at its first clause, its body or its semicolon."""
-    while not (text[at] in "{;" or CLAUSE.match(text, at)):
-        if text[at] in "([":
-            at = skip_brackets(text, at)
-        else:
-            at = skip_token(text, at, False)
-    return at
-
-
 def dedent(text):
     """Lines without the indentation that all but the first have in common."""
-    lines = text.strip().split("\n")
-    rest = [line for line in lines[1:] if line.strip()]
-    common = min((len(line) - len(line.lstrip()) for line in rest), default=0)
-    return "\n".join([lines[0]] + [line[common:] for line in lines[1:]])
+    first, *lines = text.replace("\0", "\n").strip().split("\n")
+    common = min((len(line) - len(line.lstrip()) for line in lines if line.strip()), default=0)
+    return "\n".join([first, *(line[common:] for line in lines)])
 
 
-class Reader:
-    """Reads items from the front of a text."""
+def item_end(lines, at):
+    """The place after the item that begins at a line: it ends with a line of its own indentation,
+    or, before a block is opened, with a semicolon."""
+    inside = ""
+    for end, line in enumerate(lines[at:], at + 1):
+        outer = line[:1].strip() != ""
+        if line.endswith(inside + ";") or outer and line.endswith((";", "}", ",")):
+            return end
+        if outer and line.endswith("{"):
+            inside = "\n"
+        elif not inside and CLAUSE.match(line, 4):
+            inside = "}"
+    return len(lines)
 
-    def __init__(self, text, path):
-        self.text = text
-        self.path = path
 
-    def line(self, at):
-        return self.text.count("\n", 0, at) + 1
+def read_items(path, lines, is_block):
+    """The doc text of a module, and the items of lines without indentation: the fields or variants
+    of a type where they are no block of items."""
+    inner, doc, attributes, items, at = [], [], [], [], 0
+    while at < len(lines):
+        line, end = lines[at], at + 1
+        if line.startswith("//!"):
+            inner.append(line[3:].removeprefix(" "))
+        elif line.startswith("///"):
+            doc.append(line[3:].removeprefix(" "))
+        elif line.startswith("#"):
+            while not lines[end - 1].endswith("]"):
+                end += 1
+            attributes.append("\n".join(lines[at:end]))
+        elif line.strip() and not line.startswith("//"):
+            end = item_end(lines, at)
+            if item := read_item(path, lines[at:end], is_block, "\n".join(doc), attributes):
+                items.append(item)
+            doc, attributes = [], []
+        at = end
+    return "\n".join(inner), items
 
-    def items(self, at, end):
-        """The doc text of a module, and its items, from `at` up to `end`."""
-        inner, doc, attributes, items = [], [], [], []
-        while True:
-            while at < end and self.text[at].isspace():
-                at += 1
-            if at >= end:
-                return "\n".join(inner), items
-            if self.text.startswith("//", at):
-                stop = self.text.find("\n", at)
-                line = self.text[at:stop]
-                if line.startswith("///"):
-                    doc.append(line[3:].removeprefix(" "))
-                elif line.startswith("//!"):
-                    inner.append(line[3:].removeprefix(" "))
-                at = stop
-            elif self.text.startswith("#", at):
-                stop = skip_brackets(self.text, self.text.index("[", at))
-                attributes.append(self.text[at:stop])
-                at = stop
-            else:
-                item, at = self.item(at, "\n".join(doc), attributes)
-                if item:
-                    items.append(item)
-                doc, attributes = [], []
 
-    def item(self, at, doc, attributes):
-        """The item at `at`, and the place after it."""
-        head = HEAD.match(self.text, at)
-        if not head:
-            return None, self.skip_macro(at)
-        kind = head["kind"]
-        item = Item(kind, "", head["visible"] == "pub ", doc, "", attributes, self.line(at))
-        if kind == "fn":
-            return item, self.function(item, at, head.end())
-        if kind == "ghost":
-            return item, self.ghost(item, head.end())
-        if kind in ("use", "type", "const", "static"):
-            stop = find_end(self.text, at, ";")
-            item.signature = dedent(self.text[at : stop + 1])
-            item.name = self.word(head.end()) if kind != "use" else item.signature
-            return item, stop + 1
-        return item, self.block(item, at, head.end())
+def read_item(path, lines, is_block, doc, attributes):
+    head = HEAD.match(lines[0])
+    if not is_block and not (head and head["kind"] == "ghost"):
+        found, text = FIELD.match(lines[0]), dedent("\n".join(lines)).removesuffix(",")
+        return Item("field", found["name"], found["visible"] == "pub ", doc, text, [])
+    if not head:
+        if not MACRO.match(lines[0]):
+            raise Unreadable(f"{path}: no item is known here: {lines[0]}")
+        return None
+    kind = head["kind"]
+    item = Item(kind, head["name"] or "", head["visible"] == "pub ", doc, "", attributes)
+    if kind == "ghost":
+        return read_ghost(item, "\n".join(lines))
+    if kind in ("use", "type", "const", "static"):
+        item.signature = dedent("\n".join(lines))
+        item.name = item.signature if kind == "use" else item.name
+        return item
+    body = next((n for n, line in enumerate(lines) if line[:1].strip() and
+                 line.endswith(("{", "}", ";"))), len(lines))
+    starts = [n for n, line in enumerate(lines[:body]) if CLAUSE.match(line[4:])]
+    for start, end in zip(starts, [*starts[1:], body]):
+        text = "\n".join(line for line in lines[start:end] if not line.strip().startswith("//"))
+        clause = CLAUSE.match(text, 4)
+        text = text[clause.end():].rstrip("; \n").removesuffix("}")
+        item.clauses.append(Clause(clause["kind"], (clause["name"] or "").strip(), dedent(text)))
+    signature = "\n".join(lines[:(starts or [body + 1])[0]])
+    if kind in ("struct", "enum") and signature.endswith(");"):
+        item.signature = dedent(signature)
+        return item
+    item.signature = dedent(re.sub(r" *\{[^{]*\}$|[{;]$", "", signature))
+    if kind in ("struct", "enum", "trait", "impl", "mod"):
+        inside = [line[4:] for line in lines[body + 1:-1]]
+        _, item.members = read_items(path, inside, kind not in ("struct", "enum"))
+    return item
 
-    def word(self, at):
-        word = re.compile(r"\s*(\w+)").match(self.text, at)
-        return word[1] if word else ""
 
-    def skip_macro(self, at):
-        opening = re.compile(r"[\w:]+!\s*\w*\s*[({\[]").match(self.text, at)
-        if not opening:
-            raise Unreadable(f"{self.path}:{self.line(at)}: no item is known here")
-        after = skip_brackets(self.text, opening.end() - 1)
-        return after + 1 if self.text[after : after + 1] == ";" else after
-
-    def ghost(self, item, at):
-        """`ghost use ..;`, or a ghost member, which is kept as a clause."""
-        stop = find_end(self.text, at, ";", is_clause=True)
-        text = self.text[at:stop].strip()
-        if text.startswith("use "):
-            item.kind, item.name = "ghost use", text[4:]
-        else:
-            name, _, value = text.partition(":" if ":" in text.split("{")[0] else "=")
-            value = value.strip()
-            value = value[1:-1] if value.startswith("{") else value
-            item.kind, item.name = "ghost", name.strip()
-            item.clauses = [Clause("ghost", name.strip(), dedent(value))]
-        return stop + 1
-
-    def function(self, item, start, at):
-        item.name = self.word(at)
-        at = signature_end(self.text, at)
-        item.signature = dedent(self.text[start:at])
-        while clause := CLAUSE.match(self.text, at):
-            at = skip_brackets(self.text, clause.end() - 1, is_clause=True)
-            text = self.text[clause.end() : at - 1]
-            name = (clause["name"] or "").strip()
-            item.clauses.append(Clause(clause["kind"], name, dedent(text)))
-        at = find_end(self.text, at, "{;") if self.text[at] not in "{;" else at
-        if self.text[at] == ";":
-            return at + 1
-        stop = skip_brackets(self.text, at)
-        item.body = self.text[at:stop]
-        return stop
-
-    def block(self, item, start, at):
-        """A type, a trait, an impl block or a module."""
-        item.name = self.word(at)
-        at = find_end(self.text, at, "{;(") if item.kind != "impl" else find_end(
-            self.text, at, "{"
-        )
-        if self.text[at] == "(":
-            at = find_end(self.text, at, "{;")
-            item.signature = dedent(self.text[start : at + 1])
-            return at + 1
-        item.signature = dedent(self.text[start:at])
-        if self.text[at] == ";":
-            return at + 1
-        stop = skip_brackets(self.text, at)
-        if item.kind in ("impl", "trait", "mod"):
-            _, item.members = self.items(at + 1, stop - 1)
-        else:
-            item.members = list(self.fields(at + 1, stop - 1))
-        return stop
-
-    def fields(self, at, end):
-        """The fields of a struct, or the variants of an enum, with their doc text."""
-        doc = []
-        while True:
-            while at < end and (self.text[at].isspace() or self.text[at] == ","):
-                at += 1
-            if at >= end:
-                return
-            if self.text.startswith("//", at):
-                stop = self.text.find("\n", at)
-                if self.text.startswith("///", at):
-                    doc.append(self.text[at + 3 : stop].removeprefix(" "))
-                at = stop
-            elif self.text.startswith("#[", at):
-                at = skip_brackets(self.text, at + 1)
-            elif self.text.startswith("ghost ", at):
-                at = find_end(self.text, at, ";,", is_clause=True) + 1
-            else:
-                stop = self.field_end(at, end)
-                text = dedent(self.text[at:stop])
-                public = text.startswith("pub ")
-                name = re.match(r"(?:pub(?:\([a-z: ]+\))? )?(\w+)", text)[1]
-                yield Item("field", name, public, "\n".join(doc), text, [], self.line(at))
-                doc, at = [], stop
-
-    def field_end(self, at, end):
-        angles = 0
-        while at < end and (self.text[at] != "," or angles):
-            angles += {"<": 1, ">": -1}.get(self.text[at], 0)
-            at = skip_brackets(self.text, at) if self.text[at] in OPENING else at + 1
-        return at
+def read_ghost(item, text):
+    """`ghost use ..;`, or a ghost member, which is kept as a clause."""
+    text = text.removeprefix("ghost ").rstrip(";,")
+    if text.startswith("use "):
+        item.kind, item.name = "ghost use", text[4:]
+    else:
+        name, _, value = text.partition(":" if ":" in text.split("{")[0] else "=")
+        value = value.strip()
+        value = value[1:-1] if value.startswith("{") else value
+        item.name = name.strip()
+        item.clauses = [Clause("ghost", item.name, dedent(value))]
+    return item
 
 
 def read_source(path, text):
     """The doc text and the items of a file."""
-    doc, items = Reader(text, path).items(0, len(text))
-    return Source(doc, items)
+    lines = TEXT.sub(lambda found: found[0].replace("\n", "\0"), text).split("\n")
+    return read_items(path, lines, True)

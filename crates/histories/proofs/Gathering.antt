@@ -9,7 +9,7 @@ use Rattle.std.proofs.lemmas.List.Quantifiers.{all_pairs_push}
 use Rattle.histories.specs.declared.front.Config.{Config}
 use Rattle.histories.specs.Histories.{AreAll}
 use Rattle.histories.specs.Frontier.{IsSame, IsWaiting, Path, cleared, no_path, path_more, path_of}
-use Rattle.histories.specs.Gathering.{FromOne, Gathers, IsAt, IsCopy, IsDone, IsDropped, IsFirst, IsKnown, IsNext, IsNextAt, IsNextBelow, IsNextIn, IsUnderWay, Spot, spot_of}
+use Rattle.histories.specs.Gathering.{FromOne, Gathers, IsAt, IsCopy, IsDone, IsDropped, IsFirst, IsKnown, IsNext, IsMadeIn, IsNextAt, IsNextBeside, IsNextIn, IsNextOther, IsUnderWay, Spot, spot_of}
 use Rattle.histories.proofs.Bits.{slot_once}
 
 spot_with : {S : Type 0} → S → ℕ → Path → Spot S
@@ -170,26 +170,68 @@ module _ {S : Type 0} where
     gathers_empty from slot old none =
         gathers_none (IsNextAt Step slots from slot) old (λ k f. none f.0 f.1)
 
-    -- one slot more
-    pub gathers_slot : (from : Config S) (slot : ℕ) (old mid new : List (Config S))
-        → Gathers (IsNextBelow Step slots from slot) old mid
-        → Gathers (IsNextAt Step slots from slot) mid new
-        → Gathers (IsNextBelow Step slots from (slot + 1)) old new
-    gathers_slot from slot old mid new f g =
-        gathers_then (IsNextBelow Step slots from slot) (IsNextAt Step slots from slot)
-        (IsNextBelow Step slots from (slot + 1)) old mid new
-        (λ k r. elim (cases_order r.0 slot)
-        as (λ _. IsNextBelow Step slots from slot k ⊎ IsNextAt Step slots from slot k) [
-          | inl e ↦ inr (subst (λ i. IsNextAt Step slots from i k) e r.2)
+    -- where the call was made in place
+    pub gathers_made : (from next : Config S) (made : Config S) (slot call : ℕ)
+        (old new : List (Config S)) → IsWaiting slots from.waiting slot call
+        → IsMadeIn Step from call made true → next.state ≡ made.state
+        → next.waiting ≡ cleared made.waiting slot → path_of next ≡ path_of made
+        → Gathers (IsCopy next) old new → Gathers (IsNextAt Step slots from slot) old new
+    gathers_made from next made slot call old new waits is state set path g =
+        gathers_call from slot call (made.state ∷ []) old new waits is.0
+        (gathers_state from next slot call made.state old new state
+        (set ∙ ap (λ w. cleared w slot) is.2) (path ∙ is.1) g)
+
+    -- one slot more, but for one
+    pub gathers_slot : (from : Config S) (slot other : ℕ) (old mid new : List (Config S))
+        → Gathers (IsNextBeside Step slots from slot other) old mid
+        → Gathers (IsNextOther Step slots from slot other) mid new
+        → Gathers (IsNextBeside Step slots from slot (other + 1)) old new
+    gathers_slot from slot other old mid new f g =
+        gathers_then (IsNextBeside Step slots from slot other)
+        (IsNextOther Step slots from slot other)
+        (IsNextBeside Step slots from slot (other + 1)) old mid new
+        (λ k r. elim (cases_order r.0 other)
+        as (λ _. IsNextBeside Step slots from slot other k
+        ⊎ IsNextOther Step slots from slot other k) [
+          | inl e ↦ inr (subst (λ i. IsNextOther Step slots from slot i k) e r.2)
           | inr (inl less) ↦ inl (r.0, less, r.2)
           | inr (inr more) ↦ absurd (omega (arith, r.1))
         ])
-        (λ k p. (p.0, omega (arith, p.1), p.2)) (λ k q. (slot, omega arith, q)) f g
+        (λ k p. (p.0, omega (arith, p.1), p.2)) (λ k q. (other, omega arith, q)) f g
 
-    pub gathers_no_slot : (from : Config S) (old : List (Config S))
-        → Gathers (IsNextBelow Step slots from 0) old old
-    gathers_no_slot from old =
-        gathers_none (IsNextBelow Step slots from 0) old (λ k f. absurd (omega (arith, f.1)))
+    pub gathers_no_slot : (from : Config S) (slot : ℕ) (old : List (Config S))
+        → Gathers (IsNextBeside Step slots from slot 0) old old
+    gathers_no_slot from slot old =
+        gathers_none (IsNextBeside Step slots from slot 0) old (λ k f. absurd (omega (arith, f.1)))
+
+    pub gathers_not_other : (from : Config S) (slot other : ℕ) (old : List (Config S))
+        → other ≡ slot → Gathers (IsNextOther Step slots from slot other) old old
+    gathers_not_other from slot other old same =
+        gathers_none (IsNextOther Step slots from slot other) old (λ k f. f.0 same)
+
+    pub gathers_other : (from : Config S) (slot other : ℕ) (old new : List (Config S))
+        → (other ≡ slot → ⊥) → Gathers (IsNextAt Step slots from other) old new
+        → Gathers (IsNextOther Step slots from slot other) old new
+    gathers_other from slot other old new apart g =
+        gathers_as (IsNextAt Step slots from other) (IsNextOther Step slots from slot other) old new
+        (λ k p. (apart, p)) (λ k p. p.1) g
+
+    -- and that one
+    pub gathers_last : (from : Config S) (slot : ℕ) (old mid new : List (Config S))
+        → slot < length slots → Gathers (IsNextBeside Step slots from slot (length slots)) old mid
+        → Gathers (IsNextAt Step slots from slot) mid new
+        → Gathers (IsNext Step slots from) old new
+    gathers_last from slot old mid new within f g =
+        gathers_then (IsNextBeside Step slots from slot (length slots))
+        (IsNextAt Step slots from slot) (IsNext Step slots from) old mid new
+        (λ k r. elim (cases_order r.0 slot)
+        as (λ _. IsNextBeside Step slots from slot (length slots) k
+        ⊎ IsNextAt Step slots from slot k) [
+          | inl e ↦ inr (subst (λ i. IsNextAt Step slots from i k) e r.2)
+          | inr (inl less) ↦ inl (r.0, r.1, ((λ e. absurd (omega (arith, less, e))), r.2))
+          | inr (inr more) ↦ inl (r.0, r.1, ((λ e. absurd (omega (arith, more, e))), r.2))
+        ])
+        (λ k p. (p.0, p.1, p.2.1)) (λ k q. (slot, within, q)) f g
 
   -- one configuration more of those from which others are found
   pub gathers_pushed : (Fact : Config S → Spot S → Type 0) (layer : List (Config S))

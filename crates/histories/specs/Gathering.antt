@@ -119,7 +119,7 @@ pub record AreSettled {S : Type 0} (Step : S → ℕ → S → Type 0) (slots : 
 abbrev pub IsMadeIn : {S : Type 0} → (S → ℕ → S → Type 0) → Config S → ℕ → Config S → Bool → Type 0
 IsMadeIn Step old call new true =
     IsMade (Step old.state call) old.state new.state true
-    × (path_of new ≡ path_more (path_of old) (call ∷ []))
+    × (path_of new ≡ path_more (path_of old) (call ∷ [])) × (new.waiting ≡ old.waiting)
 IsMadeIn Step old call new false = new ≡ old
 
 -- the call in the slot, which waits, is made, and leaves one of the states
@@ -136,16 +136,23 @@ IsNextAt Step slots config slot next =
     × (next.waiting ≡ cleared config.waiting slot)
     × (next.made ≡ path_more (path_of config) (call ∷ []))
 
--- a call in a slot below this one waits and is made
-abbrev pub IsNextBelow : {S : Type 0} → (S → ℕ → S → Type 0) → List (Option ℕ) → Config S → ℕ
+-- the same in a slot that is not this one
+abbrev pub IsNextOther : {S : Type 0} → (S → ℕ → S → Type 0) → List (Option ℕ) → Config S → ℕ → ℕ
     → Spot S → Type 0
-IsNextBelow Step slots config end next =
-    (slot : ℕ) × (slot < end) × IsNextAt Step slots config slot next
+IsNextOther Step slots config slot other next =
+    (other ≡ slot → ⊥) × IsNextAt Step slots config other next
+
+-- the same in one of those below a number
+abbrev pub IsNextBeside : {S : Type 0} → (S → ℕ → S → Type 0) → List (Option ℕ) → Config S → ℕ → ℕ
+    → Spot S → Type 0
+IsNextBeside Step slots config slot end next =
+    (other : ℕ) × (other < end) × IsNextOther Step slots config slot other next
 
 -- a call that waits is made
 abbrev pub IsNext : {S : Type 0} → (S → ℕ → S → Type 0) → List (Option ℕ) → Config S → Spot S
     → Type 0
-IsNext Step slots config next = IsNextBelow Step slots config (length slots) next
+IsNext Step slots config next =
+    (slot : ℕ) × (slot < length slots) × IsNextAt Step slots config slot next
 
 -- the call in the slot has been made, and the copy is of this configuration
 abbrev pub IsDone : {S : Type 0} → ℕ → Config S → Spot S → Type 0

@@ -1,10 +1,12 @@
 //! A call that ends is made.
 ghost use Rattle.std.specs.Prelude.{◌≡◌, ◌<◌, ◌≤◌, ◌++◌, ◌∷◌, [], ℕ, IfOk, OnOk, length};
+ghost use Rattle.std.specs.Int.{bit_at};
 ghost use Rattle.histories.specs.Frontier.{HasSlot, IsWaiting, cleared};
-ghost use Rattle.histories.specs.Gathering.{FromOne, Gathers, IsCloseOutcome, IsDone, IsDropped, IsNext, IsNextAt, IsNextIn, IsNextLayer, IsUnderWay, spot_of};
+ghost use Rattle.histories.specs.Gathering.{FromOne, Gathers, IsCloseOutcome, IsDone, IsDropped, IsNext, IsNextAt, IsNextIn, IsNextLayer, IsNextOther, IsUnderWay, spot_of};
 
 use super::front::{Config, MAX_CONFIGS};
 use super::gather::{Gathered, add, copy_of};
+use super::in_place::make_in;
 use super::left::Left;
 use super::machine::Machine;
 use super::sets::{has, without};
@@ -117,22 +119,72 @@ fn make_slot<M: Machine>(
     Ok(())
 }
 
-/// Adds the configurations to which one more call leads.
-fn make_calls<M: Machine>(
+/// The same, unless it is this slot.
+fn make_other<M: Machine>(
     alloc: Global,
     machine: &M,
     slots: &[Option<usize>],
     config: &Config<M::State>,
+    slot: usize,
+    other: usize,
     next: &mut Gathered<M::State>,
 ) -> Result<(), AllocError>
     requires few { length slots.now ≤ 64 }
-    ensures { OnOk result (Gathers (IsNext (M.Step machine.now) slots.now config.now)
+    requires within { other < length slots.now }
+    ensures { OnOk result (Gathers (IsNextOther (M.Step machine.now) slots.now config.now slot
+        other) next.old next.new) }
+{
+    if other == slot {
+        return Ok(());
+    }
+    make_slot(alloc, machine, slots, config, other, next)
+}
+
+/// The same for the slot itself, whose call waits. It is made in place where it leaves one state.
+fn make_last<M: Machine>(
+    alloc: Global,
+    machine: &M,
+    slots: &[Option<usize>],
+    config: Config<M::State>,
+    slot: usize,
+    next: &mut Gathered<M::State>,
+) -> Result<(), AllocError>
+    requires few { length slots.now ≤ 64 }
+    requires within { slot < length slots.now }
+    requires waits { bit_at config.waiting slot ≡ 1 }
+    ensures { OnOk result (Gathers (IsNextAt (M.Step machine.now) slots.now config slot)
         next.old next.new) }
 {
-    for slot in 0..slots.len() {
-        make_slot(alloc, machine, slots, config, slot, next)?;
+    let mut config = config;
+    let Some(call) = slots[slot] else {
+        return Ok(());
+    };
+    if make_in(machine, &mut config, call)? {
+        config.waiting = without(config.waiting, slot);
+        return add(alloc, machine, next, config);
     }
-    Ok(())
+    make_call(alloc, machine, slots, &config, slot, call, next)
+}
+
+/// Adds the configurations to which one more call leads, that in the slot last.
+fn make_calls<M: Machine>(
+    alloc: Global,
+    machine: &M,
+    slots: &[Option<usize>],
+    config: Config<M::State>,
+    slot: usize,
+    next: &mut Gathered<M::State>,
+) -> Result<(), AllocError>
+    requires few { length slots.now ≤ 64 }
+    requires within { slot < length slots.now }
+    requires waits { bit_at config.waiting slot ≡ 1 }
+    ensures { OnOk result (Gathers (IsNext (M.Step machine.now) slots.now config)
+        next.old next.new) }
+{
+    for other in 0..slots.len() {
+        make_other(alloc, machine, slots, &config, slot, other, next)?;
+    }
+    make_last(alloc, machine, slots, config, slot, next)
 }
 
 /// Adds the configuration to those that are done where the call in the slot has been made there.
@@ -147,12 +199,12 @@ fn close_one<M: Machine>(
     next: &mut Gathered<M::State>,
 ) -> Result<(), AllocError>
     requires few { length slots.now ≤ 64 }
-    requires within { slot < 64 }
+    requires within { slot < length slots.now }
     ensures { OnOk result (Gathers (IsDone slot config) done.old done.new
         × Gathers (IsUnderWay (M.Step machine.now) slots.now slot config) next.old next.new) }
 {
     if has(config.waiting, slot) {
-        return make_calls(alloc, machine, slots, &config, next);
+        return make_calls(alloc, machine, slots, config, slot, next);
     }
     add(alloc, machine, done, config)
 }
@@ -167,7 +219,7 @@ fn close_round<M: Machine>(
     done: &mut Gathered<M::State>,
 ) -> Result<Vec<Config<M::State>>, AllocError>
     requires few { length slots.now ≤ 64 }
-    requires within { slot < 64 }
+    requires within { slot < length slots.now }
     ensures { IfOk result (λ next. Gathers (FromOne (IsDone slot) layer.items) done.old done.new
         × Gathers (FromOne (IsUnderWay (M.Step machine.now) slots.now slot) layer.items) []
         next.items) }
@@ -189,7 +241,7 @@ fn close_settled<M: Machine>(
     done: &mut Gathered<M::State>,
 ) -> Result<Vec<Config<M::State>>, AllocError>
     requires few { length slots.now ≤ 64 }
-    requires within { slot < 64 }
+    requires within { slot < length slots.now }
     ensures { IfOk result (λ next. Gathers (FromOne (IsDone slot) layer.items) done.old done.new
         × IsNextLayer (M.Step machine.now) slots.now slot layer.items next.items) }
 {

@@ -10,7 +10,7 @@ use super::slots::are_free;
 use std::alloc::AllocError;
 
 /// Makes the call in the configuration. Returns whether it did; else nothing changed.
-fn make_in<M: Machine>(
+pub fn make_in<M: Machine>(
     machine: &M,
     config: &mut Config<M::State>,
     call: usize,

@@ -4,6 +4,7 @@ pub mod Above
 pub mod Answered
 pub mod Answering
 pub mod Callers
+pub mod Counts
 pub mod Found
 pub mod Kept
 pub mod Ordered

@@ -8,6 +8,7 @@ pub mod Good
 pub mod Placed
 pub mod Reports
 pub mod Orders
+pub mod Progress
 -- Inner facts: what the fields of what is read tell.
 pub mod ServiceFields
 pub mod Fields

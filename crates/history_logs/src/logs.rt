@@ -11,6 +11,7 @@ mod callers;
 mod judging;
 mod needed;
 mod ordering;
+mod progress;
 mod reading;
 mod report;
 mod service;
@@ -19,6 +20,7 @@ mod verdict;
 
 use judging::judge_services;
 use ordering::order_services;
+pub use progress::{Counts, NoProgress, Progress};
 use reading::read_log;
 use report::{append_orders, append_report};
 use service::LogService;
@@ -87,8 +89,25 @@ fn judge(
 pub fn check_log(alloc: Global, log: &[u8]) -> Result<Verdict, AllocError>
     ensures { IfOk result (Judged log.now) }
 {
-    let (reading, bad) = read_log(alloc, log)?;
+    let (reading, bad) = read_log(alloc, log, &mut NoProgress)?;
     judge(alloc, log, &reading.services, bad)
+}
+
+/// Judges what was read of a log: the verdict, and the text that reports it.
+fn report_read(
+    alloc: Global,
+    log: &[u8],
+    services: &[LogService],
+    bad: Option<(usize, Expected)>,
+) -> Result<(Verdict, Vec<u8>), AllocError>
+    requires { IsReadTo log.now services.now bad }
+    ensures judged { IfOk result (λ found. Judged log.now found.0) }
+    ensures text { IfOk result (λ found. found.1.items ≡ report_text found.0) }
+{
+    let verdict = judge(alloc, log, services, bad)?;
+    let mut text = Vec::new(alloc);
+    append_report(&verdict, &mut text)?;
+    Ok((verdict, text))
 }
 
 /// Judges a log, as `check_log` does: the verdict, and the text that reports it.
@@ -96,10 +115,8 @@ pub fn report_log(alloc: Global, log: &[u8]) -> Result<(Verdict, Vec<u8>), Alloc
     ensures judged { IfOk result (λ found. Judged log.now found.0) }
     ensures text { IfOk result (λ found. found.1.items ≡ report_text found.0) }
 {
-    let verdict = check_log(alloc, log)?;
-    let mut text = Vec::new(alloc);
-    append_report(&verdict, &mut text)?;
-    Ok((verdict, text))
+    let (reading, bad) = read_log(alloc, log, &mut NoProgress)?;
+    report_read(alloc, log, &reading.services, bad)
 }
 
 /// Judges what was read of a log, with the orders where it conforms.
@@ -133,8 +150,26 @@ pub fn order_log(alloc: Global, log: &[u8]) -> Result<(Verdict, Vec<Order>), All
     ensures judged { IfOk result (λ found. Judged log.now found.0) }
     ensures orders { IfOk result (λ found. HasOrders log.now found.0 found.1.items) }
 {
-    let (reading, bad) = read_log(alloc, log)?;
+    let (reading, bad) = read_log(alloc, log, &mut NoProgress)?;
     order_read(alloc, log, &reading.services, bad)
+}
+
+/// Judges what was read of a log: the verdict, and the text that reports it with the orders.
+fn witness_read(
+    alloc: Global,
+    log: &[u8],
+    services: &[LogService],
+    bad: Option<(usize, Expected)>,
+) -> Result<(Verdict, Vec<u8>), AllocError>
+    requires { IsReadTo log.now services.now bad }
+    ensures judged { IfOk result (λ found. Judged log.now found.0) }
+    ensures text { IfOk result (λ found. IsWitness log.now found.0 found.1.items) }
+{
+    let (verdict, orders) = order_read(alloc, log, services, bad)?;
+    let mut text = Vec::new(alloc);
+    append_report(&verdict, &mut text)?;
+    append_orders(&orders, &mut text)?;
+    Ok((verdict, text))
 }
 
 /// Judges a log, as `order_log` does: the verdict, and the text that reports it. Where the log
@@ -144,9 +179,6 @@ pub fn witness_log(alloc: Global, log: &[u8]) -> Result<(Verdict, Vec<u8>), Allo
     ensures judged { IfOk result (λ found. Judged log.now found.0) }
     ensures text { IfOk result (λ found. IsWitness log.now found.0 found.1.items) }
 {
-    let (verdict, orders) = order_log(alloc, log)?;
-    let mut text = Vec::new(alloc);
-    append_report(&verdict, &mut text)?;
-    append_orders(&orders, &mut text)?;
-    Ok((verdict, text))
+    let (reading, bad) = read_log(alloc, log, &mut NoProgress)?;
+    witness_read(alloc, log, &reading.services, bad)
 }

@@ -18,6 +18,8 @@ mod needed;
 #[cfg(test)]
 mod overlapping;
 #[cfg(test)]
+mod progress;
+#[cfg(test)]
 mod random;
 #[cfg(test)]
 mod rows;

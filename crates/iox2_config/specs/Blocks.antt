@@ -6,8 +6,8 @@ use Rattle.iox2_config.specs.Layout.{payload_place, payload_part, parts, element
 use Rattle.iox2_config.specs.Parts.{Part, IsAligned, Within, Apart, Holds}
 use Rattle.iox2_config.specs.declared.types.message_details.MessageTypeDetails.{MessageTypeDetails}
 
--- an opener that may use the service's messages: its
--- details were given, and are compatible to the service's
+-- an opener that may use the service's messages: its alignments are powers of two, and its details
+-- are compatible to the service's
 pub record MayOpen (opener service : MessageTypeDetails) : Type 0 where
   pub header_power : IsTrue (is_power_of_two opener.header.alignment)
   pub user_header_power : IsTrue (is_power_of_two opener.user_header.alignment)

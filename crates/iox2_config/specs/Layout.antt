@@ -38,7 +38,7 @@ pub record HasPlaces (d : MessageTypeDetails) (header : ℕ) : Type 0 where
   pub given : HaveAlignments d
   pub fits : payload_place d header < 2 ^ 64
 
--- the parts of a service's message of n elements, each with the alignment that `reader` has for it
+-- the header of a service's message, with the alignment that `reader` has for it
 abbrev pub header_part : MessageTypeDetails → MessageTypeDetails → ℕ → Part
 header_part service reader header =
     record {
@@ -47,6 +47,7 @@ header_part service reader header =
       alignment = reader.header.alignment;
     }
 
+-- its user header
 abbrev pub user_header_part : MessageTypeDetails → MessageTypeDetails → ℕ → Part
 user_header_part service reader header = record {
   start = user_header_place service header;
@@ -54,6 +55,7 @@ user_header_part service reader header = record {
   alignment = reader.user_header.alignment;
 }
 
+-- its payload of n elements
 abbrev pub payload_part : MessageTypeDetails → MessageTypeDetails → ℕ → ℕ → Part
 payload_part service reader header n = record {
   start = payload_place service header;
@@ -61,6 +63,7 @@ payload_part service reader header n = record {
   alignment = reader.payload.alignment;
 }
 
+-- its three parts
 abbrev pub parts : MessageTypeDetails → MessageTypeDetails → ℕ → ℕ → List Part
 parts service reader header n =
     header_part service reader header ∷ user_header_part service reader header

@@ -5,7 +5,7 @@ use Rattle.std.specs.Int.{◌∣◌, is_power_of_two}
 use Rattle.iox2_config.specs.declared.types.type_detail.TypeVariant.{TypeVariant}
 use Rattle.iox2_config.specs.declared.types.type_detail.TypeVariant.TheVariants.{FixedSize}
 
--- the type's details: its size in bytes, and its alignment
+-- a type's details: variant, name, size in bytes and alignment
 pub record TypeDetailParts : Type 0 where
   pub variant : TypeVariant
   pub type_name : List ℕ

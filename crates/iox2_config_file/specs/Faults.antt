@@ -32,18 +32,24 @@ type_text type.Datetime = codes "a date-time"
 type_text type.Array = codes "an array"
 type_text type.Table = codes "a table"
 
--- why a text is not allowed
-abbrev pub why_text : SemanticStringError → List ℕ
-why_text InvalidContent = codes "a byte or the whole text is not allowed"
-why_text ExceedsMaximumLength = codes "it has more than 255 bytes"
+-- why a text is no path
+abbrev pub no_path_text : SemanticStringError → List ℕ
+no_path_text InvalidContent = codes "it has a byte that is not from 1 to 127"
+no_path_text ExceedsMaximumLength = codes "it has more than 255 bytes"
+
+-- why a text is no name of a file
+abbrev pub no_file_name_text : SemanticStringError → List ℕ
+no_file_name_text InvalidContent =
+    codes "it is empty, `.` or `..`, or has a `/` or a byte that is not from 1 to 127"
+no_file_name_text ExceedsMaximumLength = codes "it has more than 255 bytes"
 
 -- what is wrong with a value
 unfoldable pub reason_text : Fault → List ℕ
 reason_text (WrongType found wanted) =
     codes "is " ++ (type_text found ++ (codes ", and " ++ (kind_text wanted ++ codes " is wanted")))
 reason_text OutOfRange = codes "is below 0"
-reason_text (NoPath e) = codes "is no path: " ++ why_text e
-reason_text (NoFileName e) = codes "is no name of a file: " ++ why_text e
+reason_text (NoPath e) = codes "is no path: " ++ no_path_text e
+reason_text (NoFileName e) = codes "is no name of a file: " ++ no_file_name_text e
 reason_text (UnknownVariant wanted) = codes "is not " ++ kind_text wanted
 reason_text NoDuration = codes "is not a table of the integers `secs` and `nanos` alone"
 reason_text NanosTooLarge = codes "has `nanos` of 2^32 or more"

@@ -1,6 +1,6 @@
 //! What the value of a key may be, and what is wrong with one that may not.
 ghost use Rattle.std.specs.Prelude.{◌≡◌, Some};
-ghost use Rattle.iox2_config_file.specs.Faults.{kind_text, type_text, why_text, reason_text};
+ghost use Rattle.iox2_config_file.specs.Faults.{kind_text, no_file_name_text, no_path_text, reason_text, type_text};
 
 use iox2_texts::bounded::SemanticStringError;
 use std::error::Error;
@@ -80,8 +80,8 @@ impl fmt::Display for Fault {
         match self {
             Fault::WrongType { found, wanted } => write!(f, "is {found}, and {wanted} is wanted"),
             Fault::OutOfRange => f.write_str("is below 0"),
-            Fault::NoPath(error) => write!(f, "is no path: {}", why(error)),
-            Fault::NoFileName(error) => write!(f, "is no name of a file: {}", why(error)),
+            Fault::NoPath(error) => write!(f, "is no path: {}", no_path(error)),
+            Fault::NoFileName(error) => write!(f, "is no name of a file: {}", no_file_name(error)),
             Fault::UnknownVariant(wanted) => write!(f, "is not {wanted}"),
             Fault::NoDuration => f.write_str(
                 "is not a table of the integers `secs` and `nanos` alone",
@@ -91,12 +91,24 @@ impl fmt::Display for Fault {
     }
 }
 
-/// Why a text is not allowed.
-fn why(error: &SemanticStringError) -> &'static str
-    ensures { result.now ≡ why_text error.now }
+/// Why a text is no path.
+fn no_path(error: &SemanticStringError) -> &'static str
+    ensures { result.now ≡ no_path_text error.now }
 {
     match error {
-        SemanticStringError::InvalidContent => "a byte or the whole text is not allowed",
+        SemanticStringError::InvalidContent => "it has a byte that is not from 1 to 127",
+        SemanticStringError::ExceedsMaximumLength => "it has more than 255 bytes",
+    }
+}
+
+/// Why a text is no name of a file.
+fn no_file_name(error: &SemanticStringError) -> &'static str
+    ensures { result.now ≡ no_file_name_text error.now }
+{
+    match error {
+        SemanticStringError::InvalidContent => {
+            "it is empty, `.` or `..`, or has a `/` or a byte that is not from 1 to 127"
+        }
         SemanticStringError::ExceedsMaximumLength => "it has more than 255 bytes",
     }
 }

@@ -10,11 +10,12 @@ const FAULTS: [(&str, &str); 14] = [
     ),
     (
         "[global]\nprefix = 'a/b'",
-        "global.prefix: is no name of a file: a byte or the whole text is not allowed",
+        "global.prefix: is no name of a file: it is empty, `.` or `..`, or has a `/` or a byte that \
+         is not from 1 to 127",
     ),
     (
         "[global]\nroot-path = 'ä'",
-        "global.root-path: is no path: a byte or the whole text is not allowed",
+        "global.root-path: is no path: it has a byte that is not from 1 to 127",
     ),
     (
         "[global.creation-timeout]\nsecs = 1",

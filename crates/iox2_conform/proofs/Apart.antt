@@ -7,23 +7,30 @@ use Rattle.iox2_conform.specs.declared.request.Request.TheVariants.{Help}
 use Rattle.iox2_conform.specs.Program.{RequestsCheck}
 use Rattle.iox2_conform.specs.Requests.{Requests}
 
--- the word that requests help requests no witness
-help_is_no_witness : (words : List (List ℕ)) → words ≡ codes "--help" ∷ []
-    → words ≡ codes "--witness" ∷ [] → ⊥
-help_is_no_witness words help witness =
-    let e : 6 ≡ 9 = ap (λ ws. length (get_or ws 0 [])) (sym help ∙ witness) in grind (arith)
+-- the word that requests help is no word of another length
+help_is_no_other : (words : List (List ℕ)) (word : List ℕ) → words ≡ codes "--help" ∷ []
+    → words ≡ word ∷ [] → 6 ≡ length word
+help_is_no_other words word help other =
+    ap (λ ws. length (get_or ws 0 [])) (sym help ∙ other)
 
--- nor does it request a picture
-help_is_no_picture : (words : List (List ℕ)) → words ≡ codes "--help" ∷ []
-    → words ≡ codes "svg" ∷ [] → ⊥
-help_is_no_picture words help picture =
-    let e : 6 ≡ 3 = ap (λ ws. length (get_or ws 0 [])) (sym help ∙ picture) in grind (arith)
+-- nor are there so many
+help_is_alone : (words : List (List ℕ)) (two : List (List ℕ)) → words ≡ codes "--help" ∷ []
+    → words ≡ two → 1 ≡ length two
+help_is_alone words two help other = ap length (sym help ∙ other)
 
 -- arguments that request help request no check
 pub help_is_no_check : (arguments : Result (IntoIter (String Global) Global) Error)
     → Requests arguments (Ok Help) → RequestsCheck arguments → ⊥
 help_is_no_check (Ok words) help (inl check) =
-    let e : 1 ≡ 0 = ap length (sym help ∙ check) in grind (arith)
-help_is_no_check (Ok words) help (inr (inl witness)) = help_is_no_witness _ help witness
-help_is_no_check (Ok words) help (inr (inr picture)) = help_is_no_picture _ help picture
+    let e : 1 ≡ 0 = help_is_alone _ _ help check in grind (arith)
+help_is_no_check (Ok words) help (inr (inl witness)) =
+    let e : 6 ≡ 9 = help_is_no_other _ _ help witness in grind (arith)
+help_is_no_check (Ok words) help (inr (inr (inl picture))) =
+    let e : 6 ≡ 3 = help_is_no_other _ _ help picture in grind (arith)
+help_is_no_check (Ok words) help (inr (inr (inr (inl progress)))) =
+    let e : 6 ≡ 10 = help_is_no_other _ _ help progress in grind (arith)
+help_is_no_check (Ok words) help (inr (inr (inr (inr (inl both))))) =
+    let e : 1 ≡ 2 = help_is_alone _ _ help both in grind (arith)
+help_is_no_check (Ok words) help (inr (inr (inr (inr (inr both))))) =
+    let e : 1 ≡ 2 = help_is_alone _ _ help both in grind (arith)
 help_is_no_check (Err why) help asked = help

@@ -9,15 +9,22 @@ use Rattle.history_logs.specs.Reports.{Reported}
 use Rattle.iox2_conform.specs.declared.TheConstants.{BAD_ARGUMENT, HELP, VERSION}
 use Rattle.iox2_conform.specs.declared.request.Request.{Request}
 use Rattle.iox2_conform.specs.declared.request.Request.TheVariants.{Check, Help, Picture, Version, Witness}
+use Rattle.iox2_conform.specs.declared.request.Request.TheVariants.{CheckWithProgress, WitnessWithProgress}
 use Rattle.iox2_conform.specs.declared.request.RequestError.{RequestError}
 use Rattle.iox2_conform.specs.declared.request.RequestError.TheVariants.{BadArgument, NoMemory}
 use Rattle.iox2_conform.specs.Requests.{Printed, Requests}
+
+-- progress is requested
+abbrev pub RequestsProgress : Result (IntoIter (String Global) Global) Error → Type 0
+RequestsProgress arguments =
+    Requests arguments (Ok CheckWithProgress) ⊎ Requests arguments (Ok WitnessWithProgress)
 
 -- a check is requested, with a witness or with a picture or with neither
 abbrev pub RequestsCheck : Result (IntoIter (String Global) Global) Error → Type 0
 RequestsCheck arguments =
     Requests arguments (Ok Check)
-    ⊎ (Requests arguments (Ok Witness) ⊎ Requests arguments (Ok Picture))
+    ⊎ (Requests arguments (Ok Witness)
+    ⊎ (Requests arguments (Ok Picture) ⊎ RequestsProgress arguments))
 
 -- what the streams get for a request, where the status is below 3: the verdict on the log that the
 -- reader gives, if its bytes are known, or its picture, or one text
@@ -25,7 +32,11 @@ abbrev pub Runs : Result Request RequestError → ℕ → Option (List ℕ)
     → Option (List ℕ) → Option (List ℕ) → Option (List ℕ) → Option (List ℕ) → Type 0
 Runs (Ok Check) status input out_old out_new err_old err_new =
     IfSome input (λ log. Reported log status out_old out_new err_old err_new)
+Runs (Ok CheckWithProgress) status input out_old out_new err_old err_new =
+    IfSome input (λ log. Reported log status out_old out_new err_old err_new)
 Runs (Ok Witness) status input out_old out_new err_old err_new =
+    IfSome input (λ log. ReportedWith true log status out_old out_new err_old err_new)
+Runs (Ok WitnessWithProgress) status input out_old out_new err_old err_new =
     IfSome input (λ log. ReportedWith true log status out_old out_new err_old err_new)
 Runs (Ok Picture) status input out_old out_new err_old err_new =
     IfSome input (λ log. DrawnWith log status out_old out_new err_old err_new)

@@ -1,5 +1,5 @@
 -- What the arguments request.
-use Rattle.std.specs.Prelude.{◌≡◌, ◌≢◌, ℕ, List, [], ◌∷◌, codes, map, drop, Option, Result, Ok, Err, String, string_bytes}
+use Rattle.std.specs.Prelude.{◌≡◌, ◌≢◌, ◌⊎◌, ℕ, List, [], ◌∷◌, codes, map, drop, Option, Result, Ok, Err, String, string_bytes}
 use Rattle.std.specs.IoError.{error_kind}
 use Rattle.std.specs.Io.KnownBytes.{Appends}
 use Rattle.std.specs.Vec.Iter.{into_iter_items}
@@ -9,6 +9,7 @@ use Rattle.std.specs.declared.io.Error.{Error}
 use Rattle.std.specs.declared.io.ErrorKind.TheVariants.{OutOfMemory}
 use Rattle.iox2_conform.specs.declared.request.Request.{Request}
 use Rattle.iox2_conform.specs.declared.request.Request.TheVariants.{Check, Help, Picture, Version, Witness}
+use Rattle.iox2_conform.specs.declared.request.Request.TheVariants.{CheckWithProgress, WitnessWithProgress}
 use Rattle.iox2_conform.specs.declared.request.RequestError.{RequestError}
 use Rattle.iox2_conform.specs.declared.request.RequestError.TheVariants.{BadArgument, NoMemory}
 
@@ -16,15 +17,24 @@ use Rattle.iox2_conform.specs.declared.request.RequestError.TheVariants.{BadArgu
 abbrev pub words_of : IntoIter (String Global) Global → List (List ℕ)
 words_of words = map string_bytes (into_iter_items words)
 
+-- a witness and progress, in one order or in the other
+abbrev pub IsBoth : List (List ℕ) → Type 0
+IsBoth words =
+    (words ≡ codes "--witness" ∷ codes "--progress" ∷ [])
+    ⊎ (words ≡ codes "--progress" ∷ codes "--witness" ∷ [])
+
 -- what the words after the program's name request
 abbrev pub RequestsIn : List (List ℕ) → Result Request RequestError → Type 0
 RequestsIn words (Ok Check) = words ≡ []
+RequestsIn words (Ok CheckWithProgress) = words ≡ codes "--progress" ∷ []
 RequestsIn words (Ok Witness) = words ≡ codes "--witness" ∷ []
+RequestsIn words (Ok WitnessWithProgress) = IsBoth words
 RequestsIn words (Ok Picture) = words ≡ codes "svg" ∷ []
 RequestsIn words (Ok Help) = words ≡ codes "--help" ∷ []
 RequestsIn words (Ok Version) = words ≡ codes "--version" ∷ []
 RequestsIn words (Err BadArgument) =
-    (words ≢ []) × (words ≢ codes "--witness" ∷ []) × (words ≢ codes "svg" ∷ [])
+    (words ≢ []) × (words ≢ codes "--progress" ∷ []) × (words ≢ codes "--witness" ∷ [])
+    × ¬ (IsBoth words) × (words ≢ codes "svg" ∷ [])
     × (words ≢ codes "--help" ∷ []) × (words ≢ codes "--version" ∷ [])
 RequestsIn words (Err NoMemory) = ⊥
 

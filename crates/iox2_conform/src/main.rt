@@ -1,24 +1,27 @@
 //! Judges the log on standard input, and writes the verdict to standard output.
 #![tactic(auto)]
 
-ghost use Rattle.std.specs.Prelude.{◌<◌};
+ghost use Rattle.std.specs.Prelude.{◌≡◌, ◌<◌};
 ghost use Rattle.std.specs.Io.KnownBytes.{IsAtEnd};
+ghost use Rattle.history_logs.specs.Progress.{AddsCounts};
 ghost use Rattle.line_streams.specs.Streams.{IsFlushed};
-ghost use Rattle.iox2_conform.specs.Program.{Ran, RequestsCheck};
+ghost use Rattle.iox2_conform.specs.Program.{Ran, RequestsCheck, RequestsProgress};
 
 mod request;
 
 use history_drawing::draw_streams;
-use history_logs::logs::{check_streams, check_witness_streams};
+use history_logs::logs::{Counts, NoProgress, Progress, check_streams, check_witness_streams};
 use line_streams::{Sink, Source};
 use request::{Request, RequestError, print, request_of};
 use std::alloc::Global;
 use std::env::Args;
+use std::io::IsTerminal;
 use std::process::ExitCode;
 use std::{env, io};
 
 /// How the program is used.
-const HELP: &str = "usage: iox2-conform [svg | --witness | --help | --version] < LOG
+const HELP: &str = "usage: iox2-conform [--witness] [--progress] < LOG
+       iox2-conform svg | --help | --version
 
 Reads the log of services from standard input: the line of a service, and then what was seen of it,
 in the order of time. `A> COMMAND` begins a call of the caller A, `A< WORDS` ends it with the reply
@@ -32,6 +35,7 @@ which calls overlap, every reply that the call could have had, and who was attac
              log that conforms, with the points at which they took effect
   --witness  write an order of the calls on each service too, where the log conforms: the lines
              in which they begin, one a line
+  --progress show how many lines were read, once a second, where standard error is a terminal
   --help     write this text and read nothing
   --version  write the version and read nothing
 
@@ -48,19 +52,21 @@ const VERSION: &str = "iox2-conform 0.1.0 (iceoryx2 0.9.3)\n";
 const BAD_ARGUMENT: &str = "bad argument: iox2-conform --help says how it is used\n";
 
 /// Judges the log that the reader gives, or writes how the program is used or its version, and
-/// returns its status. The first argument is the program's name.
+/// returns its status. The first argument is the program's name. What progress writes goes to a
+/// writer of its own, which may be standard error too.
 ///
 /// - 0: the log conforms, or the text was written.
 /// - 1: the log does not conform.
 /// - 2: an argument or a line is bad, or a bound on open calls or configurations was passed.
 /// - 3: memory was refused, or a read, a write or a flush failed.
 #[tactic(auto, using(crate::proofs::Apart::help_is_no_check))]
-fn conform_streams<R: Source, W: Sink, E: Sink>(
+fn conform_streams<R: Source, W: Sink, E: Sink, P: Progress>(
     alloc: Global,
     arguments: io::Result<Args>,
     input: &mut R,
     output: &mut W,
     errors: &mut E,
+    progress: &mut P,
 ) -> u8
     ensures range { result < 4 }
     ensures ran { result < 3 → Ran arguments result (R.remaining input.old)
@@ -71,10 +77,19 @@ fn conform_streams<R: Source, W: Sink, E: Sink>(
         → IsFlushed W.Flushes output.new × IsFlushed E.Flushes errors.new }
     // All of a log was read.
     ensures read { result < 3 → RequestsCheck arguments → IsAtEnd (R.remaining input.new) }
+    // Progress wrote counts of lines alone, and nothing where it was not requested.
+    ensures progress { AddsCounts (P.contents progress.old) (P.contents progress.new) }
+    ensures still { ¬ (RequestsProgress arguments) → progress.new ≡ progress.old }
 {
     match request_of(arguments) {
-        Ok(Request::Check) => check_streams(alloc, input, output, errors),
-        Ok(Request::Witness) => check_witness_streams(alloc, input, output, errors),
+        Ok(Request::Check) => check_streams(alloc, input, output, errors, &mut NoProgress),
+        Ok(Request::CheckWithProgress) => check_streams(alloc, input, output, errors, progress),
+        Ok(Request::Witness) => {
+            check_witness_streams(alloc, input, output, errors, &mut NoProgress)
+        }
+        Ok(Request::WitnessWithProgress) => {
+            check_witness_streams(alloc, input, output, errors, progress)
+        }
         Ok(Request::Picture) => draw_streams(alloc, input, output, errors),
         Ok(Request::Help) => print(output, HELP, 0),
         Ok(Request::Version) => print(output, VERSION, 0),
@@ -88,11 +103,13 @@ fn conform_streams<R: Source, W: Sink, E: Sink>(
 }
 
 fn main(rt: HostRuntime) -> ExitCode {
+    let terminal = rt.stderr().is_terminal();
     ExitCode::from(conform_streams(
         rt.alloc(),
         env::args(&rt),
         &mut rt.stdin(),
         &mut rt.stdout(),
         &mut rt.stderr(),
+        &mut Counts::new(rt.alloc(), &rt, rt.stderr(), terminal),
     ))
 }

@@ -1,5 +1,5 @@
 //! What the arguments request, and texts that are printed.
-ghost use Rattle.std.specs.Prelude.{◌≡◌, ◌<◌, IfErr, OnOk, drop};
+ghost use Rattle.std.specs.Prelude.{◌≡◌, ◌<◌, ◌∷◌, [], IfErr, OnOk, drop};
 ghost use Rattle.std.specs.Io.KnownBytes.{Appends};
 ghost use Rattle.iox2_conform.specs.Requests.{Printed, Requests, RequestsIn, words_of};
 ghost use Rattle.line_streams.specs.Streams.{Fails, IsFlushed};
@@ -13,8 +13,12 @@ use std::io::{Error, ErrorKind};
 pub(crate) enum Request {
     /// To judge the log on the standard input.
     Check,
-    /// The same, and to print an order of the calls where the log conforms.
+    /// The same, and to show how far it was read.
+    CheckWithProgress,
+    /// To judge it, and to print an order of the calls where it conforms.
     Witness,
+    /// The same, and to show how far it was read.
+    WitnessWithProgress,
     /// To judge it and draw it.
     Picture,
     /// To print how the program is used.
@@ -25,14 +29,14 @@ pub(crate) enum Request {
 
 /// Why the arguments are no request.
 pub(crate) enum RequestError {
-    /// There are arguments, and not one of the known words alone.
+    /// There are arguments, and they are not known words that go together.
     BadArgument,
     /// Memory was refused.
     NoMemory,
 }
 
-/// What the arguments request: no word, `--witness`, `svg`, `--help` or `--version`. The first is
-/// the program's name.
+/// What the arguments request: no word, `--witness`, `--progress` or both, `svg`, `--help` or
+/// `--version`. The first is the program's name.
 pub(crate) fn request_of(arguments: io::Result<Args>) -> Result<Request, RequestError>
     ensures { Requests arguments result }
 {
@@ -43,6 +47,31 @@ pub(crate) fn request_of(arguments: io::Result<Args>) -> Result<Request, Request
     }
 }
 
+/// What a word alone requests.
+fn request_of_one(word: &str) -> Result<Request, RequestError>
+    ensures { RequestsIn (word.now ∷ []) result }
+{
+    match word {
+        "--witness" => Ok(Request::Witness),
+        "--progress" => Ok(Request::CheckWithProgress),
+        "svg" => Ok(Request::Picture),
+        "--help" => Ok(Request::Help),
+        "--version" => Ok(Request::Version),
+        _ => Err(RequestError::BadArgument),
+    }
+}
+
+/// What two words request.
+fn request_of_two(first: &str, second: &str) -> Result<Request, RequestError>
+    ensures { RequestsIn (first.now ∷ second.now ∷ []) result }
+{
+    match (first, second) {
+        ("--witness", "--progress") => Ok(Request::WitnessWithProgress),
+        ("--progress", "--witness") => Ok(Request::WitnessWithProgress),
+        _ => Err(RequestError::BadArgument),
+    }
+}
+
 /// What the words after the first request.
 fn request_in(words: Args) -> Result<Request, RequestError>
     ensures { RequestsIn (drop 1 (words_of words)) result }
@@ -50,19 +79,16 @@ fn request_in(words: Args) -> Result<Request, RequestError>
     let mut words = words;
     // The program's name requests nothing.
     let _program = words.next();
-    let Some(word) = words.next() else {
+    let Some(first) = words.next() else {
         return Ok(Request::Check);
+    };
+    let Some(second) = words.next() else {
+        return request_of_one(first.as_str());
     };
     if words.next().is_some() {
         return Err(RequestError::BadArgument);
     }
-    match word.as_str() {
-        "--witness" => Ok(Request::Witness),
-        "svg" => Ok(Request::Picture),
-        "--help" => Ok(Request::Help),
-        "--version" => Ok(Request::Version),
-        _ => Err(RequestError::BadArgument),
-    }
+    request_of_two(first.as_str(), second.as_str())
 }
 
 /// Writes a text and flushes its writer.

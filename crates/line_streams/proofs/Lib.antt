@@ -3,3 +3,4 @@ pub mod Fronts
 pub mod Words
 pub mod Lists
 pub mod Places
+pub mod Outcomes

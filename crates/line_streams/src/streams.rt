@@ -91,10 +91,10 @@ impl<W: Write> Sink for W {
 /// Any other error is the reader's own. What was read before an error is lost. Memory is never
 /// refused where there is no byte.
 ///
-/// From `crates/service_descriptions/src/replay/lines/script.rt`:
+/// From `crates/line_streams/src/filter.rt`:
 ///
 /// ```
-/// let end = match read_all(alloc, input)? {
+/// let outcome = work(read_all(alloc, input)?);
 /// ```
 pub fn read_all<R: Source>(alloc: Global, reader: &mut R) -> io::Result<Result<Vec<u8>, AllocError>>
     ensures bytes { IfOk result (λ read. IfOk read (λ all.

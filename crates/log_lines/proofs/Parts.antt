@@ -8,7 +8,6 @@ use Rattle.line_streams.specs.Numerals.{cons_same}
 use Rattle.service_descriptions.specs.declared.replay.lines.service_line.ServiceLine.{ServiceLine}
 use Rattle.service_descriptions.specs.declared.replay.machine.command.Command.{Command}
 use Rattle.service_descriptions.specs.Lines.{IsLine as IsCommand, line_of, line_text as command_line, role_word}
-use Rattle.service_descriptions.specs.OneWay.{role_one}
 use Rattle.service_descriptions.specs.Script.{IsServiceLine, service_line}
 use Rattle.log_lines.specs.Commands.{Begun, HasBegun, HasText, IsHandle, NamedCommand, begun_text, command_text, handle_text, weak_text}
 use Rattle.log_lines.specs.Commands.Begun.{command, weak}
@@ -104,32 +103,11 @@ pub other_word : (line rest : List ℕ) → line ≡ codes "deregister " ++ rest
 other_word line rest is r slot ticket p q e =
     let first : 100 ≡ 114 = (cons_same (sym is ∙ e)).0 in absurd (omega (arith, first))
 
-pub no_role : (line rest : List ℕ) → line ≡ codes "release " ++ rest → NoRole rest
-    → NoRelease line
-no_role line rest is none r slot ticket p q e =
-    none (r, codes " " ++ handle_text (slot, ticket)) p
-    (append_cancel_left (codes "release ") rest _ (sym is ∙ e))
-
-pub no_space : (line rest after : List ℕ) (found : Role) → line ≡ codes "release " ++ rest
-    → found ≢ role.Node → rest ≡ role_word found ++ after
-    → ((x : List ℕ) → after ≢ codes " " ++ x) → NoRelease line
-no_space line rest after found is p spelled none r slot ticket q h e =
-    let more = codes " " ++ handle_text (slot, ticket) in
-    let whole : rest ≡ role_word r ++ more =
-    append_cancel_left (codes "release ") rest (role_word r ++ more) (sym is ∙ e) in
-    none (handle_text (slot, ticket))
-    (role_one.same (found, after) (r, more) p q (sym spelled ∙ whole)).1
-
-pub no_ticket : (line rest after last : List ℕ) (found : Role) → line ≡ codes "release " ++ rest
-    → found ≢ role.Node → rest ≡ role_word found ++ after → after ≡ codes " " ++ last
-    → ((h : ℕ × ℕ) → IsHandle h → last ≢ handle_text h) → NoRelease line
-no_ticket line rest after last found is p spelled space none r slot ticket q h e =
-    let more = codes " " ++ handle_text (slot, ticket) in
-    let whole : rest ≡ role_word r ++ more =
-    append_cancel_left (codes "release ") rest (role_word r ++ more) (sym is ∙ e) in
-    none (slot, ticket) h
-    (append_cancel_left (codes " ") last (handle_text (slot, ticket))
-    (sym space ∙ (role_one.same (found, after) (r, more) p q (sym spelled ∙ whole)).1))
+pub no_port : (line rest : List ℕ) → line ≡ codes "release " ++ rest
+    → ((r : Role) (slot ticket : ℕ) → r ≢ role.Node → IsHandle (slot, ticket)
+    → rest ≢ role_word r ++ (codes " " ++ handle_text (slot, ticket))) → NoRelease line
+no_port line rest is none r slot ticket p q e =
+    none r slot ticket p q (append_cancel_left (codes "release ") rest _ (sym is ∙ e))
 
 module _ (text front back : List ℕ) (c : Comes text front back) where
   begin_same : (caller : List ℕ) (d : Begun) → IsCaller caller → text ≡ begin_text caller d
@@ -187,19 +165,6 @@ module _ (text front back : List ℕ) (c : Comes text front back) where
       → (caller : List ℕ) → IsCaller caller → text ≢ caller ++ codes "!"
   no_crash_more rest is some caller p e =
       some (append_cancel_left (codes "!") rest [] (sym is ∙ (crash_same caller p e).1))
-
-  -- the begin of a call is no command
-  pub no_command : (rest : List ℕ) → back ≡ codes "> " ++ rest → (d : NamedCommand) → HasText d
-      → text ≢ command_text d
-  no_command rest is d p e =
-      let k =
-      one_kind text 3 1 (record {
-        front = front;
-        back = codes "> " ++ rest;
-        comes = subst (λ (b : List ℕ). Comes text front b) is c;
-        is = refl;
-      }) (subst (λ (t : List ℕ). Tells t 1) (sym e) (of_text d p)) in
-      absurd (omega (arith, k))
 
   pub no_begun : (rest : List ℕ) → back ≡ codes "> " ++ rest
       → ((d : Begun) → HasBegun d → rest ≢ begun_text d) → (caller : List ℕ)

@@ -124,17 +124,6 @@ no_nodes text rest is free locked (used, true) p e =
     locked used p
     (append_cancel_left (codes "nodes ") rest (decimal used ++ codes " locked") (sym is ∙ e))
 
--- no used tickets of ports, behind their role
-pub no_ports : (text rest : List ℕ) (found : Role) → found ≢ role.Node
-    → text ≡ role_word found ++ rest
-    → ((used : ℕ) → used < 2 ^ 64 → rest ≢ codes " " ++ (decimal used ++ []))
-    → (given : Role × ℕ) → HasPorts given → text ≢ ports_text given
-no_ports text rest found p is none given q e =
-    let same =
-    role_one.same (found, rest) (given.0, codes " " ++ decimal given.1) p q.0 (sym is ∙ e) in
-    none given.1 q.1
-    (same.1 ∙ ap (λ (l : List ℕ). codes " " ++ l) (sym (append-nil (decimal given.1))))
-
 -- no entry, where something else stands behind the slot and the ticket
 pub no_entry : (text rest : List ℕ) (slot ticket : ℕ) → slot < 2 ^ 64 → ticket < 2 ^ 64
     → EndsNumber rest → text ≡ decimal slot ++ (codes " " ++ (decimal ticket ++ rest))

@@ -2,14 +2,13 @@
 ghost use Rattle.std.specs.Prelude.{◌≡◌, ◌≢◌, IfNone, IfOk, IfSome};
 ghost use Rattle.std.specs.Option.{option_map};
 ghost use Rattle.line_streams.specs.Spelling.{Reads};
-ghost use Rattle.service_descriptions.specs.Phrases.{role_phrase};
 ghost use Rattle.iox2_container.specs.declared.container.role.Role.{Role as OneRole};
 ghost use Rattle.log_lines.specs.Commands.{HasBegun, HasText, IsHandle, begun_in, begun_text};
 ghost use Rattle.log_lines.specs.Commands.{command_text, handle_text, named, weak_text};
 
 use iox2_container::container::Role;
 use line_streams::{After, LineEnd, Number, Phrase, Then, after_word};
-use service_descriptions::replay::{LineCommand, command_before};
+use service_descriptions::replay::{LineCommand, RoleName, command_before};
 use std::alloc::{AllocError, Global};
 
 /// A command as a line of a log has it.
@@ -34,32 +33,6 @@ pub enum BegunCall {
 
 /// A slot, or a ticket.
 pub(crate) const NUMBER: Number = Number(u64::MAX);
-
-/// The role of ports whose name begins the bytes, and what follows it.
-pub(crate) fn role_before(bytes: &[u8]) -> Option<(Role, &[u8])>
-    ensures { Reads role_phrase.Fits role_phrase.text
-        (option_map (λ found. (found.0, found.1.now)) result) bytes.now }
-{
-    if let Some(rest) = after_word(bytes, b"publisher") {
-        Some((Role::Publisher, rest))
-    } else if let Some(rest) = after_word(bytes, b"subscriber") {
-        Some((Role::Subscriber, rest))
-    } else if let Some(rest) = after_word(bytes, b"listener") {
-        Some((Role::Listener, rest))
-    } else if let Some(rest) = after_word(bytes, b"notifier") {
-        Some((Role::Notifier, rest))
-    } else if let Some(rest) = after_word(bytes, b"server") {
-        Some((Role::Server, rest))
-    } else if let Some(rest) = after_word(bytes, b"client") {
-        Some((Role::Client, rest))
-    } else if let Some(rest) = after_word(bytes, b"reader") {
-        Some((Role::Reader, rest))
-    } else if let Some(rest) = after_word(bytes, b"writer") {
-        Some((Role::Writer, rest))
-    } else {
-        None
-    }
-}
 
 /// The slot and the ticket that the bytes are.
 fn handle_of(bytes: &[u8]) -> Option<(usize, u64)>
@@ -89,16 +62,12 @@ pub(crate) fn read_command(alloc: Global, line: &[u8]) -> Result<Option<LogComma
     let Some(rest) = after_word(line, b"release ") else {
         return Ok(None);
     };
-    let Some((role, rest)) = role_before(rest) else {
+    let handle = Then(NUMBER, After(b" ", Then(NUMBER, LineEnd::Bytes)));
+    let Some(((role, (slot, (ticket, ()))), _)) = Then(RoleName, After(b" ", handle)).read(rest)
+    else {
         return Ok(None);
     };
-    let Some(rest) = after_word(rest, b" ") else {
-        return Ok(None);
-    };
-    let Some((slot, ticket)) = handle_of(rest) else {
-        return Ok(None);
-    };
-    Ok(Some(LogCommand::Release(role, slot, ticket)))
+    Ok(Some(LogCommand::Release(role, slot as usize, ticket)))
 }
 
 /// The role that a weak listing with this text lists.
@@ -112,7 +81,7 @@ fn weak_role(line: &[u8]) -> Option<Role>
     let Some(rest) = after_word(line, b"list? ") else {
         return None;
     };
-    let Some((role, rest)) = role_before(rest) else {
+    let Some((role, rest)) = RoleName.read(rest) else {
         return None;
     };
     if !rest.is_empty() {

@@ -59,12 +59,12 @@ fn call_of<'a>(
         (begun : Begun) → IsCaller caller → HasBegun begun
         → rest.now ≢ begin_text caller begun)) }
 {
+    if let Some(command) = read_command(alloc, rest)? {
+        return Ok(Some(LogLine::Call(number, command)));
+    }
     let (caller, after) = split_name(rest);
     let Some(text) = after_word(after, b"> ") else {
-        return match read_command(alloc, rest)? {
-            Some(command) => Ok(Some(LogLine::Call(number, command))),
-            None => Ok(None),
-        };
+        return Ok(None);
     };
     if !is_caller(caller) {
         return Ok(None);
@@ -142,8 +142,8 @@ pub fn read_log_line(alloc: Global, line: &[u8]) -> Result<Option<LogLine<'_>>, 
     if let Some(words) = after_word(line, b"= ") {
         return Ok(Some(LogLine::Reply(words)));
     }
-    if let Some(service) = service_of(alloc, line)? {
-        return Ok(Some(LogLine::Service(service)));
+    if let Some(found) = on_service(alloc, None, line)? {
+        return Ok(Some(found));
     }
     if let Some((number, rest)) = number_front(line) {
         return match on_service(alloc, Some(number), rest)? {
@@ -154,8 +154,8 @@ pub fn read_log_line(alloc: Global, line: &[u8]) -> Result<Option<LogLine<'_>>, 
     if let Some(found) = end_of(line) {
         return Ok(Some(found));
     }
-    match on_service(alloc, None, line)? {
-        Some(found) => Ok(Some(found)),
+    match service_of(alloc, line)? {
+        Some(service) => Ok(Some(LogLine::Service(service))),
         None => Ok(None),
     }
 }

@@ -8,11 +8,11 @@ ghost use Rattle.log_lines.specs.States.{AddsEntry, HasEntry, HasNodes, HasPorts
 ghost use Rattle.log_lines.specs.States.State.{entry};
 ghost use Rattle.log_lines.specs.States.{entry_text, nodes_text, ports_text, state_seen, state_text};
 
-use super::command::{NUMBER, role_before};
+use super::command::NUMBER;
 use iox2_container::container::Role;
 use iox2_ids::identifiers::UniqueNodeId;
 use line_streams::{After, LineEnd, Phrase, Then, after_word};
-use service_descriptions::replay::{LineCommand, ScriptPort, command_before};
+use service_descriptions::replay::{LineCommand, RoleName, ScriptPort, command_before};
 use std::alloc::{AllocError, Global};
 
 /// What a line gives of a service that was in use.
@@ -50,10 +50,8 @@ fn ports_of(text: &[u8]) -> Option<(Role, u64)>
     ensures { Reads HasPorts ports_text (option_map (λ found. (found.0, found.1)) result)
         text.now }
 {
-    let Some((role, rest)) = role_before(text) else {
-        return None;
-    };
-    let Some(((used, ()), _)) = After(b" ", Then(NUMBER, LineEnd::Bytes)).read(rest) else {
+    let line = Then(RoleName, After(b" ", Then(NUMBER, LineEnd::Bytes)));
+    let Some(((role, (used, ())), _)) = line.read(text) else {
         return None;
     };
     Some((role, used))

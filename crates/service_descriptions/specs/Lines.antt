@@ -13,8 +13,8 @@ use Rattle.iox2_dynamic.specs.Details.{role_of, node_of, port_of}
 use Rattle.service_descriptions.specs.declared.replay.machine.command.Cleanup.TheVariants.{ByPort}
 use Rattle.service_descriptions.specs.declared.replay.machine.command.Command.{Command}
 use Rattle.service_descriptions.specs.declared.replay.machine.command.Command.TheVariants as command
-use Rattle.service_descriptions.specs.declared.replay.lines.id.Parts.{Parts}
-use Rattle.service_descriptions.specs.declared.replay.lines.port.ScriptPort.{ScriptPort}
+use Rattle.service_descriptions.specs.declared.replay.machine.port.Parts.{Parts}
+use Rattle.service_descriptions.specs.declared.replay.machine.port.ScriptPort.{ScriptPort}
 use Rattle.service_descriptions.specs.declared.replay.machine.command.LineCommand.{LineCommand}
 use Rattle.service_descriptions.specs.declared.replay.machine.command.LineCommand.TheVariants as spelled
 use Rattle.line_streams.specs.declared.phrase.LineEnd.{LineEnd}

@@ -4,7 +4,9 @@ mod lines;
 mod machine;
 
 pub use lines::{
-    ScriptError, ScriptPort, ServiceLine, command_before, read_line, run_script, run_streams,
+    RoleName, ScriptError, ServiceLine, command_before, read_line, run_script, run_streams,
     service_before, write_reply,
 };
-pub use machine::{Cleanup, Command, LineCommand, MessagePart, Reply, ServiceState, replay};
+pub use machine::{
+    Cleanup, Command, LineCommand, MessagePart, Reply, ScriptPort, ServiceState, replay,
+};

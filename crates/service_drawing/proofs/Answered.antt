@@ -1,11 +1,16 @@
 -- What is answered, and what follows from a status.
-use Rattle.std.proofs.Common.{◌≡◌, ℕ, List, Option, IfSome, Result, Ok, Err, IfOk, arith}
+use Rattle.std.proofs.Common.{◌≡◌, ◌∙◌, ℕ, List, Option, IfSome, Result, Ok, Err, IfOk, OnOk, String, arith, sym}
+use Rattle.std.specs.Io.KnownBytes.{Appends, IsAtEnd}
+use Rattle.std.specs.declared.alloc.Global.{Global}
+use Rattle.std.specs.declared.io.Error.{Error}
+use Rattle.std.specs.declared.vec.IntoIter.{IntoIter}
 use Rattle.std.specs.Result.{IsErr, IsErrAnd, MatchResult}
 use Rattle.iox2_config.specs.declared.config.Config.{Config}
 use Rattle.service_drawing.specs.Descriptions.{StopsReading}
 use Rattle.service_drawing.specs.Fronts.{IsOver, IsNotOver}
 use Rattle.service_drawing.specs.Reasons.{IsReason}
-use Rattle.service_drawing.specs.Streams.{status_of, TellsBadLine, Draws, Answers}
+use Rattle.service_drawing.specs.Arguments.{AsksFor, IsRead}
+use Rattle.service_drawing.specs.Streams.{status_of, output_text, error_text, TellsBadLine, Draws, Answers, Reported}
 use Rattle.service_drawing.specs.declared.arguments.Asked.{Asked}
 use Rattle.service_drawing.specs.declared.fault.Fault.{Fault}
 use Rattle.service_drawing.specs.declared.fault.Fault.TheVariants.{BadArgument, BadLine, BadSettings, NoEnd, NoMemory}
@@ -17,6 +22,29 @@ use Rattle.service_drawing.proofs.Reasons.{one_reason}
 pub answered_at_zero : (end : Result Written Fault) (P : Type 0) → IfOk end (λ written. P)
     → status_of end ≡ 0 → P
 answered_at_zero end P h k = grind arith
+
+-- what was requested was answered where the outcome was written
+pub reported_where_written : (arguments : Result (IntoIter (String Global) Global) Error)
+    (asked : Result Asked Fault) (end : Result Written Fault) (wrote : Result ℕ Error)
+    (given left out_old out_new err_old err_new : Option (List ℕ)) → AsksFor arguments asked
+    → Answers given asked end → IfOk end (λ written. IsRead asked → IsAtEnd left)
+    → IfOk wrote (λ status. status ≡ status_of end)
+    → OnOk wrote (Appends out_old out_new (output_text end))
+    → OnOk wrote (Appends err_old err_new (error_text end))
+    → IfOk wrote (λ status. Reported arguments status given left out_old out_new err_old err_new)
+reported_where_written arguments asked end (Ok status) given left out_old out_new err_old err_new
+    asks answered read told output errors = record {
+      asked = asked;
+      end = end;
+      asks = asks;
+      answered = answered;
+      told = told;
+      read = λ e. answered_at_zero end _ read (sym told ∙ e);
+      output = output;
+      errors = errors;
+    }
+reported_where_written arguments asked end (Err why) given left out_old out_new err_old err_new
+    asks answered read told output errors = tt
 
 -- what is true of an error is true of it where it is handed on
 pub handed_on : {A E : Type 0} (Good : A → Type 0) (Bad : E → Type 0) (r : Result A E) (why : E)

@@ -5,6 +5,7 @@ use Rattle.std.specs.Io.KnownBytes.{Appends, IsAtEnd}
 use Rattle.std.specs.declared.alloc.Global.{Global}
 use Rattle.std.specs.declared.io.Error.{Error}
 use Rattle.std.specs.declared.vec.IntoIter.{IntoIter}
+use Rattle.line_streams.specs.Filters.{either}
 use Rattle.service_drawing.specs.Arguments.{AsksFor, IsRead, IsTextOrNoMemory}
 use Rattle.iox2_config.specs.declared.config.Config.{Config}
 use Rattle.service_drawing.specs.Causes.{IsCause}
@@ -102,24 +103,25 @@ Answers given (Ok (Drawing form)) end = IfSome given (λ bytes. Draws bytes end)
 Answers given (Ok Help) end = IsTextOrNoMemory HELP.now end
 Answers given (Ok Version) end = IsTextOrNoMemory VERSION.now end
 
--- what the output gets
-abbrev pub output_text : Result Written Fault → List ℕ
-output_text (Ok written) = string_bytes written.text
-output_text (Err fault) = []
-
--- what the errors get
-abbrev pub error_text : Result Written Fault → List ℕ
-error_text (Ok written) = string_bytes written.warnings
-error_text (Err fault) = fault_text fault
+-- the status of a fault
+abbrev pub fault_status : Fault → ℕ
+fault_status (BadLine line cause prefix form) = 1
+fault_status BadArgument = 1
+fault_status (BadSettings lines) = 1
+fault_status NoEnd = 1
+fault_status NoMemory = 2
 
 -- the status
 abbrev pub status_of : Result Written Fault → ℕ
-status_of (Ok written) = 0
-status_of (Err (BadLine line cause prefix form)) = 1
-status_of (Err BadArgument) = 1
-status_of (Err (BadSettings lines)) = 1
-status_of (Err NoEnd) = 1
-status_of (Err NoMemory) = 2
+status_of = either (λ written. 0) fault_status
+
+-- what the output gets
+abbrev pub output_text : Result Written Fault → List ℕ
+output_text = either (λ written. string_bytes written.text) (λ fault. [])
+
+-- what the errors get
+abbrev pub error_text : Result Written Fault → List ℕ
+error_text = either (λ written. string_bytes written.warnings) fault_text
 
 -- what was asked for was answered or there was a fault: that is the status, the writers got what
 -- fits it, and for a drawing the input was read to its end

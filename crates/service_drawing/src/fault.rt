@@ -1,15 +1,15 @@
 //! Why nothing was drawn, and how it is reported.
-ghost use Rattle.std.specs.Prelude.{◌≡◌, ℕ, List, ◌+◌, ◌++◌, ◌==◌, IfErr, OnOk, count_by};
+ghost use Rattle.std.specs.Prelude.{◌≡◌, [], ℕ, List, ◌+◌, ◌++◌, ◌==◌, IfErr, OnOk, count_by};
 ghost use Rattle.std.specs.Io.KnownBytes.{Appends};
 ghost use Rattle.line_streams.specs.Streams.{WriteFails};
 ghost use Rattle.service_drawing.specs.Streams.{expected_text, cause_text, bad_line_text, fault_text};
-ghost use Rattle.service_drawing.specs.Streams.{TellsBadLine};
+ghost use Rattle.service_drawing.specs.Streams.{TellsBadLine, fault_status};
 ghost use Rattle.service_drawing.specs.declared.reading.cause.Cause.TheVariants.{ForeignByte};
 
 use crate::reading::Expected;
 use crate::reading::cause::{Cause, Reason, cause_of};
 use itoa::Buffer;
-use line_streams::{Sink, write_whole};
+use line_streams::{Outcome, Sink, write_whole};
 use std::io;
 
 /// Why nothing was drawn.
@@ -144,28 +144,42 @@ fn write_reason<E: Sink>(errors: &mut E, cause: Cause, prefix: &str, form: &str)
     write_expected(errors, prefix, form)
 }
 
-/// Writes the line that says why nothing was drawn.
-pub(crate) fn write_fault<E: Sink>(errors: &mut E, fault: &Fault) -> io::Result<()>
-    ensures text { OnOk result
-        (Appends (E.contents errors.old) (E.contents errors.new) (fault_text fault.now)) }
-    ensures failed { IfErr result (WriteFails E.Writes errors.new) }
-{
-    match fault {
-        Fault::BadLine {
-            line,
-            cause,
-            prefix,
-            form,
-        } => write_bad_line(errors, *line, *cause, prefix, form),
-        Fault::BadArgument => write_whole(
-            errors,
-            b"bad argument: expected svg, --help, --version, or no argument\n",
-        ),
-        Fault::BadSettings(lines) => write_whole(errors, lines.as_bytes()),
-        Fault::NoEnd => write_whole(
-            errors,
-            b"bad settings: no line end follows the line config\n",
-        ),
-        Fault::NoMemory => write_whole(errors, b"no memory\n"),
+impl Outcome for Fault {
+    ghost status = { fault_status };
+
+    ghost on_output = { λ fault. [] };
+
+    ghost on_errors = { fault_text };
+
+    fn status(&self) -> u8 {
+        match self {
+            Fault::BadArgument | Fault::BadLine { .. } | Fault::BadSettings(_) | Fault::NoEnd => 1,
+            Fault::NoMemory => 2,
+        }
+    }
+
+    fn output(&self) -> &[u8] {
+        &[]
+    }
+
+    fn write_errors<E: Sink>(&self, errors: &mut E) -> io::Result<()> {
+        match self {
+            Fault::BadLine {
+                line,
+                cause,
+                prefix,
+                form,
+            } => write_bad_line(errors, *line, *cause, prefix, form),
+            Fault::BadArgument => write_whole(
+                errors,
+                b"bad argument: expected svg, --help, --version, or no argument\n",
+            ),
+            Fault::BadSettings(lines) => write_whole(errors, lines.as_bytes()),
+            Fault::NoEnd => write_whole(
+                errors,
+                b"bad settings: no line end follows the line config\n",
+            ),
+            Fault::NoMemory => write_whole(errors, b"no memory\n"),
+        }
     }
 }

@@ -1,19 +1,18 @@
 //! The program: a description comes from a reader, and goes to a writer as text or as a picture.
-ghost use Rattle.std.specs.Prelude.{◌≡◌, ◌<◌, ◌⊎◌, [], IfErr, IfOk, OnOk, string_bytes};
-ghost use Rattle.std.specs.Io.KnownBytes.{Appends, IsAtEnd};
+ghost use Rattle.std.specs.Prelude.{◌≡◌, ◌<◌, ◌⊎◌, IfErr, IfOk, OnOk, string_bytes};
+ghost use Rattle.std.specs.Io.KnownBytes.{IsAtEnd};
 ghost use Rattle.line_streams.specs.Streams.{Fails, IsFlushed, ReadFails};
 ghost use Rattle.service_drawing.specs.Arguments.{IsRead, IsTextOrNoMemory};
 ghost use Rattle.service_drawing.specs.Fronts.{IsOver};
-ghost use Rattle.service_drawing.specs.Streams.{status_of, output_text, error_text};
 ghost use Rattle.service_drawing.specs.Streams.{Draws, Answers, Reported};
 
 use crate::arguments::{Asked, Form, HELP, VERSION, asked_by};
 use crate::base::{Over, base_of};
-use crate::fault::{Fault, bad_line, write_fault};
+use crate::fault::{Fault, bad_line};
 use crate::reading::read_description;
 use crate::svg::write_svg;
 use crate::text::write_text;
-use line_streams::{Sink, Source, read_all, write_whole};
+use line_streams::{Outcome, Sink, Source, read_all, write_outcome, write_whole};
 use std::alloc::Global;
 use std::env::Args;
 use std::io;
@@ -57,41 +56,24 @@ fn drawn_over(alloc: Global, form: Form, bytes: &[u8], over: Over<'_>) -> Result
     }
 }
 
-/// The status after a description was drawn, or was not.
-fn status(end: &Result<Written, Fault>) -> u8
-    ensures { result ≡ status_of end.now }
-{
-    match end {
-        Ok(_) => 0,
-        Err(Fault::BadArgument | Fault::BadLine { .. } | Fault::BadSettings(_) | Fault::NoEnd) => 1,
-        Err(Fault::NoMemory) => 2,
-    }
-}
+impl Outcome for Written {
+    ghost status = { λ written. 0 };
 
-/// Writes what was drawn, or why nothing was, and flushes both writers.
-fn report<W: Sink, E: Sink>(
-    output: &mut W,
-    errors: &mut E,
-    end: &Result<Written, Fault>,
-) -> io::Result<()>
-    ensures output { OnOk result
-        (Appends (W.contents output.old) (W.contents output.new) (output_text end.now)) }
-    ensures errors { OnOk result
-        (Appends (E.contents errors.old) (E.contents errors.new) (error_text end.now)) }
-    ensures flushed { OnOk result
-        (IsFlushed W.Flushes output.new × IsFlushed E.Flushes errors.new) }
-    ensures failed { IfErr result (λ e. Fails W.Writes W.FailsToFlush output.new e
-        ⊎ Fails E.Writes E.FailsToFlush errors.new e) }
-{
-    match end {
-        Ok(written) => {
-            write_whole(output, written.text.as_bytes())?;
-            write_whole(errors, written.warnings.as_bytes())?;
-        }
-        Err(fault) => write_fault(errors, fault)?,
+    ghost on_output = { λ written. string_bytes written.text };
+
+    ghost on_errors = { λ written. string_bytes written.warnings };
+
+    fn status(&self) -> u8 {
+        0
     }
-    output.flush_pieces()?;
-    errors.flush_pieces()
+
+    fn output(&self) -> &[u8] {
+        self.text.as_bytes()
+    }
+
+    fn write_errors<E: Sink>(&self, errors: &mut E) -> io::Result<()> {
+        write_whole(errors, self.warnings.as_bytes())
+    }
 }
 
 /// What there is to write: a drawing of the description
@@ -148,12 +130,8 @@ fn run<R: Source, W: Sink, E: Sink>(
         ⊎ (Fails W.Writes W.FailsToFlush output.new e
         ⊎ Fails E.Writes E.FailsToFlush errors.new e)) }
 {
-    let asked = asked_by(arguments);
-    let end = answer(alloc, asked, input)?;
-    match report(output, errors, &end) {
-        Ok(()) => Ok(status(&end)),
-        Err(why) => Err(why),
-    }
+    let end = answer(alloc, asked_by(arguments), input)?;
+    write_outcome(output, errors, &end)
 }
 
 /// Draws the description of a service that the reader gives, writes the drawing to `output`, and
@@ -190,8 +168,5 @@ pub fn describe_streams<R: Source, W: Sink, E: Sink>(
         ⊎ (Fails W.Writes W.FailsToFlush output.new e
         ⊎ Fails E.Writes E.FailsToFlush errors.new e)) }
 {
-    match run(alloc, arguments, input, output, errors) {
-        Ok(status) => status,
-        Err(_) => 3,
-    }
+    run(alloc, arguments, input, output, errors).unwrap_or(3)
 }

@@ -1,17 +1,18 @@
 -- What is said of two configurations, and how the program ends.
-use Rattle.std.proofs.Common.{◌≡◌, ◌<◌, ◌⊎◌, inl, inr, ℕ, true, Bool, List, Option, Some, IfOk, Result, Ok, Err, arith, subst, string_bytes}
+use Rattle.std.proofs.Common.{◌≡◌, inl, inr, ℕ, true, Bool, List, [], codes, Option, Some, IfOk, Result, Ok, Err, subst, string_bytes}
 use Rattle.std.specs.Prelude.{String, OnOk}
 use Rattle.std.specs.Io.KnownBytes.{Appends, IsAtEnd}
 use Rattle.std.specs.declared.alloc.AllocError.{AllocError}
 use Rattle.std.specs.declared.alloc.Global.{Global}
 use Rattle.std.specs.declared.io.Error.{Error}
 use Rattle.std.specs.declared.vec.IntoIter.{IntoIter}
+use Rattle.line_streams.specs.Filters.{either, status_number}
 use Rattle.iox2_config.specs.declared.config.Config.{Config}
 use Rattle.config_report.specs.Text.{IsReportText}
 use Rattle.settings_check.specs.Answer.{AreCompared, IsTextOf}
 use Rattle.settings_check.specs.Compare.{AreAllDifferences}
 use Rattle.settings_check.specs.Found.{Said}
-use Rattle.settings_check.specs.Streams.{input_is_read, output_text, error_text, code_of, AnswersArguments, Reported, Ends}
+use Rattle.settings_check.specs.Streams.{input_is_read, AnswersArguments, Ends}
 use Rattle.settings_check.specs.Words.{Requests}
 use Rattle.settings_check.specs.declared.answer.Answer.{Answer}
 use Rattle.settings_check.specs.declared.arguments.Request.{Request}
@@ -31,16 +32,22 @@ pub compared_is : (file : Option (String Global)) (first second : Option Config)
 compared_is file first second f name a b said p q r n are =
     rw (p, q, r) (subst (λ t. AreAllDifferences t a b said) n are)
 
--- where no stream failed, the arguments are answered, or memory was refused
-pub ends_with : (Gives : List ℕ → Result (List ℕ) FileError → Type 0) (coloured : Bool)
+-- where an outcome was written, the arguments are answered, or memory was refused
+pub ends_where_written : (Gives : List ℕ → Result (List ℕ) FileError → Type 0) (coloured : Bool)
     (arguments : Result (IntoIter (String Global) Global) Error)
-    (asked : Result Request RequestError) (end : Result Answer AllocError) (status : ℕ)
+    (asked : Result Request RequestError) (end : Result Answer AllocError) (wrote : Result ℕ Error)
     (given left out_old out_new err_old err_new : Option (List ℕ)) → Requests arguments asked
     → IfOk end (AnswersArguments Gives coloured asked given)
-    → OnOk end (input_is_read asked ≡ true → IsAtEnd left) → status ≡ code_of end
-    → Appends out_old out_new (output_text end) → Appends err_old err_new (error_text end)
-    → Ends Gives coloured arguments status given left out_old out_new err_old err_new
-ends_with _ _ _ asked (Ok answer) _ _ _ _ _ _ _ requests answered read told output errors =
+    → OnOk end (input_is_read asked ≡ true → IsAtEnd left)
+    → IfOk wrote (λ status. status ≡ either (λ answer. status_number answer.status) (λ why. 3) end)
+    → OnOk wrote (Appends out_old out_new
+    (either (λ answer. string_bytes answer.output) (λ why. []) end))
+    → OnOk wrote (Appends err_old err_new
+    (either (λ answer. string_bytes answer.errors) (λ why. codes "no memory\n") end))
+    → IfOk wrote (λ status.
+    Ends Gives coloured arguments status given left out_old out_new err_old err_new)
+ends_where_written _ _ _ asked (Ok answer) (Ok status) _ _ _ _ _ _ requests answered read told
+    output errors =
     inl (record {
       asked = asked;
       answer = answer;
@@ -51,10 +58,8 @@ ends_with _ _ _ asked (Ok answer) _ _ _ _ _ _ _ requests answered read told outp
       output = output;
       errors = errors;
     })
-ends_with _ _ _ asked (Err refused) _ _ _ _ _ _ _ requests answered read told output errors =
+ends_where_written _ _ _ asked (Err refused) (Ok status) _ _ _ _ _ _ requests answered read told
+    output errors =
     inr (told, (output, errors))
-
--- below 3 the arguments were answered
-pub reported_below : {A B : Type 0} (status : ℕ) → A ⊎ ((status ≡ 3) × B) → status < 3 → A
-reported_below status (inl h) lt = h
-reported_below status (inr h) lt = absurd (omega (arith, h.0, lt))
+ends_where_written _ _ _ asked end (Err why) _ _ _ _ _ _ requests answered read told output errors =
+    tt

@@ -1,6 +1,5 @@
 -- What is answered to a request.
-use Rattle.std.specs.Prelude.{◌≡◌, ℕ, Bool, true, false, ◌&&◌, ◌||◌, nat_lt, List, [], ◌∷◌, ◌++◌, codes, flat_map, if◌then◌else◌, slice_get, Option, Some, None, Result, Ok, Err, String, string_bytes}
-use Rattle.std.specs.List.{list_any}
+use Rattle.std.specs.Prelude.{◌≡◌, ℕ, Bool, true, false, ◌&&◌, ◌||◌, nat_lt, List, [], ◌∷◌, ◌++◌, flat_map, if◌then◌else◌, slice_get, Option, Some, None, Result, Ok, Err, String, string_bytes}
 use Rattle.std.specs.declared.alloc.Global.{Global}
 use Rattle.iox2_config.specs.declared.config.Config.{Config}
 use Rattle.config_report.specs.Report.{HasDefaults}
@@ -11,8 +10,8 @@ use Rattle.settings_check.specs.Lines.{lines_in, counts_text, errors_in, warning
 use Rattle.settings_check.specs.Schema.{IsSchema}
 use Rattle.settings_check.specs.Words.{texts_of}
 use Rattle.settings_check.specs.declared.answer.Answer.{Answer}
-use Rattle.settings_check.specs.declared.answer.Status.{Status}
-use Rattle.settings_check.specs.declared.answer.Status.TheVariants.{Good, Faulty, Unusable}
+use Rattle.line_streams.specs.declared.filter.Status.{Status}
+use Rattle.line_streams.specs.declared.filter.Status.TheVariants.{Good, Faulty, Unusable}
 use Rattle.settings_check.specs.declared.answer.TheConstants.{HELP, VERSION, BAD_ARGUMENTS}
 use Rattle.settings_check.specs.declared.arguments.Request.{Request}
 use Rattle.settings_check.specs.declared.arguments.RequestError.{RequestError}

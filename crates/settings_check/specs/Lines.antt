@@ -94,12 +94,18 @@ warnings_in said = count_by (λ s. not (is_error s)) said
 abbrev pub plural : ℕ → List ℕ
 plural n = if nat_eq n 1 then [] else codes "s"
 
+-- what is not looked for where there are so many errors
+abbrev pub unsought : ℕ → List ℕ
+unsought errors =
+    if nat_eq errors 0 then []
+    else codes "; contradictions are looked for in files without errors"
+
 -- the line that counts them
 abbrev pub counts_text : List Said → List ℕ
 counts_text said =
     decimal (errors_in said) ++ (codes " error" ++ (plural (errors_in said)
-    ++ (codes ", " ++ (decimal (warnings_in said)
-    ++ (codes " warning" ++ (plural (warnings_in said) ++ codes "\n"))))))
+    ++ (codes ", " ++ (decimal (warnings_in said) ++ (codes " warning"
+    ++ (plural (warnings_in said) ++ (unsought (errors_in said) ++ codes "\n")))))))
 
 -- the line of a file that cannot be read
 abbrev pub unread_line : List ℕ × FileError → List ℕ

@@ -1,16 +1,14 @@
 -- What the streams of the program get.
 use Rattle.std.specs.Prelude.{◌≡◌, ◌⊎◌, ℕ, Bool, true, false, List, [], codes, Option, IfSome, Result, Ok, Err, String, string_bytes}
 use Rattle.std.specs.Io.KnownBytes.{Appends, IsAtEnd}
-use Rattle.std.specs.declared.alloc.AllocError.{AllocError}
 use Rattle.std.specs.declared.alloc.Global.{Global}
 use Rattle.std.specs.declared.io.Error.{Error}
 use Rattle.std.specs.declared.vec.IntoIter.{IntoIter}
+use Rattle.line_streams.specs.Filters.{status_number}
 use Rattle.settings_check.specs.Answer.{Answers}
 use Rattle.settings_check.specs.Found.{reads_input}
 use Rattle.settings_check.specs.Words.{Requests}
 use Rattle.settings_check.specs.declared.answer.Answer.{Answer}
-use Rattle.settings_check.specs.declared.answer.Status.{Status}
-use Rattle.settings_check.specs.declared.answer.Status.TheVariants.{Good, Faulty, Unusable}
 use Rattle.settings_check.specs.declared.arguments.Request.{Request}
 use Rattle.settings_check.specs.declared.arguments.RequestError.{RequestError}
 use Rattle.settings_check.specs.declared.files.FileError.{FileError}
@@ -30,27 +28,6 @@ abbrev pub AnswersArguments : (List ℕ → Result (List ℕ) FileError → Type
 AnswersArguments Gives coloured asked given answer =
     (bytes : List ℕ) × IsInput asked given bytes × Answers Gives coloured bytes asked answer
 
--- what the output gets
-abbrev pub output_text : Result Answer AllocError → List ℕ
-output_text (Ok answer) = string_bytes answer.output
-output_text (Err refused) = []
-
--- what the errors get
-abbrev pub error_text : Result Answer AllocError → List ℕ
-error_text (Ok answer) = string_bytes answer.errors
-error_text (Err refused) = codes "no memory\n"
-
--- the number of a status
-abbrev pub status_code : Status → ℕ
-status_code Good = 0
-status_code Faulty = 1
-status_code Unusable = 2
-
--- the status, which is 3 where memory was refused
-abbrev pub code_of : Result Answer AllocError → ℕ
-code_of (Ok answer) = status_code answer.status
-code_of (Err refused) = 3
-
 -- the arguments are a request or bad, that is answered, the writers got the answer, the status is
 -- its own, and the standard input was read to its end if it is one of the files
 pub record Reported (Gives : List ℕ → Result (List ℕ) FileError → Type 0) (coloured : Bool)
@@ -60,7 +37,7 @@ pub record Reported (Gives : List ℕ → Result (List ℕ) FileError → Type 0
   pub answer : Answer
   pub requests : Requests arguments asked
   pub answered : AnswersArguments Gives coloured asked given answer
-  pub told : status ≡ status_code answer.status
+  pub told : status ≡ status_number answer.status
   pub read : input_is_read asked ≡ true → IsAtEnd left
   pub output : Appends out_old out_new (string_bytes answer.output)
   pub errors : Appends err_old err_new (string_bytes answer.errors)

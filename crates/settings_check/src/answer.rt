@@ -1,5 +1,6 @@
 //! What is answered to a request.
 ghost use Rattle.std.specs.Prelude.{◌≡◌, ◌++◌, IfOk, OnOk, List, option_copied, string_bytes};
+ghost use Rattle.line_streams.specs.Filters.{status_number};
 ghost use Rattle.settings_check.specs.Answer.{status_of, end_text, IsChecked, IsTextOf, IsShown};
 ghost use Rattle.settings_check.specs.Answer.{AreCompared, AddsCompared, AnswersFiles, IsTextAnswer};
 ghost use Rattle.settings_check.specs.Answer.{IsDefaultAnswer, IsSchemaAnswer, AnswersRequest};
@@ -16,18 +17,9 @@ use crate::lines::{
 use crate::schema::schema;
 use config_report::{default_file, settings_text};
 use iox2_config::config::Config;
+use line_streams::{Outcome, Sink, Status, write_whole};
 use std::alloc::{AllocError, Global};
-
-/// How the program ends where no stream fails and memory is not refused.
-#[derive(Clone, Copy)]
-pub(crate) enum Status {
-    /// What was requested was answered, and no file has an error: 0.
-    Good,
-    /// A file has an error: 1.
-    Faulty,
-    /// The arguments are bad, or a file cannot be read: 2.
-    Unusable,
-}
+use std::io;
 
 /// What is written, and the status.
 #[derive(Drop)]
@@ -35,6 +27,26 @@ pub(crate) struct Answer {
     pub(crate) output: String,
     pub(crate) errors: String,
     pub(crate) status: Status,
+}
+
+impl Outcome for Answer {
+    ghost status = { λ answer. status_number answer.status };
+
+    ghost on_output = { λ answer. string_bytes answer.output };
+
+    ghost on_errors = { λ answer. string_bytes answer.errors };
+
+    fn status(&self) -> u8 {
+        self.status.number()
+    }
+
+    fn output(&self) -> &[u8] {
+        self.output.as_bytes()
+    }
+
+    fn write_errors<E: Sink>(&self, errors: &mut E) -> io::Result<()> {
+        write_whole(errors, self.errors.as_bytes())
+    }
 }
 
 /// How the program is used.

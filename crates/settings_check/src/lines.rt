@@ -6,7 +6,7 @@ ghost use Rattle.settings_check.specs.Found.{report_of, reports_of, unread_of};
 ghost use Rattle.settings_check.specs.Lines.{style_of, colour_of, text_of, text_line, coloured_line};
 ghost use Rattle.settings_check.specs.Lines.{json_line, line_in, lines_in, note_data};
 ghost use Rattle.settings_check.specs.Lines.{number_data, key_data, is_error, errors_in};
-ghost use Rattle.settings_check.specs.Lines.{warnings_in, plural, counts_text, unread_line};
+ghost use Rattle.settings_check.specs.Lines.{warnings_in, plural, counts_text, unread_line, unsought};
 
 use crate::arguments::Format;
 use crate::files::why_text;
@@ -233,6 +233,17 @@ fn plural(count: usize) -> &'static str
     if count == 1 { "" } else { "s" }
 }
 
+/// What is not looked for where there are so many errors.
+fn unsought(errors: usize) -> &'static str
+    ensures { result.now ≡ unsought errors }
+{
+    if errors == 0 {
+        ""
+    } else {
+        "; contradictions are looked for in files without errors"
+    }
+}
+
 /// Appends how many errors and warnings there are.
 pub(crate) fn write_counts(out: &mut String, reports: &[Report<'_>]) -> Result<(), AllocError>
     ensures { OnOk result
@@ -242,9 +253,10 @@ pub(crate) fn write_counts(out: &mut String, reports: &[Report<'_>]) -> Result<(
     let warnings = warnings_in(reports);
     let more_errors = plural(errors);
     let more_warnings = plural(warnings);
+    let unsought = unsought(errors);
     write!(
         out,
-        "{errors} error{more_errors}, {warnings} warning{more_warnings}\n"
+        "{errors} error{more_errors}, {warnings} warning{more_warnings}{unsought}\n"
     )
 }
 

@@ -1,16 +1,15 @@
 //! The program: files come by their names, and what is found in them goes to a writer.
 ghost use Rattle.std.specs.Prelude.{◌≡◌, ◌<◌, ◌⊎◌, true, IfErr, IfOk, OnOk};
-ghost use Rattle.std.specs.Io.KnownBytes.{Appends, IsAtEnd};
+ghost use Rattle.std.specs.Io.KnownBytes.{IsAtEnd};
 ghost use Rattle.line_streams.specs.Streams.{Fails, IsFlushed, ReadFails};
-ghost use Rattle.settings_check.specs.Streams.{IsInput, input_is_read, output_text, error_text};
-ghost use Rattle.settings_check.specs.Streams.{code_of, status_code, AnswersArguments, Reported};
+ghost use Rattle.settings_check.specs.Streams.{IsInput, input_is_read, AnswersArguments, Reported};
 ghost use Rattle.settings_check.specs.Streams.{Ends, RefusesMemory};
 
-use crate::answer::{Answer, Status, respond};
+use crate::answer::{Answer, respond};
 use crate::arguments::{Request, RequestError, request_of};
 use crate::files::Files;
 use crate::found::reads_input;
-use line_streams::{Sink, Source, read_all, write_whole};
+use line_streams::{Sink, Source, read_all, write_outcome};
 use std::alloc::{AllocError, Global};
 use std::env::Args;
 use std::io;
@@ -65,53 +64,6 @@ fn answered<R: Source, F: Files>(
     }
 }
 
-/// Writes what is answered, or that memory was refused, and flushes both writers.
-fn write_answer<W: Sink, E: Sink>(
-    output: &mut W,
-    errors: &mut E,
-    end: &Result<Answer, AllocError>,
-) -> io::Result<()>
-    ensures output { OnOk result
-        (Appends (W.contents output.old) (W.contents output.new) (output_text end.now)) }
-    ensures errors { OnOk result
-        (Appends (E.contents errors.old) (E.contents errors.new) (error_text end.now)) }
-    ensures flushed { OnOk result
-        (IsFlushed W.Flushes output.new × IsFlushed E.Flushes errors.new) }
-    ensures failed { IfErr result (λ e. Fails W.Writes W.FailsToFlush output.new e
-        ⊎ Fails E.Writes E.FailsToFlush errors.new e) }
-{
-    match end {
-        Ok(answer) => {
-            write_whole(output, answer.output.as_bytes())?;
-            write_whole(errors, answer.errors.as_bytes())?;
-        }
-        Err(_) => write_whole(errors, b"no memory\n")?,
-    }
-    output.flush_pieces()?;
-    errors.flush_pieces()
-}
-
-/// The status of the program.
-fn code_of(end: &Result<Answer, AllocError>) -> u8
-    ensures { result ≡ code_of end.now }
-{
-    match end {
-        Ok(answer) => status_code(answer.status),
-        Err(_) => 3,
-    }
-}
-
-/// The number of a status.
-fn status_code(status: Status) -> u8
-    ensures { result ≡ status_code status }
-{
-    match status {
-        Status::Good => 0,
-        Status::Faulty => 1,
-        Status::Unusable => 2,
-    }
-}
-
 /// Does what is requested, and returns the status unless a stream fails.
 fn run<R: Source, W: Sink, E: Sink, F: Files>(
     alloc: Global,
@@ -134,10 +86,7 @@ fn run<R: Source, W: Sink, E: Sink, F: Files>(
 {
     let asked = request_of(alloc, arguments);
     let end = answered(alloc, coloured, files, &asked, input)?;
-    match write_answer(output, errors, &end) {
-        Ok(()) => Ok(code_of(&end)),
-        Err(why) => Err(why),
-    }
+    write_outcome(output, errors, &end)
 }
 
 /// Checks files of settings, shows or compares their settings, or writes the default file or the
@@ -177,8 +126,5 @@ pub fn check_streams<R: Source, W: Sink, E: Sink, F: Files>(
         ⊎ (Fails W.Writes W.FailsToFlush output.new e
         ⊎ Fails E.Writes E.FailsToFlush errors.new e))) }
 {
-    match run(alloc, coloured, arguments, files, input, output, errors) {
-        Ok(status) => status,
-        Err(_) => 3,
-    }
+    run(alloc, coloured, arguments, files, input, output, errors).unwrap_or(3)
 }

@@ -36,20 +36,21 @@ const RUNS: [Run<'_>; 10] = [
     (
         &["bad.toml"],
         1,
-        "bad.toml:2:1: error: global.prefix: is no name of a file: a byte or the whole text is not \
-         allowed\n\
+        "bad.toml:2:1: error: global.prefix: is no name of a file: it is empty, `.` or `..`, or has a \
+         `/` or a byte that is not from 1 to 127\n\
          bad.toml:4:1: warning: defaults.event.max-node: this table has no such key, \
          defaults.event.max-nodes may be meant\n\
          bad.toml:5:1: warning: defaults.event.\"\\u001B[31m\\u{9b}1m\": this table has no such \
          key\n\
-         1 error, 2 warnings\n",
+         1 error, 2 warnings; contradictions are looked for in files without errors\n",
         "",
     ),
     (
         &["--format", "json", "bad.toml"],
         1,
         "{\"column\":1,\"file\":\"bad.toml\",\"key\":\"global.prefix\",\"line\":2,\"message\":\"is no \
-         name of a file: a byte or the whole text is not allowed\",\"severity\":\"error\"}\n\
+         name of a file: it is empty, `.` or `..`, or has a `/` or a byte that is not from 1 to \
+         127\",\"severity\":\"error\"}\n\
          {\"column\":1,\"file\":\"bad.toml\",\"key\":\"defaults.event.max-node\",\"line\":4,\
          \"message\":\"this table has no such key, defaults.event.max-nodes may be meant\",\
          \"severity\":\"warning\"}\n\
@@ -85,8 +86,8 @@ const RUNS: [Run<'_>; 10] = [
         &["--show", "bad.toml"],
         1,
         "",
-        "bad.toml:2:1: error: global.prefix: is no name of a file: a byte or the whole text is not \
-         allowed\n\
+        "bad.toml:2:1: error: global.prefix: is no name of a file: it is empty, `.` or `..`, or has a \
+         `/` or a byte that is not from 1 to 127\n\
          bad.toml:4:1: warning: defaults.event.max-node: this table has no such key, \
          defaults.event.max-nodes may be meant\n\
          bad.toml:5:1: warning: defaults.event.\"\\u001B[31m\\u{9b}1m\": this table has no such \
@@ -100,7 +101,7 @@ const RUNS: [Run<'_>; 10] = [
          one: error: global.node.monitor-suffix: is \".node_monitor\" here and \".seen\" in the \
          other file, and must be the same in all processes of one system\n\
          one: warning: defaults.event.max-nodes: is 5 here and 36 in the other file\n\
-         2 errors, 1 warning\n",
+         2 errors, 1 warning; contradictions are looked for in files without errors\n",
         "",
     ),
     (
@@ -124,7 +125,7 @@ const RUNS: [Run<'_>; 10] = [
          one: error: global.prefix: is \"one_\" here and \"iox2_\" in the other file, and must be \
          the same in all processes of one system\n\
          one: warning: defaults.event.max-nodes: is 5 here and 36 in the other file\n\
-         1 error, 2 warnings\n",
+         1 error, 2 warnings; contradictions are looked for in files without errors\n",
         "",
     ),
     (&["--version"], 0, "iox2-check 0.1.0 (iceoryx2 0.9.3)\n", ""),
@@ -179,8 +180,9 @@ fn colours_are_those_of_findings(rt: HostRuntime) -> Result<(), Fail> {
         b"x = 1\n[global]\nprefix = ''\n",
     )?;
     let expected = b"\x1b[33m-:1:1: warning: x: this table has no such key\x1b[0m\n\
-        \x1b[31m-:3:1: error: global.prefix: is no name of a file: a byte or the whole text is not \
-        allowed\x1b[0m\n1 error, 1 warning\n";
+        \x1b[31m-:3:1: error: global.prefix: is no name of a file: it is empty, `.` or `..`, or \
+        has a `/` or a byte that is not from 1 to 127\x1b[0m\n1 error, 1 warning; contradictions \
+        are looked for in files without errors\n";
     assert_eq!(rt; output.as_slice(), expected.as_slice());
     let json = ["--format", "json", "doubtful.toml"];
     let plain = run(rt.alloc(), false, &json, FILES, b"")?;

@@ -10,10 +10,12 @@ ghost use Rattle.log_lines.specs.Lines.{IsLine, Line, line_seen, line_text};
 ghost use Rattle.history_logs.specs.Good.{IsKept, IsReadTo, SaysIn, Takes, TakesLine};
 ghost use Rattle.history_logs.specs.Good.{TakesNext, TakesReply, is_service};
 ghost use Rattle.history_logs.specs.Logs.{EndsInReturn, IsMissing, IsWrong, LacksReply};
+ghost use Rattle.history_logs.specs.Progress.{AddsCounts};
 ghost use Rattle.history_logs.specs.Reading.{Does, IsNameless, IsNew, IsNamed, IsSane};
 ghost use Rattle.history_logs.specs.Seen.{Service};
 
 use super::callers::{CallerState, Callers, refuses_begin};
+use super::progress::Progress;
 use super::service::{LogCall, LogService};
 use super::verdict::Expected;
 use line_streams::{after_word, before_byte};
@@ -330,9 +332,13 @@ impl Reading {
         ensures { IfOk result (λ found.
             TakesLine (log_of self.old) line text.now found (log_of self.new)) }
     {
+        // To take a call that is not there costs as much as to take one.
+        if self.waits.is_none() {
+            return self.next(alloc, text, line);
+        }
         match self.waits.take() {
             Some((at, call)) => self.reply(alloc, at, call, text, line),
-            None => self.next(alloc, text, line),
+            None => unreachable!(),
         }
     }
 
@@ -375,14 +381,16 @@ impl Reading {
     }
 }
 
-/// Reads the good lines of a log. Returns what was read, and the first line that is not what is
-/// expected, if there is one.
+/// Reads the good lines of a log, and counts them. Returns what was read, and the first line that
+/// is not what is expected, if there is one.
 #[tactic(auto, using(crate::proofs::Above::read_missing, crate::proofs::Above::read_whole, crate::proofs::Above::above_room))]
-pub(super) fn read_log(
+pub(super) fn read_log<P: Progress>(
     alloc: Global,
     log: &[u8],
+    progress: &mut P,
 ) -> Result<(Reading, Option<(usize, Expected)>), AllocError>
-    ensures { IfOk result (λ found. IsReadTo log.now found.0.services.items found.1) }
+    ensures read { IfOk result (λ found. IsReadTo log.now found.0.services.items found.1) }
+    ensures progress { AddsCounts (P.contents progress.old) (P.contents progress.new) }
 {
     let mut reading = Reading::new(alloc);
     let mut rest = log;
@@ -391,6 +399,7 @@ pub(super) fn read_log(
         if let Some(expected) = reading.read(alloc, text, line)? {
             return Ok((reading, Some((line, expected))));
         }
+        progress.count(line);
         rest = after;
         line += 1;
     }

@@ -65,7 +65,7 @@ fn append_numbers(numbers: &[usize], out: &mut Vec<u8>) -> Result<(), AllocError
 }
 
 /// Appends a name and a number.
-fn append_number(name: &[u8], n: u64, out: &mut Vec<u8>) -> Result<(), AllocError>
+pub(super) fn append_number(name: &[u8], n: u64, out: &mut Vec<u8>) -> Result<(), AllocError>
     ensures { OnOk result (out.new.items ≡ out.old.items ++ (name.now ++ decimal n)) }
 {
     out.extend_from_slice(name)?;

@@ -1,104 +1,136 @@
 //! Logs that come from a stream.
 ghost use Rattle.std.specs.Prelude.{◌≡◌, ◌<◌, IfOk, IfSome, OnOk, true};
-ghost use Rattle.std.specs.Io.KnownBytes.{Appends, IsAtEnd};
+ghost use Rattle.std.specs.Io.KnownBytes.{IsAtEnd};
 ghost use Rattle.line_streams.specs.Streams.{IsFlushed};
 ghost use Rattle.history_logs.specs.Logs.{Judged};
 ghost use Rattle.history_logs.specs.Orders.{IsTextOf, ReportedWith};
+ghost use Rattle.history_logs.specs.Progress.{AddsCounts};
 ghost use Rattle.history_logs.specs.Reports.{Reported, on_errors, on_output, status_of};
 
+use super::progress::Progress;
+use super::reading::read_log;
 use super::verdict::Verdict;
-use super::{report_log, witness_log};
-use line_streams::{Sink, Source, read_all, write_whole};
+use super::{report_read, witness_read};
+use line_streams::{
+    Outcome, Sink, Source, Status, read_all, report_failure, write_outcome, write_whole,
+};
 use std::alloc::{AllocError, Global};
 use std::io;
 
-/// The status of a verdict.
-fn status(verdict: &Verdict) -> u8
-    ensures { result ≡ status_of verdict.now }
-{
-    match verdict {
-        Verdict::Conforms(_, _) => 0,
-        Verdict::Refused(_) => 1,
-        Verdict::ManyConfigs(_) | Verdict::ManyOpen(_) | Verdict::BadLine(_, _) => 2,
+/// The verdict on a log, and the text that reports it.
+#[derive(Drop)]
+struct Judgement {
+    verdict: Verdict,
+    text: Vec<u8>,
+}
+
+impl Outcome for Judgement {
+    ghost status = { λ j. status_of j.verdict };
+
+    ghost on_output = { λ j. on_output j.verdict j.text.items };
+
+    ghost on_errors = { λ j. on_errors j.verdict j.text.items };
+
+    fn status(&self) -> u8 {
+        let status = match &self.verdict {
+            Verdict::Conforms(_, _) => Status::Good,
+            Verdict::Refused(_) => Status::Faulty,
+            Verdict::ManyConfigs(_) | Verdict::ManyOpen(_) | Verdict::BadLine(_, _) => {
+                Status::Unusable
+            }
+        };
+        status.number()
+    }
+
+    fn output(&self) -> &[u8] {
+        match &self.verdict {
+            Verdict::Conforms(_, _) | Verdict::Refused(_) => self.text.as_slice(),
+            Verdict::ManyConfigs(_) | Verdict::ManyOpen(_) | Verdict::BadLine(_, _) => &[],
+        }
+    }
+
+    fn write_errors<E: Sink>(&self, errors: &mut E) -> io::Result<()> {
+        match &self.verdict {
+            Verdict::Conforms(_, _) | Verdict::Refused(_) => Ok(()),
+            Verdict::ManyConfigs(_) | Verdict::ManyOpen(_) | Verdict::BadLine(_, _) => {
+                write_whole(errors, &self.text)
+            }
+        }
     }
 }
 
 /// Judges the log: the verdict, and the text that reports it, with the orders if they are wanted.
-fn judged(alloc: Global, log: &[u8], with_orders: bool) -> Result<(Verdict, Vec<u8>), AllocError>
-    ensures judged { IfOk result (λ found. Judged log.now found.0) }
-    ensures text { IfOk result (λ found. IsTextOf with_orders log.now found.0 found.1.items) }
+fn verdict_on<P: Progress>(
+    alloc: Global,
+    log: &[u8],
+    with_orders: bool,
+    progress: &mut P,
+) -> Result<Judgement, AllocError>
+    ensures judged { IfOk result (λ found. Judged log.now found.verdict) }
+    ensures text { IfOk result (λ found.
+        IsTextOf with_orders log.now found.verdict found.text.items) }
+    ensures progress { AddsCounts (P.contents progress.old) (P.contents progress.new) }
 {
-    if with_orders {
-        witness_log(alloc, log)
+    let (reading, bad) = read_log(alloc, log, progress)?;
+    let (verdict, text) = if with_orders {
+        witness_read(alloc, log, &reading.services, bad)?
     } else {
-        report_log(alloc, log)
-    }
+        report_read(alloc, log, &reading.services, bad)?
+    };
+    Ok(Judgement { verdict, text })
 }
 
-/// Writes the text of a verdict where it belongs, and flushes both writers.
-fn report<W: Sink, E: Sink>(
-    output: &mut W,
-    errors: &mut E,
-    verdict: &Verdict,
-    text: &[u8],
-) -> io::Result<()>
-    ensures output { OnOk result
-        (Appends (W.contents output.old) (W.contents output.new) (on_output verdict.now text.now)) }
-    ensures errors { OnOk result
-        (Appends (E.contents errors.old) (E.contents errors.new) (on_errors verdict.now text.now)) }
-    ensures flushed { OnOk result
-        (IsFlushed W.Flushes output.new × IsFlushed E.Flushes errors.new) }
+/// The same, and progress ends.
+fn judged<P: Progress>(
+    alloc: Global,
+    log: &[u8],
+    with_orders: bool,
+    progress: &mut P,
+) -> Result<Judgement, AllocError>
+    ensures judged { IfOk result (λ found. Judged log.now found.verdict) }
+    ensures text { IfOk result (λ found.
+        IsTextOf with_orders log.now found.verdict found.text.items) }
+    ensures progress { AddsCounts (P.contents progress.old) (P.contents progress.new) }
 {
-    match verdict {
-        Verdict::ManyConfigs(_) | Verdict::ManyOpen(_) | Verdict::BadLine(_, _) => {
-            write_whole(errors, text)?;
-        }
-        Verdict::Conforms(_, _) | Verdict::Refused(_) => write_whole(output, text)?,
-    }
-    output.flush_pieces()?;
-    errors.flush_pieces()
+    let found = verdict_on(alloc, log, with_orders, progress);
+    progress.end();
+    found
 }
 
-/// Judges the log that the reader gives, and answers the status unless a stream fails.
-fn run<R: Source, W: Sink, E: Sink>(
+/// Judges the log that the reader gives, and returns the status unless a stream fails.
+#[tactic(auto, using(crate::proofs::Counts::no_counts))]
+fn run<R: Source, W: Sink, E: Sink, P: Progress>(
     alloc: Global,
     input: &mut R,
     output: &mut W,
     errors: &mut E,
+    progress: &mut P,
     with_orders: bool,
 ) -> io::Result<u8>
     ensures range { IfOk result (λ status. status < 4) }
     ensures reported { IfOk result (λ status. status < 3 → IfSome (R.remaining input.old)
         (λ log. ReportedWith with_orders log status (W.contents output.old) (W.contents output.new)
         (E.contents errors.old) (E.contents errors.new))) }
-    ensures flushed { IfOk result (λ status. status < 3
-        → IsFlushed W.Flushes output.new × IsFlushed E.Flushes errors.new) }
+    ensures flushed { OnOk result
+        (IsFlushed W.Flushes output.new × IsFlushed E.Flushes errors.new) }
     ensures read { IfOk result (λ status. status < 3 → IsAtEnd (R.remaining input.new)) }
+    ensures progress { AddsCounts (P.contents progress.old) (P.contents progress.new) }
 {
     let end = match read_all(alloc, input)? {
-        Ok(log) => judged(alloc, &log, with_orders),
+        Ok(log) => judged(alloc, &log, with_orders, progress),
         Err(why) => Err(why),
     };
-    match end {
-        Ok((verdict, text)) => {
-            report(output, errors, &verdict, &text)?;
-            Ok(status(&verdict))
-        }
-        Err(_) => {
-            write_whole(errors, b"no memory\n")?;
-            errors.flush_pieces()?;
-            Ok(3)
-        }
-    }
+    write_outcome(output, errors, &end)
 }
 
 /// Judges the log that the reader gives, reports it, with the orders if they are wanted, and
 /// answers the status of the program.
-fn answer<R: Source, W: Sink, E: Sink>(
+fn answer<R: Source, W: Sink, E: Sink, P: Progress>(
     alloc: Global,
     input: &mut R,
     output: &mut W,
     errors: &mut E,
+    progress: &mut P,
     with_orders: bool,
 ) -> u8
     ensures range { result < 4 }
@@ -108,15 +140,10 @@ fn answer<R: Source, W: Sink, E: Sink>(
     ensures flushed { result < 3
         → IsFlushed W.Flushes output.new × IsFlushed E.Flushes errors.new }
     ensures read { result < 3 → IsAtEnd (R.remaining input.new) }
+    ensures progress { AddsCounts (P.contents progress.old) (P.contents progress.new) }
 {
-    match run(alloc, input, output, errors, with_orders) {
-        Ok(status) => status,
-        Err(_) => {
-            // Where this fails too, the status alone tells it.
-            let _told = write_whole(errors, b"a stream failed\n");
-            3
-        }
-    }
+    let end = run(alloc, input, output, errors, progress, with_orders);
+    report_failure(errors, end)
 }
 
 /// Judges the log that the reader gives, and answers the status of the program.
@@ -130,11 +157,14 @@ fn answer<R: Source, W: Sink, E: Sink>(
 ///   or the line of a call or an event with which a bound would be passed.
 /// - 3: memory was refused, and `no memory` was written to `errors`; or a read, a write or a flush
 ///   failed, for any cause, and it was tried to write `a stream failed` to `errors`.
-pub fn check_streams<R: Source, W: Sink, E: Sink>(
+///
+/// Progress counts the lines as they are read, and ends before the first of this is written.
+pub fn check_streams<R: Source, W: Sink, E: Sink, P: Progress>(
     alloc: Global,
     input: &mut R,
     output: &mut W,
     errors: &mut E,
+    progress: &mut P,
 ) -> u8
     ensures range { result < 4 }
     // A status below 3 is that of a verdict on the log, and the writers got what fits it.
@@ -146,18 +176,21 @@ pub fn check_streams<R: Source, W: Sink, E: Sink>(
         → IsFlushed W.Flushes output.new × IsFlushed E.Flushes errors.new }
     // All input was read.
     ensures read { result < 3 → IsAtEnd (R.remaining input.new) }
+    // Progress wrote counts of lines, and nothing else.
+    ensures progress { AddsCounts (P.contents progress.old) (P.contents progress.new) }
 {
-    answer(alloc, input, output, errors, false)
+    answer(alloc, input, output, errors, progress, false)
 }
 
 /// Judges the log that the reader gives, and answers the status of the program, as `check_streams`
 /// does. Where the status is 0, an order of the calls on each service was written to `output` too,
 /// below the report, as `witness_log` has it.
-pub fn check_witness_streams<R: Source, W: Sink, E: Sink>(
+pub fn check_witness_streams<R: Source, W: Sink, E: Sink, P: Progress>(
     alloc: Global,
     input: &mut R,
     output: &mut W,
     errors: &mut E,
+    progress: &mut P,
 ) -> u8
     ensures range { result < 4 }
     // A status below 3 is that of a verdict on the log, and the writers got what fits it.
@@ -169,6 +202,8 @@ pub fn check_witness_streams<R: Source, W: Sink, E: Sink>(
         → IsFlushed W.Flushes output.new × IsFlushed E.Flushes errors.new }
     // All input was read.
     ensures read { result < 3 → IsAtEnd (R.remaining input.new) }
+    // Progress wrote counts of lines, and nothing else.
+    ensures progress { AddsCounts (P.contents progress.old) (P.contents progress.new) }
 {
-    answer(alloc, input, output, errors, true)
+    answer(alloc, input, output, errors, progress, true)
 }

@@ -8,7 +8,7 @@ mod script;
 mod service_line;
 
 pub use line::{command_before, read_line};
-pub use port::ScriptPort;
+pub use port::RoleName;
 pub use reply_line::write_reply;
 pub use script::{ScriptError, run_script, run_streams};
 pub use service_line::{ServiceLine, service_before};

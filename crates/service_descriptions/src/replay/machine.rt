@@ -4,11 +4,14 @@ mod cleanup;
 mod command;
 mod description;
 mod kept;
+mod port;
 mod reply;
 mod session;
 mod state;
 
 pub use command::{Cleanup, Command, LineCommand, MessagePart};
+pub(crate) use port::Parts;
+pub use port::ScriptPort;
 pub use reply::Reply;
 pub(crate) use reply::{LineAnswer, LineReply};
 pub(crate) use session::Session;

@@ -1,18 +1,21 @@
 use Rattle.std.proofs.Common.{rules, ◌≡◌, length}
-use Rattle.histories.proofs.Gathering.{gathers_no_slot, gathers_slot}
+use Rattle.std.proofs.lemmas.Result.{on_ok_weaker}
+use Rattle.histories.proofs.Gathering.{gathers_last, gathers_no_slot, gathers_slot}
 use Rattle.histories.proofs.close.make_calls.Goals as goal
 
-pub loop-slot-init : goal.loop-slot-init
-loop-slot-init g c =
-    gathers_no_slot (g.M.Machine.Step c.args.machine.now) c.args.slots.now c.args.config.now
-    c.args.next.now
+pub loop-other-init : goal.loop-other-init
+loop-other-init g c =
+    gathers_no_slot (g.M.Machine.Step c.args.machine.now) c.args.slots.now c.args.config
+    c.args.slot c.args.next.now
 
-pub loop-slot-preserved : goal.loop-slot-preserved
-loop-slot-preserved g c =
-    gathers_slot (g.M.Machine.Step c.args.machine.now) c.args.slots.now c.args.config.now
-    c.loop-slot.slot _ _ _ c.loop-slot.invariant c.in_ok-make_slot.ensures
+pub loop-other-preserved : goal.loop-other-preserved
+loop-other-preserved g c =
+    gathers_slot (g.M.Machine.Step c.args.machine.now) c.args.slots.now c.args.config c.args.slot
+    c.loop-other.other _ _ _ c.loop-other.invariant c.in_ok-make_other.ensures
 
 pub returns : goal.returns
 returns g c =
-    let all : c.loop-slot.slot ≡ length c.args.slots.now = search rules in
-    rw all at c.loop-slot.invariant
+    let all : c.loop-other.other ≡ length c.args.slots.now = search rules in
+    on_ok_weaker c.make_last.result
+    (gathers_last (g.M.Machine.Step c.args.machine.now) c.args.slots.now c.args.config c.args.slot
+    _ _ _ c.requires.within (rw all at c.loop-other.invariant)) c.make_last.ensures

@@ -1,4 +1,7 @@
-use Rattle.log_lines.proofs.Parts.{no_deregister, no_handle, no_release, no_role, no_space, no_text, no_ticket, other_word}
+use Rattle.std.proofs.Common.{[], ◌++◌, List, ℕ, codes, decimal, arith, refl, ap, sym, ◌∙◌}
+use Rattle.std.proofs.lemmas.List.{append-nil}
+use Rattle.service_descriptions.specs.Lines.{role_word}
+use Rattle.log_lines.proofs.Parts.{no_deregister, no_handle, no_port, no_release, no_text, other_word}
 use Rattle.log_lines.proofs.command.read_command.Goals as goal
 
 pub returns-in_default-handle_of : goal.returns-in_default-handle_of
@@ -16,31 +19,19 @@ returns-in_default-after_word-2 c =
     (no_deregister line c.in_default-after_word.ensures.none)
     (no_release line c.in_default-after_word-2.ensures.none)
 
-pub returns-in_default-role_before : goal.returns-in_default-role_before
-returns-in_default-role_before c =
+pub returns-in_default-read : goal.returns-in_default-read
+returns-in_default-read c =
     let line = c.args.line.now in
     let word = c.in-Some-after_word-2 in
     no_text line (rw c.in_default.is at c.in_ok-command.ensures)
     (no_deregister line c.in_default-after_word.ensures.none)
-    (no_role line word.rest.now word.ensures.some c.in_default-role_before.ensures)
-
-pub returns-in_default-after_word-3 : goal.returns-in_default-after_word-3
-returns-in_default-after_word-3 c =
-    let line = c.args.line.now in
-    let word = c.in-Some-after_word-2 in
-    let found = c.in-Some-role_before in
-    no_text line (rw c.in_default.is at c.in_ok-command.ensures)
-    (no_deregister line c.in_default-after_word.ensures.none)
-    (no_space line word.rest.now found.rest.now found.role word.ensures.some found.ensures.0
-    found.ensures.1 c.in_default-after_word-3.ensures.none)
-
-pub returns-in_default-handle_of-2 : goal.returns-in_default-handle_of-2
-returns-in_default-handle_of-2 c =
-    let line = c.args.line.now in
-    let word = c.in-Some-after_word-2 in
-    let found = c.in-Some-role_before in
-    let space = c.in-Some-after_word-3 in
-    no_text line (rw c.in_default.is at c.in_ok-command.ensures)
-    (no_deregister line c.in_default-after_word.ensures.none)
-    (no_ticket line word.rest.now found.rest.now space.rest.now found.role word.ensures.some
-    found.ensures.0 found.ensures.1 space.ensures.some c.in_default-handle_of-2.ensures)
+    (no_port line word.rest.now word.ensures.some
+    (λ r slot ticket p h e. c.in_default-read.ensures.read ((r, (slot, (ticket, tt))), []) (
+      p,
+      (
+        (omega (arith, h.0), h.0, λ digit. omega arith),
+        ((omega (arith, h.1), h.1, λ digit. omega arith), refl),
+      ),
+    )
+    (e ∙ ap (λ (l : List ℕ). role_word r ++ (codes " " ++ (decimal slot ++ (codes " " ++ l))))
+    (sym (append-nil (decimal ticket))))))

@@ -1,40 +1,15 @@
 //! Ids.
-ghost use Rattle.std.specs.Prelude.{◌≡◌, ℕ};
+ghost use Rattle.std.specs.Prelude.{ℕ};
 ghost use Rattle.service_descriptions.specs.Lines.{value_of};
 ghost use Rattle.service_descriptions.specs.Phrases.{id_phrase, node_id_phrase};
 ghost use Rattle.service_descriptions.specs.OneWay.{id_one, node_id_one};
 
-use iox2_ids::identifiers::{UniqueId, UniqueNodeId, UniqueReaderId};
+use crate::replay::machine::Parts;
+use iox2_ids::identifiers::UniqueNodeId;
 use line_streams::{After, Number, Phrase, Then};
 
 /// A part of an id.
 const PART: Number = Number(u32::MAX as u64);
-
-/// The four parts of an id.
-#[derive(Clone, Copy)]
-pub(super) struct Parts {
-    process: u32,
-    seconds: u32,
-    nanoseconds: u32,
-    counter: u32,
-}
-
-impl Parts {
-    /// The id of any kind that they make.
-    pub(super) fn id<K>(self) -> UniqueId<K>
-        ensures { result ≡ value_of self }
-    {
-        UniqueId::new(self.process, self.seconds, self.nanoseconds, self.counter)
-    }
-
-    /// The number that they make.
-    fn value(self) -> u128
-        ensures { result ≡ value_of self }
-    {
-        let id: UniqueReaderId = self.id();
-        id.value()
-    }
-}
 
 /// An id: four numbers, joined by dots.
 #[derive(Clone, Copy)]

@@ -1,24 +1,18 @@
 //! Roles and ports.
-ghost use Rattle.std.specs.Prelude.{◌≡◌};
 ghost use Rattle.iox2_container.specs.declared.container.role.Role.{Role as OneRole};
 ghost use Rattle.iox2_dynamic.specs.declared.dynamic_config.port_details.PortDetails.{PortDetails as Details};
 ghost use Rattle.service_descriptions.specs.Lines.{plain_of};
 ghost use Rattle.service_descriptions.specs.Phrases.{port_phrase, role_phrase};
 ghost use Rattle.service_descriptions.specs.OneWay.{role_one, port_one};
 
-use super::id::{Id, NodeId, Parts};
-use iox2_config::config::DataSegmentType;
+use super::id::{Id, NodeId};
+use crate::replay::machine::ScriptPort;
 use iox2_container::container::Role;
-use iox2_dynamic::dynamic_config::{
-    ClientDetails, ListenerDetails, NotifierDetails, PortDetails, PublisherDetails, ReaderDetails,
-    ServerDetails, SubscriberDetails, WriterDetails,
-};
-use iox2_ids::identifiers::UniqueNodeId;
 use line_streams::{After, Phrase, Then, after_word};
 
 /// The name of a role of ports.
 #[derive(Clone, Copy)]
-pub(super) struct RoleName;
+pub struct RoleName;
 
 impl<'a> Phrase<'a> for RoleName {
     type Value = Role;
@@ -53,71 +47,6 @@ impl<'a> Phrase<'a> for RoleName {
     }
 
     ghost one_way = { λ s. role_one };
-}
-
-/// A port as a line has it.
-#[derive(Clone, Copy)]
-pub struct ScriptPort {
-    role: Role,
-    port: Parts,
-    node: UniqueNodeId,
-}
-
-impl ScriptPort {
-    /// The details that a script gives the port.
-    pub fn details(self) -> PortDetails
-        ensures { result ≡ plain_of self }
-    {
-        match self.role {
-            Role::Publisher => PortDetails::Publisher(PublisherDetails {
-                publisher_id: self.port.id(),
-                node_id: self.node,
-                number_of_samples: 0,
-                max_slice_len: 0,
-                data_segment_type: DataSegmentType::Static,
-                max_number_of_segments: 1,
-            }),
-            Role::Subscriber => PortDetails::Subscriber(SubscriberDetails {
-                subscriber_id: self.port.id(),
-                node_id: self.node,
-                buffer_size: 0,
-            }),
-            Role::Listener => PortDetails::Listener(ListenerDetails {
-                listener_id: self.port.id(),
-                node_id: self.node,
-            }),
-            Role::Notifier => PortDetails::Notifier(NotifierDetails {
-                notifier_id: self.port.id(),
-                node_id: self.node,
-            }),
-            Role::Server => PortDetails::Server(ServerDetails {
-                server_id: self.port.id(),
-                node_id: self.node,
-                request_buffer_size: 0,
-                number_of_responses: 0,
-                max_slice_len: 0,
-                data_segment_type: DataSegmentType::Static,
-                max_number_of_segments: 1,
-            }),
-            Role::Client => PortDetails::Client(ClientDetails {
-                client_id: self.port.id(),
-                node_id: self.node,
-                number_of_requests: 0,
-                response_buffer_size: 0,
-                max_slice_len: 0,
-                data_segment_type: DataSegmentType::Static,
-                max_number_of_segments: 1,
-            }),
-            Role::Writer => PortDetails::Writer(WriterDetails {
-                writer_id: self.port.id(),
-                node_id: self.node,
-            }),
-            Role::Reader | Role::Node => PortDetails::Reader(ReaderDetails {
-                reader_id: self.port.id(),
-                node_id: self.node,
-            }),
-        }
-    }
 }
 
 /// A port: its role, its id and its node.

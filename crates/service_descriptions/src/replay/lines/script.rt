@@ -1,7 +1,6 @@
 //! Scripts, whole or from a stream.
-ghost use Rattle.std.specs.Prelude.{◌≡◌, ◌++◌, ◌<◌, ◌⊎◌, Err, List, ℕ};
-ghost use Rattle.std.specs.Prelude.{IfErr, IfOk, IfSome, OnErr, OnOk};
-ghost use Rattle.std.specs.Io.KnownBytes.{Appends, IsAtEnd};
+ghost use Rattle.std.specs.Prelude.{◌≡◌, ◌++◌, ◌<◌, ◌⊎◌, [], List, ℕ, IfErr, IfOk, IfSome, OnErr};
+ghost use Rattle.std.specs.Io.KnownBytes.{IsAtEnd};
 ghost use Rattle.std.specs.Option.{option_map};
 ghost use Rattle.line_streams.specs.Streams.{Fails, IsFlushed, ReadFails};
 ghost use Rattle.service_descriptions.specs.declared.replay.lines.script.ScriptError.TheVariants.{NoMemory};
@@ -14,7 +13,7 @@ use super::service_line::service_before;
 use crate::replay::machine::Session;
 use iox2_dynamic::dynamic_config::MessagingPatternSettings;
 use itoa::Buffer;
-use line_streams::{LineEnd, Sink, Source, read_all, write_whole};
+use line_streams::{LineEnd, Outcome, Sink, Source, run_filter, write_whole};
 use std::alloc::{AllocError, Global};
 use std::io;
 use std::io::Error;
@@ -132,60 +131,58 @@ pub fn run_script(alloc: Global, script: &[u8], out: &mut Vec<u8>) -> Result<(),
     run_lines(alloc, &mut session, lines, out)
 }
 
-/// Writes the line that says why a script was not run to its end, and returns the status of that.
-fn write_error<E: Sink>(errors: &mut E, why: &ScriptError) -> io::Result<u8>
-    ensures status { IfOk result (λ status. status ≡ status_of (Err why.now)) }
-    ensures errors { OnOk result
-        (Appends (E.contents errors.old) (E.contents errors.new) (error_text (Err why.now))) }
-    ensures failed { IfErr result (Fails E.Writes E.FailsToFlush errors.new) }
-{
-    match why {
-        ScriptError::BadLine(line) => {
-            let mut digits = Buffer::new();
-            write_whole(errors, b"bad line ")?;
-            write_whole(errors, digits.format(*line).as_bytes())?;
-            write_whole(errors, b"\n")?;
-            Ok(1)
+/// The reply lines of a script, and how it ended.
+#[derive(Drop)]
+struct Replies {
+    text: Vec<u8>,
+    end: Result<(), ScriptError>,
+}
+
+impl Outcome for Replies {
+    ghost status = { λ replies. status_of replies.end };
+
+    ghost on_output = { λ replies. replies.text.items };
+
+    ghost on_errors = { λ replies. error_text replies.end };
+
+    fn status(&self) -> u8 {
+        match &self.end {
+            Ok(()) => 0,
+            Err(ScriptError::BadLine(_)) => 1,
+            Err(ScriptError::NoMemory(_)) => 2,
         }
-        ScriptError::NoMemory(_) => {
-            write_whole(errors, b"no memory\n")?;
-            Ok(2)
+    }
+
+    fn output(&self) -> &[u8] {
+        &self.text
+    }
+
+    fn write_errors<E: Sink>(&self, errors: &mut E) -> io::Result<()> {
+        match &self.end {
+            Ok(()) => Ok(()),
+            Err(ScriptError::BadLine(line)) => {
+                let mut digits = Buffer::new();
+                write_whole(errors, b"bad line ")?;
+                write_whole(errors, digits.format(*line).as_bytes())?;
+                write_whole(errors, b"\n")
+            }
+            Err(ScriptError::NoMemory(_)) => write_whole(errors, b"no memory\n"),
         }
     }
 }
 
-/// Runs the script of the reader, and returns its status unless a stream fails.
-fn run<R: Source, W: Sink, E: Sink>(
-    alloc: Global,
-    input: &mut R,
-    output: &mut W,
-    errors: &mut E,
-) -> io::Result<u8>
-    ensures range { IfOk result (λ status. status < 3) }
-    ensures reported { IfOk result (λ status. IfSome (R.remaining input.old) (λ script.
-        Reported script status
-        (W.contents output.old) (W.contents output.new)
-        (E.contents errors.old) (E.contents errors.new))) }
-    ensures flushed { OnOk result
-        (IsFlushed W.Flushes output.new × IsFlushed E.Flushes errors.new) }
-    ensures failed { IfErr result (λ e. ReadFails R.FailsBy input.new e
-        ⊎ (Fails W.Writes W.FailsToFlush output.new e
-        ⊎ Fails E.Writes E.FailsToFlush errors.new e)) }
-    ensures read { IfOk result (λ status. status < 2 → IsAtEnd (R.remaining input.new)) }
+/// Runs the script that was read.
+fn run(alloc: Global, read: Result<Vec<u8>, AllocError>) -> Replies
+    ensures ran { IfOk read (λ script. Scripted script.items result.end result.text.items) }
+    ensures refused { IfErr read (λ why.
+        (result.end ≡ Err (NoMemory why)) × (result.text.items ≡ [])) }
 {
     let mut text = Vec::new(alloc);
-    let end = match read_all(alloc, input)? {
+    let end = match read {
         Ok(script) => run_script(alloc, &script, &mut text),
         Err(why) => Err(ScriptError::NoMemory(why)),
     };
-    write_whole(output, &text)?;
-    let status = match end {
-        Ok(()) => 0,
-        Err(why) => write_error(errors, &why)?,
-    };
-    output.flush_pieces()?;
-    errors.flush_pieces()?;
-    Ok(status)
+    Replies { text, end }
 }
 
 /// Runs the script of the reader, writes its reply lines to `output`, and returns the status of the
@@ -230,8 +227,5 @@ pub fn run_streams<R: Source, W: Sink, E: Sink>(
     // All input was read, unless memory ran out.
     ensures read { result < 2 → IsAtEnd (R.remaining input.new) }
 {
-    match run(alloc, input, output, errors) {
-        Ok(status) => status,
-        Err(_) => 3,
-    }
+    run_filter(alloc, input, output, errors, |script| run(alloc, script)).unwrap_or(3)
 }

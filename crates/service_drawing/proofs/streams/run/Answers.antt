@@ -1,19 +1,8 @@
-use Rattle.std.proofs.Common.{inr, sym, ◌∙◌}
-use Rattle.service_drawing.proofs.Answered.{answered_at_zero}
+use Rattle.service_drawing.proofs.Answered.{reported_where_written}
 use Rattle.service_drawing.proofs.streams.run.Goals as goal
 
-pub returns-in-Ok-clause-reported : goal.returns-in-Ok-clause-reported
-returns-in-Ok-clause-reported g c = record {
-  asked = c.asked_by-asked.result;
-  end = c.in_ok-end.end;
-  asks = c.asked_by-asked.ensures;
-  answered = c.in_ok-end.ensures.told;
-  told = c.status.ensures;
-  read = λ e. answered_at_zero c.in_ok-end.end _ c.in_ok-end.ensures.read
-      (sym c.status.ensures ∙ e);
-  output = c.in-Ok.ensures.output;
-  errors = c.in-Ok.ensures.errors;
-}
-
-pub returns-clause-failed : goal.returns-clause-failed
-returns-clause-failed g c = inr c.in-Err.ensures.failed
+pub returns-clause-reported : goal.returns-clause-reported
+returns-clause-reported g c =
+    reported_where_written _ c.asked_by.result c.in_ok-end.end c.write_outcome.result _ _ _ _ _ _
+    c.asked_by.ensures c.in_ok-end.ensures.told c.in_ok-end.ensures.read
+    c.write_outcome.ensures.status c.write_outcome.ensures.output c.write_outcome.ensures.errors

@@ -1,12 +1,14 @@
 use Rattle.std.proofs.Common.{inr}
-use Rattle.settings_check.proofs.Comparing.{ends_with}
+use Rattle.std.proofs.lemmas.Result.{IfErr-weaker}
+use Rattle.settings_check.proofs.Comparing.{ends_where_written}
 use Rattle.settings_check.proofs.streams.run.Goals as goal
 
-pub returns-in-Ok-clause-ends : goal.returns-in-Ok-clause-ends
-returns-in-Ok-clause-ends g c =
-    ends_with _ _ _ c.request_of-asked.result c.in_ok-end.end _ _ _ _ _ _ _
-    c.request_of-asked.ensures c.in_ok-end.ensures.answered c.in_ok-end.ensures.read
-    c.code_of.ensures c.in-Ok.ensures.output c.in-Ok.ensures.errors
+pub returns-clause-ends : goal.returns-clause-ends
+returns-clause-ends g c =
+    ends_where_written _ _ _ c.request_of-asked.result c.in_ok-end.end c.write_outcome.result _ _ _
+    _ _ _ c.request_of-asked.ensures c.in_ok-end.ensures.answered c.in_ok-end.ensures.read
+    c.write_outcome.ensures.status c.write_outcome.ensures.output c.write_outcome.ensures.errors
 
 pub returns-clause-failed : goal.returns-clause-failed
-returns-clause-failed g c = inr c.in-Err.ensures.failed
+returns-clause-failed g c =
+    IfErr-weaker c.write_outcome.result _ _ (λ e h. inr h) c.write_outcome.ensures.failed

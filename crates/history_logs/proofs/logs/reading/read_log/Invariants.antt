@@ -1,10 +1,13 @@
 use Rattle.std.proofs.Common.{length}
 use Rattle.history_logs.specs.Fields.{log_of}
 use Rattle.history_logs.specs.Good.{IsAbove}
+use Rattle.history_logs.specs.Progress.{AddsCounts}
 use Rattle.history_logs.proofs.logs.reading.read_log.Given as goal
 
 abbrev pub invariant-loop-text : goal.invariant-loop-text
-invariant-loop-text l = IsAbove l.fn.log (log_of l.reading) l.rest l.line
+invariant-loop-text g l =
+    IsAbove l.fn.log (log_of l.reading) l.rest l.line
+    × AddsCounts (g.P.Progress.contents l.fn.progress) (g.P.Progress.contents l.progress)
 
 abbrev pub decreases-loop-text : goal.decreases-loop-text
-decreases-loop-text l = length l.rest
+decreases-loop-text g l = length l.rest

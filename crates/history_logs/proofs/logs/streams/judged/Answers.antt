@@ -1,9 +1,5 @@
+use Rattle.history_logs.proofs.Counts.{counts_more}
 use Rattle.history_logs.proofs.logs.streams.judged.Goals as goal
 
-pub returns-then-with_orders-clause-text : goal.returns-then-with_orders-clause-text
-returns-then-with_orders-clause-text c =
-    rw c.if-with_orders.true c.witness_log.ensures.text
-
-pub returns-else-with_orders-clause-text : goal.returns-else-with_orders-clause-text
-returns-else-with_orders-clause-text c =
-    rw c.if-with_orders.false c.report_log.ensures.text
+pub returns-clause-progress : goal.returns-clause-progress
+returns-clause-progress g c = counts_more _ _ _ c.verdict_on-found.ensures.progress c.end.ensures

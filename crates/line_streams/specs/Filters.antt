@@ -1,0 +1,33 @@
+-- What a program makes of what it reads.
+use Rattle.std.specs.Prelude.{◌≡◌, ℕ, List, Option, Result, Ok, Err, IfOk, IfSome, OnOk}
+use Rattle.std.specs.Io.KnownBytes.{Appends, IsAtEnd}
+use Rattle.std.specs.declared.alloc.AllocError.{AllocError}
+use Rattle.std.specs.declared.alloc.Global.{Global}
+use Rattle.std.specs.declared.vec.Vec.{Vec}
+use Rattle.line_streams.specs.declared.filter.Status.{Status}
+use Rattle.line_streams.specs.declared.filter.Status.TheVariants.{Good, Faulty, Unusable}
+
+-- the number of a status
+abbrev pub status_number : Status → ℕ
+status_number Good = 0
+status_number Faulty = 1
+status_number Unusable = 2
+
+-- of what was done, or of why it was not
+abbrev pub either : {T F A : Type 0} → (T → A) → (F → A) → Result T F → A
+either of_done of_why (Ok done) = of_done done
+either of_done of_why (Err why) = of_why why
+
+-- what was read, or that memory for it was refused, was worked on: that is the status, and the
+-- writers got the outcome
+pub record Ran {T : Type 0} (Works : Result (Vec ℕ Global) AllocError → T → Type 0)
+    (status_of : T → ℕ) (on_output on_errors : T → List ℕ) (status : ℕ)
+    (given left out_old out_new err_old err_new : Option (List ℕ)) : Type 0 where
+  pub read : Result (Vec ℕ Global) AllocError
+  pub outcome : T
+  pub worked : Works read outcome
+  pub all : IfOk read (λ bytes. IfSome given (λ input. bytes.items ≡ input))
+  pub end : OnOk read (IsAtEnd left)
+  pub is_status : status ≡ status_of outcome
+  pub output : Appends out_old out_new (on_output outcome)
+  pub errors : Appends err_old err_new (on_errors outcome)

@@ -1,1 +1,0 @@
-"""What `docs/reference` is made of: readers of the sources, and writers of the pages."""
