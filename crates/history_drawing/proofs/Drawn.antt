@@ -3,6 +3,8 @@ use Rattle.std.proofs.Common.{◌≡◌, ◌∙◌, ℕ, List, Option, Some, Non
 use Rattle.std.specs.declared.alloc.Global.{Global}
 use Rattle.std.specs.declared.alloc.AllocError.{AllocError}
 use Rattle.std.specs.Io.KnownBytes.{Appends}
+use Rattle.line_streams.specs.declared.filter.Status.{Status}
+use Rattle.line_streams.specs.declared.filter.Status.TheVariants.{Good, Faulty}
 use Rattle.history_logs.specs.Reports.{report_text}
 use Rattle.history_logs.specs.declared.logs.verdict.Refusal.{Refusal}
 use Rattle.history_logs.specs.declared.logs.verdict.Verdict.TheVariants.{Conforms, Refused}
@@ -11,11 +13,11 @@ use Rattle.history_drawing.specs.declared.drawing.Drawing.{Drawing}
 use Rattle.history_drawing.specs.declared.drawing.TheConstants.{MANY_CALLS}
 
 -- there is a picture, and this drawing has it, or there is none, and this drawing has none
-abbrev pub Has : ℕ → Option (String Global) → Drawing → Type 0
+abbrev pub Has : Status → Option (String Global) → Drawing → Type 0
 Has status (Some p) d = IsDrawn status d × (string_bytes d.picture ≡ string_bytes p)
 Has status None d = IsUndrawn MANY_CALLS.now d
 
-pub has_both : (status : ℕ) (p : Option (String Global)) (r : Result Drawing AllocError)
+pub has_both : (status : Status) (p : Option (String Global)) (r : Result Drawing AllocError)
     → IfOk r (λ d. IfSome p (λ p. IsDrawn status d × (string_bytes d.picture ≡ string_bytes p)))
     → IfOk r (λ d. IfNone p (IsUndrawn MANY_CALLS.now d)) → IfOk r (Has status p)
 has_both status (Some p) (Ok d) some none = some
@@ -25,7 +27,7 @@ has_both status p (Err e) some none = tt
 pub window_drawn : (log report : List ℕ) (told : Refusal) (p : Option (String Global))
     (r : Result Drawing AllocError) → report ≡ report_text (Refused told)
     → IfSome p (λ p. ShowsWindow log report told (string_bytes p))
-    → IfNone p (HasManyIn (IsWindow log told)) → IfOk r (Has 1 p)
+    → IfNone p (HasManyIn (IsWindow log told)) → IfOk r (Has Faulty p)
     → IfOk r (Draws log (Refused told))
 window_drawn log report told (Some p) (Ok d) e shows many has =
     let by_report : ShowsWindow log (report_text (Refused told)) told (string_bytes p) =
@@ -41,7 +43,7 @@ window_drawn log report told p (Err x) e shows many has = tt
 pub whole_drawn : (log report : List ℕ) (n m : ℕ) (p : Option (String Global))
     (r : Result Drawing AllocError) → report ≡ report_text (Conforms n m)
     → IfSome p (λ p. ShowsAll log report (string_bytes p)) → IfNone p (HasManyIn (IsWhole log))
-    → IfOk r (Has 0 p)
+    → IfOk r (Has Good p)
     → IfOk r (Draws log (Conforms n m))
 whole_drawn log report n m (Some p) (Ok d) e shows many has =
     let by_report : ShowsAll log (report_text (Conforms n m)) (string_bytes p) =
@@ -53,22 +55,3 @@ whole_drawn log report n m (Some p) (Ok d) e shows many has =
     )
 whole_drawn log report n m None (Ok d) e shows many has = inl (has, many)
 whole_drawn log report n m p (Err x) e shows many has = tt
-
--- what the writers get of it
-pub drawn_with : (given : Option (List ℕ)) (log : List ℕ) (d : Drawing)
-    (a b e f : Option (List ℕ)) → IfSome given (λ input. log ≡ input) → IsDrawingOf log d
-    → Appends a b (string_bytes d.picture) → Appends e f d.message.items
-    → IfSome given (λ log. DrawnWith log d.status a b e f)
-drawn_with None log d a b e f same is out err = tt
-drawn_with (Some input) log d a b e f same is out err = record {
-  d = d;
-  is = subst (λ (l : List ℕ). IsDrawingOf l d) same is;
-  told = refl;
-  output = out;
-  errors = err;
-}
-
--- what is an error is none that succeeded
-pub no_error : (r : Result Drawing AllocError) (x : AllocError) (d : Drawing) → r ≡ Err x
-    → r ≡ Ok d → ⊥
-no_error r x d bad good = let e = sym bad ∙ good in absurd (cc)

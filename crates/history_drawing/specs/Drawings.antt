@@ -3,7 +3,10 @@ use Rattle.std.specs.Prelude.{◌≡◌, ◌⊎◌, ℕ, ◌+◌, List, [], ◌�
 use Rattle.std.specs.Borrow.{Bor}
 use Rattle.std.specs.Io.KnownBytes.{Appends}
 use Rattle.std.specs.List.{flat_map}
+use Rattle.line_streams.specs.Filters.{status_number}
 use Rattle.line_streams.specs.Spelling.{HasNo}
+use Rattle.line_streams.specs.declared.filter.Status.{Status}
+use Rattle.line_streams.specs.declared.filter.Status.TheVariants.{Good, Faulty, Unusable}
 use Rattle.history_logs.specs.Logs.{Judged}
 use Rattle.history_logs.specs.Orders.{HasOrders}
 use Rattle.history_logs.specs.Reports.{report_text}
@@ -88,12 +91,12 @@ pub record ShowsAll (log report picture : List ℕ) : Type 0 where
 
 -- nothing is drawn, and this is reported
 pub record IsUndrawn (message : List ℕ) (d : Drawing) : Type 0 where
-  pub status : d.status ≡ 2
+  pub status : d.status ≡ Unusable
   pub picture : string_bytes d.picture ≡ []
   pub told : d.message.items ≡ message
 
 -- a picture is drawn, and nothing is reported
-pub record IsDrawn (status : ℕ) (d : Drawing) : Type 0 where
+pub record IsDrawn (status : Status) (d : Drawing) : Type 0 where
   pub ended : d.status ≡ status
   pub told : d.message.items ≡ []
 
@@ -101,10 +104,10 @@ pub record IsDrawn (status : ℕ) (d : Drawing) : Type 0 where
 abbrev pub Draws : List ℕ → Verdict → Drawing → Type 0
 Draws log (verdict.Conforms n m) d =
     (IsUndrawn MANY_CALLS.now d × HasManyIn (IsWhole log))
-    ⊎ (IsDrawn 0 d × ShowsAll log (report_text (verdict.Conforms n m)) (string_bytes d.picture))
+    ⊎ (IsDrawn Good d × ShowsAll log (report_text (verdict.Conforms n m)) (string_bytes d.picture))
 Draws log (verdict.Refused told) d =
     (IsUndrawn MANY_CALLS.now d × HasManyIn (IsWindow log told))
-    ⊎ (IsDrawn 1 d
+    ⊎ (IsDrawn Faulty d
     × ShowsWindow log (report_text (verdict.Refused told)) told (string_bytes d.picture))
 Draws log v d = IsUndrawn (report_text v) d
 
@@ -119,6 +122,6 @@ pub record DrawnWith (log : List ℕ) (status : ℕ) (out_old out_new err_old er
     : Type 0 where
   pub d : Drawing
   pub is : IsDrawingOf log d
-  pub told : status ≡ d.status
+  pub told : status ≡ status_number d.status
   pub output : Appends out_old out_new (string_bytes d.picture)
   pub errors : Appends err_old err_new d.message.items

@@ -17,13 +17,14 @@ use crate::points::points_of;
 use crate::svg::write_svg;
 use crate::timeline::{BarEnd, Timeline, Window, timeline_of};
 use history_logs::logs::{Refusal, Verdict, order_log, report_log};
+use line_streams::Status;
 use std::alloc::{AllocError, Global};
 
 /// What is drawn of a log: the status of the program, the picture, and what is reported where there
 /// is none.
 #[derive(Drop)]
 pub struct Drawing {
-    pub status: u8,
+    pub status: Status,
     pub picture: String,
     pub message: Vec<u8>,
 }
@@ -36,7 +37,7 @@ fn undrawn(alloc: Global, report: &[u8]) -> Result<Drawing, AllocError>
     ensures { IfOk result (IsUndrawn report.now) }
 {
     Ok(Drawing {
-        status: 2,
+        status: Status::Unusable,
         picture: String::new(alloc),
         message: Vec::from_slice(alloc, report)?,
     })
@@ -182,7 +183,7 @@ fn draw_whole(alloc: Global, log: &[u8], report: &[u8]) -> Result<Option<String>
 }
 
 /// A picture, or that there are too many calls for one.
-fn drawn(alloc: Global, status: u8, picture: Option<String>) -> Result<Drawing, AllocError>
+fn drawn(alloc: Global, status: Status, picture: Option<String>) -> Result<Drawing, AllocError>
     ensures some { IfOk result (λ d. IfSome picture (λ p.
         IsDrawn status d × (string_bytes d.picture ≡ string_bytes p))) }
     ensures none { IfOk result (λ d. IfNone picture (IsUndrawn MANY_CALLS.now d)) }
@@ -204,8 +205,12 @@ fn draw(alloc: Global, log: &[u8], verdict: &Verdict, report: &[u8]) -> Result<D
     ensures { IfOk result (Draws log.now verdict.now) }
 {
     match verdict {
-        Verdict::Refused(told) => drawn(alloc, 1, draw_refused(alloc, log, told, report)?),
-        Verdict::Conforms(_, _) => drawn(alloc, 0, draw_whole(alloc, log, report)?),
+        Verdict::Refused(told) => drawn(
+            alloc,
+            Status::Faulty,
+            draw_refused(alloc, log, told, report)?,
+        ),
+        Verdict::Conforms(_, _) => drawn(alloc, Status::Good, draw_whole(alloc, log, report)?),
         Verdict::ManyConfigs(_) => undrawn(alloc, report),
         Verdict::ManyOpen(_) => undrawn(alloc, report),
         Verdict::BadLine(_, _) => undrawn(alloc, report),

@@ -1,62 +1,32 @@
 //! Pictures of logs that come from a stream.
-ghost use Rattle.std.specs.Prelude.{◌≡◌, ◌<◌, IfOk, IfSome, OnOk, string_bytes};
-ghost use Rattle.std.specs.Io.KnownBytes.{Appends, IsAtEnd};
+ghost use Rattle.std.specs.Prelude.{◌<◌, IfSome, string_bytes};
+ghost use Rattle.std.specs.Io.KnownBytes.{IsAtEnd};
+ghost use Rattle.line_streams.specs.Filters.{status_number};
 ghost use Rattle.line_streams.specs.Streams.{IsFlushed};
 ghost use Rattle.history_drawing.specs.Drawings.{DrawnWith};
 
 use crate::drawing::{Drawing, draw_log};
-use line_streams::{Sink, Source, read_all, write_whole};
+use line_streams::{Outcome, Sink, Source, report_failure, run_filter, write_whole};
 use std::alloc::Global;
 use std::io;
 
-/// Writes a picture and what is reported, and flushes both writers.
-fn write_drawing<W: Sink, E: Sink>(
-    output: &mut W,
-    errors: &mut E,
-    drawing: &Drawing,
-) -> io::Result<()>
-    ensures output { OnOk result (Appends (W.contents output.old) (W.contents output.new)
-        (string_bytes drawing.now.picture)) }
-    ensures errors { OnOk result (Appends (E.contents errors.old) (E.contents errors.new)
-        drawing.now.message.items) }
-    ensures flushed { OnOk result
-        (IsFlushed W.Flushes output.new × IsFlushed E.Flushes errors.new) }
-{
-    write_whole(output, drawing.picture.as_bytes())?;
-    write_whole(errors, &drawing.message)?;
-    output.flush_pieces()?;
-    errors.flush_pieces()
-}
+impl Outcome for Drawing {
+    ghost status = { λ d. status_number d.status };
 
-/// Draws the log that the reader gives, and answers the status unless a stream fails.
-fn run<R: Source, W: Sink, E: Sink>(
-    alloc: Global,
-    input: &mut R,
-    output: &mut W,
-    errors: &mut E,
-) -> io::Result<u8>
-    ensures drawn { IfOk result (λ status. status < 3 → IfSome (R.remaining input.old)
-        (λ log. DrawnWith log status (W.contents output.old) (W.contents output.new)
-        (E.contents errors.old) (E.contents errors.new))) }
-    ensures flushed { IfOk result (λ status. status < 3
-        → IsFlushed W.Flushes output.new × IsFlushed E.Flushes errors.new) }
-    ensures read { IfOk result (λ status. status < 3 → IsAtEnd (R.remaining input.new)) }
-    ensures range { IfOk result (λ status. status < 4) }
-{
-    let end = match read_all(alloc, input)? {
-        Ok(log) => draw_log(alloc, &log),
-        Err(why) => Err(why),
-    };
-    match end {
-        Ok(drawn) => {
-            write_drawing(output, errors, &drawn)?;
-            Ok(drawn.status)
-        }
-        Err(_) => {
-            write_whole(errors, b"no memory\n")?;
-            errors.flush_pieces()?;
-            Ok(3)
-        }
+    ghost on_output = { λ d. string_bytes d.picture };
+
+    ghost on_errors = { λ d. d.message.items };
+
+    fn status(&self) -> u8 {
+        self.status.number()
+    }
+
+    fn output(&self) -> &[u8] {
+        self.picture.as_bytes()
+    }
+
+    fn write_errors<E: Sink>(&self, errors: &mut E) -> io::Result<()> {
+        write_whole(errors, &self.message)
     }
 }
 
@@ -85,12 +55,6 @@ pub fn draw_streams<R: Source, W: Sink, E: Sink>(
     // All input was read.
     ensures read { result < 3 → IsAtEnd (R.remaining input.new) }
 {
-    match run(alloc, input, output, errors) {
-        Ok(status) => status,
-        Err(_) => {
-            // Where this fails too, the status alone tells it.
-            let _told = write_whole(errors, b"a stream failed\n");
-            3
-        }
-    }
+    let end = run_filter(alloc, input, output, errors, |log| draw_log(alloc, &log?));
+    report_failure(errors, end)
 }
