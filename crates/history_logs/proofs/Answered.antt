@@ -370,8 +370,8 @@ module _ (text : List ℕ) (count : ℕ) where
       (get_end s.calls (starting part).seen) in
       placed_part text k (with_over one n k) second k (omega arith) (stopping n)
 
-  placed_begun : (s t : Service) (b : Begun) (current : ℕ) → Now s → Begins s b (count + 1) t current
-      → Next t
+  placed_begun : (s t : Service) (b : Begun) (current : ℕ) → Now s
+      → Begins s b (count + 1) t current → Next t
   placed_begun s t (command c) current p begins =
       subst Next (sym begins.0)
       (placed_begin text count s p (count + 1) (omega arith) (called s c))

@@ -310,7 +310,8 @@ module _ (s : Service) (o : IsOrderly s) (begin place : ℕ) (within : begin ≤
           (ap (λ (l : List Event). take begin (take (place + 1) l)) e)
           (window_is evs ∙ ap (λ (l : List Event). drop begin (take (place + 1) l)) e) b
           (subst (λ (l : List Watched). AreNeeded (StepOf s) l past window kept) n
-          (subst (λ (l : List Judged). AreNeeded (WindowStep 0 l) states past window kept) c needed))
+          (subst (λ (l : List Judged). AreNeeded (WindowStep 0 l) states past window kept) c
+          needed))
           (is
           ∙ ap (λ (l : List Bool). lines_begun begins (events_of (is_kept l) window)) o)
 

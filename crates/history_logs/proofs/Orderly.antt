@@ -250,7 +250,8 @@ begun_look s p k o =
     record {
       orderly = orderly_part two (stopping n) k second;
       number = refl;
-      now = subst (λ m. IsOpen (with_look s p k).events m) long (open_new two (stopping n) k second);
+      now = subst (λ m. IsOpen (with_look s p k).events m) long
+          (open_new two (stopping n) k second);
       fresh = above_fresh s o (n + 1) (omega arith);
       still = λ x live.
           open_begun two (stopping n) k x

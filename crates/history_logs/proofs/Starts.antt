@@ -26,7 +26,8 @@ use Rattle.history_logs.specs.Placed.{Answers, IsLineAt, IsSaidIn}
 use Rattle.history_logs.specs.Seen.{Service}
 
 module _ {S : Type 0} (Step : S → ℕ → S → Type 0) (es : List Event) (olds : List S)
-    (old mid new : S) (from : Contains olds old) (order : List ℕ) (call : ℕ) (ex : Explains Step es old order mid) (live : IsOpen es call)
+    (old mid new : S) (from : Contains olds old) (order : List ℕ) (call : ℕ)
+    (ex : Explains Step es old order mid) (live : IsOpen es call)
     (step : Step mid call new) where
   -- a call that is open, and was not made, is made after an order
   made_after : times call order ≡ 0 → Explains Step es old (order ++ call ∷ []) new

@@ -37,7 +37,9 @@ lacking_is l m e = cases (length l.unseen == 0 && length l.lasting == 0) refl
     some_look a b e = cc
 
     cases : (b : Bool) → (length l.unseen == 0 && length l.lasting == 0) ≡ b → l ≡ m
-    cases true t = (let bars : None ≡ Some m = subst (λ (o : Option Look). o ≡ Some m) (rw t refl) e in absurd (cc))
+    cases true t =
+        let bars : None ≡ Some m = subst (λ (o : Option Look). o ≡ Some m) (rw t refl) e in
+        absurd (cc)
     cases false t = some_look l m (subst (λ (o : Option Look). o ≡ Some m) (rw t refl) e)
 
 -- what it lacks then stays as it is

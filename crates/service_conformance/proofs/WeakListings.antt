@@ -87,7 +87,8 @@ was_there p s id = is_among (ids_in s p) id
 abbrev was_away : Part → Service → ℕ → Bool
 was_away p s id = not (is_among (ids_in s p) id)
 
-twice_not : (test : ℕ → Bool) (ids : List ℕ) → filter test ids ≡ filter (λ i. not (not (test i))) ids
+twice_not : (test : ℕ → Bool) (ids : List ℕ)
+    → filter test ids ≡ filter (λ i. not (not (test i))) ids
 twice_not test [] = refl
 twice_not test (id ∷ ids) =
     let rest = twice_not test ids in

@@ -86,8 +86,8 @@ abbrev pub WindowStep : ℕ → List Judged → Watched → ℕ → Watched → 
 WindowStep first calls old number new =
     (c : Judged) × HasNumber first calls number c × JudgedStep number c old new
 
--- what the weak listing with this number lacks: ids of which none was there, and ids that were there
--- all the while
+-- what the weak listing with this number lacks: ids of which none was there, and ids that were
+-- there all the while
 abbrev pub ids_lacking : List Look → ℕ → List ℕ × List ℕ
 ids_lacking [] start = ([], [])
 ids_lacking (l ∷ looks) start =

@@ -3,4 +3,5 @@ use Rattle.service_conformance.specs.Looks.{watched}
 use Rattle.service_conformance.proofs.conformance.judged_call.watched_all.Given as goal
 
 abbrev pub invariant-loop-service : goal.invariant-loop-service
-invariant-loop-service l = l.states.items ≡ map (λ s. watched s l.state.looks) (take l.service-index l.services)
+invariant-loop-service l =
+    l.states.items ≡ map (λ s. watched s l.state.looks) (take l.service-index l.services)
