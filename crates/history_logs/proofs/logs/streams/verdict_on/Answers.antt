@@ -6,7 +6,3 @@ pub witness_read-requires : goal.witness_read-requires
 witness_read-requires g c =
     let found = c.in_ok-reading in
     subst (λ s. IsReadTo c.args.log.now s found.bad) (sym c.deref.ensures.value) found.ensures.read
-
-pub returns-then-with_orders-clause-text : goal.returns-then-with_orders-clause-text
-returns-then-with_orders-clause-text g c =
-    rw c.if-with_orders.true c.witness_read.ensures.text
