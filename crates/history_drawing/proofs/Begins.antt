@@ -113,15 +113,15 @@ module _ (lines : List (Bor (List ℕ))) (k : ℕ) where
   pub same_service : (last : ℕ) (one other : LogCall) → BeginsIn lines k last one
       → BeginsIn lines k last other → one.service ≡ other.service
   same_service last one other (inl a) (inl b) =
-      let same = one_way (begin one.service one.caller.now a.command)
-      (begin other.service other.caller.now b.command) a.says.0 b.says.0
+      let same = one_way (begin one.service one.caller.now a.begun)
+      (begin other.service other.caller.now b.begun) a.says.0 b.says.0
       (sym a.says.1 ∙ b.says.1) in
       same.0
   same_service last one other (inl a) (inr b) =
-      absurd (one_way (begin one.service one.caller.now a.command) (reply b.words.now) a.says.0
+      absurd (one_way (begin one.service one.caller.now a.begun) (reply b.words.now) a.says.0
       b.says.0 (sym a.says.1 ∙ b.says.1))
   same_service last one other (inr a) (inl b) =
-      absurd (one_way (reply a.words.now) (begin other.service other.caller.now b.command)
+      absurd (one_way (reply a.words.now) (begin other.service other.caller.now b.begun)
       a.says.0 b.says.0 (sym a.says.1 ∙ b.says.1))
   same_service last one other (inr a) (inr b) =
       one_way (call one.service a.command) (call other.service b.command) a.is b.is

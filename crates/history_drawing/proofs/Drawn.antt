@@ -1,8 +1,9 @@
 -- What is drawn by a verdict.
-use Rattle.std.proofs.Common.{◌≡◌, ◌∙◌, ℕ, List, Option, Some, None, Result, Ok, Err, IfNone, IfOk, IfSome, String, inl, inr, refl, subst, string_bytes, sym}
+use Rattle.std.proofs.Common.{◌≡◌, ◌∙◌, ◌<◌, ℕ, [], List, Option, Some, None, Result, Ok, Err, IfNone, IfOk, IfSome, OnOk, String, arith, codes, inl, inr, refl, subst, string_bytes, sym}
 use Rattle.std.specs.declared.alloc.Global.{Global}
 use Rattle.std.specs.declared.alloc.AllocError.{AllocError}
 use Rattle.std.specs.Io.KnownBytes.{Appends}
+use Rattle.line_streams.specs.Filters.{either, status_number}
 use Rattle.line_streams.specs.declared.filter.Status.{Status}
 use Rattle.line_streams.specs.declared.filter.Status.TheVariants.{Good, Faulty}
 use Rattle.history_logs.specs.Reports.{report_text}
@@ -55,3 +56,38 @@ whole_drawn log report n m (Some p) (Ok d) e shows many has =
     )
 whole_drawn log report n m None (Ok d) e shows many has = inl (has, many)
 whole_drawn log report n m p (Err x) e shows many has = tt
+
+-- what is drawn of what was read
+pub drawn_of : (given : Option (List ℕ)) (log : List ℕ) (d : Drawing)
+    → IfSome given (λ input. log ≡ input) → IsDrawingOf log d
+    → IfSome given (λ log. IsDrawingOf log d)
+drawn_of None log d same is = tt
+drawn_of (Some input) log d same is = subst (λ (l : List ℕ). IsDrawingOf l d) same is
+
+-- what is an error is none that succeeded
+pub no_error : (r : Result Drawing AllocError) (x : AllocError) (d : Drawing) → r ≡ Err x
+    → r ≡ Ok d → ⊥
+no_error r x d bad good = let e = sym bad ∙ good in absurd (cc)
+
+-- what the writers get of it
+pub drawn_where_written : {E : Type 0} (given : Option (List ℕ)) (end : Result Drawing AllocError)
+    (wrote : Result ℕ E) (a b e f : Option (List ℕ))
+    → ((d : Drawing) → end ≡ Ok d → IfSome given (λ log. IsDrawingOf log d))
+    → IfOk wrote (λ status.
+    status ≡ either (λ (d : Drawing). status_number d.status) (λ (why : AllocError). 3) end)
+    → OnOk wrote (Appends a b
+    (either (λ (d : Drawing). string_bytes d.picture) (λ (why : AllocError). []) end))
+    → OnOk wrote (Appends e f
+    (either (λ (d : Drawing). d.message.items) (λ (why : AllocError). codes "no memory\n") end))
+    → IfOk wrote (λ status. status < 3 → IfSome given (λ log. DrawnWith log status a b e f))
+drawn_where_written given end (Err x) a b e f draws is out err = tt
+drawn_where_written None end (Ok status) a b e f draws is out err = λ small. tt
+drawn_where_written (Some log) (Err why) (Ok status) a b e f draws is out err =
+    λ small. absurd (omega (arith, small, is))
+drawn_where_written (Some log) (Ok d) (Ok status) a b e f draws is out err = λ small. record {
+  d = d;
+  is = draws d refl;
+  told = is;
+  output = out;
+  errors = err;
+}

@@ -3,14 +3,16 @@ use Rattle.std.proofs.Common.{◌≡◌, ◌≢◌, ◌⊎◌, ℕ, zero, suc, �
 use Rattle.std.proofs.lemmas.Bool.{cases_lt}
 use Rattle.std.proofs.lemmas.List.{append-nil, length-append}
 use Rattle.std.proofs.lemmas.List.Elements.{All-contains}
-use Rattle.std.proofs.lemmas.Option.{get_or_from_slice_get, slice_get_within}
+use Rattle.std.proofs.lemmas.Option.{get_or_from_slice_get, same_Some, slice_get_within}
 use Rattle.histories.specs.declared.event.Event.{Event}
 use Rattle.log_lines.specs.Lines.{line_text}
+use Rattle.service_conformance.specs.Judged.{Judged as JudgedCall, words_of}
+use Rattle.service_conformance.specs.Judged.Judged.{call, starts, stops}
 use Rattle.history_logs.proofs.Answered.{placed_of}
 use Rattle.history_logs.proofs.Kept.{few_step, kept_new, kept_step}
 use Rattle.history_logs.specs.Good.{IsKept}
 use Rattle.history_logs.specs.Logs.{HasGood, Judged, calls_in}
-use Rattle.history_logs.specs.Placed.{IsLineAt, IsPlaced}
+use Rattle.history_logs.specs.Placed.{IsLineAt, IsPlaced, IsSaidIn}
 use Rattle.history_logs.specs.Reading.{HasRead, Log}
 use Rattle.history_logs.specs.Reading.HasRead.{nothing as none_read, note as note_read, line as line_read}
 use Rattle.history_logs.specs.Seen.{Service}
@@ -31,9 +33,9 @@ more_text text line count h =
     omega (arith, h, length-append text (line ++ 10 ∷ []), length-append line (10 ∷ []))
 
 none_in : (services : List Service) → services ≡ []
-    → sum_by (λ (s : Service). length s.calls) services ≤ 0
+    → sum_by (λ (s : Service). length s.commands) services ≤ 0
 none_in services is = subst (λ (l : List Service).
-    sum_by (λ (s : Service). length s.calls) l ≤ 0) (sym is) (omega arith)
+    sum_by (λ (s : Service). length s.commands) l ≤ 0) (sym is) (omega arith)
 
 read_on : (text : List ℕ) (count : ℕ) (log : Log) → HasRead text count log
     → ReadOn text count log
@@ -116,6 +118,13 @@ line_in bytes (suc (suc k)) line at =
     let below = line_in at.1 (suc k) line at.4 in
     omega (arith, below, ap (length {A = ℕ}) at.3, length-append at.0 (10 ∷ at.1))
 
+-- the number of the line in which words were seen
+said_in : (bytes : List ℕ) (c : JudgedCall) (words : List ℕ) (k : ℕ) → words_of c ≡ Some words
+    → IsSaidIn bytes c k → k ≤ length bytes
+said_in bytes (starts p ids) words k is said = absurd (cc)
+said_in bytes (call c) words k is said = line_in bytes k (line_text said.2.0) said.2.3
+said_in bytes (stops start r) words k is said = line_in bytes k (line_text said.2.0) said.2.3
+
 take_few : {X : Type 0} (n : ℕ) (xs : List X) → length (take n xs) ≤ n
 take_few zero xs = omega arith
 take_few (suc n) [] = omega arith
@@ -134,8 +143,10 @@ window_in bytes told (count, log, rest, good, refusal) =
     All-contains (IsPlaced good.text) log.services s
     (placed_in good.text count log good.read refusal.stops.is) refusal.stops.is in
     let answer = placed.answers place refusal.number told.line refusal.ended refusal.stops.there in
+    let words : words_of answer.0 ≡ Some told.words.items =
+    ap words_of (same_Some _ _ (sym answer.1 ∙ refusal.called)) ∙ refusal.words in
     let upto : told.line ≤ length good.text =
-    line_in good.text told.line (line_text answer.4.0) answer.4.3 in
+    said_in good.text answer.0 told.words.items told.line words answer.2 in
     let there : get_or places place 0 ≡ told.line =
     get_or_from_slice_get places place told.line 0 refusal.stops.there in
     let within : place < length places =

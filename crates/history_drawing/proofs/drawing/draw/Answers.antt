@@ -1,4 +1,5 @@
 use Rattle.std.proofs.Common.{ℕ, List, subst}
+use Rattle.line_streams.specs.declared.filter.Status.TheVariants.{Faulty, Good}
 use Rattle.history_logs.proofs.LinesAt.{if_ok}
 use Rattle.history_drawing.proofs.Drawn.{has_both, whole_drawn, window_drawn}
 use Rattle.history_drawing.proofs.Placed.{window_in}
@@ -18,7 +19,7 @@ returns-in_ok-draw_refused-in-Refused c =
     rw c.in-Refused.is (window_drawn c.args.log.now c.args.report.now c.in-Refused.told found
     c.drawn.result report c.in_ok-draw_refused-in-Refused.ensures.some
     c.in_ok-draw_refused-in-Refused.ensures.none
-    (has_both 1 found c.drawn.result c.drawn.ensures.some c.drawn.ensures.none))
+    (has_both Faulty found c.drawn.result c.drawn.ensures.some c.drawn.ensures.none))
 
 pub returns-in_ok-draw_whole-in-Conforms : goal.returns-in_ok-draw_whole-in-Conforms
 returns-in_ok-draw_whole-in-Conforms c =
@@ -27,7 +28,7 @@ returns-in_ok-draw_whole-in-Conforms c =
     rw c.in-Conforms.is (whole_drawn c.args.log.now c.args.report.now c.in-Conforms.field-0
     c.in-Conforms.field-1 found c.drawn-in-Conforms.result report
     c.in_ok-draw_whole-in-Conforms.ensures.some c.in_ok-draw_whole-in-Conforms.ensures.none
-    (has_both 0 found c.drawn-in-Conforms.result c.drawn-in-Conforms.ensures.some
+    (has_both Good found c.drawn-in-Conforms.result c.drawn-in-Conforms.ensures.some
     c.drawn-in-Conforms.ensures.none))
 
 pub returns-in-ManyConfigs : goal.returns-in-ManyConfigs
