@@ -27,7 +27,10 @@ fn a_log_is_drawn_whole_or_not_at_all(rt: HostRuntime) -> Result<(), Fail> {
             Ok(drawing) => drawing,
             Err(_) => draw_log(rt.alloc(), log.as_bytes())?,
         };
-        assert_eq!(rt; (drawing.status, drawing.message.len()), (*status, 0));
+        assert_eq!(rt;
+            (drawing.status.number(), drawing.message.len()),
+            (*status, 0)
+        );
         assert!(rt; drawing.picture.as_str().ends_with("</text>\n</svg>\n"));
     }
     Ok(())

@@ -79,7 +79,7 @@ fn draws(rt: &(impl Abort + AllocGlobal), row: &Row) -> Result<(), Fail> {
     let drawing = draw_log(rt.alloc(), row.log.as_bytes())?;
     let message = drawing.message.as_slice();
     assert_eq!(rt;
-        (drawing.status, message),
+        (drawing.status.number(), message),
         (row.status, row.message.as_bytes())
     );
     for part in row.parts {
@@ -117,7 +117,7 @@ fn log_of(rt: &impl AllocGlobal, calls: usize) -> Result<String, Fail> {
 fn as_many_calls_as_fit(rt: HostRuntime) -> Result<(), Fail> {
     let log = log_of(&rt, 200)?;
     let drawing = draw_log(rt.alloc(), log.as_bytes())?;
-    assert_eq!(rt; (drawing.status, drawing.message.len()), (0, 0));
+    assert_eq!(rt; (drawing.status.number(), drawing.message.len()), (0, 0));
     assert!(rt;
         drawing
             .picture
@@ -128,7 +128,7 @@ fn as_many_calls_as_fit(rt: HostRuntime) -> Result<(), Fail> {
     let drawing = draw_log(rt.alloc(), log.as_bytes())?;
     assert_eq!(rt;
         (
-            drawing.status,
+            drawing.status.number(),
             drawing.picture.len(),
             drawing.message.as_slice()
         ),
