@@ -38,11 +38,13 @@ enum iox2sd_log_command_number {
     IOX2SD_LOG_DEAD = 4,
     IOX2SD_LOG_NODES = 5,
     IOX2SD_LOG_LIST = 6,
-    IOX2SD_LOG_COUNT = 7
+    IOX2SD_LOG_COUNT = 7,
+    IOX2SD_LOG_NODES_WEAK = 8,
+    IOX2SD_LOG_LIST_WEAK = 9
 };
 
-/* A command, as docs/SCRIPT.md has it; a removal names its handle by slot and ticket. The functions
- * below make one. A field that its kind does not have is 0. */
+/* A command, as docs/SCRIPT.md has it, or a weak listing; a removal names its handle by slot and
+ * ticket. The functions below make one. A field that its kind does not have is 0. */
 typedef struct iox2sd_log_command {
     uint32_t kind;
     iox2sd_role role;
@@ -58,6 +60,12 @@ static inline iox2sd_log_command iox2sd_log_of_kind(uint32_t kind) {
     iox2sd_log_command made;
     memset(&made, 0, sizeof made);
     made.kind = kind;
+    return made;
+}
+
+static inline iox2sd_log_command iox2sd_log_of_role(uint32_t kind, iox2sd_role role) {
+    iox2sd_log_command made = iox2sd_log_of_kind(kind);
+    made.role = role;
     return made;
 }
 
@@ -113,16 +121,24 @@ static inline iox2sd_log_command iox2sd_log_nodes(void) {
 
 /* Lists the ports of the role. */
 static inline iox2sd_log_command iox2sd_log_list(iox2sd_role role) {
-    iox2sd_log_command made = iox2sd_log_of_kind(IOX2SD_LOG_LIST);
-    made.role = role;
-    return made;
+    return iox2sd_log_of_role(IOX2SD_LOG_LIST, role);
 }
 
 /* Counts the ports of the role. */
 static inline iox2sd_log_command iox2sd_log_count(iox2sd_role role) {
-    iox2sd_log_command made = iox2sd_log_of_kind(IOX2SD_LOG_COUNT);
-    made.role = role;
-    return made;
+    return iox2sd_log_of_role(IOX2SD_LOG_COUNT, role);
+}
+
+/* Lists the nodes without a lock, by a walk over the slots while others change them, so that the
+ * reply need not be a snapshot. It must have each node that was there all through the call, and
+ * none that never was. */
+static inline iox2sd_log_command iox2sd_log_nodes_weak(void) {
+    return iox2sd_log_of_kind(IOX2SD_LOG_NODES_WEAK);
+}
+
+/* Lists the ports of the role, as iox2sd_log_nodes_weak does nodes. */
+static inline iox2sd_log_command iox2sd_log_list_weak(iox2sd_role role) {
+    return iox2sd_log_of_role(IOX2SD_LOG_LIST_WEAK, role);
 }
 
 /* ---- Replies ---- */
@@ -357,9 +373,10 @@ iox2sd_log_caller_create(iox2sd_log_writer *writer, const char *name) {
 
 /* Whether a command has a line in a log. */
 static inline iox2sd_status iox2sd_log_command_check(const iox2sd_log_command *command) {
-    if (command->kind > IOX2SD_LOG_COUNT) return IOX2SD_STATUS_UNKNOWN_VARIANT;
+    if (command->kind > IOX2SD_LOG_LIST_WEAK) return IOX2SD_STATUS_UNKNOWN_VARIANT;
     const bool has_role = command->kind == IOX2SD_LOG_ADD || command->kind == IOX2SD_LOG_RELEASE ||
-                          command->kind == IOX2SD_LOG_LIST || command->kind == IOX2SD_LOG_COUNT;
+                          command->kind == IOX2SD_LOG_LIST || command->kind == IOX2SD_LOG_COUNT ||
+                          command->kind == IOX2SD_LOG_LIST_WEAK;
     if (has_role && (command->role == IOX2SD_ROLE_NODE || command->role > IOX2SD_ROLE_WRITER)) {
         return IOX2SD_STATUS_UNKNOWN_ROLE;
     }
@@ -513,8 +530,8 @@ static inline const char *iox2sd_log_role(iox2sd_role role) {
 static inline void iox2sd_log_put_command(struct iox2sd_log_text *text,
                                           const struct iox2sd_log_call *call,
                                           const iox2sd_id *ids) {
-    static const char *const words[] = {"register", "deregister", "add",  "release",
-                                        "dead",     "nodes",      "list", "count"};
+    static const char *const words[] = {"register", "deregister", "add",   "release", "dead",
+                                        "nodes",    "list",       "count", "nodes?",  "list?"};
     const uint32_t kind = call->command;
     iox2sd_log_put_str(text, words[kind]);
     iox2sd_log_put_str(text, iox2sd_log_role(call->role));

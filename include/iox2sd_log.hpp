@@ -23,8 +23,8 @@
 
 namespace iox2sd {
 
-/// A command, as docs/SCRIPT.md has it, by the names of the layer's calls. A removal names its
-/// handle by slot and ticket.
+/// A command, as docs/SCRIPT.md has it, by the names of the layer's calls, or a weak listing. A
+/// removal names its handle by slot and ticket.
 class LogCommand {
 public:
     static LogCommand register_node(const UniqueNodeId& node) noexcept {
@@ -51,6 +51,14 @@ public:
     }
     static LogCommand count_ports(Role role) noexcept {
         return LogCommand(iox2sd_log_count(static_cast<std::uint64_t>(role)));
+    }
+    /// Lists the nodes without a lock, by a walk over the slots while others change them, so that
+    /// the reply need not be a snapshot. It must have each node that was there all through the
+    /// call, and none that never was.
+    static LogCommand nodes_weak() noexcept { return LogCommand(iox2sd_log_nodes_weak()); }
+    /// Lists the ports of the role, as `nodes_weak` does nodes.
+    static LogCommand list_weak(Role role) noexcept {
+        return LogCommand(iox2sd_log_list_weak(static_cast<std::uint64_t>(role)));
     }
 
     static LogCommand from_c(const iox2sd_log_command& command) noexcept {

@@ -60,6 +60,8 @@ static void commands(void) {
     call(a, iox2sd_log_nodes(), full);
     call(a, iox2sd_log_list(IOX2SD_ROLE_CLIENT), full);
     call(a, iox2sd_log_count(IOX2SD_ROLE_WRITER), full);
+    call(a, iox2sd_log_nodes_weak(), full);
+    call(a, iox2sd_log_list_weak(IOX2SD_ROLE_SERVER), full);
     CHECK(has_lines(&writer, "A> register 1.0.0.1\nA< full\n"
                              "A> deregister 0 18446744073709551615\nA< full\n"
                              "A> add listener 4294967295.0.10.4294967295 1.0.0.1\nA< full\n"
@@ -67,7 +69,8 @@ static void commands(void) {
                              "A> dead 1.0.0.1\nA< full\n"
                              "A> dead 1.0.0.1 skip 0.0.0.0 4294967295.0.10.4294967295\nA< full\n"
                              "A> nodes\nA< full\nA> list client\nA< full\n"
-                             "A> count writer\nA< full\n"));
+                             "A> count writer\nA< full\n"
+                             "A> nodes?\nA< full\nA> list? server\nA< full\n"));
     iox2sd_log_writer_free(&writer);
 }
 
@@ -199,13 +202,17 @@ static void refusals(void) {
     CHECK(iox2sd_log_caller_create(NULL, "A").status == IOX2SD_STATUS_NULL);
     const iox2sd_id no_node = {0, 1, 1, 0};
     iox2sd_log_command strange = iox2sd_log_nodes();
-    strange.kind = 8;
+    strange.kind = 10;
     CHECK(iox2sd_log_begin(a, strange).status == IOX2SD_STATUS_UNKNOWN_VARIANT);
     CHECK(iox2sd_log_begin(a, iox2sd_log_register(no_node)).status == IOX2SD_STATUS_NO_NODE);
     CHECK(iox2sd_log_begin(a, iox2sd_log_dead(node, NULL, 1)).status == IOX2SD_STATUS_NULL);
     for (iox2sd_role role = 0; role < 20; role += 9) {
-        const uint32_t status = iox2sd_log_begin(a, iox2sd_log_count(role)).status;
-        CHECK(status == IOX2SD_STATUS_UNKNOWN_ROLE);
+        const iox2sd_log_command commands[] = {iox2sd_log_count(role), iox2sd_log_list(role),
+                                               iox2sd_log_list_weak(role)};
+        for (size_t at = 0; at < sizeof commands / sizeof *commands; at++) {
+            const uint32_t status = iox2sd_log_begin(a, commands[at]).status;
+            CHECK(status == IOX2SD_STATUS_UNKNOWN_ROLE);
+        }
     }
     CHECK(iox2sd_log_begin(NULL, iox2sd_log_nodes()).status == IOX2SD_STATUS_NULL);
     CHECK(has_lines(&writer, ""));

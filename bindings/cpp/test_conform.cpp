@@ -165,6 +165,47 @@ void written() {
     CHECK(a.reserve(SIZE_MAX).status() == Status::NoMemory);
 }
 
+/// Whether a listing of nodes or listeners that saw those with these counters is judged so: 9 stays
+/// all through the call, 10 leaves in it, and 11 comes then.
+bool is_judged(const LogCommand& listing, const std::vector<std::uint32_t>& seen, Status status) {
+    LogWriter log = LogWriter::create(PatternKind::Event, 7, {2, 2, 0}).value();
+    LogCaller a = log.caller("A").value(), b = log.caller("B").value();
+    const auto call = [&b](const LogCommand& command, const LogReply& reply) {
+        CHECK(b.begin(command).value().end(reply));
+    };
+    const auto come = [&call](std::uint32_t counter, std::size_t slot, std::uint64_t ticket) {
+        const UniqueNodeId node = UniqueNodeId::create(1, 0, 0, counter).value();
+        call(LogCommand::register_node(node), LogReply::handle(slot, ticket));
+        const UniquePortId port = UniqueListenerId(1, 0, 0, counter);
+        call(LogCommand::attach(port, node), LogReply::handle(slot, ticket));
+    };
+    come(9, 0, 0);
+    come(10, 1, 1);
+    LogToken open = a.begin(listing).value();
+    call(LogCommand::release_port(Role::Listener, 1, 1), LogReply::released());
+    call(LogCommand::deregister_node(1, 1), LogReply::has_owners());
+    come(11, 1, 2);
+    std::vector<iox2sd_id> ids;
+    for (const std::uint32_t counter : seen) ids.push_back({1, 0, 0, counter});
+    CHECK(open.end(LogReply::list(ids.data(), ids.size())));
+    const List<char> text = log.text().value();
+    const LogVerdict found = check_log(text);
+    return found.status == status && found.line == (status == Status::Done ? 0 : 19);
+}
+
+/// A weak listing has what stays, and nothing that never was there. Others are snapshots.
+void weak_listings() {
+    const LogCommand weak[] = {LogCommand::nodes_weak(), LogCommand::list_weak(Role::Listener)};
+    for (const LogCommand& listing : weak) {
+        CHECK(is_judged(listing, {9, 10, 11}, Status::Done));
+        CHECK(is_judged(listing, {9}, Status::Done));
+        CHECK(is_judged(listing, {10, 11}, Status::NoOrder));
+        CHECK(is_judged(listing, {9, 12}, Status::NoOrder));
+    }
+    CHECK(is_judged(LogCommand::nodes(), {9, 10, 11}, Status::NoOrder));
+    CHECK(is_judged(LogCommand::ports(Role::Listener), {9, 10, 11}, Status::NoOrder));
+}
+
 template <class T, class = void>
 constexpr bool has_configurations = false;
 template <class T>
@@ -334,6 +375,7 @@ int main() {
     several_configurations();
     open_calls();
     written();
+    weak_listings();
     configurations_differ();
     random_calls();
     kept_together();

@@ -22,7 +22,9 @@ MAX_NAME = 16
 
 @dataclass(frozen=True, slots=True)
 class LogCommand(Value):
-    """A command, as scripts have it. A removal names its handle by slot and ticket."""
+    """A command, as scripts have it, or a weak listing. A removal names its handle by slot and
+    ticket.
+    """
 
     text: str
     """Its words."""
@@ -69,6 +71,19 @@ class LogCommand(Value):
     def count(cls, role: Role) -> "LogCommand":
         """Counts the ports of the role."""
         return cls(f"count {_word(role)}")
+
+    @classmethod
+    def nodes_weak(cls) -> "LogCommand":
+        """Lists the nodes without a lock, by a walk over the slots while others change them, so that
+        the reply need not be a snapshot. It must have each node that was there all through the
+        call, and none that never was.
+        """
+        return cls("nodes?")
+
+    @classmethod
+    def list_weak(cls, role: Role) -> "LogCommand":
+        """Lists the ports of the role, as `nodes_weak` does nodes."""
+        return cls(f"list? {_word(role)}")
 
 
 @dataclass(frozen=True, slots=True)

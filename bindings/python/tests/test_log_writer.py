@@ -5,7 +5,7 @@ import unittest
 import iox2sd
 from iox2sd import (
     Capacities, Conforms, DeregisterNodeState, LogCommand, LogReply, LogWriter, MessagingPattern,
-    Role, check_log, log_writer,
+    NoOrder, Role, Verdict, check_log, log_writer,
 )
 
 NODE = iox2sd.UniqueNodeId(1, 0, 0, 1)
@@ -14,6 +14,29 @@ PORT = iox2sd.UniqueListenerId(2**32 - 1, 0, 10, 3)
 
 def a_log() -> LogWriter:
     return LogWriter(MessagingPattern.EVENT, 7, Capacities(4, 3, 2))
+
+
+def verdict(listing: LogCommand, *seen: int) -> Verdict:
+    """That on a listing of nodes or listeners which saw those with these counters: 9 stays all
+    through the call, 10 leaves in it, and 11 comes then.
+    """
+    log = a_log()
+    caller, other = log.caller("A"), log.caller("B")
+
+    def come(counter: int, slot: int, ticket: int) -> None:
+        node = iox2sd.UniqueNodeId(1, 0, 0, counter)
+        port = iox2sd.UniqueListenerId(1, 0, 0, counter)
+        for command in (LogCommand.register(node), LogCommand.add(port, node)):
+            other.begin(command).end(LogReply.handle(slot, ticket))
+
+    come(9, 0, 0)
+    come(10, 1, 1)
+    call = caller.begin(listing)
+    other.begin(LogCommand.release(Role.LISTENER, 1, 1)).end(log_writer.RELEASED)
+    other.begin(LogCommand.deregister(1, 1)).end(log_writer.HAS_OWNERS)
+    come(11, 1, 2)
+    call.end(LogReply.list(iox2sd.UniqueNodeId(1, 0, 0, counter) for counter in seen))
+    return check_log(log.text)
 
 
 class LogWriting(unittest.TestCase):
@@ -33,6 +56,8 @@ class LogWriting(unittest.TestCase):
             "nodes": LogCommand.nodes(),
             "list client": LogCommand.list(Role.CLIENT),
             "count writer": LogCommand.count(Role.WRITER),
+            "nodes?": LogCommand.nodes_weak(),
+            "list? server": LogCommand.list_weak(Role.SERVER),
         }
         for words, command in cases.items():
             log = a_log()
@@ -97,9 +122,21 @@ class LogWriting(unittest.TestCase):
             self.assertRaises(iox2sd.OutOfRangeError, log.caller, name)
         for name in ("a b", "A>", "\u00e4"):
             self.assertRaises(iox2sd.IllegalByteError, log.caller, name)
-        self.assertRaises(iox2sd.RoleNotInPatternError, LogCommand.list, Role.NODE)
+        for listing in (LogCommand.list, LogCommand.list_weak):
+            self.assertRaises(iox2sd.RoleNotInPatternError, listing, Role.NODE)
         self.assertRaises(iox2sd.OutOfRangeError, LogCommand.deregister, -1, 0)
         self.assertRaises(iox2sd.OutOfRangeError, LogReply.handle, 0, 2**64)
+
+    def test_weak_listings_have_what_stays_and_others_are_snapshots(self):
+        weak = (LogCommand.nodes_weak(), LogCommand.list_weak(Role.LISTENER))
+        for listing in weak:
+            self.assertEqual(verdict(listing, 9, 10, 11), Conforms(9))
+            self.assertEqual(verdict(listing, 9), Conforms(9))
+        refused = [verdict(listing, *seen) for listing in weak for seen in ((10, 11), (9, 12))]
+        for listing in (LogCommand.nodes(), LogCommand.list(Role.LISTENER)):
+            refused.append(verdict(listing, 9, 10, 11))
+        for found in refused:
+            self.assertTrue(isinstance(found, NoOrder) and found.line == 19, found)
 
     def test_threads_write_one_log(self):
         log = a_log()

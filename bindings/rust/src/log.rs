@@ -45,7 +45,7 @@ mod record;
 pub(crate) use lines::{service, text};
 pub(crate) use record::{Ends, Record};
 
-/// A command, as scripts have it. A removal names its handle by slot and ticket.
+/// A command, as scripts have it, or a weak listing. A removal names its handle by slot and ticket.
 ///
 /// ```
 /// use iox2sd::log::Command;
@@ -85,6 +85,12 @@ pub enum Command {
     List(Role),
     /// Counts the ports of the role.
     Count(Role),
+    /// Lists the nodes without a lock, by a walk over the slots while others change them, so that
+    /// the reply need not be a snapshot. It must have each node that was there all through the
+    /// call, and none that never was.
+    NodesWeak,
+    /// Lists the ports of the role, as [`NodesWeak`](Command::NodesWeak) does nodes.
+    ListWeak(Role),
 }
 
 /// What a call replied, as scripts have it.

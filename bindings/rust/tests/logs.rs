@@ -8,7 +8,7 @@ use iox2sd::conform::{check_log, Configuration, Expected, Refusal, Verdict};
 use iox2sd::container::Role;
 use iox2sd::dynamic_config::{blackboard, event, publish_subscribe, request_response};
 use iox2sd::identifiers::{UniqueListenerId, UniqueNodeId, UniqueNotifierId, UniquePortId};
-use iox2sd::log::{Command, LogError, LogWriter, Reply};
+use iox2sd::log::{Caller, Command, LogError, LogWriter, Reply};
 
 const SERVICE: &str = "service event 7 200 2 2\n";
 
@@ -284,6 +284,8 @@ fn each_command_has_its_line() {
         (Command::Nodes, "nodes"),
         (Command::List(Role::Client), "list client"),
         (Command::Count(Role::Writer), "count writer"),
+        (Command::NodesWeak, "nodes?"),
+        (Command::ListWeak(Role::Server), "list? server"),
     ];
     for (command, line) in commands {
         let log = a_log();
@@ -355,6 +357,82 @@ fn lines_stand_in_the_order_of_time() {
         ),
         "{text}"
     );
+}
+
+/// A node and a listener come to the registry.
+fn come(caller: &mut Caller<'_>, counter: u32, slot: usize, ticket: u64) {
+    let handle = Reply::Handle { slot, ticket };
+    let node = node(counter);
+    let register = caller.begin(Command::Register(node)).unwrap();
+    register.end(handle.clone());
+    let add = caller.begin(Command::Add(listener(counter), node)).unwrap();
+    add.end(handle);
+}
+
+fn listener(counter: u32) -> UniquePortId {
+    UniquePortId::Listener(UniqueListenerId::new(1, 0, 0, counter))
+}
+
+/// The line of the reply to a listing where it is refused. 9 stays all through the call, 10 leaves
+/// in it, and 11 comes then.
+fn refused(listing: Command, reply: Reply) -> Option<usize> {
+    let mut log = a_log();
+    let (mut a, mut b) = (log.caller("A").unwrap(), log.caller("B").unwrap());
+    come(&mut b, 9, 0, 0);
+    come(&mut b, 10, 1, 1);
+    let open = a.begin(listing).unwrap();
+    let (role, slot, ticket) = (Role::Listener, 1, 1);
+    let release = b.begin(Command::Release { role, slot, ticket }).unwrap();
+    release.end(Reply::Released);
+    let deregister = b.begin(Command::Deregister { slot, ticket }).unwrap();
+    deregister.end(Reply::HasOwners);
+    come(&mut b, 11, 1, 2);
+    open.end(reply);
+    drop((a, b));
+    match check_log(&log.text()) {
+        Ok(Verdict::Conforms { calls: 9 }) => None,
+        Ok(Verdict::NoOrder(refusal)) => Some(refusal.line),
+        other => panic!("{other:?}"),
+    }
+}
+
+#[test]
+fn weak_listings_have_what_stays_and_others_are_snapshots() {
+    let nodes = |listing, seen: &[u32]| {
+        let seen = seen.iter().copied().map(node).collect();
+        refused(listing, Reply::Nodes(seen))
+    };
+    let ports = |listing, seen: &[u32]| {
+        let seen = seen.iter().copied().map(listener).collect();
+        refused(listing, Reply::Ports(seen))
+    };
+    let weak = Command::ListWeak(Role::Listener);
+    for (seen, line) in [
+        (&[9, 10, 11][..], None),
+        (&[9], None),
+        (&[10, 11], Some(19)),
+        (&[9, 12], Some(19)),
+    ] {
+        assert_eq!(nodes(Command::NodesWeak, seen), line, "{seen:?}");
+        assert_eq!(ports(weak.clone(), seen), line, "{seen:?}");
+    }
+    assert_eq!(nodes(Command::Nodes, &[9, 10, 11]), Some(19));
+    assert_eq!(ports(Command::List(Role::Listener), &[9, 10, 11]), Some(19));
+}
+
+#[test]
+fn a_role_is_that_of_a_port() {
+    let (role, slot, ticket) = (Role::Node, 0, 0);
+    for command in [
+        Command::Release { role, slot, ticket },
+        Command::List(role),
+        Command::Count(role),
+        Command::ListWeak(role),
+    ] {
+        let log = a_log();
+        let mut caller = log.caller("A").unwrap();
+        assert_eq!(caller.begin(command).unwrap_err(), LogError::NoPort);
+    }
 }
 
 #[test]

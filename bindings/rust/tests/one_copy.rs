@@ -154,6 +154,8 @@ fn the_words_of_the_lines_of_a_log_stand_in_one_file() {
         "nodes",
         "list {}",
         "count {}",
+        "nodes?",
+        "list? {}",
         "handle {slot} {ticket}",
         "count {ports}",
         "locked",

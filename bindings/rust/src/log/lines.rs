@@ -76,6 +76,8 @@ fn write_command(text: &mut String, command: &Command) -> fmt::Result {
         Command::Nodes => text.write_str("nodes"),
         Command::List(role) => write!(text, "list {}", word_of(*role)),
         Command::Count(role) => write!(text, "count {}", word_of(*role)),
+        Command::NodesWeak => text.write_str("nodes?"),
+        Command::ListWeak(role) => write!(text, "list? {}", word_of(*role)),
     }
 }
 

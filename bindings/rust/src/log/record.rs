@@ -87,7 +87,10 @@ impl Record {
         if self.calls.last().is_some_and(|call| call.ended.is_none()) {
             return Err(LogError::CallerIsBusy);
         }
-        if let Command::Release { role, .. } | Command::List(role) | Command::Count(role) = command
+        if let Command::Release { role, .. }
+        | Command::List(role)
+        | Command::Count(role)
+        | Command::ListWeak(role) = command
         {
             if role == Role::Node {
                 return Err(LogError::NoPort);
