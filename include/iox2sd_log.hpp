@@ -57,7 +57,7 @@ public:
     /// call, and none that never was.
     static LogCommand nodes_weak() noexcept { return LogCommand(iox2sd_log_nodes_weak()); }
     /// Lists the ports of the role, as `nodes_weak` does nodes.
-    static LogCommand list_weak(Role role) noexcept {
+    static LogCommand ports_weak(Role role) noexcept {
         return LogCommand(iox2sd_log_list_weak(static_cast<std::uint64_t>(role)));
     }
 

@@ -195,7 +195,7 @@ bool is_judged(const LogCommand& listing, const std::vector<std::uint32_t>& seen
 
 /// A weak listing has what stays, and nothing that never was there. Others are snapshots.
 void weak_listings() {
-    const LogCommand weak[] = {LogCommand::nodes_weak(), LogCommand::list_weak(Role::Listener)};
+    const LogCommand weak[] = {LogCommand::nodes_weak(), LogCommand::ports_weak(Role::Listener)};
     for (const LogCommand& listing : weak) {
         CHECK(is_judged(listing, {9, 10, 11}, Status::Done));
         CHECK(is_judged(listing, {9}, Status::Done));
