@@ -12,7 +12,7 @@
 #include "iox2sd.h"
 
 /* How much of the stack a check takes at most, in bytes. It is measured, not proved. */
-#define IOX2SD_CONFORM_STACK_BYTES 16384
+#define IOX2SD_CONFORM_STACK_BYTES 20480
 
 #ifdef __cplusplus
 extern "C" {
