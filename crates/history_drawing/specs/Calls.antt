@@ -21,7 +21,7 @@ text_at lines k = get_or (texts lines) k []
 
 -- whether a line begins a caller's call
 abbrev pub is_begin : Line → Bool
-is_begin (begin number caller command) = true
+is_begin (begin number caller begun) = true
 is_begin _ = false
 
 -- whether a line is the reply to a call alone
