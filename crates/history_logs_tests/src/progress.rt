@@ -104,7 +104,7 @@ fn counts(rt: HostRuntime) -> Result<(), AllocError> {
     let log = long_log(rt.alloc())?;
     for (step, is_terminal, failing, text) in &SHOWN {
         let terminal = shown(rt.alloc(), &log, *step, *is_terminal, *failing);
-        assert_eq!(rt; (step, terminal.bytes.as_slice()), (step, text.as_bytes()));
+        assert_eq!(rt; terminal.bytes.as_slice(), text.as_bytes());
     }
     Ok(())
 }
