@@ -3,12 +3,13 @@ use Rattle.std.proofs.Common.{◌≡◌, ◌↔◌, ℕ, ◌+◌, ◌<◌, ◌�
 use Rattle.std.specs.Prelude.{AllPairs}
 use Rattle.std.specs.Int.{bit_at}
 use Rattle.std.specs.List.{Contains}
+use Rattle.std.proofs.lemmas.List.Elements.{Contains-append_left, Contains-push, Contains-push_cases}
 use Rattle.histories.specs.declared.front.Config.{Config}
 use Rattle.histories.specs.Frontier.{HasSlot, IsLighter, IsSame, LeadTo, Path, Runs, cleared, path_more, path_of}
-use Rattle.histories.specs.Gathering.{AreSettled, FromOne, Gathers, IsClosed, IsClosing, IsCopy, IsDone, IsMadeFrom, IsNext, IsNextLayer, IsSettled, IsUnderWay, Spot, ones, spot_of}
+use Rattle.histories.specs.Gathering.{AreSettled, FromOne, Gathers, GoesOn, IsClosed, IsClosing, IsCopy, IsDone, IsMadeFrom, IsNext, IsNextAt, IsNextLayer, IsSettled, IsUnderWay, MovesFirst, Spot, ones, spot_of}
 use Rattle.histories.proofs.Bits.{bit_cases, cleared_le, cleared_same, ones_le, ones_less, ones_most, slot_64, slot_within}
 use Rattle.histories.proofs.Gathering.{gathers_none}
-use Rattle.histories.proofs.Running.{lighter_as, lighter_then, runs_as, runs_fewer, runs_lighter, runs_then}
+use Rattle.histories.proofs.Running.{lighter_as, lighter_then, runs_as, runs_fewer, runs_first, runs_lighter, runs_then}
 
 path_with : ℕ → List ℕ → Path
 path_with base calls = record { base = base; calls = calls }
@@ -132,26 +133,139 @@ module _ {S : Type 0} (Step : S → ℕ → S → Type 0) (slots : List (Option 
         ),
       )
 
+  -- the configuration in which the call in the slot was made and left this state
+  abbrev spot_after : Config S → ℕ → ℕ → S → Spot S
+  spot_after config at call state = record {
+    state = state;
+    waiting = cleared config.waiting at;
+    made = path_more (path_of config) (call ∷ []);
+  }
+
+  only_one : (config k : Config S) → Contains (config ∷ []) k → k ≡ config
+  only_one config k has = elim (Contains-push_cases [] config k has) as (λ _. k ≡ config) [
+    | inl none ↦ absurd (nothing_in k none)
+    | inr e ↦ sym e
+  ]
+
   -- where the call waits and in the end does not, one that waits is made next
-  leads_under_way : (layer next : List (Config S)) (slot : ℕ) (config : Config S)
-      (calls : List ℕ) (new : S) (fewer rest : ℕ) → slot < 64
-      → Gathers (FromOne (IsUnderWay Step slots slot) layer) [] next → Contains layer config
+  leads_next : (old new : List (Config S)) (slot : ℕ) (config : Config S) (calls : List ℕ)
+      (last : S) (fewer rest : ℕ) → Gathers (IsNext Step slots config) old new
       → bit_at config.waiting slot ≡ 1 → bit_at fewer slot ≡ 0
-      → Runs Step slots config.state config.waiting calls new fewer
-      → IsLighter Step slots fewer rest → LeadTo Step slots next new rest
-  leads_under_way layer next slot config [] new fewer rest h g has waits over run light =
+      → Runs Step slots config.state config.waiting calls last fewer
+      → IsLighter Step slots fewer rest → LeadTo Step slots new last rest
+  leads_next old new slot config [] last fewer rest g waits over run light =
       absurd (omega (arith, ap (λ w. bit_at w slot) run.1, waits, over))
-  leads_under_way layer next slot config (c ∷ calls) new fewer rest h g has waits over run light =
-      let spot : Spot S = record {
-        state = run.2.0;
-        waiting = cleared config.waiting run.0;
-        made = path_more (path_of config) (c ∷ []);
-      } in
-      leads_found (FromOne (IsUnderWay Step slots slot) layer) [] next spot calls new fewer rest g (
-        config,
-        has,
-        (waits, (run.0, slot_within slots run.0 c run.1.0, (c, run.1, run.2.1, refl, refl))),
-      ) run.2.2 light
+  leads_next old new slot config (c ∷ calls) last fewer rest g waits over run light =
+      leads_found (IsNext Step slots config) old new (spot_after config run.0 c run.2.0) calls last
+      fewer rest g
+      (run.0, slot_within slots run.0 c run.1.0, (c, run.1, run.2.1, refl, refl)) run.2.2 light
+
+  -- from one configuration, by each call that waits
+  pub goes_all : (slot : ℕ) (config : Config S) (old new : List (Config S))
+      → bit_at config.waiting slot ≡ 1 → Gathers (IsNext Step slots config) old new
+      → GoesOn Step slots slot (config ∷ []) old new
+  goes_all slot config old new waits g = record {
+    sound = λ k has. elim (g.sound k has)
+        as (λ _. Contains old k
+        ⊎ FromOne (IsUnderWay Step slots slot) (config ∷ []) (spot_of k)) [
+          | inl m ↦ inl m
+          | inr p ↦ inr (config, Contains-push [] config, (waits, p))
+        ];
+    kept = g.kept;
+    complete = λ k calls last fewer rest has w over run light.
+        let e : k ≡ config = only_one config k has in
+        leads_next old new slot config calls last fewer rest g waits over
+        (subst (λ (x : Config S). Runs Step slots x.state x.waiting calls last fewer) e run) light;
+    once = g.once;
+  }
+
+  -- from one configuration, by the call in the slot alone, which moves before the others
+  pub goes_first : (slot : ℕ) (config : Config S) (old new : List (Config S))
+      → length slots ≤ 64 → bit_at config.waiting slot ≡ 1
+      → MovesFirst Step slots slot config.waiting
+      → Gathers (IsNextAt Step slots config slot) old new
+      → GoesOn Step slots slot (config ∷ []) old new
+  goes_first slot config old new few waits moves g = record {
+    sound = λ k has. elim (g.sound k has)
+        as (λ _. Contains old k
+        ⊎ FromOne (IsUnderWay Step slots slot) (config ∷ []) (spot_of k)) [
+          | inl m ↦ inl m
+          | inr p ↦ inr
+              (
+                config,
+                Contains-push [] config,
+                (waits, (slot, slot_within slots slot moves.0 moves.1, p)),
+              )
+        ];
+    kept = g.kept;
+    complete = λ k calls last fewer rest has w over run light.
+        let e : k ≡ config = only_one config k has in
+        let call = moves.0 in
+        let first = runs_first Step slots config.state last config.waiting fewer slot call calls
+        few moves.1 waits over (λ at other apart is. moves.2 at other apart is)
+        (subst (λ (x : Config S). Runs Step slots x.state x.waiting calls last fewer) e run) in
+        leads_found (IsNextAt Step slots config slot) old new
+        (spot_after config slot call first.0) first.2.0 last fewer rest g
+        (call, (moves.1, waits), first.1, refl, refl) first.2.1 light;
+    once = g.once;
+  }
+
+  -- where the call does not wait
+  pub goes_not : (slot : ℕ) (config : Config S) (old : List (Config S))
+      → bit_at config.waiting slot ≡ 0 → GoesOn Step slots slot (config ∷ []) old old
+  goes_not slot config old gone = record {
+    sound = λ k has. inl has;
+    kept = λ k has. has;
+    complete = λ k calls last fewer rest has w over run light.
+        absurd
+        (omega (arith, ap (λ (x : Config S). bit_at x.waiting slot) (only_one config k has), w, gone));
+    once = λ a. a;
+  }
+
+  -- from none
+  pub goes_none : (slot : ℕ) (old : List (Config S)) → GoesOn Step slots slot [] old old
+  goes_none slot old = record {
+    sound = λ k has. inl has;
+    kept = λ k has. has;
+    complete = λ k calls last fewer rest has w over run light. absurd (nothing_in k has);
+    once = λ a. a;
+  }
+
+  -- from one configuration more
+  pub goes_pushed : (slot : ℕ) (layer : List (Config S)) (from : Config S)
+      (old mid new : List (Config S)) → GoesOn Step slots slot layer old mid
+      → GoesOn Step slots slot (from ∷ []) mid new
+      → GoesOn Step slots slot (layer ++ from ∷ []) old new
+  goes_pushed slot layer from old mid new f g = record {
+    sound = λ k has. elim (g.sound k has)
+        as (λ _. Contains old k
+        ⊎ FromOne (IsUnderWay Step slots slot) (layer ++ from ∷ []) (spot_of k)) [
+          | inl m ↦ elim (f.sound k m)
+              as (λ _. Contains old k
+              ⊎ FromOne (IsUnderWay Step slots slot) (layer ++ from ∷ []) (spot_of k)) [
+                | inl n ↦ inl n
+                | inr p ↦ inr (p.0, Contains-append_left layer (from ∷ []) p.0 p.1, p.2)
+              ]
+          | inr q ↦ inr (
+            from,
+            Contains-push layer from,
+            subst (λ (x : Config S). IsUnderWay Step slots slot x (spot_of k))
+                (only_one from q.0 q.1) q.2,
+          )
+        ];
+    kept = λ k has. g.kept k (f.kept k has);
+    complete = λ k calls last fewer rest has waits over run light.
+        elim (Contains-push_cases layer from k has) as (λ _. LeadTo Step slots new last rest) [
+          | inl m ↦
+              let l = f.complete k calls last fewer rest m waits over run light in
+              (l.0, g.kept l.0 l.1, l.2)
+          | inr e ↦
+              g.complete k calls last fewer rest
+              (subst (λ (x : Config S). Contains (from ∷ []) x) e (Contains-push [] from))
+              waits over run light
+        ];
+    once = λ a. g.once (f.once a);
+  }
 
   -- a slot that is in no set in the end
   lighter_gone : (fewer rest slot call : ℕ) → HasSlot slots slot call
@@ -167,8 +281,7 @@ module _ {S : Type 0} (Step : S → ℕ → S → Type 0) (slots : List (Option 
       → length slots ≤ 64 → HasSlot slots slot call
       → IsClosing Step slots configs slot done layer (left + 1)
       → Gathers (FromOne (IsDone slot) layer) done more
-      → Gathers (FromOne (IsUnderWay Step slots slot) layer) [] next
-      → IsClosing Step slots configs slot more next left
+      → GoesOn Step slots slot layer [] next → IsClosing Step slots configs slot more next left
   closing_more configs done layer more next slot call left few here cl f g = record {
     sound = λ k has.
         elim (f.sound k has)
@@ -194,8 +307,7 @@ module _ {S : Type 0} (Step : S → ℕ → S → Type 0) (slots : List (Option 
               elim (bit_cases m.0.waiting slot)
               as (λ _. LeadTo Step slots more new rest ⊎ LeadTo Step slots next new rest) [
                 | inr waits ↦ inr
-                    (leads_under_way layer next slot m.0 m.2.0 new m.2.1 rest
-                    (slot_64 slots slot call few here) g m.1 waits
+                    (g.complete m.0 m.2.0 new m.2.1 rest m.1 waits
                     (lighter_gone m.2.1 rest slot call here m.2.3 over) m.2.2 m.2.3)
                 | inl gone ↦ inl
                     (leads_found (FromOne (IsDone slot) layer) done more (spot_of m.0) m.2.0 new
@@ -274,8 +386,13 @@ module _ {S : Type 0} (Step : S → ℕ → S → Type 0) (slots : List (Option 
         (λ k f. absurd (omega (arith, f.1.1, none))),
     (
       [],
-      gathers_none (FromOne (IsUnderWay Step slots slot) layer) []
-          (λ k f. absurd (omega (arith, f.1.1, none))),
+      record {
+        sound = λ k has. absurd (nothing_in k has);
+        kept = λ k has. has;
+        complete = λ k calls last fewer rest has w over run light.
+            absurd (omega (arith, has.1, none));
+        once = λ a. a;
+      },
       record {
         sound = λ one has. absurd (omega (arith, has.1, none));
         complete = λ config has. absurd (nothing_in config has);

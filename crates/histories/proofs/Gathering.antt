@@ -9,7 +9,7 @@ use Rattle.std.proofs.lemmas.List.Quantifiers.{all_pairs_push}
 use Rattle.histories.specs.declared.front.Config.{Config}
 use Rattle.histories.specs.Histories.{AreAll}
 use Rattle.histories.specs.Frontier.{IsSame, IsWaiting, Path, cleared, no_path, path_more, path_of}
-use Rattle.histories.specs.Gathering.{FromOne, Gathers, IsAt, IsCopy, IsDone, IsDropped, IsFirst, IsKnown, IsNext, IsMadeIn, IsNextAt, IsNextBeside, IsNextIn, IsNextOther, IsUnderWay, Spot, spot_of}
+use Rattle.histories.specs.Gathering.{FromOne, Gathers, IsAt, IsCopy, IsDone, IsDropped, IsFirst, IsKnown, IsNext, IsMadeIn, IsNextAt, IsNextBeside, IsNextIn, IsNextOther, Spot, spot_of}
 use Rattle.histories.proofs.Bits.{slot_once}
 
 spot_with : {S : Type 0} → S → ℕ → Path → Spot S
@@ -341,16 +341,3 @@ module _ {S : Type 0} where
       → bit_at config.waiting slot ≡ 0 → Gathers (IsDropped slot config) old old
   gathers_not_dropped slot config old gone =
       gathers_none (IsDropped slot config) old (λ k f. absurd (omega (arith, f.0)))
-
-  module _ (Step : S → ℕ → S → Type 0) (slots : List (Option ℕ)) where
-    pub gathers_under_way : (slot : ℕ) (config : Config S) (old new : List (Config S))
-        → bit_at config.waiting slot ≡ 1 → Gathers (IsNext Step slots config) old new
-        → Gathers (IsUnderWay Step slots slot config) old new
-    gathers_under_way slot config old new waits g =
-        gathers_as (IsNext Step slots config) (IsUnderWay Step slots slot config) old new
-        (λ k p. (waits, p)) (λ k p. p.1) g
-
-    pub gathers_not_under_way : (slot : ℕ) (config : Config S) (old : List (Config S))
-        → bit_at config.waiting slot ≡ 0 → Gathers (IsUnderWay Step slots slot config) old old
-    gathers_not_under_way slot config old gone =
-        gathers_none (IsUnderWay Step slots slot config) old (λ k f. absurd (omega (arith, f.0)))

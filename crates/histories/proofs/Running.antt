@@ -3,7 +3,7 @@ use Rattle.std.proofs.Common.{◌≡◌, ◌≢◌, ◌⊎◌, ℕ, ◌+◌, ◌
 use Rattle.std.specs.Int.{bit_at}
 use Rattle.std.proofs.lemmas.Bool.{cases_eq}
 use Rattle.histories.specs.Histories.{times, Leads}
-use Rattle.histories.specs.Frontier.{HasSlot, IsIdle, IsLighter, IsWaiting, Leaves, Runs, cleared}
+use Rattle.histories.specs.Frontier.{HasSlot, IsIdle, IsLighter, IsWaiting, Leaves, MovesBefore, Runs, cleared}
 use Rattle.histories.proofs.Bits.{bit_cases, cleared_le, cleared_other, cleared_same, cleared_swap, slot_64, slot_once}
 use Rattle.histories.proofs.Counting.{times-append, times-cons, times_one, times_other}
 
@@ -164,6 +164,71 @@ module _ {S : Type 0} (Step : S → ℕ → S → Type 0) where
                     (subst (λ s. Runs Step slots s (cleared waiting slot) calls new rest) is
                     run.2.2)
               ]
+        ]
+
+    -- what waits without a slot waits with it
+    waits_before : (waiting slot at call : ℕ) → length slots ≤ 64 → slot < 64
+        → IsWaiting slots (cleared waiting slot) at call → bit_at waiting at ≡ 1
+    waits_before waiting slot at call few h is =
+        elim (bit_cases waiting at) as (λ _. bit_at waiting at ≡ 1) [
+          | inr some ↦ some
+          | inl none ↦ absurd
+              (omega
+              (arith, cleared_le waiting slot at h (slot_64 slots at call few is.0), is.1, none))
+        ]
+
+    -- a call that moves before all others that wait is made before them
+    pub runs_first : (old new : S) (waiting rest slot call : ℕ) (calls : List ℕ)
+        → length slots ≤ 64 → HasSlot slots slot call → bit_at waiting slot ≡ 1
+        → bit_at rest slot ≡ 0
+        → ((at other : ℕ) → (at ≡ slot → ⊥) → IsWaiting slots waiting at other
+        → MovesBefore Step call other)
+        → Runs Step slots old waiting calls new rest
+        → (mid : S) × Step old call mid
+        × ((others : List ℕ) × Runs Step slots mid (cleared waiting slot) others new rest)
+    runs_first old new waiting rest slot call [] few here waits gone moves run =
+        absurd (omega (arith, ap (λ w. bit_at w slot) run.1, waits, gone))
+    runs_first old new waiting rest slot call (c ∷ calls) few here waits gone moves run =
+        let at = run.0 in
+        let h = slot_64 slots slot call few here in
+        let k = slot_64 slots at c few run.1.0 in
+        elim (cases_eq at slot)
+        as (λ _. (mid : S) × Step old call mid
+        × ((others : List ℕ) × Runs Step slots mid (cleared waiting slot) others new rest)) [
+          | inl e ↦ (
+            run.2.0,
+            subst (λ x. Step old x run.2.0)
+                (slot_once slots slot c call (subst (λ x. HasSlot slots x c) e run.1.0) here)
+                run.2.1,
+            (
+              calls,
+              subst (λ x. Runs Step slots run.2.0 (cleared waiting x) calls new rest) e run.2.2,
+            ),
+          )
+          | inr ne ↦
+              let still : bit_at (cleared waiting at) slot ≡ 1 =
+              cleared_other waiting at slot k h (λ e. ne (sym e)) ∙ waits in
+              let more = runs_first run.2.0 new (cleared waiting at) rest slot call calls few here
+              still gone
+              (λ i other apart is. moves i other apart (is.0, waits_before waiting at i other few k is))
+              run.2.2 in
+              let moved = moves at c ne run.1 old run.2.0 more.0 run.2.1 more.1 in (
+                moved.0,
+                moved.1,
+                (
+                  c ∷ more.2.0,
+                  (
+                    at,
+                    (run.1.0, cleared_other waiting slot at h k ne ∙ run.1.1),
+                    (
+                      more.0,
+                      moved.2,
+                      subst (λ w. Runs Step slots more.0 w more.2.0 new rest)
+                          (cleared_swap waiting at slot) more.2.1,
+                    ),
+                  ),
+                ),
+              )
         ]
 
     -- of the calls that are open, each stands in the order or waits still

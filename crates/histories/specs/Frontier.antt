@@ -49,6 +49,13 @@ Runs {S} Step slots old waiting (call ∷ calls) new rest =
 abbrev pub IsIdle : {S : Type 0} → (S → ℕ → S → Type 0) → ℕ → Type 0
 IsIdle {S} Step call = (old new : S) → Step old call new → new ≡ old
 
+-- the first call, wherever it can be made right after the second, can be made right before it, and
+-- both leave the same
+abbrev pub MovesBefore : {S : Type 0} → (S → ℕ → S → Type 0) → ℕ → ℕ → Type 0
+MovesBefore {S} Step call other =
+    (old mid new : S) → Step old other mid → Step mid call new
+    → (between : S) × Step old call between × Step between other new
+
 -- the states that a call may leave
 abbrev pub states_in : {S : Type 0} → Left S → List S
 states_in left.Nothing = []

@@ -8,7 +8,7 @@ use Rattle.histories.specs.declared.front.Advance.TheVariants as advance
 use Rattle.histories.specs.declared.front.Config.{Config}
 use Rattle.histories.specs.declared.front.Front.{Front}
 use Rattle.histories.specs.declared.front.Link.{Link}
-use Rattle.histories.specs.Frontier.{HasSlot, IsLighter, IsMade, IsSame, IsWaiting, LeadTo, Path, Runs, cleared, no_path, order_of, path_more, path_of, put, read}
+use Rattle.histories.specs.Frontier.{HasSlot, IsLighter, IsMade, IsSame, IsWaiting, LeadTo, MovesBefore, Path, Runs, cleared, no_path, order_of, path_more, path_of, put, read}
 
 -- one of the configurations is the same
 abbrev pub HasSame : {S : Type 0} → List (Config S) → Config S → Type 0
@@ -171,6 +171,18 @@ IsDropped slot config dropped =
     (bit_at config.waiting slot ≡ 1) × (dropped.state ≡ config.state)
     × (dropped.waiting ≡ cleared config.waiting slot) × (dropped.made ≡ path_of config)
 
+-- the call of the first slot moves before that of the other one, if this waits
+abbrev pub MovesBeforeAt : {S : Type 0} → (S → ℕ → S → Type 0) → List (Option ℕ) → ℕ → ℕ → ℕ → ℕ
+    → Type 0
+MovesBeforeAt Step slots waiting slot call at =
+    (other : ℕ) → (at ≡ slot → ⊥) → IsWaiting slots waiting at other → MovesBefore Step call other
+
+-- the call in the slot moves before all others that wait
+abbrev pub MovesFirst : {S : Type 0} → (S → ℕ → S → Type 0) → List (Option ℕ) → ℕ → ℕ → Type 0
+MovesFirst Step slots slot waiting =
+    (call : ℕ) × HasSlot slots slot call
+    × ((at : ℕ) → MovesBeforeAt Step slots waiting slot call at)
+
 -- it is true of one of these and of that
 abbrev pub FromOne : {S : Type 0} → (Config S → Spot S → Type 0) → List (Config S) → Spot S → Type 0
 FromOne {S} Fact configs spot =
@@ -186,6 +198,20 @@ pub record Gathers {S : Type 0} (Found : Spot S → Type 0) (old new : List (Con
     pub complete : (spot : Spot S) → Found spot
         → (known : Config S) × Contains new known × IsAt known spot
     pub once : AllPairs (λ a b. ¬ (IsSame a b)) old → AllPairs (λ a b. ¬ (IsSame a b)) new
+
+-- The new ones are the old ones and some to which one more call leads from one of these, in which
+-- the call in the slot waits. What calls lead to from there, the call among them, is led to from
+-- the new ones. Each is there once.
+pub record GoesOn {S : Type 0} (Step : S → ℕ → S → Type 0) (slots : List (Option ℕ)) (slot : ℕ)
+    (layer old new : List (Config S)) : Type 0 where
+  pub sound : (config : Config S) → Contains new config
+      → Contains old config ⊎ FromOne (IsUnderWay Step slots slot) layer (spot_of config)
+  pub kept : (config : Config S) → Contains old config → Contains new config
+  pub complete : (config : Config S) (calls : List ℕ) (last : S) (fewer rest : ℕ)
+      → Contains layer config → bit_at config.waiting slot ≡ 1 → bit_at fewer slot ≡ 0
+      → Runs Step slots config.state config.waiting calls last fewer
+      → IsLighter Step slots fewer rest → LeadTo Step slots new last rest
+  pub once : AllPairs (λ a b. ¬ (IsSame a b)) old → AllPairs (λ a b. ¬ (IsSame a b)) new
 
 -- calls that waited in one of the configurations were made
 abbrev pub IsMadeFrom : {S : Type 0} → (S → ℕ → S → Type 0) → List (Option ℕ) → List (Config S)
@@ -219,11 +245,11 @@ pub record IsClosed {S : Type 0} (Step : S → ℕ → S → Type 0) (slots : Li
       → LeadTo Step slots done new rest
   pub once : AllPairs (λ a b. ¬ (IsSame a b)) done
 
--- of those to which one more call leads each is settled
+-- of those to which one more call leads, where it goes on so, each is settled
 abbrev pub IsNextLayer : {S : Type 0} → (S → ℕ → S → Type 0) → List (Option ℕ) → ℕ
     → List (Config S) → List (Config S) → Type 0
 IsNextLayer {S} Step slots slot layer next =
-    (raw : List (Config S)) × Gathers (FromOne (IsUnderWay Step slots slot) layer) [] raw
+    (raw : List (Config S)) × GoesOn Step slots slot layer [] raw
     × AreSettled Step slots raw next
 
 -- an order of no calls has come to the spot from one of these states

@@ -1,8 +1,8 @@
 //! A call that ends is made.
-ghost use Rattle.std.specs.Prelude.{◌≡◌, ◌<◌, ◌≤◌, ◌++◌, ◌∷◌, [], ℕ, IfOk, OnOk, length};
+ghost use Rattle.std.specs.Prelude.{◌≡◌, ◌<◌, ◌≤◌, ◌++◌, ◌∷◌, [], ℕ, IfOk, IsTrue, OnOk, length};
 ghost use Rattle.std.specs.Int.{bit_at};
 ghost use Rattle.histories.specs.Frontier.{HasSlot, IsWaiting, cleared};
-ghost use Rattle.histories.specs.Gathering.{FromOne, Gathers, IsCloseOutcome, IsDone, IsDropped, IsNext, IsNextAt, IsNextIn, IsNextLayer, IsNextOther, IsUnderWay, spot_of};
+ghost use Rattle.histories.specs.Gathering.{FromOne, Gathers, GoesOn, IsCloseOutcome, IsDone, IsDropped, IsNextAt, IsNextIn, IsNextLayer, IsNextOther, MovesBeforeAt, MovesFirst, spot_of};
 
 use super::front::{Config, MAX_CONFIGS};
 use super::gather::{Gathered, add, copy_of};
@@ -166,7 +166,52 @@ fn make_last<M: Machine>(
     make_call(alloc, machine, slots, &config, slot, call, next)
 }
 
-/// Adds the configurations to which one more call leads, that in the slot last.
+/// Whether the call moves before the one in the other slot, if another one waits there.
+fn moves_before_slot<M: Machine>(
+    machine: &M,
+    slots: &[Option<usize>],
+    waiting: u64,
+    slot: usize,
+    call: usize,
+    at: usize,
+) -> bool
+    requires few { length slots.now ≤ 64 }
+    requires within { at < length slots.now }
+    ensures { IsTrue result → MovesBeforeAt (M.Step machine.now) slots.now waiting slot call at }
+{
+    if at == slot || !has(waiting, at) {
+        return true;
+    }
+    match slots[at] {
+        Some(other) => machine.moves_before(call, other),
+        None => true,
+    }
+}
+
+/// Whether the call in the slot is known to move before all others that wait.
+fn moves_first<M: Machine>(
+    machine: &M,
+    slots: &[Option<usize>],
+    waiting: u64,
+    slot: usize,
+) -> bool
+    requires few { length slots.now ≤ 64 }
+    requires within { slot < length slots.now }
+    ensures { IsTrue result → MovesFirst (M.Step machine.now) slots.now slot waiting }
+{
+    let Some(call) = slots[slot] else {
+        return false;
+    };
+    for at in 0..slots.len() {
+        if !moves_before_slot(machine, slots, waiting, slot, call, at) {
+            return false;
+        }
+    }
+    true
+}
+
+/// Adds the configurations to which one more call leads, that in the slot last. Where this moves
+/// before all others that wait, it is made alone: they can be made after it.
 fn make_calls<M: Machine>(
     alloc: Global,
     machine: &M,
@@ -178,9 +223,12 @@ fn make_calls<M: Machine>(
     requires few { length slots.now ≤ 64 }
     requires within { slot < length slots.now }
     requires waits { bit_at config.waiting slot ≡ 1 }
-    ensures { OnOk result (Gathers (IsNext (M.Step machine.now) slots.now config)
+    ensures { OnOk result (GoesOn (M.Step machine.now) slots.now slot (config ∷ [])
         next.old next.new) }
 {
+    if moves_first(machine, slots, config.waiting, slot) {
+        return make_last(alloc, machine, slots, config, slot, next);
+    }
     for other in 0..slots.len() {
         make_other(alloc, machine, slots, &config, slot, other, next)?;
     }
@@ -201,7 +249,7 @@ fn close_one<M: Machine>(
     requires few { length slots.now ≤ 64 }
     requires within { slot < length slots.now }
     ensures { OnOk result (Gathers (IsDone slot config) done.old done.new
-        × Gathers (IsUnderWay (M.Step machine.now) slots.now slot config) next.old next.new) }
+        × GoesOn (M.Step machine.now) slots.now slot (config ∷ []) next.old next.new) }
 {
     if has(config.waiting, slot) {
         return make_calls(alloc, machine, slots, config, slot, next);
@@ -221,8 +269,7 @@ fn close_round<M: Machine>(
     requires few { length slots.now ≤ 64 }
     requires within { slot < length slots.now }
     ensures { IfOk result (λ next. Gathers (FromOne (IsDone slot) layer.items) done.old done.new
-        × Gathers (FromOne (IsUnderWay (M.Step machine.now) slots.now slot) layer.items) []
-        next.items) }
+        × GoesOn (M.Step machine.now) slots.now slot layer.items [] next.items) }
 {
     let mut next = Gathered::with_capacity(alloc, layer.len())?;
     for config in layer {

@@ -1,6 +1,6 @@
 //! What is searched: recorded calls that lead from one state to another.
 ghost use Rattle.std.specs.Prelude.{◌≡◌, ◌↔◌, ℕ, IfOk, IsTrue};
-ghost use Rattle.histories.specs.Frontier.{IsIdle, IsMade, states_in};
+ghost use Rattle.histories.specs.Frontier.{IsIdle, IsMade, MovesBefore, states_in};
 ghost use Rattle.histories.specs.Histories.{AreAll};
 
 use super::left::Left;
@@ -30,6 +30,12 @@ pub trait Machine {
     fn is_idle(&self, state: &Self::State, call: usize) -> bool
         ensures { IsTrue result → Step self.now state.now call state.now
             × IsIdle (Step self.now) call };
+
+    /// Whether the first call, wherever it can be made right after the second, can be made right
+    /// before it, and both leave the same: whether it is a left mover. An answer of no is always
+    /// right: then more orders are followed.
+    fn moves_before(&self, call: usize, other: usize) -> bool
+        ensures { IsTrue result → MovesBefore (Step self.now) call other };
 
     /// A copy of the state.
     fn copied(&self, state: &Self::State) -> Result<Self::State, AllocError>

@@ -71,6 +71,18 @@ fn reads(access: &Access, value: u64) -> bool
     }
 }
 
+/// Whether both write one value.
+fn write_alike(access: &Access, other: &Access) -> bool
+    ensures { IsTrue result → (old mid new : ℕ) → Makes other.now old mid
+        → Makes access.now mid new
+        → (between : ℕ) × Makes access.now old between × Makes other.now between new }
+{
+    match (access, other) {
+        (Access::Write(value), Access::Write(written)) => *value == *written,
+        _ => false,
+    }
+}
+
 impl Machine for Recorded {
     type State = u64;
 
@@ -94,6 +106,13 @@ impl Machine for Recorded {
         match self.calls.get(call) {
             Some(access) => reads(access, *value),
             None => false,
+        }
+    }
+
+    fn moves_before(&self, call: usize, other: usize) -> bool {
+        match (self.calls.get(call), self.calls.get(other)) {
+            (Some(access), Some(before)) => write_alike(access, before),
+            _ => false,
         }
     }
 

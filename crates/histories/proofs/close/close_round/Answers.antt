@@ -3,7 +3,8 @@ use Rattle.std.proofs.lemmas.List.{map-id}
 use Rattle.std.proofs.lemmas.Iterator.Adapters.{YieldsList-from_vec}
 use Rattle.std.proofs.lemmas.Iterator.Consumers.{YieldsList-end}
 use Rattle.histories.specs.declared.front.Config.{Config}
-use Rattle.histories.specs.Gathering.{FromOne, Gathers, IsDone, IsUnderWay}
+use Rattle.histories.specs.Gathering.{FromOne, Gathers, GoesOn, IsDone}
+use Rattle.histories.proofs.Closing.{goes_none, goes_pushed}
 use Rattle.histories.proofs.Gathering.{gathers_no_one, gathers_pushed}
 use Rattle.histories.proofs.close.close_round.Goals as goal
 
@@ -11,15 +12,14 @@ pub loop-config-init : goal.loop-config-init
 loop-config-init g c = (
   gathers_no_one (IsDone c.args.slot) _,
   rw c.in_ok-next.ensures
-      (gathers_no_one
-      (IsUnderWay (g.M.Machine.Step c.args.machine.now) c.args.slots.now c.args.slot) []),
+      (goes_none (g.M.Machine.Step c.args.machine.now) c.args.slots.now c.args.slot []),
 )
 
 pub loop-config-preserved : goal.loop-config-preserved
 loop-config-preserved g c = (
   gathers_pushed (IsDone c.args.slot) c.loop-config.yielded c.in-Some.config _ _ _
       c.loop-config.invariant.0 c.in_ok-close_one.ensures.0,
-  gathers_pushed (IsUnderWay (g.M.Machine.Step c.args.machine.now) c.args.slots.now c.args.slot)
+  goes_pushed (g.M.Machine.Step c.args.machine.now) c.args.slots.now c.args.slot
       c.loop-config.yielded c.in-Some.config _ _ _ c.loop-config.invariant.1
       c.in_ok-close_one.ensures.1,
 )
@@ -39,7 +39,6 @@ returns g c =
           c.loop-config.done) all c.loop-config.invariant.0,
       rw c.into_configs.ensures
           (subst
-          (λ (l : List (Config _)). Gathers
-          (FromOne (IsUnderWay Step c.args.slots.now c.args.slot) l) [] c.loop-config.next) all
-          c.loop-config.invariant.1),
+          (λ (l : List (Config _)). GoesOn Step c.args.slots.now c.args.slot l []
+          c.loop-config.next) all c.loop-config.invariant.1),
     )

@@ -1,9 +1,8 @@
 use Rattle.std.proofs.Common.{[]}
-use Rattle.histories.specs.Gathering.{FromOne, Gathers, IsDone, IsUnderWay}
+use Rattle.histories.specs.Gathering.{FromOne, Gathers, GoesOn, IsDone}
 use Rattle.histories.proofs.close.close_round.Given as goal
 
 abbrev pub invariant-loop-config : goal.invariant-loop-config
 invariant-loop-config g l =
     Gathers (FromOne (IsDone l.slot) l.yielded) l.fn.done l.done
-    × Gathers (FromOne (IsUnderWay (g.M.Machine.Step l.machine) l.slots l.slot) l.yielded) []
-    l.next
+    × GoesOn (g.M.Machine.Step l.machine) l.slots l.slot l.yielded [] l.next

@@ -1,4 +1,4 @@
-use Rattle.std.proofs.Common.{◌≡◌, arith}
+use Rattle.std.proofs.Common.{arith}
 use Rattle.std.proofs.lemmas.Result.{on_ok_weaker}
 use Rattle.histories.proofs.Gathering.{gathers_other}
 use Rattle.histories.proofs.close.make_other.Goals as goal
