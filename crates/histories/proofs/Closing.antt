@@ -190,12 +190,11 @@ module _ {S : Type 0} (Step : S → ℕ → S → Type 0) (slots : List (Option 
         as (λ _. Contains old k
         ⊎ FromOne (IsUnderWay Step slots slot) (config ∷ []) (spot_of k)) [
           | inl m ↦ inl m
-          | inr p ↦ inr
-              (
-                config,
-                Contains-push [] config,
-                (waits, (slot, slot_within slots slot moves.0 moves.1, p)),
-              )
+          | inr p ↦ inr (
+            config,
+            Contains-push [] config,
+            (waits, (slot, slot_within slots slot moves.0 moves.1, p)),
+          )
         ];
     kept = g.kept;
     complete = λ k calls last fewer rest has w over run light.
@@ -217,8 +216,8 @@ module _ {S : Type 0} (Step : S → ℕ → S → Type 0) (slots : List (Option 
     sound = λ k has. inl has;
     kept = λ k has. has;
     complete = λ k calls last fewer rest has w over run light.
-        absurd
-        (omega (arith, ap (λ (x : Config S). bit_at x.waiting slot) (only_one config k has), w, gone));
+        let same = ap (λ (x : Config S). bit_at x.waiting slot) (only_one config k has) in
+        absurd (omega (arith, same, w, gone));
     once = λ a. a;
   }
 

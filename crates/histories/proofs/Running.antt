@@ -210,8 +210,8 @@ module _ {S : Type 0} (Step : S → ℕ → S → Type 0) where
               cleared_other waiting at slot k h (λ e. ne (sym e)) ∙ waits in
               let more = runs_first run.2.0 new (cleared waiting at) rest slot call calls few here
               still gone
-              (λ i other apart is. moves i other apart (is.0, waits_before waiting at i other few k is))
-              run.2.2 in
+              (λ i other apart is.
+              moves i other apart (is.0, waits_before waiting at i other few k is)) run.2.2 in
               let moved = moves at c ne run.1 old run.2.0 more.0 run.2.1 more.1 in (
                 moved.0,
                 moved.1,

@@ -189,12 +189,7 @@ fn moves_before_slot<M: Machine>(
 }
 
 /// Whether the call in the slot is known to move before all others that wait.
-fn moves_first<M: Machine>(
-    machine: &M,
-    slots: &[Option<usize>],
-    waiting: u64,
-    slot: usize,
-) -> bool
+fn moves_first<M: Machine>(machine: &M, slots: &[Option<usize>], waiting: u64, slot: usize) -> bool
     requires few { length slots.now ≤ 64 }
     requires within { slot < length slots.now }
     ensures { IsTrue result → MovesFirst (M.Step machine.now) slots.now slot waiting }

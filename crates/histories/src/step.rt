@@ -142,8 +142,9 @@ fn crash<M: Machine>(
 ///
 /// All orders are followed together. A call that begins waits; when it ends, calls that wait are
 /// made until it is. Where several orders have left the same state and the same calls that wait,
-/// one is followed. A call that can be made and changes nothing is made at once. What is kept grows
-/// with the calls that are open, the configurations and the links, and not with the history.
+/// one is followed. A call that can be made and changes nothing is made at once. A call that ends
+/// and moves before all that wait is made alone. What is kept grows with the calls that are open,
+/// the configurations and the links, and not with the history.
 ///
 /// Where memory was refused, or the result is not `Done`, the front is of no history any more.
 ///

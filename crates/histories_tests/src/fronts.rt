@@ -67,12 +67,22 @@ fn an_open_call_keeps_its_links(rt: HostRuntime) -> Result<(), Fail> {
 #[test]
 fn calls_that_commute_are_followed_in_one_order(rt: HostRuntime) -> Result<(), Fail> {
     let alloc = rt.alloc();
-    let calls = [Access::Write(7), Access::Write(7), Access::Write(7), Access::Write(8)];
+    let calls = [
+        Access::Write(7),
+        Access::Write(7),
+        Access::Write(7),
+        Access::Write(8),
+    ];
     let machine = Recorded {
         calls: Vec::from_slice(alloc, &calls)?,
     };
     let mut front = start(alloc, &machine, &[0])?;
-    for event in [Event::Begin(0), Event::Begin(1), Event::Begin(2), Event::End(1)] {
+    for event in [
+        Event::Begin(0),
+        Event::Begin(1),
+        Event::Begin(2),
+        Event::End(1),
+    ] {
         assert!(rt; front.slots.len() <= MAX_OPEN);
         assert_eq!(rt; advance(alloc, &machine, &mut front, event)?, Advance::Done);
     }
