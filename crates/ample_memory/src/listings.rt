@@ -18,7 +18,7 @@ const MOST_ENTRIES: usize = 4_097;
 fn attach(service: &mut DynamicConfig, role: Role, node: UniqueNodeId) {
     if let Some(details) = port(role, node) {
         if service.has_role(details.role()) {
-            // There is a place for it.
+            // There is a slot for it.
             let _ = service.attach(details);
         }
     }
@@ -28,7 +28,7 @@ fn attach(service: &mut DynamicConfig, role: Role, node: UniqueNodeId) {
 fn fill(service: &mut DynamicConfig, node: UniqueNodeId, members: usize) {
     let (first, second) = service.kind().port_roles();
     for _ in 0..members {
-        // There is a place for it.
+        // There is a slot for it.
         let _ = service.register_node_id(node);
         attach(service, first, node);
         attach(service, second, node);
@@ -81,7 +81,7 @@ fn has_entries<R: Registry<UniqueNodeId>>(
     count: usize,
 ) -> bool {
     for _ in 0..count {
-        // There is a place for it.
+        // There is a slot for it.
         let _ = registry.add(node);
     }
     entries(alloc, registry).is_ok()

@@ -9,9 +9,9 @@ use service_descriptions::replay::{Command, ServiceState, replay, write_reply};
 use std::alloc::{AllocError, Global};
 
 /// A service with this capacity for nodes, for listeners and for notifiers.
-fn state(alloc: Global, places: usize) -> Result<ServiceState, AllocError> {
-    let settings = MessagingPatternSettings::new(PatternKind::Event, places, places);
-    ServiceState::new(alloc, &settings, places, 7)
+fn state(alloc: Global, capacities: usize) -> Result<ServiceState, AllocError> {
+    let settings = MessagingPatternSettings::new(PatternKind::Event, capacities, capacities);
+    ServiceState::new(alloc, &settings, capacities, 7)
 }
 
 /// So many commands in one call.

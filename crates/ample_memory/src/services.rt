@@ -8,7 +8,7 @@ use service_descriptions::replay::ServiceState;
 use std::alloc::{AllocError, Global};
 
 /// The capacities of a service: first ports, second ports and nodes.
-type Places = (usize, usize, usize);
+type Capacities = (usize, usize, usize);
 
 /// The settings of each pattern, with these capacities of the ports that are recovered first, and
 /// of the others.
@@ -24,17 +24,17 @@ fn settings(first: usize, second: usize) -> [MessagingPatternSettings; 4] {
 /// The ports alone, by the maker of the pattern.
 fn make_ports(alloc: Global, settings: &MessagingPatternSettings) -> Result<(), AllocError> {
     match settings {
-        MessagingPatternSettings::PublishSubscribe(places) => {
-            let _ = publish_subscribe::DynamicConfig::new(alloc, places, 7)?;
+        MessagingPatternSettings::PublishSubscribe(capacities) => {
+            let _ = publish_subscribe::DynamicConfig::new(alloc, capacities, 7)?;
         }
-        MessagingPatternSettings::Event(places) => {
-            let _ = event::DynamicConfig::new(alloc, places, 7)?;
+        MessagingPatternSettings::Event(capacities) => {
+            let _ = event::DynamicConfig::new(alloc, capacities, 7)?;
         }
-        MessagingPatternSettings::RequestResponse(places) => {
-            let _ = request_response::DynamicConfig::new(alloc, places, 7)?;
+        MessagingPatternSettings::RequestResponse(capacities) => {
+            let _ = request_response::DynamicConfig::new(alloc, capacities, 7)?;
         }
-        MessagingPatternSettings::Blackboard(places) => {
-            let _ = blackboard::DynamicConfig::new(alloc, places, 7)?;
+        MessagingPatternSettings::Blackboard(capacities) => {
+            let _ = blackboard::DynamicConfig::new(alloc, capacities, 7)?;
         }
     }
     Ok(())
@@ -49,7 +49,7 @@ fn ports(alloc: Global, first: usize, second: usize) -> Result<(), AllocError> {
 }
 
 /// A service of each pattern.
-fn services(alloc: Global, (nodes, first, second): Places) -> Result<(), AllocError> {
+fn services(alloc: Global, (nodes, first, second): Capacities) -> Result<(), AllocError> {
     for settings in &settings(first, second) {
         let _ = DynamicConfig::new(alloc, settings, nodes, 7)?;
     }
@@ -65,7 +65,7 @@ fn by_tickets(alloc: Global, tickets: u64) -> Result<(), AllocError> {
 }
 
 /// The state of a service of each pattern.
-fn states(alloc: Global, (nodes, first, second): Places) -> Result<(), AllocError> {
+fn states(alloc: Global, (nodes, first, second): Capacities) -> Result<(), AllocError> {
     for settings in &settings(first, second) {
         let _ = ServiceState::new(alloc, settings, nodes, 7)?;
     }

@@ -12,7 +12,7 @@ use std::alloc::{AllocError, Global};
 
 /// The capacities of a publish-subscribe service for nodes and ports.
 #[derive(Clone, Copy, Debug)]
-pub(super) struct Places {
+pub(super) struct Capacities {
     pub(super) nodes: u32,
     pub(super) subscribers: u32,
     pub(super) publishers: u32,
@@ -21,7 +21,7 @@ pub(super) struct Places {
 /// A publish-subscribe service, and the handles of its nodes and subscribers.
 #[derive(Drop)]
 pub(super) struct Attached {
-    places: Places,
+    capacities: Capacities,
     service: DynamicConfig,
     nodes: Vec<ContainerHandle>,
     subscribers: Vec<ContainerHandle>,
@@ -29,17 +29,17 @@ pub(super) struct Attached {
 
 impl Attached {
     /// A service without nodes and ports.
-    pub(super) fn new(alloc: Global, places: Places) -> Result<Self, AllocError> {
+    pub(super) fn new(alloc: Global, capacities: Capacities) -> Result<Self, AllocError> {
         let ports = publish_subscribe::DynamicConfigSettings {
-            number_of_subscribers: places.subscribers as usize,
-            number_of_publishers: places.publishers as usize,
+            number_of_subscribers: capacities.subscribers as usize,
+            number_of_publishers: capacities.publishers as usize,
         };
         let settings = MessagingPatternSettings::PublishSubscribe(ports);
-        let nodes = Vec::with_capacity(alloc, places.nodes as usize)?;
-        let subscribers = Vec::with_capacity(alloc, places.subscribers as usize)?;
-        let service = DynamicConfig::new(alloc, &settings, places.nodes as usize, 7)?;
+        let nodes = Vec::with_capacity(alloc, capacities.nodes as usize)?;
+        let subscribers = Vec::with_capacity(alloc, capacities.subscribers as usize)?;
+        let service = DynamicConfig::new(alloc, &settings, capacities.nodes as usize, 7)?;
         Ok(Attached {
-            places,
+            capacities,
             service,
             nodes,
             subscribers,
@@ -47,17 +47,17 @@ impl Attached {
     }
 
     /// A service with all its nodes.
-    pub(super) fn with_nodes(alloc: Global, places: Places) -> Result<Self, AllocError> {
-        let mut attached = Self::new(alloc, places)?;
-        attached.register(places.nodes)?;
+    pub(super) fn with_nodes(alloc: Global, capacities: Capacities) -> Result<Self, AllocError> {
+        let mut attached = Self::new(alloc, capacities)?;
+        attached.register(capacities.nodes)?;
         Ok(attached)
     }
 
     /// A service with all its nodes and ports.
-    pub(super) fn full(alloc: Global, places: Places) -> Result<Self, AllocError> {
-        let mut attached = Self::with_nodes(alloc, places)?;
-        attached.attach_subscribers(places.subscribers)?;
-        attached.attach_publishers(places.publishers);
+    pub(super) fn full(alloc: Global, capacities: Capacities) -> Result<Self, AllocError> {
+        let mut attached = Self::with_nodes(alloc, capacities)?;
+        attached.attach_subscribers(capacities.subscribers)?;
+        attached.attach_publishers(capacities.publishers);
         Ok(attached)
     }
 
@@ -78,7 +78,7 @@ impl Attached {
     /// last node and so on, and says how many there are.
     pub(super) fn attach_subscribers(&mut self, count: u32) -> Result<u64, AllocError> {
         for number in 0..count {
-            let Some(node_id) = node(self.places.nodes.saturating_sub(number)) else {
+            let Some(node_id) = node(self.capacities.nodes.saturating_sub(number)) else {
                 continue;
             };
             let details = PortDetails::Subscriber(SubscriberDetails {
@@ -96,7 +96,7 @@ impl Attached {
     /// Attaches this many publishers, the first one to the last node and so on.
     pub(super) fn attach_publishers(&mut self, count: u32) {
         for number in 0..count {
-            let Some(node_id) = node(self.places.nodes.saturating_sub(number)) else {
+            let Some(node_id) = node(self.capacities.nodes.saturating_sub(number)) else {
                 continue;
             };
             let _handle = self.attach(PortDetails::Publisher(PublisherDetails {
@@ -181,7 +181,7 @@ impl Attached {
     pub(super) fn die(&mut self, count: u32) -> u64 {
         let mut ports = 0u64;
         for number in 0..count {
-            let Some(dead) = node(self.places.nodes.saturating_sub(number)) else {
+            let Some(dead) = node(self.capacities.nodes.saturating_sub(number)) else {
                 continue;
             };
             let mut remove = |_port: UniquePortId| -> PortCleanupAction {

@@ -1,6 +1,6 @@
 //! Which call is made, how often, and among how many nodes and ports.
 
-use super::attached::{Attached, Places};
+use super::attached::{Attached, Capacities};
 use super::described;
 use super::described::Sizes;
 use std::alloc::{AllocError, Global};
@@ -37,7 +37,7 @@ enum Call {
 #[derive(Clone, Copy, Debug)]
 pub(super) struct Task {
     call: Call,
-    places: Places,
+    capacities: Capacities,
     rounds: u32,
     calls: u32,
 }
@@ -49,14 +49,14 @@ impl Task {
     pub(super) fn read(line: &str) -> Option<Self> {
         let mut words = line.split_whitespace();
         let call = Call::named(words.next()?)?;
-        let places = Places {
+        let capacities = Capacities {
             nodes: number(words.next())?,
             subscribers: number(words.next())?,
             publishers: number(words.next())?,
         };
         Some(Task {
             call,
-            places,
+            capacities,
             rounds: number(words.next())?,
             calls: number(words.next())?,
         })
@@ -83,18 +83,18 @@ impl Task {
     /// The three numbers of a line for layouts.
     fn sizes(&self) -> Sizes {
         Sizes {
-            header: self.places.nodes,
-            element: self.places.publishers,
-            alignment: self.places.subscribers,
+            header: self.capacities.nodes,
+            element: self.capacities.publishers,
+            alignment: self.capacities.subscribers,
         }
     }
 
     /// The service that the calls are made on.
     fn attached(&self, alloc: Global) -> Result<Attached, AllocError> {
         match self.call {
-            Call::Register => Attached::new(alloc, self.places),
-            Call::Attach => Attached::with_nodes(alloc, self.places),
-            _ => Attached::full(alloc, self.places),
+            Call::Register => Attached::new(alloc, self.capacities),
+            Call::Attach => Attached::with_nodes(alloc, self.capacities),
+            _ => Attached::full(alloc, self.capacities),
         }
     }
 

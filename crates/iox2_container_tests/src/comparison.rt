@@ -24,7 +24,7 @@ pub(super) struct Comparison {
     pub(super) entries: (usize, usize),
 }
 
-/// Makes the calls on a new scan and a new free list with these places and tickets.
+/// Makes the calls on a new scan and a new free list with these slots and tickets.
 pub(super) fn compared(
     alloc: Global,
     (capacity, tickets): (usize, u64),
@@ -51,7 +51,7 @@ pub(super) fn compared(
     })
 }
 
-/// Compares the replies to the calls, for registries of these places and tickets.
+/// Compares the replies to the calls, for registries of these slots and tickets.
 fn are_compared(
     rt: &impl Abort,
     alloc: Global,
@@ -114,7 +114,7 @@ static TWO_COME_TO_A_LIST: [Reply; 10] = [
     Reply::NoHandle,
 ];
 
-/// Adds three entries, removes the first two and adds two again, each in a place of its own.
+/// Adds three entries, removes the first two and adds two again, each in a slot of its own.
 #[test]
 fn freed_places_are_taken_in_other_orders(rt: HostRuntime) -> Result<(), Fail> {
     are_compared(
@@ -183,7 +183,7 @@ fn both_run_out_of_tickets(rt: HostRuntime) -> Result<(), Fail> {
     )
 }
 
-/// Of five entries the first two go, and two come in their places.
+/// Of five entries the first two go, and two come in their slots.
 static FIVE_ARE_LISTED: [Call; 10] = [
     Call::Add(A),
     Call::Add(A),

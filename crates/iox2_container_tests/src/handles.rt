@@ -12,7 +12,7 @@ const FIRST: Handle = Handle(7, Role::Node, 0, 0);
 
 const LIVE: Handle = Handle(7, Role::Node, 1, 1);
 
-/// On a registry of three places, with a live entry in slot 1.
+/// On a registry of three slots, with a live entry in slot 1.
 static STRANGERS_ARE_REFUSED: [Row; 18] = [
     Row::Add(Entry(1, A), Ok(FIRST)),
     Row::Add(Entry(1, A), Ok(LIVE)),

@@ -20,8 +20,6 @@ mod nodes;
 #[cfg(test)]
 mod passes;
 #[cfg(test)]
-mod places;
-#[cfg(test)]
 mod printing;
 #[cfg(test)]
 mod registries;
@@ -29,3 +27,5 @@ mod registries;
 mod rows;
 #[cfg(test)]
 mod sizes;
+#[cfg(test)]
+mod slots;

@@ -7,7 +7,7 @@ use std::test::Fail;
 
 const OTHER: Node = Node(2, 0, 2);
 
-/// On a registry of three places, of which a recovery frees the first and the last.
+/// On a registry of three slots, of which a recovery frees the first and the last.
 static TWO_PLACES_ARE_RECOVERED: [Row; 5] = [
     Row::Add(Entry(10, A), Ok(Handle(7, Role::Publisher, 0, 0))),
     Row::Add(Entry(11, OTHER), Ok(Handle(7, Role::Publisher, 1, 1))),
@@ -22,7 +22,7 @@ static TWO_PLACES_ARE_RECOVERED: [Row; 5] = [
     Row::EntriesOf(A, 0),
 ];
 
-/// The scan takes the lowest place first.
+/// The scan takes the lowest slot first.
 static THE_SCAN_USES_THEM_AGAIN: [Row; 5] = [
     Row::Add(Entry(13, A), Ok(Handle(7, Role::Publisher, 0, 3))),
     Row::Add(Entry(14, OTHER), Ok(Handle(7, Role::Publisher, 2, 4))),
@@ -34,7 +34,7 @@ static THE_SCAN_USES_THEM_AGAIN: [Row; 5] = [
     ),
 ];
 
-/// The list takes the place first that was freed last.
+/// The list takes the slot first that was freed last.
 static THE_LIST_USES_THEM_AGAIN: [Row; 5] = [
     Row::Add(Entry(13, A), Ok(Handle(7, Role::Publisher, 2, 3))),
     Row::Add(Entry(14, OTHER), Ok(Handle(7, Role::Publisher, 0, 4))),
@@ -112,7 +112,7 @@ fn nodes_that_share_an_owner_id(rt: HostRuntime) -> Result<(), Fail> {
     )
 }
 
-/// On a registry of three places.
+/// On a registry of three slots.
 static A_LISTING_STOPS: [Row; 4] = [
     Row::Add(Entry(10, A), Ok(Handle(7, Role::Publisher, 0, 0))),
     Row::Add(Entry(11, A), Ok(Handle(7, Role::Publisher, 1, 1))),
@@ -125,7 +125,7 @@ fn a_listing_stops_at_its_second_entry(rt: HostRuntime) -> Result<(), Fail> {
     ports_are_answered(&rt, rt.alloc(), (3, u64::MAX), &A_LISTING_STOPS, [&[]; 2])
 }
 
-/// On a registry of four places, three of them with entries of one node.
+/// On a registry of four slots, three of them with entries of one node.
 static ANSWERS_GO_BY_TURN: [Row; 7] = [
     Row::Add(Entry(10, A), Ok(Handle(7, Role::Publisher, 0, 0))),
     Row::Add(Entry(11, OTHER), Ok(Handle(7, Role::Publisher, 1, 1))),
@@ -153,7 +153,7 @@ fn three_candidates_answered_yes_no_yes(rt: HostRuntime) -> Result<(), Fail> {
     )
 }
 
-/// On a registry of three places.
+/// On a registry of three slots.
 static THE_LAST_THAT_LEAVES_LOCKS: [Row; 6] = [
     Row::Add(Entry(1, A), Ok(Handle(7, Role::Node, 0, 0))),
     Row::Remove(

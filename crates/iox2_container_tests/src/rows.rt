@@ -34,7 +34,7 @@ impl Handle {
     }
 }
 
-/// What is answered where there is no place or no ticket.
+/// What is answered where there is no slot or no ticket.
 pub(super) const OUT_OF_SPACE: Result<Handle, ContainerAddFailure> = Err(
     ContainerAddFailure::OutOfSpace,
 );

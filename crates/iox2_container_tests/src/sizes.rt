@@ -5,7 +5,7 @@ use iox2_ids::identifiers::UniqueNodeId;
 use iox2_texts::bounded::CallbackProgression;
 use std::test::Fail;
 
-/// Passes over all places, a million each time, would take minutes.
+/// Passes over all slots, a million each time, would take minutes.
 #[test]
 fn a_million_places_with_three_entries(rt: HostRuntime) -> Result<(), Fail> {
     let id = A.id()?;

@@ -10,7 +10,7 @@ const B: Node = Node(0, 2);
 
 const C: Node = Node(0, 3);
 
-/// One place for nodes, and none for the first ports.
+/// One slot for nodes, and none for the first ports.
 static A_NODE_COMES_AND_GOES: [Row; 5] = [
     Row::Attach(Kind::First, 9, A, Err(AttachError::NodeNotRegistered)),
     Row::Register(A, Ok(Handle(7, Kind::Node, 0, 0))),
@@ -24,7 +24,7 @@ fn ports_want_a_registered_node_of_an_unlocked_service(rt: HostRuntime) -> Resul
     each_pattern_answers(&rt, rt.alloc(), (1, 0, 2), &A_NODE_COMES_AND_GOES)
 }
 
-/// One place for the first ports and two for the others.
+/// One slot for the first ports and two for the others.
 static A_PLACE_IS_USED_AGAIN: [Row; 11] = [
     Row::Register(A, Ok(Handle(7, Kind::Node, 0, 0))),
     Row::Attach(Kind::First, 7, A, Ok(Handle(7, Kind::First, 0, 0))),
@@ -85,7 +85,7 @@ static NO_TICKET_IS_LEFT: [Row; 1] = [Row::Register(
 )];
 
 /// Makes the calls of the rows on a new service of each pattern,
-/// with three places of each kind and this many tickets.
+/// with three slots of each kind and this many tickets.
 fn each_pattern_answers_by_tickets(
     rt: &impl Abort,
     alloc: Global,

@@ -71,13 +71,13 @@ fn a_kept_port_keeps_its_node_and_another_node_stays(rt: HostRuntime) -> Result<
     each_pattern_answers(&rt, rt.alloc(), (4, 4, 4), &ONE_PORT_IS_KEPT)
 }
 
-/// One place for nodes.
+/// One slot for nodes.
 static NO_NODE_IS_RECOVERED: [Row; 2] = [
     Row::Recover(A, &[], &[], true),
     Row::Register(A, Ok(Handle(7, Kind::Node, 0, 0))),
 ];
 
-/// No place for nodes.
+/// No slot for nodes.
 static NO_NODE_FITS: [Row; 2] = [
     Row::Register(A, Err(RegisterNodeResult::ExceedsMaxNumberOfNodes)),
     Row::Recover(A, &[], &[], true),

@@ -192,8 +192,8 @@ fn details_are_shown_by_field(rt: HostRuntime) {
     );
 }
 
-/// The text of a registry of service 7 that has two places and nine tickets, with this count of
-/// entries, which was given as many, and these cells, list of free places and end of the newest.
+/// The text of a registry of service 7 that has two slots and nine tickets, with this count of
+/// entries, which was given as many, and these cells, list of free slots and end of the newest.
 fn registry(
     rt: &(impl Abort + AllocGlobal),
     role: Role,
@@ -210,7 +210,7 @@ fn registry(
     .expect(rt, "memory for a text")
 }
 
-/// Nothing stands in two places.
+/// Nothing stands in two slots.
 const NONE: [&str; 3] = ["Free(None), Free(None)", "head: None, fresh: 0", "0"];
 
 /// Checks that a service of a pattern is shown by its two kinds of ports and its nodes.

@@ -18,7 +18,7 @@ mod listings;
 #[cfg(test)]
 mod making;
 #[cfg(test)]
-mod many_places;
+mod many_slots;
 #[cfg(test)]
 mod memory;
 #[cfg(test)]

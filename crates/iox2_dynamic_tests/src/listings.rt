@@ -166,7 +166,7 @@ static UP_TO_A_STOP: [(usize, &[u128]); 4] = [
     (4, &LISTED),
 ];
 
-/// The nodes that are listed up to and with the one of this place.
+/// The nodes that are listed up to and with the one of this index.
 fn nodes_up_to(service: &DynamicConfig, most: usize) -> ArrayVec<u128, 4> {
     let mut seen = ArrayVec::new();
     service.list_node_ids(&mut |id: &UniqueNodeId| {

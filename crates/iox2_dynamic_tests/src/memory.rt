@@ -59,30 +59,30 @@ fn a_service_is_made_whole_or_not_at_all(rt: HostRuntime) -> Result<(), Fail> {
     Ok(())
 }
 
-/// With this many places, no memory holds a service of this pattern.
+/// With this many slots, no memory holds a service of this pattern.
 fn no_memory_holds(
     rt: &impl Abort,
     alloc: Global,
     pattern: &Pattern,
-    places: (usize, usize, usize),
+    capacities: (usize, usize, usize),
 ) {
-    let made = service(alloc, pattern.kind, places).is_ok();
-    let made_by_tickets = service_by_tickets(alloc, pattern.kind, places, 1).is_ok();
+    let made = service(alloc, pattern.kind, capacities).is_ok();
+    let made_by_tickets = service_by_tickets(alloc, pattern.kind, capacities, 1).is_ok();
     assert_eq!(rt; (made, made_by_tickets), (false, false));
 }
 
-/// Whichever of the three kinds of places finds no memory, there is no service.
+/// Whichever of the three kinds of slots finds no memory, there is no service.
 #[test]
 fn places_that_no_memory_holds(rt: HostRuntime) {
     let most = usize::MAX;
     for pattern in &PATTERNS {
-        for places in [(most, 1, 1), (1, most, 1), (1, 1, most)] {
-            no_memory_holds(&rt, rt.alloc(), pattern, places);
+        for capacities in [(most, 1, 1), (1, most, 1), (1, 1, most)] {
+            no_memory_holds(&rt, rt.alloc(), pattern, capacities);
         }
     }
 }
 
-/// How many publishers new ports of publish-subscribe have, with four places for either kind.
+/// How many publishers new ports of publish-subscribe have, with four slots for either kind.
 pub(super) fn publishers(alloc: Global) -> Result<usize, AllocError> {
     let settings = publish_subscribe::DynamicConfigSettings {
         number_of_publishers: 4,
@@ -91,7 +91,7 @@ pub(super) fn publishers(alloc: Global) -> Result<usize, AllocError> {
     Ok(publish_subscribe::DynamicConfig::new(alloc, &settings, 7)?.number_of_publishers())
 }
 
-/// How many listeners new ports of event have, with four places for either kind.
+/// How many listeners new ports of event have, with four slots for either kind.
 pub(super) fn listeners(alloc: Global) -> Result<usize, AllocError> {
     let settings = event::DynamicConfigSettings {
         number_of_listeners: 4,
@@ -100,7 +100,7 @@ pub(super) fn listeners(alloc: Global) -> Result<usize, AllocError> {
     Ok(event::DynamicConfig::new(alloc, &settings, 7)?.number_of_listeners())
 }
 
-/// How many servers new ports of request-response have, with four places for either kind.
+/// How many servers new ports of request-response have, with four slots for either kind.
 pub(super) fn servers(alloc: Global) -> Result<usize, AllocError> {
     let settings = request_response::DynamicConfigSettings {
         number_of_servers: 4,
@@ -109,7 +109,7 @@ pub(super) fn servers(alloc: Global) -> Result<usize, AllocError> {
     Ok(request_response::DynamicConfig::new(alloc, &settings, 7)?.number_of_servers())
 }
 
-/// How many readers new ports of blackboard have, with four places for either kind.
+/// How many readers new ports of blackboard have, with four slots for either kind.
 pub(super) fn readers(alloc: Global) -> Result<usize, AllocError> {
     let settings = blackboard::DynamicConfigSettings {
         number_of_readers: 4,

@@ -7,7 +7,7 @@ use iox2_dynamic::dynamic_config::*;
 use std::process::Abort;
 use std::test::Fail;
 
-/// There is room as long as a place is left, and none without a lock or with one.
+/// There is room as long as a slot is left, and none without a lock or with one.
 static ROOM_BY_PLACES: [Row; 8] = [
     Row::Room([true, true, true], false),
     Row::Register(A, Ok(Handle(7, Kind::Node, 0, 0))),
@@ -24,7 +24,7 @@ fn room_goes_by_places(rt: HostRuntime) -> Result<(), Fail> {
     each_pattern_answers(&rt, rt.alloc(), (1, 1, 1), &ROOM_BY_PLACES)
 }
 
-/// A service that is locked has no room, although places and tickets are left.
+/// A service that is locked has no room, although slots and tickets are left.
 static NO_ROOM_WITH_A_LOCK: [Row; 4] = [
     Row::Room([true, true, true], false),
     Row::Register(A, Ok(Handle(7, Kind::Node, 0, 0))),
@@ -37,7 +37,7 @@ fn a_locked_service_has_no_room(rt: HostRuntime) -> Result<(), Fail> {
     each_pattern_answers(&rt, rt.alloc(), (2, 2, 2), &NO_ROOM_WITH_A_LOCK)
 }
 
-/// Without a ticket there is no room, although places are left.
+/// Without a ticket there is no room, although slots are left.
 static ROOM_BY_TICKETS: [Row; 4] = [
     Row::Register(A, Ok(Handle(7, Kind::Node, 0, 0))),
     Row::Room([false, true, true], false),

@@ -255,16 +255,16 @@ pub(super) fn are_answered(
     Ok(())
 }
 
-/// Makes the calls of the rows on a new service of each pattern, with this many places for nodes,
+/// Makes the calls of the rows on a new service of each pattern, with this many slots for nodes,
 /// for the first ports and for the others.
 pub(super) fn each_pattern_answers(
     rt: &impl Abort,
     alloc: Global,
-    places: (usize, usize, usize),
+    capacities: (usize, usize, usize),
     rows: &[Row],
 ) -> Result<(), Fail> {
     for pattern in &PATTERNS {
-        let mut service = service(alloc, pattern.kind, places)?;
+        let mut service = service(alloc, pattern.kind, capacities)?;
         are_answered(rt, &mut service, pattern, rows)?;
     }
     Ok(())

@@ -89,13 +89,13 @@ pub(super) const ONE_OF_FIVE: Node = Node(1, 5);
 
 pub(super) const TWO_OF_FIVE: Node = Node(2, 5);
 
-/// A service of number 7 with this many places for nodes, for the first ports and for the others.
+/// A service of number 7 with this many slots for nodes, for the first ports and for the others.
 pub(super) fn service(
     alloc: Global,
     pattern: PatternKind,
-    places: (usize, usize, usize),
+    capacities: (usize, usize, usize),
 ) -> Result<Box<DynamicConfig>, AllocError> {
-    let (nodes, first, second) = places;
+    let (nodes, first, second) = capacities;
     let settings = MessagingPatternSettings::new(pattern, first, second);
     Ok(Box::new(alloc, DynamicConfig::new(alloc, &settings, nodes, 7)?)?)
 }
@@ -104,10 +104,10 @@ pub(super) fn service(
 pub(super) fn service_by_tickets(
     alloc: Global,
     pattern: PatternKind,
-    places: (usize, usize, usize),
+    capacities: (usize, usize, usize),
     tickets: u64,
 ) -> Result<Box<DynamicConfig>, AllocError> {
-    let (nodes, first, second) = places;
+    let (nodes, first, second) = capacities;
     let settings = MessagingPatternSettings::new(pattern, first, second);
     Ok(Box::new(
         alloc,

@@ -7,8 +7,8 @@ use Rattle.iox2_dynamic.specs.declared.dynamic_config.answers.DeregisterError.Th
 use Rattle.iox2_dynamic.specs.declared.dynamic_config.answers.RegisterNodeResult.TheVariants as enter
 use Rattle.iox2_dynamic.specs.Service.{Service as Held}
 use Rattle.iox2sd.specs.Answers.{handle_answer}
-use Rattle.iox2sd.specs.Handles.{told, ReadsHandle}
-use Rattle.iox2sd.specs.Places.{At, Nothing}
+use Rattle.iox2sd.specs.Handles.{c_handle, ReadsHandle}
+use Rattle.iox2sd.specs.Objects.{At, Nothing}
 use Rattle.iox2sd.specs.Ports.{AttachesPort}
 use Rattle.iox2sd.specs.declared.service.Service.{Service}
 use Rattle.iox2sd_common.specs.declared.status.Status.TheVariants as status
@@ -17,7 +17,7 @@ use Rattle.iox2sd_common.specs.declared.status.Status.TheVariants as status
 abbrev pub Registers : Id → Held → Result Handle Status → Held → Type 0
 Registers id old (Ok handle) new =
     (node : ℕ) × ReadsNode id (Some node)
-    × (named : Named) × RegisterStep old node (Ok named) new × (handle ≡ told named)
+    × (named : Named) × RegisterStep old node (Ok named) new × (handle ≡ c_handle named)
 Registers id old (Err status.NoNode) new = ReadsNode id None × (new ≡ old)
 Registers id old (Err status.IsLocked) new =
     (node : ℕ) × ReadsNode id (Some node)
@@ -53,7 +53,7 @@ Releases handle old status.ForeignHandle new =
     × ReleaseStep old named (Err remove.ContainerHandleNotOwnedByContainer) new
 Releases handle old _ new = ⊥
 
--- attaching a port that may be NULL, which is told before all else
+-- attaching a port that may be NULL, which is reported before all else
 abbrev pub AttachesAt : List Port → List Service → HandleAnswer → List Service → Type 0
 AttachesAt [] old answer new = (answer ≡ handle_answer (Err status.Null)) × (new ≡ old)
 AttachesAt (port ∷ others) old answer new =

@@ -22,8 +22,8 @@ ReadsRole number (Some role) = role_number role ≡ number
 ReadsRole number None = (role : Role) → role_number role ≢ number
 
 -- the handle as C sees it
-abbrev pub told : ContainerHandle → Handle
-told h = record { service = h.service; role = role_number h.role; slot = h.slot; ticket = h.ticket }
+abbrev pub c_handle : ContainerHandle → Handle
+c_handle h = record { service = h.service; role = role_number h.role; slot = h.slot; ticket = h.ticket }
 
 -- the number of no role
 abbrev pub no_role : ℕ
@@ -35,5 +35,5 @@ no_handle = record { service = 0; role = no_role; slot = 0; ticket = 0 }
 
 -- the handle that C's handle tells, or that its role is none
 abbrev pub ReadsHandle : Handle → Option ContainerHandle → Type 0
-ReadsHandle h (Some read) = h ≡ told read
+ReadsHandle h (Some read) = h ≡ c_handle read
 ReadsHandle h None = ReadsRole h.role None

@@ -1,4 +1,4 @@
--- What is told of ids.
+-- Questions about ids.
 use Rattle.std.specs.Prelude.{nat_lt, ◌+◌, Bool}
 use Rattle.iox2sd.specs.Prelude.{number_of, Id}
 

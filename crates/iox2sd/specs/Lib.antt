@@ -4,7 +4,7 @@ pub mod Ids
 pub mod Handles
 pub mod Ports
 pub mod Answers
-pub mod Places
+pub mod Objects
 pub mod Services
 pub mod Changes
 pub mod Counts

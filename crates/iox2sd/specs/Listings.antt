@@ -16,22 +16,22 @@ listed_answer (All n) = count_answer status.Done n
 listed_answer (TooShort n) = count_answer status.BufferTooShort n
 listed_answer (Refused s) = count_answer s 0
 
--- an item was put into the next place, or there is none
+-- an item was put into the next element, or there is none
 abbrev pub Puts : {A : Type 0} → List A × ℕ → A → CallbackProgression → List A × ℕ → Type 0
 Puts before item Continue after =
     (before.1 < length before.0) × (after.0 ≡ slice_set before.0 before.1 item)
     × (after.1 ≡ before.1 + 1)
 Puts before item Stop after = length before.0 ≤ before.1
 
--- where they fit behind the places in use, all these items were put there, and the other places are
--- as they were
+-- where they fit behind the elements in use, all these items were put there, and the others are as
+-- they were
 abbrev pub PutsAll : {A : Type 0} → List A → List A × ℕ → List A × ℕ → Type 0
 PutsAll {A} items before after =
     (done left : List A) → before.0 ≡ done ++ left → length done ≡ before.1
     → length items ≤ length left
     → after.0 ≡ done ++ items ++ drop (length items) left
 
--- all these items stand at the front of the array, and its other places are as they were
+-- all these items stand at the front of the array, and its other elements are as they were
 abbrev pub ListsAll : {A : Type 0} → List A → List A → ℕ → List A → Type 0
 ListsAll items before n after =
     (length items ≤ length before) × (after ≡ items ++ drop (length items) before)

@@ -12,15 +12,15 @@ abbrev pub Counts : ℕ → Option ℕ → Type 0
 Counts n (Some count) = count ≡ n
 Counts n None = 2 ^ 64 ≤ n
 
--- an item was put into this place, where there is one
+-- an item was put at this index, where there is one
 abbrev pub PutsAt : {A : Type 0} → Option ℕ → A → List A → List A → Type 0
-PutsAt (Some place) item old new =
-    ((place < length old) × (new ≡ slice_set old place item))
-    ⊎ ((length old ≤ place) × (new ≡ old))
+PutsAt (Some index) item old new =
+    ((index < length old) × (new ≡ slice_set old index item))
+    ⊎ ((length old ≤ index) × (new ≡ old))
 PutsAt None item old new = new ≡ old
 
 -- these items were counted, and stand at the front of an array that has room for them, whose other
--- places are as they were; or they are too many to be counted
+-- elements are as they were; or they are too many to be counted
 abbrev pub Stand : {A : Type 0} → List A → List A → List A → Option ℕ → Type 0
 Stand before items after (Some count) =
     (count ≡ length items) × (length after ≡ length before)

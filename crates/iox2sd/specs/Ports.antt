@@ -8,7 +8,7 @@ use Rattle.iox2_container.specs.declared.container.role.Role.TheVariants as role
 use Rattle.iox2_dynamic.specs.declared.dynamic_config.answers.AttachError.TheVariants as attach
 use Rattle.iox2_dynamic.specs.declared.dynamic_config.port_details.PortDetails.TheVariants as of
 use Rattle.iox2_dynamic.specs.Service.{Service as Held}
-use Rattle.iox2sd.specs.Handles.{told, role_number, ReadsRole}
+use Rattle.iox2sd.specs.Handles.{c_handle, role_number, ReadsRole}
 use Rattle.iox2sd_common.specs.declared.status.Status.TheVariants as status
 
 -- the number of a kind of data segment
@@ -21,7 +21,7 @@ abbrev pub ReadsSegment : ℕ → Option DataSegmentType → Type 0
 ReadsSegment number (Some s) = segment_number s ≡ number
 ReadsSegment number None = (s : DataSegmentType) → ¬ (segment_number s ≡ number)
 
--- each field that its kind alone has is the one that the caller told
+-- each field that its kind alone has is the one that the caller gave
 abbrev pub ShowsFields : Port → PortDetails → Type 0
 ShowsFields p (of.Publisher d) =
     (d.number_of_samples ≡ p.number_of_samples) × (d.max_slice_len ≡ p.max_slice_len)
@@ -42,7 +42,7 @@ ShowsFields p (of.Client d) =
     × (d.max_number_of_segments ≡ p.max_number_of_segments)
 ShowsFields p _ = Unit {0}
 
--- the port's kind, its ids and each field of its kind are those that the caller told
+-- the port's kind, its ids and each field of its kind are those that the caller gave
 abbrev pub ShowsDetails : Port → PortDetails → Type 0
 ShowsDetails p d =
     ReadsRole p.role (Some (role_of d)) × (port_value (port_of d) ≡ number_of p.port)
@@ -128,7 +128,7 @@ told_port other = blank other
 abbrev pub AttachesPort : Port → Held → Result Handle Status → Held → Type 0
 AttachesPort p old (Ok handle) new =
     (d : PortDetails) × ShowsDetails p d × HasRole old.pattern (role_of d)
-    × (named : Named) × AttachStep old d (Ok named) new × (handle ≡ told named)
+    × (named : Named) × AttachStep old d (Ok named) new × (handle ≡ c_handle named)
 AttachesPort p old (Err status.NoNode) new = ReadsPort p (Err status.NoNode) × (new ≡ old)
 AttachesPort p old (Err status.UnknownRole) new = ReadsPort p (Err status.UnknownRole) × (new ≡ old)
 AttachesPort p old (Err status.UnknownSegment) new = ReadsPort p (Err status.UnknownSegment)

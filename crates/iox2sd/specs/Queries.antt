@@ -30,7 +30,7 @@ abbrev pub AsksNodeRoom : Held → Result Bool Status → Type 0
 AsksNodeRoom s (Ok is_so) = IsTrue is_so ↔ TakesEntry s.nodes.registry
 AsksNodeRoom s (Err _) = ⊥
 
--- what is said of the ports of a role: a number, or why none is told
+-- what is said of the ports of a role: a number, or why there is none
 abbrev pub AsksPorts : (RegistryState PortDetails → ℕ → Type 0) → ℕ → Held → Result ℕ Status
     → Type 0
 AsksPorts says number s (Ok n) =

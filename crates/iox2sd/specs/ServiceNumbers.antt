@@ -12,7 +12,7 @@ NotesNumber old (Ok number) new = ReturnsNumber old.last (Some number) new.last
 NotesNumber old (Err status.OutOfSpace) new = ReturnsNumber old.last None new.last
 NotesNumber old (Err _) new = ⊥
 
--- the first place notes the number that is returned
+-- the first counter notes the number that is returned
 abbrev pub GivesNumber : List ServiceNumbers → NumberAnswer → List ServiceNumbers → Type 0
 GivesNumber [] answer new = (answer ≡ number_answer (Err status.Null)) × (new ≡ [])
 GivesNumber (old ∷ rest) answer new =

@@ -4,7 +4,7 @@ use Rattle.iox2_config.specs.Hashing.{ReadsPattern}
 use Rattle.iox2_config.specs.declared.hash.input.PatternKind.{PatternKind}
 use Rattle.iox2sd.specs.Prelude.{PatternCapacities, fresh_service, code, Status}
 use Rattle.iox2_dynamic.specs.Service.{Service as Held}
-use Rattle.iox2sd.specs.Places.{IsSoundPlace, held}
+use Rattle.iox2sd.specs.Objects.{IsSoundObject, held}
 use Rattle.iox2sd.specs.declared.service.Service.{Service}
 use Rattle.iox2sd.specs.declared.service.making.Capacities.{Capacities}
 use Rattle.iox2sd_common.specs.declared.status.Status.TheVariants as status
@@ -24,28 +24,28 @@ MakesNew pattern number c tickets status.NoMemory new =
     (kind : PatternKind) × ReadsPattern pattern (Some kind) × (new ≡ None)
 MakesNew pattern number c tickets _ new = ⊥
 
--- making a service at a place: one that holds a service keeps it
+-- making a service at an object: one that holds a service keeps it
 abbrev pub Makes : ℕ → ℕ → Capacities → ℕ → Option Held → ℕ → Option Held → Type 0
 Makes pattern number c tickets (Some old) answer new = (answer ≡ code status.HasService)
     × (new ≡ Some old)
 Makes pattern number c tickets None answer new =
     (s : Status) × (answer ≡ code s) × MakesNew pattern number c tickets s new
 
--- the same at a place that may be NULL
+-- the same at an object that may be NULL
 abbrev pub MakesAt : ℕ → ℕ → Capacities → ℕ → List Service → ℕ → List Service → Type 0
 MakesAt pattern number c tickets [] answer new = (answer ≡ code status.Null) × (new ≡ [])
-MakesAt pattern number c tickets (place ∷ others) answer new =
-    (left : Service) × (new ≡ left ∷ others) × IsSoundPlace left
-    × Makes pattern number c tickets (held place) answer (held left)
+MakesAt pattern number c tickets (object ∷ others) answer new =
+    (left : Service) × (new ≡ left ∷ others) × IsSoundObject left
+    × Makes pattern number c tickets (held object) answer (held left)
 
 -- freeing what is held, and telling whether something was
 abbrev pub Frees : Option Held → ℕ → Option Held → Type 0
 Frees (Some old) answer new = (answer ≡ code status.Done) × (new ≡ None)
 Frees None answer new = (answer ≡ code status.NoService) × (new ≡ None)
 
--- the same at a place that may be NULL
+-- the same at an object that may be NULL
 abbrev pub FreesAt : List Service → ℕ → List Service → Type 0
 FreesAt [] answer new = (answer ≡ code status.Null) × (new ≡ [])
-FreesAt (place ∷ others) answer new =
-    (left : Service) × (new ≡ left ∷ others) × IsSoundPlace left
-    × Frees (held place) answer (held left)
+FreesAt (object ∷ others) answer new =
+    (left : Service) × (new ≡ left ∷ others) × IsSoundObject left
+    × Frees (held object) answer (held left)

@@ -2,17 +2,17 @@
 ghost use Rattle.std.specs.Prelude.{◌≡◌, Some, None, IfSome, IfNone};
 ghost use Rattle.std.specs.Borrow.{sem};
 ghost use Rattle.iox2sd.specs.Lending.{LendsHeld};
-ghost use Rattle.iox2sd.specs.Places.{IsSoundPlace, held};
+ghost use Rattle.iox2sd.specs.Objects.{IsSoundObject, held};
 
 /// The service that the first object holds. Where there is none, the export returns the answer with
 /// the status that says why.
 macro_rules! lent_or_return {
-    ($places:expr, $status:ident => $refused:expr) => {{
-        let [place, ..] = $places else {
+    ($objects:expr, $status:ident => $refused:expr) => {{
+        let [object, ..] = $objects else {
             let $status = Status::Null;
             return $refused;
         };
-        let Some(service) = place.lend() else {
+        let Some(service) = object.lend() else {
             let $status = Status::NoService;
             return $refused;
         };
@@ -43,11 +43,11 @@ pub struct Service {
 impl Service {
     /// Takes the service out, where there is one.
     pub(super) fn take(&mut self, alloc: Global) -> Option<Box<DynamicConfig>>
-        requires { IsSoundPlace self.old }
+        requires { IsSoundObject self.old }
         ensures some { IfSome result (λ service. held self.old ≡ Some service.value) }
         ensures none { IfNone result (held self.old ≡ None) }
         ensures left { held self.new ≡ None }
-        ensures sound { IsSoundPlace self.new }
+        ensures sound { IsSoundObject self.new }
     {
         if !self.full {
             return None;
@@ -58,7 +58,7 @@ impl Service {
 
     /// Borrows the service, where there is one. It stays in the object.
     pub(super) fn lend(&mut self) -> Option<&mut DynamicConfig>
-        requires { IsSoundPlace self.old }
+        requires { IsSoundObject self.old }
         ensures* writes_back { sem 𝓛 (LendsHeld self.entry result) }
         ensures some { IfSome result (λ service. held self.old ≡ Some service.now) }
         ensures none { IfNone result (held self.old ≡ None) }
@@ -71,10 +71,10 @@ impl Service {
 
     /// Puts a service in, where there is none.
     pub(super) fn put(&mut self, service: Box<DynamicConfig>)
-        requires sound { IsSoundPlace self.old }
+        requires sound { IsSoundObject self.old }
         requires none { held self.old ≡ None }
         ensures service { held self.new ≡ Some service.value }
-        ensures sound { IsSoundPlace self.new }
+        ensures sound { IsSoundObject self.new }
     {
         self.full = true;
         self.slot.put(RawBox::of(service));

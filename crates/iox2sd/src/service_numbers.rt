@@ -14,12 +14,12 @@ pub struct ServiceNumbers {
 }
 
 /// The next number, which is noted.
-fn next(place: &mut ServiceNumbers) -> Result<u64, Status>
-    ensures { NotesNumber place.old result place.new }
+fn next(counter: &mut ServiceNumbers) -> Result<u64, Status>
+    ensures { NotesNumber counter.old result counter.new }
 {
-    let mut numbers = Numbers::after(place.last);
+    let mut numbers = Numbers::after(counter.last);
     let number = numbers.next_number();
-    place.last = numbers.last();
+    counter.last = numbers.last();
     number.ok_or(Status::OutOfSpace)
 }
 

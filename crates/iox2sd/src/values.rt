@@ -3,7 +3,7 @@
 ghost use Rattle.std.specs.Prelude.{◌≡◌, None};
 ghost use Rattle.iox2sd.specs.Answers.{handle_answer, number_answer, roles_answer, id_answer};
 ghost use Rattle.iox2sd.specs.Answers.{port_answer, told_death, death_answer};
-ghost use Rattle.iox2sd.specs.Handles.{role_number, ReadsRole, told, no_handle, ReadsHandle};
+ghost use Rattle.iox2sd.specs.Handles.{role_number, ReadsRole, c_handle, no_handle, ReadsHandle};
 ghost use Rattle.iox2sd.specs.Ports.{segment_number, ReadsSegment, ReadsPort, blank, told_port};
 
 use crate::service::roles::Counts;
@@ -72,7 +72,7 @@ pub(crate) fn role_of(number: u64) -> Option<Role>
 impl Handle {
     /// The handle as C sees it.
     pub(crate) fn of(handle: ContainerHandle) -> Handle
-        ensures { result ≡ told handle }
+        ensures { result ≡ c_handle handle }
     {
         let (service, role, slot, ticket) = handle.into_parts();
         Handle {

@@ -39,7 +39,7 @@ fn told_late(rt: &impl Abort, service: &mut DynamicConfig) -> [Told; 3] {
     ]
 }
 
-/// One place for a node: the first one joins, with two subscribers there is no room for any more,
+/// One slot for a node: the first one joins, with two subscribers there is no room for any more,
 /// and its death ends the service.
 #[test]
 fn the_first_cause_is_told(rt: HostRuntime) -> Result<(), Fail> {
@@ -64,7 +64,7 @@ fn the_first_cause_is_told(rt: HostRuntime) -> Result<(), Fail> {
     Ok(())
 }
 
-/// Two places for publishers: the third node finds none,
+/// Two slots for publishers: the third node finds none,
 /// uses up no ticket, and joins with a subscriber.
 #[test]
 fn who_finds_no_room_may_join_otherwise(rt: HostRuntime) -> Result<(), Fail> {
@@ -88,7 +88,7 @@ fn who_finds_no_room_may_join_otherwise(rt: HostRuntime) -> Result<(), Fail> {
     Ok(())
 }
 
-/// The only node of a service with no place for its
+/// The only node of a service with no slot for its
 /// port does not join, and the service is not locked.
 #[test]
 fn a_fresh_service_stays_open(rt: HostRuntime) -> Result<(), Fail> {

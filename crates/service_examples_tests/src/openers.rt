@@ -65,7 +65,7 @@ fn told_by_event(
     open(&event, service, &opener(rt, "blue", 1))
 }
 
-/// Each opener has one fault less than the one before; the last has none, and gets the first place.
+/// Each opener has one fault less than the one before; the last has none, and gets the first slot.
 /// A message of two numbers behind a header of 40 bytes takes 64.
 #[test]
 fn the_first_cause_is_told_and_nothing_stays(rt: HostRuntime) -> Result<(), Fail> {
@@ -99,7 +99,7 @@ fn the_first_cause_is_told_and_nothing_stays(rt: HostRuntime) -> Result<(), Fail
     Ok(())
 }
 
-/// One place for a node; after it was taken and its node died, the service is over.
+/// One slot for a node; after it was taken and its node died, the service is over.
 #[test]
 fn no_node_is_taken_beyond_the_places_nor_after_the_last(rt: HostRuntime) -> Result<(), Fail> {
     let mut service = service(rt.alloc(), 1)?;

@@ -24,7 +24,7 @@ fn part(rt: &impl Abort, name: &str, variant: TypeVariant, layout: (usize, usize
 }
 
 /// A header of 40 bytes, no user header, and numbers of 64
-/// bits, whose places are multiples of 8 and of `alignment`.
+/// bits, whose offsets are multiples of 8 and of `alignment`.
 pub(super) fn types(rt: &impl Abort, alignment: usize) -> MessageTypeDetails {
     MessageTypeDetails {
         header: part(rt, "Header", TypeVariant::FixedSize, (40, 8)),
@@ -56,7 +56,7 @@ pub(super) fn description(rt: &impl Abort) -> StaticConfig {
     service.with_attributes(&attributes)
 }
 
-/// A service of number 7 with this many places for
+/// A service of number 7 with this many slots for
 /// nodes, two for publishers and two for subscribers.
 pub(super) fn service(alloc: Global, nodes: usize) -> Result<Box<DynamicConfig>, AllocError> {
     let settings = MessagingPatternSettings::new(PatternKind::PublishSubscribe, 2, 2);

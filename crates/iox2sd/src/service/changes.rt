@@ -2,7 +2,7 @@
 ghost use Rattle.std.specs.Prelude.{All, Err};
 ghost use Rattle.iox2sd.specs.Answers.{handle_answer};
 ghost use Rattle.iox2sd.specs.Changes.{Registers, Deregisters, Releases, AttachesAt};
-ghost use Rattle.iox2sd.specs.Places.{IsSoundPlace, At, Nothing};
+ghost use Rattle.iox2sd.specs.Objects.{IsSoundObject, At, Nothing};
 ghost use Rattle.iox2sd.specs.Ports.{AttachesPort};
 ghost use Rattle.iox2sd_common.specs.Status.{code};
 
@@ -31,11 +31,11 @@ fn register(service: &mut DynamicConfig, node: Id) -> Result<Handle, Status>
 /// Errors, in this order: NULL, an object without a service, an id of no node, a locked service, no
 /// slot or no ticket left.
 #[unsafe(no_mangle)]
-pub extern "C" fn iox2sd_register_node_id_at(places: &mut [Service], node: Id) -> HandleAnswer
-    requires { All IsSoundPlace places.old }
-    ensures { At handle_answer Err Nothing (Registers node) places.old result places.new }
+pub extern "C" fn iox2sd_register_node_id_at(objects: &mut [Service], node: Id) -> HandleAnswer
+    requires { All IsSoundObject objects.old }
+    ensures { At handle_answer Err Nothing (Registers node) objects.old result objects.new }
 {
-    let service = lent_or_return!(places, status => HandleAnswer::of(Err(status)));
+    let service = lent_or_return!(objects, status => HandleAnswer::of(Err(status)));
     HandleAnswer::of(register(service, node))
 }
 
@@ -60,11 +60,11 @@ fn deregister(service: &mut DynamicConfig, handle: Handle) -> Status
 /// Errors, in this order: NULL, an object without a service, a number of no role, a handle that is
 /// not that of a node here, and one that is the only one of its node while some port has that node.
 #[unsafe(no_mangle)]
-pub extern "C" fn iox2sd_deregister_node_id_at(places: &mut [Service], handle: Handle) -> u32
-    requires { All IsSoundPlace places.old }
-    ensures { At code (λ s. s) Nothing (Deregisters handle) places.old result places.new }
+pub extern "C" fn iox2sd_deregister_node_id_at(objects: &mut [Service], handle: Handle) -> u32
+    requires { All IsSoundObject objects.old }
+    ensures { At code (λ s. s) Nothing (Deregisters handle) objects.old result objects.new }
 {
-    let service = lent_or_return!(places, status => status.code());
+    let service = lent_or_return!(objects, status => status.code());
     deregister(service, handle).code()
 }
 
@@ -91,14 +91,14 @@ fn attach(service: &mut DynamicConfig, port: &Port) -> Result<Handle, Status>
 /// that the pattern does not have, a locked service, a node that is not registered, by its whole
 /// id, no slot or no ticket left.
 #[unsafe(no_mangle)]
-pub extern "C" fn iox2sd_attach_at(places: &mut [Service], ports: &[Port]) -> HandleAnswer
-    requires { All IsSoundPlace places.old }
-    ensures { AttachesAt ports.now places.old result places.new }
+pub extern "C" fn iox2sd_attach_at(objects: &mut [Service], ports: &[Port]) -> HandleAnswer
+    requires { All IsSoundObject objects.old }
+    ensures { AttachesAt ports.now objects.old result objects.new }
 {
     let [port, ..] = ports else {
         return HandleAnswer::of(Err(Status::Null));
     };
-    let service = lent_or_return!(places, status => HandleAnswer::of(Err(status)));
+    let service = lent_or_return!(objects, status => HandleAnswer::of(Err(status)));
     HandleAnswer::of(attach(service, port))
 }
 
@@ -120,10 +120,10 @@ fn release(service: &mut DynamicConfig, handle: Handle) -> Status
 /// Errors, in this order: NULL, an object without a service, a number of no role, and a handle that
 /// is not that of a port here.
 #[unsafe(no_mangle)]
-pub extern "C" fn iox2sd_release_port_at(places: &mut [Service], handle: Handle) -> u32
-    requires { All IsSoundPlace places.old }
-    ensures { At code (λ s. s) Nothing (Releases handle) places.old result places.new }
+pub extern "C" fn iox2sd_release_port_at(objects: &mut [Service], handle: Handle) -> u32
+    requires { All IsSoundObject objects.old }
+    ensures { At code (λ s. s) Nothing (Releases handle) objects.old result objects.new }
 {
-    let service = lent_or_return!(places, status => status.code());
+    let service = lent_or_return!(objects, status => status.code());
     release(service, handle).code()
 }

@@ -5,7 +5,7 @@ ghost use Rattle.iox2sd.specs.Answers.{death_answer};
 ghost use Rattle.iox2sd.specs.Counts.{counted};
 ghost use Rattle.iox2sd.specs.Deaths.{action_for, Keeps, Dies, Went};
 ghost use Rattle.iox2sd.specs.Kept.{port_role};
-ghost use Rattle.iox2sd.specs.Places.{IsSoundPlace, At, Nothing};
+ghost use Rattle.iox2sd.specs.Objects.{IsSoundObject, At, Nothing};
 ghost use Rattle.iox2sd.specs.declared.values.Death.TheVariants as death;
 
 use super::Service;
@@ -80,7 +80,7 @@ fn count_gone(
 }
 
 /// Removes a dead node of these parts, and those of its ports that are not kept.
-fn die(service: &mut DynamicConfig, dead: Id, kept: &[PortId]) -> Death
+fn remove_dead(service: &mut DynamicConfig, dead: Id, kept: &[PortId]) -> Death
     ensures { Dies dead kept.now service.old result service.new }
 {
     let Some(dead) = dead.of_node() else {
@@ -105,14 +105,14 @@ fn die(service: &mut DynamicConfig, dead: Id, kept: &[PortId]) -> Death
 /// that is not that of a port.
 #[unsafe(no_mangle)]
 pub extern "C" fn iox2sd_remove_dead_node_id_at(
-    places: &mut [Service],
+    objects: &mut [Service],
     dead: Id,
     kept: &[PortId],
 ) -> DeathAnswer
-    requires { All IsSoundPlace places.old }
+    requires { All IsSoundObject objects.old }
     ensures { At death_answer death.Refused Nothing (Dies dead kept.now)
-        places.old result places.new }
+        objects.old result objects.new }
 {
-    let service = lent_or_return!(places, status => DeathAnswer::of(Death::Refused(status)));
-    DeathAnswer::of(die(service, dead, kept))
+    let service = lent_or_return!(objects, status => DeathAnswer::of(Death::Refused(status)));
+    DeathAnswer::of(remove_dead(service, dead, kept))
 }

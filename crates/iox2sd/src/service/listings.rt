@@ -8,7 +8,7 @@ ghost use Rattle.iox2sd.specs.Listings.{Puts, PutsAll, ports_in, ports_of_kind, 
 ghost use Rattle.iox2sd.specs.Listings.{nodes_in, ListsNodes, listed_answer};
 ghost use Rattle.iox2sd.specs.NodeListings.{Counts as CountsTo, PutsAt, Notes, NotesOfRole};
 ghost use Rattle.iox2sd.specs.NodeListings.{AllFit, Stand, ListsPortsOf};
-ghost use Rattle.iox2sd.specs.Places.{IsSoundPlace, Asked};
+ghost use Rattle.iox2sd.specs.Objects.{IsSoundObject, Asked};
 ghost use Rattle.iox2sd.specs.Ports.{told_port};
 ghost use Rattle.iox2sd_common.specs.Ids.{id_of};
 ghost use Rattle.iox2sd.specs.declared.service.listings.Listed.TheVariants as listed;
@@ -94,15 +94,15 @@ fn list_nodes(service: &DynamicConfig, out: &mut [Id]) -> Listed
 /// for all, it stays as it was, and the length that it needs is returned.
 ///
 /// Errors, in this order: NULL, an object without a service, and too short an array.
-#[tactic(auto, using(crate::proofs::Lending::same_places))]
+#[tactic(auto, using(crate::proofs::Lending::same_objects))]
 #[unsafe(no_mangle)]
-pub extern "C" fn iox2sd_nodes_at(places: &mut [Service], out: &mut [Id]) -> CountAnswer
-    requires { All IsSoundPlace places.old }
+pub extern "C" fn iox2sd_nodes_at(objects: &mut [Service], out: &mut [Id]) -> CountAnswer
+    requires { All IsSoundObject objects.old }
     ensures answer { Asked listed_answer listed.Refused (out.new ≡ out.old)
-        (λ service made. ListsNodes out.old service made out.new) places.old result }
-    ensures unchanged { places.new ≡ places.old }
+        (λ service made. ListsNodes out.old service made out.new) objects.old result }
+    ensures unchanged { objects.new ≡ objects.old }
 {
-    let service = lent_or_return!(places, status => Listed::Refused(status).answer());
+    let service = lent_or_return!(objects, status => Listed::Refused(status).answer());
     list_nodes(service, out).answer()
 }
 
@@ -207,19 +207,19 @@ fn list_ports(service: &DynamicConfig, role: u64, out: &mut [Port]) -> Listed
 ///
 /// Errors, in this order: NULL, an object without a service, a number of no role, a role that the
 /// pattern does not have, and too short an array.
-#[tactic(auto, using(crate::proofs::Lending::same_places))]
+#[tactic(auto, using(crate::proofs::Lending::same_objects))]
 #[unsafe(no_mangle)]
 pub extern "C" fn iox2sd_ports_at(
-    places: &mut [Service],
+    objects: &mut [Service],
     role: u64,
     out: &mut [Port],
 ) -> CountAnswer
-    requires { All IsSoundPlace places.old }
+    requires { All IsSoundObject objects.old }
     ensures answer { Asked listed_answer listed.Refused (out.new ≡ out.old)
-        (λ service made. ListsPorts role out.old service made out.new) places.old result }
-    ensures unchanged { places.new ≡ places.old }
+        (λ service made. ListsPorts role out.old service made out.new) objects.old result }
+    ensures unchanged { objects.new ≡ objects.old }
 {
-    let service = lent_or_return!(places, status => Listed::Refused(status).answer());
+    let service = lent_or_return!(objects, status => Listed::Refused(status).answer());
     list_ports(service, role, out).answer()
 }
 
@@ -235,12 +235,12 @@ fn one_more(count: Option<usize>) -> Option<usize>
 
 /// Puts the port with these details at this index, where there is one.
 #[inline(always)]
-fn put_at(out: &mut [Port], place: Option<usize>, details: &PortDetails)
-    ensures { PutsAt place (told_port details.now) out.old out.new }
+fn put_at(out: &mut [Port], index: Option<usize>, details: &PortDetails)
+    ensures { PutsAt index (told_port details.now) out.old out.new }
 {
-    if let Some(place) = place {
-        if place < out.len() {
-            out[place] = Port::of(details);
+    if let Some(index) = index {
+        if index < out.len() {
+            out[index] = Port::of(details);
         }
     }
 }
@@ -343,18 +343,18 @@ fn list_ports_of(service: &DynamicConfig, node: Id, out: &mut [Port]) -> Listed
 ///
 /// Errors, in this order: NULL, an object without a service, an id of no node, and too short an
 /// array, or instead `TooLarge` where the length that it needs passes a `usize`.
-#[tactic(auto, using(crate::proofs::Lending::same_places))]
+#[tactic(auto, using(crate::proofs::Lending::same_objects))]
 #[unsafe(no_mangle)]
 pub extern "C" fn iox2sd_ports_of_at(
-    places: &mut [Service],
+    objects: &mut [Service],
     node: Id,
     out: &mut [Port],
 ) -> CountAnswer
-    requires { All IsSoundPlace places.old }
+    requires { All IsSoundObject objects.old }
     ensures answer { Asked listed_answer listed.Refused (out.new ≡ out.old)
-        (λ service made. ListsPortsOf node out.old service made out.new) places.old result }
-    ensures unchanged { places.new ≡ places.old }
+        (λ service made. ListsPortsOf node out.old service made out.new) objects.old result }
+    ensures unchanged { objects.new ≡ objects.old }
 {
-    let service = lent_or_return!(places, status => Listed::Refused(status).answer());
+    let service = lent_or_return!(objects, status => Listed::Refused(status).answer());
     list_ports_of(service, node, out).answer()
 }

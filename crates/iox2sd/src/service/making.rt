@@ -1,6 +1,6 @@
 //! Making and freeing services.
 ghost use Rattle.std.specs.Prelude.{◌≡◌, All};
-ghost use Rattle.iox2sd.specs.Places.{IsSoundPlace, held};
+ghost use Rattle.iox2sd.specs.Objects.{IsSoundObject, held};
 ghost use Rattle.iox2sd.specs.Services.{MakesAt, FreesAt, Makes};
 
 use super::Service;
@@ -24,19 +24,19 @@ pub struct Capacities {
 /// Makes a service in an object without one.
 fn make(
     alloc: Global,
-    place: &mut Service,
+    object: &mut Service,
     pattern: u64,
     number: u64,
     capacities: Capacities,
     tickets: u64,
 ) -> u32
-    requires { IsSoundPlace place.old }
-    ensures sound { IsSoundPlace place.new }
-    ensures made { Makes pattern number capacities tickets (held place.old) result
-        (held place.new) }
+    requires { IsSoundObject object.old }
+    ensures sound { IsSoundObject object.new }
+    ensures made { Makes pattern number capacities tickets (held object.old) result
+        (held object.new) }
 {
-    if let Some(held) = place.take(alloc) {
-        place.put(held);
+    if let Some(held) = object.take(alloc) {
+        object.put(held);
         return Status::HasService.code();
     }
     let Some(kind) = pattern_of(pattern) else {
@@ -50,7 +50,7 @@ fn make(
     let Ok(made) = Box::new(alloc, made) else {
         return Status::NoMemory.code();
     };
-    place.put(made);
+    object.put(made);
     Status::Done.code()
 }
 
@@ -62,32 +62,32 @@ fn make(
 #[unsafe(no_mangle)]
 pub extern "C" fn iox2sd_service_create_at(
     alloc: Global,
-    places: &mut [Service],
+    objects: &mut [Service],
     pattern: u64,
     number: u64,
     capacities: Capacities,
     tickets: u64,
 ) -> u32
-    requires { All IsSoundPlace places.old }
-    ensures { MakesAt pattern number capacities tickets places.old result places.new }
+    requires { All IsSoundObject objects.old }
+    ensures { MakesAt pattern number capacities tickets objects.old result objects.new }
 {
-    match places {
+    match objects {
         [] => Status::Null.code(),
-        [place, ..] => make(alloc, place, pattern, number, capacities, tickets),
+        [object, ..] => make(alloc, object, pattern, number, capacities, tickets),
     }
 }
 
 /// Frees the service; the object holds none then. Errors, in this order: NULL, an object without a
 /// service.
 #[unsafe(no_mangle)]
-pub extern "C" fn iox2sd_service_free_at(alloc: Global, places: &mut [Service]) -> u32
-    requires { All IsSoundPlace places.old }
-    ensures { FreesAt places.old result places.new }
+pub extern "C" fn iox2sd_service_free_at(alloc: Global, objects: &mut [Service]) -> u32
+    requires { All IsSoundObject objects.old }
+    ensures { FreesAt objects.old result objects.new }
 {
-    let [place, ..] = places else {
+    let [object, ..] = objects else {
         return Status::Null.code();
     };
-    let Some(held) = place.take(alloc) else {
+    let Some(held) = object.take(alloc) else {
         return Status::NoService.code();
     };
     drop(held);

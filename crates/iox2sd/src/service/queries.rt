@@ -1,12 +1,12 @@
 //! Questions to a service: its pattern, its number, its lock, its roles, how many nodes and ports
 //! there are and may be, whether one more may join, and what a handle stands for.
-#![tactic(auto, using(crate::proofs::Lending::same_places))]
+#![tactic(auto, using(crate::proofs::Lending::same_objects))]
 
 ghost use Rattle.std.specs.Prelude.{◌≡◌, All, Err, length};
 ghost use Rattle.iox2_config.specs.Hashing.{pattern_number};
 ghost use Rattle.iox2sd.specs.Answers.{id_answer, number_answer, port_answer, roles_answer};
 ghost use Rattle.iox2sd.specs.Finding.{FindsNode, FindsPort};
-ghost use Rattle.iox2sd.specs.Places.{IsSoundPlace, Asked, Nothing};
+ghost use Rattle.iox2sd.specs.Objects.{IsSoundObject, Asked, Nothing};
 ghost use Rattle.iox2sd.specs.Queries.{Gives, AsksRole, roles_in, AsksPorts, AsksRoom, AsksNodeRoom};
 ghost use Rattle.iox2sd_common.specs.Answers.{flag_answer, told_count};
 
@@ -40,63 +40,63 @@ fn has_role(service: &DynamicConfig, role: u64) -> Result<bool, Status>
 
 /// The number of the pattern. Errors, in this order: NULL, an object without a service.
 #[unsafe(no_mangle)]
-pub extern "C" fn iox2sd_messaging_pattern_at(places: &mut [Service]) -> NumberAnswer
-    requires { All IsSoundPlace places.old }
+pub extern "C" fn iox2sd_messaging_pattern_at(objects: &mut [Service]) -> NumberAnswer
+    requires { All IsSoundObject objects.old }
     ensures answer { Asked number_answer Err Nothing (Gives (λ s. pattern_number s.pattern))
-        places.old result }
-    ensures unchanged { places.new ≡ places.old }
+        objects.old result }
+    ensures unchanged { objects.new ≡ objects.old }
 {
-    let service = lent_or_return!(places, status => NumberAnswer::of(Err(status)));
+    let service = lent_or_return!(objects, status => NumberAnswer::of(Err(status)));
     NumberAnswer::of(Ok(service.kind() as u64))
 }
 
 /// The roles of the pattern's two kinds of ports. Errors, in this order: NULL, an object without a
 /// service.
 #[unsafe(no_mangle)]
-pub extern "C" fn iox2sd_port_roles_at(places: &mut [Service]) -> RolesAnswer
-    requires { All IsSoundPlace places.old }
-    ensures answer { Asked roles_answer Err Nothing (Gives roles_in) places.old result }
-    ensures unchanged { places.new ≡ places.old }
+pub extern "C" fn iox2sd_port_roles_at(objects: &mut [Service]) -> RolesAnswer
+    requires { All IsSoundObject objects.old }
+    ensures answer { Asked roles_answer Err Nothing (Gives roles_in) objects.old result }
+    ensures unchanged { objects.new ≡ objects.old }
 {
-    let service = lent_or_return!(places, status => RolesAnswer::of(Err(status)));
+    let service = lent_or_return!(objects, status => RolesAnswer::of(Err(status)));
     RolesAnswer::of(Ok(roles_of(service)))
 }
 
 /// The service's number, which each of its handles has. Errors, in this order: NULL, an object
 /// without a service.
 #[unsafe(no_mangle)]
-pub extern "C" fn iox2sd_service_number_at(places: &mut [Service]) -> NumberAnswer
-    requires { All IsSoundPlace places.old }
+pub extern "C" fn iox2sd_service_number_at(objects: &mut [Service]) -> NumberAnswer
+    requires { All IsSoundObject objects.old }
     ensures answer { Asked number_answer Err Nothing (Gives (λ s. s.nodes.registry.service))
-        places.old result }
-    ensures unchanged { places.new ≡ places.old }
+        objects.old result }
+    ensures unchanged { objects.new ≡ objects.old }
 {
-    let service = lent_or_return!(places, status => NumberAnswer::of(Err(status)));
+    let service = lent_or_return!(objects, status => NumberAnswer::of(Err(status)));
     NumberAnswer::of(Ok(service.service_number()))
 }
 
 /// Whether the service is locked for good. Errors, in this order: NULL, an object without a
 /// service.
 #[unsafe(no_mangle)]
-pub extern "C" fn iox2sd_is_locked_at(places: &mut [Service]) -> FlagAnswer
-    requires { All IsSoundPlace places.old }
+pub extern "C" fn iox2sd_is_locked_at(objects: &mut [Service]) -> FlagAnswer
+    requires { All IsSoundObject objects.old }
     ensures answer { Asked flag_answer Err Nothing (Gives (λ s. s.nodes.registry.locked))
-        places.old result }
-    ensures unchanged { places.new ≡ places.old }
+        objects.old result }
+    ensures unchanged { objects.new ≡ objects.old }
 {
-    let service = lent_or_return!(places, status => FlagAnswer::of(Err(status)));
+    let service = lent_or_return!(objects, status => FlagAnswer::of(Err(status)));
     FlagAnswer::of(Ok(service.is_locked()))
 }
 
 /// Whether the pattern has ports of the role. Errors, in this order: NULL, an object without a
 /// service, and a number of no role.
 #[unsafe(no_mangle)]
-pub extern "C" fn iox2sd_has_role_at(places: &mut [Service], role: u64) -> FlagAnswer
-    requires { All IsSoundPlace places.old }
-    ensures answer { Asked flag_answer Err Nothing (AsksRole role) places.old result }
-    ensures unchanged { places.new ≡ places.old }
+pub extern "C" fn iox2sd_has_role_at(objects: &mut [Service], role: u64) -> FlagAnswer
+    requires { All IsSoundObject objects.old }
+    ensures answer { Asked flag_answer Err Nothing (AsksRole role) objects.old result }
+    ensures unchanged { objects.new ≡ objects.old }
 {
-    let service = lent_or_return!(places, status => FlagAnswer::of(Err(status)));
+    let service = lent_or_return!(objects, status => FlagAnswer::of(Err(status)));
     FlagAnswer::of(has_role(service, role))
 }
 
@@ -136,75 +136,75 @@ fn has_room_for_node(service: &DynamicConfig) -> Result<bool, Status>
 
 /// How many handles of nodes there are. Errors, in this order: NULL, an object without a service.
 #[unsafe(no_mangle)]
-pub extern "C" fn iox2sd_number_of_nodes_at(places: &mut [Service]) -> CountAnswer
-    requires { All IsSoundPlace places.old }
+pub extern "C" fn iox2sd_number_of_nodes_at(objects: &mut [Service]) -> CountAnswer
+    requires { All IsSoundObject objects.old }
     ensures answer { Asked told_count Err Nothing (Gives (λ s. length s.nodes.registry.entries))
-        places.old result }
-    ensures unchanged { places.new ≡ places.old }
+        objects.old result }
+    ensures unchanged { objects.new ≡ objects.old }
 {
-    let service = lent_or_return!(places, status => CountAnswer::of(Err(status)));
+    let service = lent_or_return!(objects, status => CountAnswer::of(Err(status)));
     CountAnswer::of(Ok(service.number_of_nodes()))
 }
 
 /// How many handles of nodes there may be at a time. Errors, in this order: NULL, an object without
 /// a service.
 #[unsafe(no_mangle)]
-pub extern "C" fn iox2sd_max_nodes_at(places: &mut [Service]) -> CountAnswer
-    requires { All IsSoundPlace places.old }
+pub extern "C" fn iox2sd_max_nodes_at(objects: &mut [Service]) -> CountAnswer
+    requires { All IsSoundObject objects.old }
     ensures answer { Asked told_count Err Nothing (Gives (λ s. s.nodes.registry.capacity))
-        places.old result }
-    ensures unchanged { places.new ≡ places.old }
+        objects.old result }
+    ensures unchanged { objects.new ≡ objects.old }
 {
-    let service = lent_or_return!(places, status => CountAnswer::of(Err(status)));
+    let service = lent_or_return!(objects, status => CountAnswer::of(Err(status)));
     CountAnswer::of(Ok(service.max_nodes()))
 }
 
 /// Whether `iox2sd_register_node_id` would register a node. Errors, in this order: NULL, an object
 /// without a service.
 #[unsafe(no_mangle)]
-pub extern "C" fn iox2sd_has_room_for_node_at(places: &mut [Service]) -> FlagAnswer
-    requires { All IsSoundPlace places.old }
-    ensures answer { Asked flag_answer Err Nothing AsksNodeRoom places.old result }
-    ensures unchanged { places.new ≡ places.old }
+pub extern "C" fn iox2sd_has_room_for_node_at(objects: &mut [Service]) -> FlagAnswer
+    requires { All IsSoundObject objects.old }
+    ensures answer { Asked flag_answer Err Nothing AsksNodeRoom objects.old result }
+    ensures unchanged { objects.new ≡ objects.old }
 {
-    let service = lent_or_return!(places, status => FlagAnswer::of(Err(status)));
+    let service = lent_or_return!(objects, status => FlagAnswer::of(Err(status)));
     FlagAnswer::of(has_room_for_node(service))
 }
 
 /// How many ports of the role there are. Errors, in this order: NULL, an object without a service,
 /// a number of no role, and a role that the pattern does not have.
 #[unsafe(no_mangle)]
-pub extern "C" fn iox2sd_count_ports_at(places: &mut [Service], role: u64) -> CountAnswer
-    requires { All IsSoundPlace places.old }
+pub extern "C" fn iox2sd_count_ports_at(objects: &mut [Service], role: u64) -> CountAnswer
+    requires { All IsSoundObject objects.old }
     ensures answer { Asked told_count Err Nothing (AsksPorts (λ r n. n ≡ length r.entries) role)
-        places.old result }
-    ensures unchanged { places.new ≡ places.old }
+        objects.old result }
+    ensures unchanged { objects.new ≡ objects.old }
 {
-    let service = lent_or_return!(places, status => CountAnswer::of(Err(status)));
+    let service = lent_or_return!(objects, status => CountAnswer::of(Err(status)));
     CountAnswer::of(count_ports(service, role))
 }
 
 /// How many ports of the role there may be at a time. Refused as `iox2sd_count_ports` is.
 #[unsafe(no_mangle)]
-pub extern "C" fn iox2sd_max_ports_at(places: &mut [Service], role: u64) -> CountAnswer
-    requires { All IsSoundPlace places.old }
+pub extern "C" fn iox2sd_max_ports_at(objects: &mut [Service], role: u64) -> CountAnswer
+    requires { All IsSoundObject objects.old }
     ensures answer { Asked told_count Err Nothing (AsksPorts (λ r n. n ≡ r.capacity) role)
-        places.old result }
-    ensures unchanged { places.new ≡ places.old }
+        objects.old result }
+    ensures unchanged { objects.new ≡ objects.old }
 {
-    let service = lent_or_return!(places, status => CountAnswer::of(Err(status)));
+    let service = lent_or_return!(objects, status => CountAnswer::of(Err(status)));
     CountAnswer::of(max_ports(service, role))
 }
 
 /// Whether `iox2sd_attach` would attach a port of the role, if its node is registered. Refused as
 /// `iox2sd_count_ports` is.
 #[unsafe(no_mangle)]
-pub extern "C" fn iox2sd_has_room_at(places: &mut [Service], role: u64) -> FlagAnswer
-    requires { All IsSoundPlace places.old }
-    ensures answer { Asked flag_answer Err Nothing (AsksRoom role) places.old result }
-    ensures unchanged { places.new ≡ places.old }
+pub extern "C" fn iox2sd_has_room_at(objects: &mut [Service], role: u64) -> FlagAnswer
+    requires { All IsSoundObject objects.old }
+    ensures answer { Asked flag_answer Err Nothing (AsksRoom role) objects.old result }
+    ensures unchanged { objects.new ≡ objects.old }
 {
-    let service = lent_or_return!(places, status => FlagAnswer::of(Err(status)));
+    let service = lent_or_return!(objects, status => FlagAnswer::of(Err(status)));
     FlagAnswer::of(has_room(service, role))
 }
 
@@ -229,23 +229,23 @@ fn find_port(service: &DynamicConfig, handle: Handle) -> Result<Port, Status>
 /// The node that was registered with this handle. Errors, in this order: NULL, an object without a
 /// service, a number of no role, and each handle that is not that of a node here.
 #[unsafe(no_mangle)]
-pub extern "C" fn iox2sd_node_at(places: &mut [Service], handle: Handle) -> IdAnswer
-    requires { All IsSoundPlace places.old }
-    ensures answer { Asked id_answer Err Nothing (FindsNode handle) places.old result }
-    ensures unchanged { places.new ≡ places.old }
+pub extern "C" fn iox2sd_node_at(objects: &mut [Service], handle: Handle) -> IdAnswer
+    requires { All IsSoundObject objects.old }
+    ensures answer { Asked id_answer Err Nothing (FindsNode handle) objects.old result }
+    ensures unchanged { objects.new ≡ objects.old }
 {
-    let service = lent_or_return!(places, status => IdAnswer::of(Err(status)));
+    let service = lent_or_return!(objects, status => IdAnswer::of(Err(status)));
     IdAnswer::of(find_node(service, handle))
 }
 
 /// The port that was attached with this handle. Errors, in this order: NULL, an object without a
 /// service, a number of no role, and each handle that is not that of a port here.
 #[unsafe(no_mangle)]
-pub extern "C" fn iox2sd_port_at(places: &mut [Service], handle: Handle) -> PortAnswer
-    requires { All IsSoundPlace places.old }
-    ensures answer { Asked port_answer Err Nothing (FindsPort handle) places.old result }
-    ensures unchanged { places.new ≡ places.old }
+pub extern "C" fn iox2sd_port_at(objects: &mut [Service], handle: Handle) -> PortAnswer
+    requires { All IsSoundObject objects.old }
+    ensures answer { Asked port_answer Err Nothing (FindsPort handle) objects.old result }
+    ensures unchanged { objects.new ≡ objects.old }
 {
-    let service = lent_or_return!(places, status => PortAnswer::of(Err(status)));
+    let service = lent_or_return!(objects, status => PortAnswer::of(Err(status)));
     PortAnswer::of(find_port(service, handle))
 }

@@ -1,4 +1,4 @@
-//! Which places and tickets entries take.
+//! Which slots and tickets entries take.
 use super::nodes::{A, Node};
 use super::registries::{Entry, Port, list, nodes_are_answered, scan};
 use super::rows::{Handle, NOT_OWNED, OUT_OF_SPACE, Row, are_answered};
@@ -8,7 +8,7 @@ use std::alloc::Global;
 use std::process::Abort;
 use std::test::Fail;
 
-/// On a registry of three places and two tickets.
+/// On a registry of three slots and two tickets.
 static TICKETS_RUN_OUT: [Row; 5] = [
     Row::Add(Entry(1, A), Ok(Handle(7, Role::Node, 0, 0))),
     Row::Add(Entry(1, A), Ok(Handle(7, Role::Node, 1, 1))),
@@ -22,7 +22,7 @@ fn a_third_entry_wants_a_ticket(rt: HostRuntime) -> Result<(), Fail> {
     nodes_are_answered(&rt, rt.alloc(), (3, 2), &TICKETS_RUN_OUT, [&[]; 2])
 }
 
-/// On a registry of three places, where the entries of the lower two leave.
+/// On a registry of three slots, where the entries of the lower two leave.
 static TWO_PLACES_ARE_FREED: [Row; 5] = [
     Row::Add(Entry(1, A), Ok(Handle(7, Role::Node, 0, 0))),
     Row::Add(Entry(1, A), Ok(Handle(7, Role::Node, 1, 1))),
@@ -60,7 +60,7 @@ fn the_scan_takes_the_lowest_and_the_list_the_last_freed(rt: HostRuntime) -> Res
     )
 }
 
-/// On a registry with no place or no ticket.
+/// On a registry with no slot or no ticket.
 static NOTHING_FITS: [Row; 4] = [
     Row::Add(Entry(1, A), OUT_OF_SPACE),
     Row::Get(Handle(7, Role::Node, 0, 0), None),
@@ -128,7 +128,7 @@ fn one_goes(slot: usize) -> [Row<'static>; 3] {
     ]
 }
 
-/// On a registry of 100 places, which are taken from the first on.
+/// On a registry of 100 slots, which are taken from the first on.
 fn all_places_are_filled_and_drained<R: Registry<UniqueNodeId>>(
     rt: &impl Abort,
     alloc: Global,

@@ -1,17 +1,17 @@
--- The places of services in a caller's memory, and calls at them.
+-- The objects of services in a caller's memory, and calls at them.
 use Rattle.std.specs.Prelude.{◌≡◌, Option, Some, None, List, [], ◌∷◌, is_some}
 use Rattle.iox2_dynamic.specs.Service.{Service as Held}
 use Rattle.iox2sd.specs.declared.service.Service.{Service}
 use Rattle.iox2sd_common.specs.declared.status.Status.{Status}
 use Rattle.iox2sd_common.specs.declared.status.Status.TheVariants as status
 
--- the place says whether it holds a service
-abbrev pub IsSoundPlace : Service → Type 0
-IsSoundPlace place = place.full ≡ is_some place.slot.service
+-- the object says whether it holds a service
+abbrev pub IsSoundObject : Service → Type 0
+IsSoundObject object = object.full ≡ is_some object.slot.service
 
--- what the place holds
+-- what the object holds
 abbrev pub held : Service → Option Held
-held place = place.slot.service
+held object = object.slot.service
 
 -- nothing else of the caller's memory may change
 abbrev pub Nothing : Type 0
@@ -26,14 +26,14 @@ Called tell refuse Rest Table None answer new = (answer ≡ tell (refuse status.
 Called {M} tell refuse Rest Table (Some old) answer new =
     (made : M) × (answer ≡ tell made) × (after : Held) × (new ≡ Some after) × Table old made after
 
--- the same at a place that may be NULL, which is reported before all else. The place is sound
--- afterwards, and no other place has changed
+-- the same at an object that may be NULL, which is reported before all else. The object is sound
+-- afterwards, and no other object has changed
 abbrev pub At : {M R : Type 0} → (M → R) → (Status → M) → Type 0 → (Held → M → Held → Type 0)
     → List Service → R → List Service → Type 0
 At tell refuse Rest Table [] answer new = (answer ≡ tell (refuse status.Null)) × (new ≡ []) × Rest
-At tell refuse Rest Table (place ∷ others) answer new =
-    (left : Service) × (new ≡ left ∷ others) × IsSoundPlace left
-    × Called tell refuse Rest Table (held place) answer (held left)
+At tell refuse Rest Table (object ∷ others) answer new =
+    (left : Service) × (new ≡ left ∷ others) × IsSoundObject left
+    × Called tell refuse Rest Table (held object) answer (held left)
 
 -- the answer to a question is what it says of the service that is held; where none is held, the
 -- answer says so, and the rest of the caller's memory is as it was
@@ -43,9 +43,9 @@ AskedOf tell refuse Rest Says None answer = (answer ≡ tell (refuse status.NoSe
 AskedOf {M} tell refuse Rest Says (Some service) answer =
     (made : M) × (answer ≡ tell made) × Says service made
 
--- the same at a place that may be NULL, which is reported before all else
+-- the same at an object that may be NULL, which is reported before all else
 abbrev pub Asked : {M R : Type 0} → (M → R) → (Status → M) → Type 0 → (Held → M → Type 0)
     → List Service → R → Type 0
 Asked tell refuse Rest Says [] answer = (answer ≡ tell (refuse status.Null)) × Rest
-Asked tell refuse Rest Says (place ∷ others) answer =
-    AskedOf tell refuse Rest Says (held place) answer
+Asked tell refuse Rest Says (object ∷ others) answer =
+    AskedOf tell refuse Rest Says (held object) answer

@@ -1,4 +1,4 @@
-//! Services with far more places than ports.
+//! Services with far more slots than ports.
 use super::rows::{Handle, Row, are_answered};
 use super::services::*;
 use iox2_dynamic::dynamic_config::*;
@@ -34,11 +34,11 @@ static ALL_PORTS_GO: [Row; 4] = [
     Row::Ports(Kind::Second, Some(&[])),
 ];
 
-/// With a million places of each kind. Passes over all places would take minutes here.
+/// With a million slots of each kind. Passes over all slots would take minutes here.
 #[test]
 fn a_million_places_cost_what_their_ports_cost(rt: HostRuntime) -> Result<(), Fail> {
-    let places = (1_000_000, 1_000_000, 1_000_000);
-    let mut service = service(rt.alloc(), EVENT.kind, places)?;
+    let capacities = (1_000_000, 1_000_000, 1_000_000);
+    let mut service = service(rt.alloc(), EVENT.kind, capacities)?;
     are_answered(&rt, &mut service, &EVENT, &TWO_PORTS_COME)?;
     for ticket in 1..3001 {
         are_answered(&rt, &mut service, &EVENT, &one_comes_and_goes(ticket))?;
