@@ -207,8 +207,8 @@ module _ (old : State) (a : Answered) (bare : IsBare old)
   there_step : (mid : Service) → CallStep (call_for old.handles a) old.service mid
       → (r : Reply) × IsNextStep old a mid r
   there_step mid step =
-      let r = step.1.0 in
-      let on = step.1.2 in
+      let r = step.2.0 in
+      let on = step.2.2 in
       let served = subst (λ (T : Type 0). T)
       (first_serves old.service on.0 old.handles a.command r) on.1 in
       let seen =
@@ -216,7 +216,7 @@ module _ (old : State) (a : Answered) (bare : IsBare old)
       (subst (Serves (quiet old.service) None old.handles a.command r) on.3
       (serves_quiet old.service None old.handles a.command r on.0 served)) in (
         r,
-        next_step mid r step.1.1 (subst IsService on.3 (service_quiet on.0 on.2))
+        next_step mid r step.2.1 (subst IsService on.3 (service_quiet on.0 on.2))
             (ap quiet (sym on.3) ∙ on.3) seen,
       )
 
@@ -228,6 +228,7 @@ module _ (old : State) (a : Answered) (bare : IsBare old)
 
     back_step : CallStep (call_for old.handles a) old.service (quiet new.service)
     back_step = (
+      bare.is_service,
       bare.rest,
       (
         r,

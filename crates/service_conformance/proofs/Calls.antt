@@ -7,7 +7,7 @@ use Rattle.std.specs.declared.alloc.AllocError.{AllocError}
 use Rattle.std.proofs.lemmas.List.Elements.{All-push, All-weaker, Contains-append_left, Contains-push}
 use Rattle.histories.specs.Histories.{AreAll}
 use Rattle.iox2_container.specs.Handle.{Handle}
-use Rattle.iox2_dynamic.specs.Service.{Service}
+use Rattle.iox2_dynamic.specs.Service.{Service, IsService}
 use Rattle.service_descriptions.specs.declared.replay.machine.command.Cleanup.TheVariants.{ByPort}
 use Rattle.service_descriptions.specs.declared.replay.machine.command.Command.{Command}
 use Rattle.service_descriptions.specs.declared.replay.machine.command.Command.TheVariants as command
@@ -92,27 +92,27 @@ module _ (call : Call) (s : Service) where
       sym on.3 ∙ leads on.0
       (same_step s on.0 (call.handle ∷ []) call.command covered r q same on.1)
 
-  module _ (rest : quiet s ≡ s) (covered : IsCovered call.command) where
+  module _ (is : IsService s) (rest : quiet s ≡ s) (covered : IsCovered call.command) where
     module _ (p : Possible) (words : List ℕ) (all : ArePossible s (ServesCall call s) p) where
       pub seen_one : (r : Reply) (next : Service) → Tells s p words (Some r)
           → LeadsTo (ServesCall call s) r next
           → AreAll (CallStep (answered call words) s) (next ∷ [])
       seen_one r next tells leads =
           all_of_one (CallStep (answered call words) s) next
-          (rest, (r, tells.1, leads_on r next (all.can r tells.0) leads))
+          (is, rest, (r, tells.1, leads_on r next (all.can r tells.0) leads))
           (λ other step.
-          let q = step.1.0 in
-          let on = step.1.2 in
+          let q = step.2.0 in
+          let on = step.2.2 in
           one_next covered r q next other
-          (tells.2 q (all.only q on.0 on.1 on.2) step.1.1) leads on)
+          (tells.2 q (all.only q on.0 on.1 on.2) step.2.1) leads on)
 
       pub seen_none : Tells s p words None → AreAll (CallStep (answered call words) s) []
       seen_none tells =
           all_of_none (CallStep (answered call words) s)
           (λ other step.
-          let q = step.1.0 in
-          let on = step.1.2 in
-          tells q (all.only q on.0 on.1 on.2) step.1.1)
+          let q = step.2.0 in
+          let on = step.2.2 in
+          tells q (all.only q on.0 on.1 on.2) step.2.1)
 
     pub any_one : (one : LineReply) (next : Service)
         → ArePossible s (ServesCall call s) (possible.One one)
@@ -121,10 +121,10 @@ module _ (call : Call) (s : Service) where
     any_one one next all leads =
         let r = reply_in one in
         all_of_one (CallStep (unanswered call) s) next
-        (rest, (r, tt, leads_on r next (all.can r (same_reply r)) leads))
+        (is, rest, (r, tt, leads_on r next (all.can r (same_reply r)) leads))
         (λ other step.
-        let q = step.1.0 in
-        let on = step.1.2 in
+        let q = step.2.0 in
+        let on = step.2.2 in
         one_next covered r q next other (all.only q on.0 on.1 on.2) leads on)
 
   module _ (p : Part) where
@@ -163,15 +163,15 @@ module _ (call : Call) (s : Service) where
               (ap reply.Handle (same_given s p h g.0 may g.1 (at ∙ sym e))) leads g.3)
         ]))
 
-    pub all_given : quiet s ≡ s → ArePossible s (ServesCall call s) (possible.Given p)
+    pub all_given : IsService s → quiet s ≡ s → ArePossible s (ServesCall call s) (possible.Given p)
         → (limit : ℕ) → ((h : Handle) → MayGiveIn s p h → h.slot < limit) → (xs : List Service)
         → AreAll (GivesBelow call s p limit) xs → AreAll (CallStep (unanswered call) s) xs
-    all_given rest all limit below xs =
+    all_given is rest all limit below xs =
         all_as (GivesBelow call s p limit) (CallStep (unanswered call) s) xs
-        (λ x g. (rest, (reply.Handle g.0, tt, g.3)))
+        (λ x g. (is, rest, (reply.Handle g.0, tt, g.3)))
         (λ x step.
-        let on = step.1.2 in
-        let a = all.only step.1.0 on.0 on.1 on.2 in
+        let on = step.2.2 in
+        let a = all.only step.2.0 on.0 on.1 on.2 in
         (a.0, a.2, below a.0 a.2, subst (λ q. LeadsOn call s q x) a.1 on))
 
 -- a reply that gives no handle and is of no removal changes nothing
@@ -218,30 +218,30 @@ module _ (call : Call) (covered : IsCovered call.command) (seen : SeenReply)
 
   pub changes_none : ChangesNothing (answered call (seen_text seen))
   changes_none old new step =
-      let on = step.1.2 in sym on.3 ∙ same_state old on.0 step.1.0 step.0 step.1.1 on.1
+      let on = step.2.2 in sym on.3 ∙ same_state old on.0 step.2.0 step.1 step.2.1 on.1
 
-  pub idle : (s : Service) (p : Possible) (r : Reply) → quiet s ≡ s
+  pub idle : (s : Service) (p : Possible) (r : Reply) → IsService s → quiet s ≡ s
       → ArePossible s (ServesCall call s) p → Tells s p (seen_text seen) (Some r)
       → IsIdleCall (answered call (seen_text seen)) s
-  idle s p r rest all tells =
+  idle s p r is rest all tells =
       let can = all.can r tells.0 in (
-        (rest, (r, tells.1, (can.0, can.1, can.2, same_state s can.0 r rest tells.1 can.1))),
+        (is, rest, (r, tells.1, (can.0, can.1, can.2, same_state s can.0 r rest tells.1 can.1))),
         changes_none,
       )
 
-replies_by_words : (call : Call) (s : Service) (p : PossibleReplies) → quiet s ≡ s
+replies_by_words : (call : Call) (s : Service) (p : PossibleReplies) → IsService s → quiet s ≡ s
     → ArePossibleWords (ServesCall call s) p → AreRepliesOf s call p
-replies_by_words call s p rest all words = (
+replies_by_words call s p is rest all words = (
   λ a.
       let r = (all words).0 a in
-      (quiet r.2.0, (rest, (r.0, r.1, (r.2.0, r.2.1, r.2.2, refl)))),
+      (quiet r.2.0, (is, rest, (r.0, r.1, (r.2.0, r.2.1, r.2.2, refl)))),
   λ j.
-      let on = j.1.1.2 in
-      (all words).1 (j.1.1.0, j.1.1.1, (on.0, on.1, on.2)),
+      let on = j.1.2.2 in
+      (all words).1 (j.1.2.0, j.1.2.1, (on.0, on.1, on.2)),
 )
 
 pub replies_found : (call : Call) (s : Service) (found : Result PossibleReplies AllocError)
-    → quiet s ≡ s → IfOk found (ArePossibleWords (ServesCall call s))
+    → IsService s → quiet s ≡ s → IfOk found (ArePossibleWords (ServesCall call s))
     → IfOk found (AreRepliesOf s call)
-replies_found call s (Ok p) rest all = replies_by_words call s p rest all
-replies_found call s (Err e) rest all = tt
+replies_found call s (Ok p) is rest all = replies_by_words call s p is rest all
+replies_found call s (Err e) is rest all = tt

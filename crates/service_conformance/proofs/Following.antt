@@ -111,7 +111,7 @@ at_side First s m = at_rest s.pattern s.nodes.registry m s.ports.second.registry
 at_side Second s m = at_rest s.pattern s.nodes.registry s.ports.first.registry m
 
 -- the ports of one kind have changed, and no node came or went
-by_ports : (side : Side) (s w : Service) (m : RegistryState PortDetails)
+pub by_ports : (side : Side) (s w : Service) (m : RegistryState PortDetails)
     → w.pattern ≡ s.pattern → w.nodes.registry ≡ s.nodes.registry
     → (ports_at w side).registry ≡ m
     → of_side (other_side side) w.ports.first w.ports.second

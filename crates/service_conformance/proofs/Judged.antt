@@ -80,7 +80,7 @@ some_same : (a b : Judged) → Some a ≡ Some b → a ≡ b
 some_same a b e = cc
 
 module _ (first : ℕ) (calls : List Judged) (number : ℕ) where
-  one_call : (a b : Judged) → HasNumber first calls number a → HasNumber first calls number b
+  pub one_call : (a b : Judged) → HasNumber first calls number a → HasNumber first calls number b
       → b ≡ a
   one_call a b p q =
       let at : q.0 ≡ p.0 = omega (arith, p.1, q.1) in

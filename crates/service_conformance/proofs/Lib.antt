@@ -23,3 +23,8 @@ pub mod Fixed
 pub mod Alone
 pub mod Given
 pub mod WeakListings
+pub mod MovingEntries
+pub mod MovingLooks
+pub mod MovingNodes
+pub mod MovingPorts
+pub mod Moving

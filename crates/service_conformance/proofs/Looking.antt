@@ -30,7 +30,7 @@ same_seen there l =
       filter_twice (is_among there) l.lasting,
     ) refl
 
-lacking_is : (l m : Look) → lacking l ≡ Some m → l ≡ m
+pub lacking_is : (l m : Look) → lacking l ≡ Some m → l ≡ m
 lacking_is l m e = cases (length l.unseen == 0 && length l.lasting == 0) refl
   where
     some_look : (a b : Look) → Some a ≡ Some b → a ≡ b
@@ -51,7 +51,7 @@ look_twice there l m e =
     ap (seen_of there) (sym is) ∙ same_seen there l in
     ap lacking stays ∙ e
 
-same_part : (there : List ℕ) (l m : Look) → look_after there l ≡ Some m → m.part ≡ l.part
+pub same_part : (there : List ℕ) (l m : Look) → look_after there l ≡ Some m → m.part ≡ l.part
 same_part there l m e =
     ap (λ (x : Look). x.part) (sym (lacking_is (seen_of there l) m e))
 

@@ -9,7 +9,7 @@ use Rattle.service_conformance.specs.Looks.{Look, ids_in, is_among, look_of, loo
 use Rattle.service_conformance.specs.WeakLaws.{IsThere, WeakListingsSeeEnough, looks_through}
 use Rattle.service_conformance.proofs.Looking.{seen_of}
 
-by_cases : (P : Type 0) (b : Bool) → (b ≡ true → P) → (b ≡ false → P) → P
+pub by_cases : (P : Type 0) (b : Bool) → (b ≡ true → P) → (b ≡ false → P) → P
 by_cases P true then_so else_so = then_so refl
 by_cases P false then_so else_so = else_so refl
 
@@ -103,13 +103,13 @@ record NoneLeft (l : Look) (services : List Service) : Type 0 where
   pub unseen : left (was_there l.part) services l.unseen ≡ []
   pub lasting : left (was_away l.part) services l.lasting ≡ []
 
-empty_of : (ids : List ℕ) → (length ids == 0) ≡ true → ids ≡ []
+pub empty_of : (ids : List ℕ) → (length ids == 0) ≡ true → ids ≡ []
 empty_of [] e = refl
 empty_of (id ∷ ids) e =
     let none : length (id ∷ ids) ≡ 0 = grind (arith, nat_tests, e) in
     absurd (omega (arith, none))
 
-both_true : (a b : Bool) → (a && b) ≡ true → (a ≡ true) × (b ≡ true)
+pub both_true : (a b : Bool) → (a && b) ≡ true → (a ≡ true) × (b ≡ true)
 both_true true true e = (refl, refl)
 both_true true false e = absurd (cc)
 both_true false b e = absurd (cc)

@@ -62,7 +62,8 @@ GivesBelow call s p limit new =
 -- is seen as the new one.
 abbrev pub CallStep : Call → Service → Service → Type 0
 CallStep call old new =
-    (quiet old ≡ old) × ((r : Reply) × HasWords call.words r × LeadsOn call old r new)
+    IsService old × (quiet old ≡ old)
+    × ((r : Reply) × HasWords call.words r × LeadsOn call old r new)
 
 -- the call changes nothing, in whatever state it is made
 abbrev pub ChangesNothing : Call → Type 0

@@ -5,6 +5,7 @@ mod id_word;
 mod judged_call;
 mod line_reply;
 mod look;
+mod mover;
 mod placed;
 mod possible;
 mod registry_check;

@@ -2,8 +2,10 @@
 ghost use Rattle.std.specs.Prelude.{IfNone, IfSome};
 ghost use Rattle.service_conformance.specs.Calls.{HasNumber, LacksNumber};
 ghost use Rattle.service_conformance.specs.Judged.{WindowStep};
+ghost use Rattle.service_conformance.specs.Movers.{ChangesAt};
 
 use super::judged_call::JudgedCall;
+use super::mover::Change;
 use super::watched::WatchedService;
 use histories::{Left, Machine};
 use std::alloc::{AllocError, Global};
@@ -26,6 +28,16 @@ fn call_at(calls: &[JudgedCall], first: usize, number: usize) -> Option<&JudgedC
         return None;
     }
     calls.get(number - first)
+}
+
+/// What the call of this number changed, if it was answered and is one of the changes.
+fn change_at(calls: &[JudgedCall], first: usize, number: usize) -> Option<Change>
+    ensures { IfSome result (ChangesAt first calls.now number) }
+{
+    match call_at(calls, first, number) {
+        Some(made) => made.change(),
+        None => None,
+    }
 }
 
 impl<'a> Machine for Calls<'a> {
@@ -56,6 +68,16 @@ impl<'a> Machine for Calls<'a> {
             Some(made) => made.is_idle(self.alloc, call, state),
             None => false,
         }
+    }
+
+    fn moves_before(&self, call: usize, other: usize) -> bool {
+        let Some(change) = change_at(self.calls, self.first, call) else {
+            return false;
+        };
+        let Some(other) = change_at(self.calls, self.first, other) else {
+            return false;
+        };
+        change.moves_before(other)
     }
 
     fn copied(&self, state: &WatchedService) -> Result<WatchedService, AllocError> {

@@ -1,6 +1,6 @@
 //! What is judged of a service: calls, and weak listings that start and stop.
 ghost use Rattle.std.specs.Option.{option_map};
-ghost use Rattle.std.specs.Prelude.{◌≡◌, ℕ, IfOk, IsTrue, None, OnOk, map};
+ghost use Rattle.std.specs.Prelude.{◌≡◌, ℕ, IfOk, IfSome, IsTrue, None, OnOk, map};
 ghost use Rattle.histories.specs.Frontier.{IsMade, states_in};
 ghost use Rattle.histories.specs.Histories.{AreAll};
 ghost use Rattle.service_conformance.specs.Judged.{AreJudgedReplies, IsIdleJudged, IsList, JudgedStep};
@@ -8,7 +8,9 @@ ghost use Rattle.service_conformance.specs.Judged.{MayStop, StartsLook, ids_seen
 ghost use Rattle.service_conformance.specs.Judged.{shown, stopped};
 ghost use Rattle.service_conformance.specs.Judged.Judged.{call, starts, stops};
 ghost use Rattle.service_conformance.specs.Looks.{watched};
+ghost use Rattle.service_conformance.specs.Movers.{MakesChange};
 
+use super::mover::Change;
 use super::possible::{Part, PossibleList, PossibleReplies};
 use super::seen_call::SeenCall;
 use super::seen_reply::SeenReply;
@@ -259,6 +261,16 @@ impl JudgedCall {
             What::Call(made) => made.is_idle(alloc, state.service()),
             What::Starts(_, reply) => reply.is_none(),
             What::Stops(start, reply) => may_stop(state, *start, reply),
+        }
+    }
+
+    /// What it changed, if it is a call that was answered and is one of the changes.
+    pub(super) fn change(&self) -> Option<Change>
+        ensures { IfSome result (λ change. MakesChange change self.now) }
+    {
+        match &self.what {
+            What::Call(made) => made.change(),
+            What::Starts(_, _) | What::Stops(_, _) => None,
         }
     }
 

@@ -1,10 +1,11 @@
 //! Calls that were seen.
-ghost use Rattle.std.specs.Prelude.{◌≡◌, ◌+◌, IfOk, IsTrue, OnOk};
+ghost use Rattle.std.specs.Prelude.{◌≡◌, ◌+◌, IfOk, IfSome, IsTrue, OnOk};
 ghost use Rattle.histories.specs.Frontier.{IsMade, states_in};
 ghost use Rattle.histories.specs.Histories.{AreAll};
 ghost use Rattle.service_conformance.specs.Calls.{AreRepliesOf, CallStep, ChangesNothing, GivesBelow};
 ghost use Rattle.service_conformance.specs.Calls.{IsIdleCall, ServesCall};
 ghost use Rattle.service_conformance.specs.Calls.{answered, at_first, call_of, unanswered};
+ghost use Rattle.service_conformance.specs.Movers.{IsChange};
 ghost use Rattle.service_conformance.specs.Possible.{ArePossible, IsCovered, reply_in};
 ghost use Rattle.service_conformance.specs.Quiet.{CanServe, LeadsTo};
 ghost use Rattle.service_conformance.specs.Seen.{changes_nothing, seen_text};
@@ -12,6 +13,7 @@ ghost use Rattle.service_descriptions.specs.Lines.{command_of};
 ghost use Rattle.service_conformance.specs.declared.conformance.possible.Possible.TheVariants as possible;
 
 use super::line_reply::LineReply;
+use super::mover::{Change, change_of};
 use super::possible::{Part, Possible, PossibleReplies};
 use super::seen_reply::{SeenReply, changes_nothing};
 use super::service_check::ServiceCheck;
@@ -275,6 +277,16 @@ impl SeenCall {
             return false;
         };
         changes_nothing(seen)
+    }
+
+    /// What the call changed, if it was answered and is one of the changes.
+    pub(super) fn change(&self) -> Option<Change>
+        ensures { IfSome result (λ change. IsChange change self.now.command self.now.words) }
+    {
+        match &self.seen {
+            Some(seen) => change_of(&self.command, seen),
+            None => None,
+        }
     }
 
     /// The replies that the call may have in this state.
