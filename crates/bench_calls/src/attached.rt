@@ -111,10 +111,7 @@ impl Attached {
     }
 
     fn attach(&mut self, details: PortDetails) -> Option<ContainerHandle> {
-        if !self.service.has_role(details.role()) {
-            return None;
-        }
-        self.service.attach(details).ok()
+        self.service.attach_if_has_role(details)?.ok()
     }
 
     /// Shows all subscribers to a callback this often, and adds up the last parts of their ids.

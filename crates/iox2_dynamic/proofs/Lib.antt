@@ -4,6 +4,8 @@ pub mod Recoveries
 pub mod Counts
 pub mod Keeping
 pub mod Moving
+pub mod Attaching
+pub mod Sides
 pub mod Dying
 pub mod Making
 pub mod Skipping

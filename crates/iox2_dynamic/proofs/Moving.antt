@@ -1,6 +1,7 @@
 -- What keeps a service one when ports come and go.
-use Rattle.std.proofs.Common.{◌≡◌, ◌∙◌, ℕ, ◌<◌, Result, Ok, Err, inl, inr, ap}
-use Rattle.iox2_dynamic.proofs.Names.{PatternKind, ContainerAddFailure, IsLocked, OutOfSpace, Default, ReleaseState, Role, Adds, Removes, ContainerState, Handle, Entry, RegistryState, IsRegistry, AddStep, RemoveStep, PortDetails, node_of, Ports, AddsTo, RemovesFrom, Side, of_side, other_side, First, Second, Service, IsService, IsPortRegistry, ArePorts, entries_of_node, first_role, second_role}
+use Rattle.std.proofs.Common.{◌≡◌, ◌∙◌, ℕ, ◌<◌, Option, Some, None, Result, Ok, Err, inl, inr, refl, ap}
+use Rattle.std.specs.Prelude.{IfSome, IfNone}
+use Rattle.iox2_dynamic.proofs.Names.{PatternKind, ContainerAddFailure, IsLocked, OutOfSpace, Default, ReleaseState, Role, Adds, Removes, ContainerState, Handle, Entry, RegistryState, IsRegistry, AddStep, RemoveStep, PortDetails, node_of, role_of, Ports, AddsTo, RemovesFrom, Side, of_side, other_side, First, Second, Service, IsService, IsPortRegistry, ArePorts, entries_of_node, first_role, second_role, HasRole, LacksRole, AttachStep, AttachesTo, AttachError, ServiceIsLocked, NodeNotRegistered, NoSpace}
 use Rattle.iox2_container.specs.declared.container.refusal.ContainerRemoveError.{ContainerRemoveError}
 use Rattle.iox2_container.proofs.Keeping.{All-gain, All-loss}
 
@@ -66,18 +67,39 @@ with_ports s kind ports k i p = record {
   ports_are = rw k p;
 }
 
--- what attaching a port keeps
-pub attach_kept : (s : Service) (kind : PatternKind) (ports : Ports) (d : PortDetails)
-    (answer : Result Handle ContainerAddFailure) → kind ≡ s.pattern
-    → 0 < entries_of_node (node_of d) s.nodes.registry
+-- what adding a port of a registered node keeps
+added_kept : (s : Service) (ports : Ports) (d : PortDetails)
+    (answer : Result Handle ContainerAddFailure) → 0 < entries_of_node (node_of d) s.nodes.registry
     → AddsTo (first_role s.pattern) (second_role s.pattern) s.ports d answer ports → IsService s
-    → IsService (record s { pattern = kind; ports = ports })
-attach_kept s kind ports d answer k l a i =
+    → IsService (record s { ports = ports })
+added_kept s ports d answer l a i =
     let nodes = s.nodes.registry in
-    with_ports s kind ports k i
+    with_ports s s.pattern ports refl i
     (on_side a.side nodes s.pattern s.ports ports (λ o n. Adds o d answer n)
     (λ role o n c p. added nodes role o.registry n.registry d answer l c.step c.kept p)
     a.step a.others i.ports_are)
+
+-- what attaching a port keeps
+pub attach_kept : (old new : Service) (d : PortDetails) (answer : Result Handle AttachError)
+    → AttachStep old d answer new → IsService old → IsService new
+attach_kept old new d (Ok handle) a i =
+    rw a.1.1 (added_kept old new.ports d (Ok handle) a.0.1 a.1.0 i)
+attach_kept old new d (Err ServiceIsLocked) a i = rw a.1 i
+attach_kept old new d (Err NodeNotRegistered) a i = rw a.2 i
+attach_kept old new d (Err NoSpace) a i =
+    rw a.1.1 (added_kept old new.ports d (Err OutOfSpace) a.0.1 a.1.0 i)
+
+-- what attaching a port of whatever role keeps
+pub attached_kept : (s : Service) (kind : PatternKind) (ports : Ports) (d : PortDetails)
+    (answer : Option (Result Handle AttachError)) → kind ≡ s.pattern
+    → IfSome answer (λ r. HasRole s.pattern (role_of d)
+    × AttachesTo (first_role s.pattern) (second_role s.pattern) s.nodes s.ports d r ports)
+    → IfNone answer (LacksRole s.pattern (role_of d) × (ports ≡ s.ports)) → IsService s
+    → IsService (record s { pattern = kind; ports = ports })
+attached_kept s kind ports d None k some none i =
+    with_ports s kind ports k i (rw none.1 i.ports_are)
+attached_kept s kind ports d (Some r) k some none i =
+    rw k (attach_kept s (record s { ports = ports }) d r (some.1 s.pattern refl refl i) i)
 
 -- what releasing a port keeps
 pub release_kept : (s : Service) (kind : PatternKind) (ports : Ports) (handle : Handle)

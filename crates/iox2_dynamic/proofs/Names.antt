@@ -7,8 +7,10 @@ pub use Rattle.iox2_container.specs.declared.container.refusal.ContainerAddFailu
 pub use Rattle.iox2_dynamic.specs.Details.{node_of, port_of, role_of}
 pub use Rattle.iox2_dynamic.specs.Fields.{service_in}
 pub use Rattle.iox2_dynamic.specs.Ports.{AddsTo, CanListIn, Ports, RecoversBoth, RemovesFrom, TakesIn, has_ports_of}
-pub use Rattle.iox2_dynamic.specs.PortsState.{Side, of_side, other_side}
+pub use Rattle.iox2_dynamic.specs.PortsState.{Side, of_side, other_side, side_of}
 pub use Rattle.iox2_dynamic.specs.PortsState.Side.{First, Second}
 pub use Rattle.iox2_dynamic.specs.Recoveries.{AskedToGo, RecoversNodes, RecoversPorts}
-pub use Rattle.iox2_dynamic.specs.Service.{ArePorts, HasNoPort, IsPortRegistry, IsService, PatternCapacities, Registered, Service, TakesPort, entries_of_node, first_role, fresh_ports, fresh_service, second_role}
-pub use Rattle.iox2_dynamic.specs.Steps.{AttachStep, DeadStep, NodesAfter, RegisterStep, is_last_of_ports}
+pub use Rattle.iox2_dynamic.specs.Service.{ArePorts, HasNoPort, HasRole, LacksRole, IsPortRegistry, IsService, PatternCapacities, Registered, Service, TakesPort, entries_of_node, first_role, fresh_ports, fresh_service, role_at, second_role}
+pub use Rattle.iox2_dynamic.specs.Steps.{Admits, AttachStep, AttachesTo, DeadStep, NodesAfter, RegisterStep, is_last_of_ports}
+pub use Rattle.iox2_dynamic.specs.declared.dynamic_config.answers.AttachError.{AttachError}
+pub use Rattle.iox2_dynamic.specs.declared.dynamic_config.answers.AttachError.TheVariants.{ServiceIsLocked, NodeNotRegistered, OutOfSpace as NoSpace}

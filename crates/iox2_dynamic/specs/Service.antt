@@ -6,7 +6,8 @@ use Rattle.iox2_container.specs.declared.container.role.Role.TheVariants as role
 use Rattle.iox2_dynamic.specs.declared.dynamic_config.settings.MessagingPatternSettings.{MessagingPatternSettings}
 use Rattle.iox2_dynamic.specs.declared.dynamic_config.settings.MessagingPatternSettings.TheVariants as settings
 use Rattle.iox2_dynamic.specs.Details.{node_of}
-use Rattle.iox2_dynamic.specs.Ports.{Ports, IsEither, TakesIn, empty_ports}
+use Rattle.iox2_dynamic.specs.Ports.{Ports, IsEither, IsNeither, TakesIn, empty_ports}
+use Rattle.iox2_dynamic.specs.PortsState.{Side, of_side}
 
 -- the nodes of a service and the ports of its pattern
 pub record Service : Type 0 where
@@ -31,6 +32,14 @@ second_role kind.Blackboard = role.Writer
 -- the pattern has ports of the role
 abbrev pub HasRole : PatternKind → Role → Type 0
 HasRole pattern role = IsEither (first_role pattern) (second_role pattern) role
+
+-- the pattern has no ports of the role
+abbrev pub LacksRole : PatternKind → Role → Type 0
+LacksRole pattern role = IsNeither (first_role pattern) (second_role pattern) role
+
+-- the role of one kind of ports
+abbrev pub role_at : PatternKind → Side → Role
+role_at pattern side = of_side side (first_role pattern) (second_role pattern)
 
 -- a pattern, and how many ports of its first and of its second kind there may be at a time
 pub record PatternCapacities : Type 0 where

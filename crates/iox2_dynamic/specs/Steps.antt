@@ -1,6 +1,6 @@
 -- What the calls on a service do.
 use Rattle.std.specs.Prelude.{◌≡◌, ◌<◌, ℕ, nat_eq, ◌&&◌, Bool, true, false, Result, Ok, Err}
-use Rattle.iox2_dynamic.specs.Prelude.{UniquePortId, ContainerAddFailure, ContainerRemoveError, LockIfLastIndex, ReleaseState, Handle, ContainerState, IsUnknownHandle, HasEntry, release_state, DeregisterNodeState, RegisterNodeResult, PortCleanupAction, PortDetails, Adds, Removes}
+use Rattle.iox2_dynamic.specs.Prelude.{PatternKind, Role, UniquePortId, ContainerAddFailure, ContainerRemoveError, LockIfLastIndex, ReleaseState, Handle, ContainerState, IsUnknownHandle, HasEntry, release_state, DeregisterNodeState, RegisterNodeResult, PortCleanupAction, PortDetails, Adds, Removes}
 use Rattle.iox2_container.specs.declared.container.refusal.ContainerAddFailure.TheVariants as container
 use Rattle.iox2_dynamic.specs.declared.dynamic_config.answers.AttachError.{AttachError}
 use Rattle.iox2_dynamic.specs.declared.dynamic_config.answers.AttachError.TheVariants.{ServiceIsLocked, NodeNotRegistered, OutOfSpace}
@@ -9,8 +9,8 @@ use Rattle.iox2_dynamic.specs.declared.dynamic_config.answers.DeregisterError.Th
 use Rattle.iox2_dynamic.specs.Answers.{answer_of, state_of}
 use Rattle.iox2_dynamic.specs.Recoveries.{RecoversNodes}
 use Rattle.iox2_dynamic.specs.Details.{node_of}
-use Rattle.iox2_dynamic.specs.Ports.{AddsTo, RemovesFrom, RecoversBoth, has_ports_of}
-use Rattle.iox2_dynamic.specs.Service.{Service, entries_of_node, first_role, second_role}
+use Rattle.iox2_dynamic.specs.Ports.{Ports, AddsTo, RemovesFrom, RecoversBoth, has_ports_of}
+use Rattle.iox2_dynamic.specs.Service.{Service, IsService, entries_of_node, first_role, second_role}
 
 -- what registering a node does
 abbrev pub RegisterStep : Service → ℕ → Result Handle RegisterNodeResult → Service → Type 0
@@ -54,6 +54,25 @@ AttachStep old details (Err OutOfSpace) new =
     IsOpenFor old (node_of details) × AddsPort old details (Err container.OutOfSpace) new
 AttachStep old details (Ok handle) new = IsOpenFor old (node_of details)
     × AddsPort old details (Ok handle) new
+
+-- whether a port of the node may be attached, by the nodes alone
+abbrev pub Admits : ContainerState ℕ → ℕ → Result (Unit {0}) AttachError → Type 0
+Admits nodes id (Ok _) = (nodes.registry.locked ≡ false)
+    × (0 < entries_of_node id nodes.registry)
+Admits nodes id (Err ServiceIsLocked) = nodes.registry.locked ≡ true
+Admits nodes id (Err NodeNotRegistered) = (nodes.registry.locked ≡ false)
+    × (entries_of_node id nodes.registry ≡ 0)
+Admits nodes id (Err OutOfSpace) = ⊥
+
+-- what attaching a port does to the ports of a service with
+-- these nodes, where these are the roles of its pattern
+abbrev pub AttachesTo : Role → Role → ContainerState ℕ → Ports → PortDetails
+    → Result Handle AttachError → Ports → Type 0
+AttachesTo a b nodes old details answer new =
+    (pattern : PatternKind) → first_role pattern ≡ a → second_role pattern ≡ b
+    → IsService (record { pattern = pattern; ports = old; nodes = nodes })
+    → AttachStep (record { pattern = pattern; ports = old; nodes = nodes }) details answer
+    (record { pattern = pattern; ports = new; nodes = nodes })
 
 -- what removing a port does
 abbrev pub RemovesPort : Service → Handle → Result ReleaseState ContainerRemoveError → Service

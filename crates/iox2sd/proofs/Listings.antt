@@ -1,6 +1,11 @@
 -- Listings by a callback that puts what it is shown into an array.
-use Rattle.std.proofs.Common.{◌≡◌, ◌↔◌, ◌∙◌, true≢false, IsTrue, Bool, true, false, ℕ, ◌<◌, ◌≤◌, Some, List, [], ◌∷◌, ◌++◌, map, length, refl, sym, ap, subst, inl, inr, arith, slice_set}
-use Rattle.std.specs.Prelude.{drop}
+use Rattle.std.proofs.Common.{◌≡◌, ◌↔◌, ◌∙◌, true≢false, IsTrue, Bool, true, false, ℕ, ◌<◌, ◌≤◌, Option, Some, None, List, [], ◌∷◌, ◌++◌, map, length, refl, sym, ap, subst, inl, inr, arith, slice_set}
+use Rattle.std.specs.Bool.{beq}
+use Rattle.std.specs.Option.{option_eq}
+use Rattle.std.specs.Prelude.{IfNone, IfSome, drop}
+use Rattle.iox2_config.specs.declared.hash.input.PatternKind.{PatternKind}
+use Rattle.iox2_dynamic.specs.PortsState.{side_of}
+use Rattle.iox2_dynamic.specs.Service.{LacksRole, role_at}
 use Rattle.std.proofs.lemmas.List.{append-nil, append_assoc, length-append, length-map}
 use Rattle.std.proofs.Math.Seq.{set-append_seam}
 use Rattle.iox2sd.proofs.Names.{Visits, CallbackProgression, Continue, Stop, ContainerState, Entry, Role, Visit, listed, PortDetails, CountsIn, Service, first_role, second_role, id_of, Puts, PutsAll, ListsAll, NeedsMore, ports_in, ports_of_kind, nodes_in, PortsOf, Id, told_port, Port}
@@ -72,6 +77,17 @@ counted s role n (inl found) =
     (ports_in s.ports.first, inl (found.0, refl), found.1 ∙ sym (length_ports s.ports.first))
 counted s role n (inr found) =
     (ports_in s.ports.second, inr (found.0, refl), found.1 ∙ sym (length_ports s.ports.second))
+
+-- a role is that of the first kind where its side says so
+pub is_first : (pattern : PatternKind) (role : Role) (side : Option Bool)
+    → IfSome side (λ first. role ≡ role_at pattern (side_of first))
+    → IfNone side (LacksRole pattern role)
+    → IsTrue (option_eq beq side (Some true)) ↔ (role ≡ first_role pattern)
+is_first pattern role (Some true) some none = ((λ _. some), (λ _. refl))
+is_first pattern role (Some false) some none =
+    ((λ t. absurd (true≢false (sym t))), (λ e. absurd (roles_differ pattern (sym e ∙ some))))
+is_first pattern role None some none =
+    ((λ t. absurd (true≢false (sym t))), (λ e. absurd (none.0 e)))
 
 -- they stand at the front of an array that has room for them
 pub at_front : (s : Service) (role : Role) (is_first : Bool)

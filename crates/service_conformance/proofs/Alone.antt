@@ -11,7 +11,7 @@ use Rattle.iox2_dynamic.specs.declared.dynamic_config.port_details.PortDetails.{
 use Rattle.iox2_dynamic.specs.Details.{role_of}
 use Rattle.iox2_dynamic.specs.PortsState.{Side}
 use Rattle.iox2_dynamic.specs.PortsState.Side.{First, Second}
-use Rattle.iox2_dynamic.specs.Service.{Service, IsService}
+use Rattle.iox2_dynamic.specs.Service.{Service, IsService, role_at}
 use Rattle.line_streams.specs.Numerals.{cons_same}
 use Rattle.service_descriptions.specs.declared.replay.machine.command.Command.{Command}
 use Rattle.service_descriptions.specs.declared.replay.machine.command.Command.TheVariants as command
@@ -29,7 +29,7 @@ use Rattle.service_conformance.specs.Judged.Judged.{call}
 use Rattle.service_conformance.specs.Looks.{Watched, unwatched}
 use Rattle.service_conformance.specs.Entries.{MayGive}
 use Rattle.service_conformance.specs.Quiet.{quiet, quiet_state}
-use Rattle.service_conformance.specs.Sides.{ports_at, role_at}
+use Rattle.service_conformance.specs.Sides.{ports_at}
 use Rattle.service_conformance.specs.Words.{handle_words}
 use Rattle.service_conformance.proofs.Fixed.{stays_bounded}
 use Rattle.service_conformance.proofs.Following.{attach_may, register_may}

@@ -6,28 +6,28 @@ use Rattle.iox2_container.specs.Changes.{Adds}
 use Rattle.iox2_container.specs.ContainerState.{container}
 use Rattle.iox2_container.specs.Handle.{Handle}
 use Rattle.iox2_container.specs.Steps.{IsFull, TakesEntry}
+use Rattle.iox2_dynamic.specs.declared.dynamic_config.answers.AttachError.TheVariants as refusal
 use Rattle.iox2_dynamic.specs.declared.dynamic_config.port_details.PortDetails.{PortDetails}
 use Rattle.iox2_dynamic.specs.Details.{role_of, node_of}
 use Rattle.iox2_dynamic.specs.PortsState.{Side}
-use Rattle.iox2_dynamic.specs.Service.{Service, IsService, HasRole, entries_of_node}
+use Rattle.iox2_dynamic.specs.Service.{Service, IsService, HasRole, LacksRole, entries_of_node, role_at}
 use Rattle.iox2_dynamic.specs.Steps.{AddsPort, IsOpenFor}
 use Rattle.iox2_dynamic.proofs.Moving.{attach_kept}
 use Rattle.service_descriptions.specs.declared.replay.machine.reply.Reply.{Reply}
 use Rattle.service_descriptions.specs.declared.replay.machine.reply.Reply.TheVariants as reply
-use Rattle.service_descriptions.specs.Listings.{LacksRole}
 use Rattle.service_descriptions.specs.Steps.{ServesAdd}
 use Rattle.service_conformance.specs.declared.conformance.line_reply.LineReply.TheVariants as line
 use Rattle.service_conformance.specs.declared.conformance.possible.Possible.TheVariants as possible
 use Rattle.service_conformance.specs.Entries.{Refuses}
 use Rattle.service_conformance.specs.Possible.{Allows, ArePossible, possible_add}
-use Rattle.service_conformance.specs.Sides.{role_at, ports_at, part_at, with_ports_at}
+use Rattle.service_conformance.specs.Sides.{ports_at, part_at, with_ports_at}
 use Rattle.service_conformance.proofs.Adds.{can_give, no_room, was_given}
 use Rattle.service_conformance.proofs.Possibles.{alone, not_both}
 use Rattle.service_conformance.proofs.Touching.{untouching}
 use Rattle.service_conformance.proofs.Sides.{given_at, has_role, lacks, may_give_at, ports_are, step_at, steps_at}
 
 module _ (s : Service) (d : PortDetails) where
-  lacking_only : LacksRole s (role_of d) → (r : Reply) (new : Service) → ServesAdd s d r new
+  lacking_only : LacksRole s.pattern (role_of d) → (r : Reply) (new : Service) → ServesAdd s d r new
       → reply.WrongPattern ≡ r
   lacking_only n (reply.Handle h) new so = absurd (lacks s.pattern (role_of d) n so.0)
   lacking_only n reply.Locked new so = absurd (lacks s.pattern (role_of d) n so.0)
@@ -36,7 +36,7 @@ module _ (s : Service) (d : PortDetails) where
   lacking_only n reply.WrongPattern new so = refl
   lacking_only n _ new so = absurd so
 
-  pub lacking : IsService s → LacksRole s (role_of d)
+  pub lacking : IsService s → LacksRole s.pattern (role_of d)
       → ArePossible s (ServesAdd s d) (possible.One line.WrongPattern)
   lacking i n =
       alone _ _ line.WrongPattern s (λ r. refl) (n, refl) i (lacking_only n)
@@ -128,7 +128,7 @@ module _ (s : Service) (d : PortDetails) where
             record s { ports = ports },
             subst (λ r. ServesAdd s d r (record s { ports = ports })) (sym a.1)
                 (has_role s.pattern side (role_of d) role, (opens, (adds, refl))),
-            attach_kept s s.pattern ports d (Ok a.0) refl opens.1 adds i,
+            attach_kept s (record s { ports = ports }) d (Ok a.0) (opens, (adds, refl)) i,
           );
       only = given_only takes;
     }
@@ -142,4 +142,6 @@ module _ (s : Service) (d : PortDetails) where
         (untouching _ old old.registry (l, full, refl) (ports_are s side i).is_registry) in
         alone _ _ line.Full (record s { ports = ports }) (λ r. refl)
         (has_role s.pattern side (role_of d) role, (opens, (adds, refl)))
-        (attach_kept s s.pattern ports d (Err OutOfSpace) refl opens.1 adds i) (full_only full)
+        (attach_kept s (record s { ports = ports }) d (Err refusal.OutOfSpace)
+        (opens, (adds, refl)) i)
+        (full_only full)

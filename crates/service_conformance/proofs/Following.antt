@@ -9,7 +9,7 @@ use Rattle.iox2_dynamic.specs.Ports.{Ports, OnSide, IsNeither}
 use Rattle.iox2_dynamic.specs.PortsState.{Side, of_side, other_side}
 use Rattle.iox2_dynamic.specs.PortsState.Side.{First, Second}
 use Rattle.iox2_dynamic.specs.Steps.{AddsPort, RemovesPort}
-use Rattle.service_conformance.specs.Sides.{role_at, ports_at}
+use Rattle.service_conformance.specs.Sides.{ports_at}
 use Rattle.service_conformance.proofs.Sides.{has_role, lacks, one_side, step_at}
 use Rattle.iox2_container.specs.declared.container.refusal.ContainerRemoveError.TheVariants.{ContainerHandleNotOwnedByContainer}
 use Rattle.iox2_container.specs.declared.container.refusal.ContainerAddFailure.TheVariants.{OutOfSpace}
@@ -19,7 +19,7 @@ use Rattle.iox2_container.specs.Handle.{Handle}
 use Rattle.iox2_container.specs.State.{RegistryState, IsRegistry}
 use Rattle.iox2_container.specs.Steps.{AddStep, RemoveStep, TakesEntry}
 use Rattle.iox2_dynamic.specs.declared.dynamic_config.port_details.PortDetails.{PortDetails}
-use Rattle.iox2_dynamic.specs.Service.{Service, IsService, first_role, second_role}
+use Rattle.iox2_dynamic.specs.Service.{Service, IsService, first_role, second_role, role_at}
 use Rattle.service_descriptions.specs.declared.replay.machine.reply.Reply.{Reply}
 use Rattle.service_descriptions.specs.declared.replay.machine.reply.Reply.TheVariants as reply
 use Rattle.service_descriptions.specs.Steps.{ServesAdd, ServesRegister, ServesDeregister, ServesRelease, handle_in}

@@ -13,9 +13,9 @@ use Rattle.iox2_dynamic.specs.Details.{node_of, role_of}
 use Rattle.iox2_dynamic.specs.Ports.{IsNeither}
 use Rattle.iox2_dynamic.specs.PortsState.{Side}
 use Rattle.iox2_dynamic.specs.PortsState.Side.{First, Second}
-use Rattle.iox2_dynamic.specs.Service.{IsPortRegistry, IsService, Registered, Service, entries_of_node, first_role, second_role}
+use Rattle.iox2_dynamic.specs.Service.{IsPortRegistry, IsService, Registered, Service, entries_of_node, first_role, second_role, role_at}
 use Rattle.service_conformance.specs.Given.{Becomes, GivesNode, GivesNodes, GivesPort, GivesPorts, IsBefore, IsUnused, MayStand, StandsLast, UsedSo, placed, with_last, with_nodes, with_ports, with_used}
-use Rattle.service_conformance.specs.Sides.{ports_at, role_at}
+use Rattle.service_conformance.specs.Sides.{ports_at}
 use Rattle.service_conformance.proofs.Sides.{has_role, lacks, one_side, ports_are}
 
 -- so many tickets of an unused registry make it one

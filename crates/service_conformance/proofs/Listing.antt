@@ -9,16 +9,16 @@ use Rattle.iox2_dynamic.specs.declared.dynamic_config.port_details.PortDetails.{
 use Rattle.iox2_dynamic.specs.Ports.{Ports, IsNeither, OfRole}
 use Rattle.iox2_dynamic.specs.PortsState.{Side, of_side}
 use Rattle.iox2_dynamic.specs.PortsState.Side.{First, Second}
-use Rattle.iox2_dynamic.specs.Service.{Service, IsService, first_role, second_role}
+use Rattle.iox2_dynamic.specs.Service.{Service, IsService, LacksRole, first_role, second_role, role_at}
 use Rattle.service_descriptions.specs.declared.replay.machine.reply.Reply.{Reply}
 use Rattle.service_descriptions.specs.declared.replay.machine.reply.Reply.TheVariants as reply
-use Rattle.service_descriptions.specs.Listings.{LacksRole, ServesNodes, ServesList, ServesCount}
+use Rattle.service_descriptions.specs.Listings.{ServesNodes, ServesList, ServesCount}
 use Rattle.service_descriptions.specs.Replies.{IsSameReply}
 use Rattle.service_conformance.specs.declared.conformance.line_reply.LineReply.TheVariants as line
 use Rattle.service_conformance.specs.declared.conformance.possible.Possible.TheVariants as possible
 use Rattle.service_conformance.specs.Possible.{ArePossible}
 use Rattle.service_conformance.specs.Quiet.{Reports}
-use Rattle.service_conformance.specs.Sides.{role_at, ports_at}
+use Rattle.service_conformance.specs.Sides.{ports_at}
 use Rattle.service_conformance.proofs.Possibles.{alone}
 use Rattle.service_conformance.proofs.Sides.{has_role, lacks, roles_apart}
 
@@ -66,7 +66,7 @@ module _ (s : Service) where
     }
 
   module _ (role : Role) where
-    list_lacks : LacksRole s role → (r : Reply) (new : Service)
+    list_lacks : LacksRole s.pattern role → (r : Reply) (new : Service)
         → Reports s (ServesList s role) r new
         → reply.WrongPattern ≡ r
     list_lacks n (reply.Ports ports) new so =
@@ -74,19 +74,19 @@ module _ (s : Service) where
     list_lacks n reply.WrongPattern new so = refl
     list_lacks n _ new so = absurd so.0
 
-    pub lists_none : IsService s → LacksRole s role
+    pub lists_none : IsService s → LacksRole s.pattern role
         → ArePossible s (Reports s (ServesList s role)) (possible.One line.WrongPattern)
     lists_none i n =
         alone _ _ line.WrongPattern s (λ r. refl) (n, refl) i (list_lacks n)
 
-    count_lacks : LacksRole s role → (r : Reply) (new : Service)
+    count_lacks : LacksRole s.pattern role → (r : Reply) (new : Service)
         → Reports s (ServesCount s role) r new → reply.WrongPattern ≡ r
     count_lacks n (reply.Count k) new so =
         absurd (some_role s.pattern (λ r n. n ≡ length r.entries) s.ports role k so.0 n)
     count_lacks n reply.WrongPattern new so = refl
     count_lacks n _ new so = absurd so.0
 
-    pub counts_none : IsService s → LacksRole s role
+    pub counts_none : IsService s → LacksRole s.pattern role
         → ArePossible s (Reports s (ServesCount s role)) (possible.One line.WrongPattern)
     counts_none i n =
         alone _ _ line.WrongPattern s (λ r. refl) (n, refl) i (count_lacks n)

@@ -11,7 +11,7 @@ use Rattle.iox2_container.specs.Steps.{IsUnknownHandle, HasEntry, release_state}
 use Rattle.iox2_dynamic.specs.declared.dynamic_config.port_details.PortDetails.{PortDetails}
 use Rattle.iox2_dynamic.specs.Ports.{Ports, IsNeither, RemovesFrom}
 use Rattle.iox2_dynamic.specs.PortsState.{Side, of_side}
-use Rattle.iox2_dynamic.specs.Service.{Service, IsService, first_role, second_role}
+use Rattle.iox2_dynamic.specs.Service.{Service, IsService, first_role, second_role, role_at}
 use Rattle.iox2_dynamic.specs.Steps.{RemovesPort}
 use Rattle.iox2_dynamic.proofs.Moving.{release_kept}
 use Rattle.service_descriptions.specs.declared.replay.machine.reply.Reply.{Reply}
@@ -21,7 +21,7 @@ use Rattle.service_conformance.specs.declared.conformance.line_reply.LineReply.T
 use Rattle.service_conformance.specs.declared.conformance.possible.Possible.TheVariants as possible
 use Rattle.service_conformance.specs.Entries.{with_left}
 use Rattle.service_conformance.specs.Possible.{ArePossible}
-use Rattle.service_conformance.specs.Sides.{role_at, ports_at, with_ports_at}
+use Rattle.service_conformance.specs.Sides.{ports_at, with_ports_at}
 use Rattle.service_conformance.proofs.Possibles.{alone}
 use Rattle.service_conformance.proofs.Touching.{untouching}
 use Rattle.service_conformance.proofs.Removes.{can_remove, known, not_unknown}

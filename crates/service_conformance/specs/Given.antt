@@ -6,8 +6,8 @@ use Rattle.iox2_container.specs.State.{Entry, IsRegistry, RegistryState}
 use Rattle.iox2_dynamic.specs.declared.dynamic_config.port_details.PortDetails.{PortDetails}
 use Rattle.iox2_dynamic.specs.Details.{role_of}
 use Rattle.iox2_dynamic.specs.PortsState.{Side}
-use Rattle.iox2_dynamic.specs.Service.{IsService, Service}
-use Rattle.service_conformance.specs.Sides.{ports_at, role_at, with_ports_at}
+use Rattle.iox2_dynamic.specs.Service.{IsService, Service, role_at}
+use Rattle.service_conformance.specs.Sides.{ports_at, with_ports_at}
 
 -- the registry is as a new one
 pub record IsUnused {T : Type 0} (r : RegistryState T) : Type 0 where

@@ -16,11 +16,11 @@ use Rattle.iox2_container.specs.State.{Entry}
 use Rattle.iox2_container.specs.Steps.{Visit, listed}
 use Rattle.iox2_dynamic.specs.declared.dynamic_config.port_details.PortDetails.{PortDetails}
 use Rattle.iox2_dynamic.specs.Details.{port_of}
-use Rattle.iox2_dynamic.specs.Service.{Service}
+use Rattle.iox2_dynamic.specs.PortsState.{side_of}
+use Rattle.iox2_dynamic.specs.Service.{LacksRole, Service, role_at}
 use Rattle.service_descriptions.specs.declared.replay.machine.reply.LineAnswer.TheVariants as answer
 use Rattle.service_descriptions.specs.declared.replay.machine.reply.Reply.TheVariants as reply
-use Rattle.service_descriptions.specs.LineAnswers.{IsRoleOf, PutsText, PutsWord, WritesLine, Written, kind_text, ports_text}
-use Rattle.service_descriptions.specs.Listings.{LacksRole}
+use Rattle.service_descriptions.specs.LineAnswers.{PutsText, PutsWord, WritesLine, Written, kind_text, ports_text}
 use Rattle.service_descriptions.specs.Replies.{id_word, port_word}
 use Rattle.service_descriptions.proofs.Appending.{front_stays}
 
@@ -165,7 +165,8 @@ nodes_line s before mid text out begins is ends =
     (reply.Nodes (list_of out ids fits), refl, line)
 
 -- the line of the ports of a role
-pub ports_line : (s : Service) (role : Role) (is_first : Bool) → IsRoleOf s.pattern role is_first
+pub ports_line : (s : Service) (role : Role) (is_first : Bool)
+    → role ≡ role_at s.pattern (side_of is_first)
     → (before mid text : List ℕ) (out : Vec ℕ) → mid ≡ before ++ codes "list"
     → text ≡ mid ++ kind_text is_first s.ports → out.items ≡ text ++ 10 ∷ []
     → WritesLine s (answer.Ports role) before out.items
@@ -186,7 +187,7 @@ ports_line s role false of before mid text out begins is ends =
 
 -- the line that says that the pattern lacks the role
 pub lacks_line : (s : Service) (role : Role) (before line : List ℕ) (r : Refusal)
-    → LacksRole s role
+    → LacksRole s.pattern role
     → line ≡ (if is_ok r then before ++ codes "wrong-pattern\n" else before)
     → OnOk r (WritesLine s (answer.Ports role) before line)
 lacks_line s role before line (Ok done) lacks is =

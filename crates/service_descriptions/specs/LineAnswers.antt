@@ -4,14 +4,12 @@ use Rattle.std.specs.List.{flat_map}
 use Rattle.std.specs.declared.alloc.AllocError.{AllocError}
 use Rattle.iox2_texts.specs.declared.bounded.callback_progression.CallbackProgression.{CallbackProgression}
 use Rattle.iox2_texts.specs.declared.bounded.callback_progression.CallbackProgression.TheVariants.{Continue, Stop}
-use Rattle.iox2_config.specs.declared.hash.input.PatternKind.{PatternKind}
-use Rattle.iox2_container.specs.declared.container.role.Role.{Role}
 use Rattle.iox2_container.specs.ContainerState.{ContainerState}
 use Rattle.iox2_container.specs.Handle.{Handle}
 use Rattle.iox2_container.specs.Steps.{listed}
 use Rattle.iox2_dynamic.specs.declared.dynamic_config.port_details.PortDetails.{PortDetails}
 use Rattle.iox2_dynamic.specs.Ports.{Ports}
-use Rattle.iox2_dynamic.specs.Service.{Service, first_role, second_role}
+use Rattle.iox2_dynamic.specs.Service.{Service}
 use Rattle.iox2_static.specs.Description.{Description}
 use Rattle.service_descriptions.specs.declared.replay.machine.command.Command.{Command}
 use Rattle.service_descriptions.specs.declared.replay.machine.command.Command.TheVariants as command
@@ -74,8 +72,3 @@ ports_text ports = flat_map port_word (listed ports.registry)
 abbrev pub kind_text : Bool → Ports → List ℕ
 kind_text true ports = ports_text ports.first
 kind_text false ports = ports_text ports.second
-
--- the role is that of the ports of the first kind, or of those of the second
-abbrev pub IsRoleOf : PatternKind → Role → Bool → Type 0
-IsRoleOf pattern role true = role ≡ first_role pattern
-IsRoleOf pattern role false = role ≡ second_role pattern

@@ -2,14 +2,10 @@
 use Rattle.std.specs.Prelude.{◌≡◌, Some}
 use Rattle.iox2_container.specs.declared.container.role.Role.{Role}
 use Rattle.iox2_container.specs.Steps.{listed}
-use Rattle.iox2_dynamic.specs.Ports.{CountsIn, IsNeither, OfRole}
-use Rattle.iox2_dynamic.specs.Service.{Service, first_role, second_role}
+use Rattle.iox2_dynamic.specs.Ports.{CountsIn, OfRole}
+use Rattle.iox2_dynamic.specs.Service.{LacksRole, Service, first_role, second_role}
 use Rattle.service_descriptions.specs.declared.replay.machine.reply.Reply.{Reply}
 use Rattle.service_descriptions.specs.declared.replay.machine.reply.Reply.TheVariants as reply
-
--- the pattern of the service has no ports of the role
-abbrev pub LacksRole : Service → Role → Type 0
-LacksRole s role = IsNeither (first_role s.pattern) (second_role s.pattern) role
 
 -- how listing the nodes is answered
 abbrev pub ServesNodes : Service → Reply → Type 0
@@ -21,12 +17,12 @@ abbrev pub ServesList : Service → Role → Reply → Type 0
 ServesList s role (reply.Ports ports) =
     OfRole (λ r items. items ≡ listed r) (first_role s.pattern) (second_role s.pattern) s.ports role
     (Some ports.items)
-ServesList s role reply.WrongPattern = LacksRole s role
+ServesList s role reply.WrongPattern = LacksRole s.pattern role
 ServesList s role _ = ⊥
 
 -- how counting the ports of a role is answered
 abbrev pub ServesCount : Service → Role → Reply → Type 0
 ServesCount s role (reply.Count n) =
     CountsIn (first_role s.pattern) (second_role s.pattern) s.ports role (Some n)
-ServesCount s role reply.WrongPattern = LacksRole s role
+ServesCount s role reply.WrongPattern = LacksRole s.pattern role
 ServesCount s role _ = ⊥

@@ -9,7 +9,7 @@ use Rattle.iox2_dynamic.specs.declared.dynamic_config.answers.DeregisterNodeStat
 use Rattle.iox2_dynamic.specs.declared.dynamic_config.answers.RegisterNodeResult.TheVariants.{MarkedForDestruction, ExceedsMaxNumberOfNodes}
 use Rattle.iox2_dynamic.specs.declared.dynamic_config.port_details.PortDetails.{PortDetails}
 use Rattle.iox2_dynamic.specs.Details.{role_of}
-use Rattle.iox2_dynamic.specs.Service.{Service, IsService, HasRole, PatternCapacities, fresh_service}
+use Rattle.iox2_dynamic.specs.Service.{Service, IsService, HasRole, LacksRole, PatternCapacities, fresh_service}
 use Rattle.iox2_dynamic.specs.Steps.{RegisterStep, DeregisterStep, AttachStep, ReleaseStep}
 use Rattle.iox2_static.specs.Description.{Description}
 use Rattle.service_descriptions.specs.declared.replay.machine.command.Command.{Command}
@@ -19,7 +19,7 @@ use Rattle.service_descriptions.specs.declared.replay.machine.reply.Reply.TheVar
 use Rattle.service_descriptions.specs.Cleanups.{ServesDead}
 use Rattle.service_descriptions.specs.Descriptions.{ServesVerify, ServesMessages, ServesLayout, ServesPlaces, ServesCompatible}
 use Rattle.service_descriptions.specs.Handles.{Differ, named}
-use Rattle.service_descriptions.specs.Listings.{LacksRole, ServesNodes, ServesList, ServesCount}
+use Rattle.service_descriptions.specs.Listings.{ServesNodes, ServesList, ServesCount}
 
 -- how registering a node is answered
 abbrev pub ServesRegister : Service → ℕ → Reply → Service → Type 0
@@ -52,7 +52,7 @@ ServesAdd old details (reply.Handle handle) new = Attaches old details (Ok handl
 ServesAdd old details reply.Locked new = Attaches old details (Err ServiceIsLocked) new
 ServesAdd old details reply.NotRegistered new = Attaches old details (Err NodeNotRegistered) new
 ServesAdd old details reply.Full new = Attaches old details (Err OutOfSpace) new
-ServesAdd old details reply.WrongPattern new = LacksRole old (role_of details) × (new ≡ old)
+ServesAdd old details reply.WrongPattern new = LacksRole old.pattern (role_of details) × (new ≡ old)
 ServesAdd old details _ new = ⊥
 
 -- how releasing the port of a handle is answered, if there is one

@@ -1,15 +1,17 @@
 //! The ports of a service, by its pattern: a registry for each of two kinds of ports.
-ghost use Rattle.std.specs.Prelude.{◌≡◌, ◌↔◌, IfOk, IfSome, IsTrue, MatchOption, length, vec_capacity};
+ghost use Rattle.std.specs.Prelude.{◌≡◌, ◌↔◌, IfNone, IfOk, IfSome, IsTrue, MatchOption, length, vec_capacity};
 ghost use Rattle.std.specs.Fn.{CalledAt, TakesAt};
 ghost use Rattle.iox2_container.specs.Callbacks.{CanBeAsked, CanVisit};
 ghost use Rattle.iox2_container.specs.Steps.{Visit, listed};
 ghost use Rattle.iox2_dynamic.specs.Details.{role_of};
 ghost use Rattle.iox2_dynamic.specs.Patterns.{kind_of_service, ports_of};
 ghost use Rattle.iox2_dynamic.specs.Ports.{ports_as, empty_ports, has_ports_of, IsNoPort, OfRole};
-ghost use Rattle.iox2_dynamic.specs.Ports.{AddsTo, RemovesFrom, RecoversBoth, CountsIn, CanListIn, ListsIn};
+ghost use Rattle.iox2_dynamic.specs.Ports.{RemovesFrom, RecoversBoth, CountsIn, CanListIn, ListsIn};
 ghost use Rattle.iox2_dynamic.specs.Ports.{StandsAmong, TakesIn, TouchesFew, ports_asked_about, ports_of_node};
-ghost use Rattle.iox2_dynamic.specs.Service.{HasRole, first_role, second_role, capacities_in, fresh_ports};
+ghost use Rattle.iox2_dynamic.specs.Service.{HasRole, LacksRole, first_role, second_role, capacities_in, fresh_ports};
+ghost use Rattle.iox2_dynamic.specs.Steps.{Admits, AttachesTo};
 
+use super::answers::AttachError;
 use super::blackboard::DynamicConfig as BlackboardPorts;
 use super::cleanup::PortCleanupAction;
 use super::event::DynamicConfig as EventPorts;
@@ -21,8 +23,7 @@ use super::recovery::recover_ports;
 use super::request_response::DynamicConfig as RequestResponsePorts;
 use super::settings::MessagingPatternSettings;
 use iox2_container::container::{
-    ContainerAddFailure, ContainerHandle, ContainerRemoveError, ListContainer, Registry,
-    ReleaseMode, ReleaseState, Role,
+    ContainerHandle, ContainerRemoveError, ListContainer, Registry, ReleaseMode, ReleaseState, Role,
 };
 use iox2_ids::identifiers::{UniqueNodeId, UniquePortId};
 use iox2_texts::bounded::CallbackProgression;
@@ -46,6 +47,20 @@ impl<A: Copy, B: Copy> Model for PortRegistries<A, B> {
     ghost Value = { PortsState A B };
 
     ghost view = { λ p. record { first = p.first; second = p.second } };
+}
+
+/// Refuses a port of the node where the service is locked, and else where the node is not
+/// registered.
+fn admit(nodes: &ServiceRegistry<UniqueNodeId>, node: &UniqueNodeId) -> Result<(), AttachError>
+    ensures { Admits nodes.now node.now result }
+{
+    if nodes.is_locked() {
+        return Err(AttachError::ServiceIsLocked);
+    }
+    if !nodes.has_entry_of(node) {
+        return Err(AttachError::NodeNotRegistered);
+    }
+    Ok(())
 }
 
 impl<A: PortKind, B: PortKind> PortRegistries<A, B> {
@@ -97,22 +112,40 @@ impl<A: PortKind, B: PortKind> PortRegistries<A, B> {
         self.second.has_entry_of(node)
     }
 
-    /// Adds a port of the first kind.
-    pub(super) fn add_first(&mut self, port: A) -> Result<ContainerHandle, ContainerAddFailure>
-        ensures added { AddsTo A.ROLE B.ROLE (ports_as A.details B.details self.old)
-            (A.details port) result (ports_as A.details B.details self.new) }
+    /// Attaches a port of the first kind to a service with these nodes.
+    pub(super) fn attach_first(
+        &mut self,
+        nodes: &ServiceRegistry<UniqueNodeId>,
+        port: A,
+    ) -> Result<ContainerHandle, AttachError>
+        ensures attached { AttachesTo A.ROLE B.ROLE nodes.now
+            (ports_as A.details B.details self.old) (A.details port) result
+            (ports_as A.details B.details self.new) }
         ensures few { TouchesFew self.old self.new }
     {
-        self.first.add(port)
+        admit(nodes, &port.node_id())?;
+        match self.first.add(port) {
+            Ok(handle) => Ok(handle),
+            Err(_) => Err(AttachError::OutOfSpace),
+        }
     }
 
-    /// Adds a port of the second kind.
-    pub(super) fn add_second(&mut self, port: B) -> Result<ContainerHandle, ContainerAddFailure>
-        ensures added { AddsTo A.ROLE B.ROLE (ports_as A.details B.details self.old)
-            (B.details port) result (ports_as A.details B.details self.new) }
+    /// Attaches a port of the second kind to a service with these nodes.
+    pub(super) fn attach_second(
+        &mut self,
+        nodes: &ServiceRegistry<UniqueNodeId>,
+        port: B,
+    ) -> Result<ContainerHandle, AttachError>
+        ensures attached { AttachesTo A.ROLE B.ROLE nodes.now
+            (ports_as A.details B.details self.old) (B.details port) result
+            (ports_as A.details B.details self.new) }
         ensures few { TouchesFew self.old self.new }
     {
-        self.second.add(port)
+        admit(nodes, &port.node_id())?;
+        match self.second.add(port) {
+            Ok(handle) => Ok(handle),
+            Err(_) => Err(AttachError::OutOfSpace),
+        }
     }
 
     /// Removes the port with this handle.
@@ -350,37 +383,45 @@ impl MessagingPattern {
         of_any_pattern!(self, ports => ports.has_ports_of(id))
     }
 
-    /// Adds a port of one of the pattern's roles.
-    pub(super) fn add(
+    /// Attaches a port to a service with these nodes; `None` where the pattern has no such ports.
+    pub(super) fn attach(
         &mut self,
+        nodes: &ServiceRegistry<UniqueNodeId>,
         details: PortDetails,
-    ) -> Result<ContainerHandle, ContainerAddFailure>
-        requires { HasRole (kind_of_service self.old) (role_of details) }
-        ensures added { AddsTo (first_role (kind_of_service self.old))
-            (second_role (kind_of_service self.old))
-            (ports_of self.old) details result (ports_of self.new) }
+    ) -> Option<Result<ContainerHandle, AttachError>>
+        ensures some { IfSome result (λ answer.
+            HasRole (kind_of_service self.old) (role_of details)
+            × AttachesTo (first_role (kind_of_service self.old))
+            (second_role (kind_of_service self.old)) nodes.now
+            (ports_of self.old) details answer (ports_of self.new)) }
+        ensures none { IfNone result (LacksRole (kind_of_service self.old) (role_of details)
+            × (ports_of self.new ≡ ports_of self.old)) }
         ensures few { TouchesFew (ports_of self.old) (ports_of self.new) }
         ensures kind { kind_of_service self.new ≡ kind_of_service self.old }
     {
-        match (self, details) {
+        Some(match (self, details) {
             (MessagingPattern::RequestResponse(ports), PortDetails::Server(port)) =>
-                ports.add_first(port),
+                ports.attach_first(nodes, port),
             (MessagingPattern::RequestResponse(ports), PortDetails::Client(port)) =>
-                ports.add_second(port),
+                ports.attach_second(nodes, port),
             (MessagingPattern::PublishSubscribe(ports), PortDetails::Publisher(port)) =>
-                ports.add_first(port),
+                ports.attach_first(nodes, port),
             (MessagingPattern::PublishSubscribe(ports), PortDetails::Subscriber(port)) =>
-                ports.add_second(port),
-            (MessagingPattern::Event(ports), PortDetails::Listener(port)) => ports.add_first(port),
-            (MessagingPattern::Event(ports), PortDetails::Notifier(port)) => ports.add_second(port),
-            (MessagingPattern::Blackboard(ports), PortDetails::Reader(port)) => ports.add_first(
-                port,
+                ports.attach_second(nodes, port),
+            (MessagingPattern::Event(ports), PortDetails::Listener(port)) => ports.attach_first(
+                nodes, port,
             ),
-            (MessagingPattern::Blackboard(ports), PortDetails::Writer(port)) => ports.add_second(
-                port,
+            (MessagingPattern::Event(ports), PortDetails::Notifier(port)) => ports.attach_second(
+                nodes, port,
             ),
-            _ => unreachable!(),
-        }
+            (MessagingPattern::Blackboard(ports), PortDetails::Reader(port)) => ports.attach_first(
+                nodes, port,
+            ),
+            (MessagingPattern::Blackboard(ports), PortDetails::Writer(port)) => ports.attach_second(
+                nodes, port,
+            ),
+            _ => return None,
+        })
     }
 
     /// Removes the port with this handle.

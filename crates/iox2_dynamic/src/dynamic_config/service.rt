@@ -1,5 +1,5 @@
 //! A service: its nodes and the ports of its pattern.
-ghost use Rattle.std.specs.Prelude.{◌≡◌, ◌+◌, ◌≤◌, ◌↔◌, IfOk, IsTrue};
+ghost use Rattle.std.specs.Prelude.{◌≡◌, ◌+◌, ◌≤◌, ◌↔◌, IfNone, IfOk, IfSome, IsTrue};
 ghost use Rattle.std.specs.Fn.{CalledAt, TakesAt};
 ghost use Rattle.iox2_config.specs.declared.hash.input.PatternKind.TheVariants as kind;
 ghost use Rattle.iox2_container.specs.Callbacks.{CanBeAsked, CanVisit};
@@ -10,7 +10,7 @@ ghost use Rattle.iox2_dynamic.specs.Details.{role_of};
 ghost use Rattle.iox2_dynamic.specs.Patterns.{kind_of_service, ports_of};
 ghost use Rattle.iox2_dynamic.specs.Ports.{ports_as, ports_asked_about, CountsIn, CanListIn, ListsIn};
 ghost use Rattle.iox2_dynamic.specs.Ports.{TouchesFew};
-ghost use Rattle.iox2_dynamic.specs.Service.{IsService, HasRole, first_role, second_role};
+ghost use Rattle.iox2_dynamic.specs.Service.{IsService, HasRole, LacksRole, first_role, second_role};
 ghost use Rattle.iox2_dynamic.specs.Service.{capacities_in, fresh_service};
 ghost use Rattle.iox2_dynamic.specs.Steps.{RegisterStep, DeregisterStep, AttachStep, ReleaseStep};
 ghost use Rattle.iox2_dynamic.specs.Steps.{DeadStep, is_last_of_ports};
@@ -20,6 +20,7 @@ use super::cleanup::PortCleanupAction;
 use super::pattern::{MessagingPattern, ServiceRegistry, of_any_pattern};
 use super::port_details::PortDetails;
 use super::recovery::recover_nodes;
+use super::roles::PortRoles;
 use super::settings::MessagingPatternSettings;
 use super::{blackboard, event, publish_subscribe, request_response};
 use iox2_config::hash::PatternKind;
@@ -170,14 +171,7 @@ impl DynamicConfig {
         ensures role { IsTrue result ↔ HasRole self.now.pattern role }
         ensures kept { IsService self.now }
     {
-        match &self.pattern {
-            MessagingPattern::RequestResponse(_) => matches!(role, Role::Server | Role::Client),
-            MessagingPattern::PublishSubscribe(_) => {
-                matches!(role, Role::Publisher | Role::Subscriber)
-            }
-            MessagingPattern::Event(_) => matches!(role, Role::Listener | Role::Notifier),
-            MessagingPattern::Blackboard(_) => matches!(role, Role::Reader | Role::Writer),
-        }
+        self.kind().side(role).is_some()
     }
 
     /// Attaches a port of one of the pattern's roles, as `has_role` says. Errors, in this order:
@@ -189,16 +183,23 @@ impl DynamicConfig {
         ensures few { TouchesFew self.old.ports self.new.ports }
         ensures kept { IsService self.new }
     {
-        if self.nodes.is_locked() {
-            return Err(AttachError::ServiceIsLocked);
-        }
-        if !self.nodes.has_entry_of(&details.node_id()) {
-            return Err(AttachError::NodeNotRegistered);
-        }
-        let Ok(handle) = self.pattern.add(details) else {
-            return Err(AttachError::OutOfSpace);
-        };
-        Ok(handle)
+        self.attach_if_has_role(details).unwrap()
+    }
+
+    /// As `attach`, for a port of whatever role: `None`, and no change, where the pattern has no
+    /// such ports.
+    pub fn attach_if_has_role(
+        &mut self,
+        details: PortDetails,
+    ) -> Option<Result<ContainerHandle, AttachError>>
+        ensures some { IfSome result (λ answer. HasRole self.old.pattern (role_of details)
+            × AttachStep self.old details answer self.new) }
+        ensures none { IfNone result
+            (LacksRole self.old.pattern (role_of details) × (self.new ≡ self.old)) }
+        ensures few { TouchesFew self.old.ports self.new.ports }
+        ensures kept { IsService self.new }
+    {
+        self.pattern.attach(&self.nodes, details)
     }
 
     /// Releases the port with this handle. Refused for each

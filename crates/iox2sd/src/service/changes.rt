@@ -73,14 +73,12 @@ fn attach(service: &mut DynamicConfig, port: &Port) -> Result<Handle, Status>
     ensures { AttachesPort port.now service.old result service.new }
 {
     let details = port.read()?;
-    if !service.has_role(details.role()) {
-        return Err(Status::RoleNotInPattern);
-    }
-    match service.attach(details) {
-        Ok(made) => Ok(Handle::of(made)),
-        Err(AttachError::ServiceIsLocked) => Err(Status::IsLocked),
-        Err(AttachError::NodeNotRegistered) => Err(Status::NodeNotRegistered),
-        Err(AttachError::OutOfSpace) => Err(Status::OutOfSpace),
+    match service.attach_if_has_role(details) {
+        Some(Ok(made)) => Ok(Handle::of(made)),
+        Some(Err(AttachError::ServiceIsLocked)) => Err(Status::IsLocked),
+        Some(Err(AttachError::NodeNotRegistered)) => Err(Status::NodeNotRegistered),
+        Some(Err(AttachError::OutOfSpace)) => Err(Status::OutOfSpace),
+        None => Err(Status::RoleNotInPattern),
     }
 }
 

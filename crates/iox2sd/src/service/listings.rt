@@ -1,9 +1,8 @@
 //! Listings into a caller's array.
-ghost use Rattle.std.specs.Prelude.{◌≡◌, ◌↔◌, ◌+◌, ℕ, All, IsTrue, length, map};
+ghost use Rattle.std.specs.Prelude.{◌≡◌, ◌+◌, ℕ, All, IsTrue, length, map};
 ghost use Rattle.iox2_container.specs.Steps.{is_of};
 ghost use Rattle.iox2_dynamic.specs.Details.{node_of};
 ghost use Rattle.iox2_dynamic.specs.Ports.{ports_as, ports_of_node};
-ghost use Rattle.iox2_dynamic.specs.Service.{first_role};
 ghost use Rattle.iox2sd.specs.Listings.{Puts, PutsAll, ports_in, ports_of_kind, ListsAll, ListsPorts};
 ghost use Rattle.iox2sd.specs.Listings.{nodes_in, ListsNodes, listed_answer};
 ghost use Rattle.iox2sd.specs.NodeListings.{Counts as CountsTo, PutsAt, Notes, NotesOfRole};
@@ -175,14 +174,6 @@ fn put_ports(service: &DynamicConfig, is_first: bool, out: &mut [Port], used: &m
     }
 }
 
-/// Whether the role is that of the ports that are recovered first.
-fn is_first(service: &DynamicConfig, role: Role) -> bool
-    ensures { IsTrue result ↔ (role ≡ first_role service.now.pattern) }
-{
-    let (first, _) = service.kind().port_roles();
-    role == first
-}
-
 /// Lists the ports of the role of this number.
 fn list_ports(service: &DynamicConfig, role: u64, out: &mut [Port]) -> Listed
     ensures { ListsPorts role out.old service.now result out.new }
@@ -196,8 +187,9 @@ fn list_ports(service: &DynamicConfig, role: u64, out: &mut [Port]) -> Listed
     if number > out.len() {
         return Listed::TooShort(number);
     }
+    let is_first = service.kind().side(role) == Some(true);
     let mut used = 0;
-    put_ports(service, is_first(service, role), out, &mut used);
+    put_ports(service, is_first, out, &mut used);
     Listed::All(number)
 }
 

@@ -6,7 +6,8 @@ ghost use Rattle.iox2_dynamic.specs.Service.{IsService, capacities_in, fresh_ser
 ghost use Rattle.iox2_dynamic.specs.Steps.{is_last_of_ports};
 ghost use Rattle.service_conformance.specs.Dead.{after_dead, ports_after, stays};
 ghost use Rattle.service_conformance.specs.Quiet.{ports_at_rest, quiet};
-ghost use Rattle.service_conformance.specs.Sides.{HasPart, LacksPart, ports_at, side_of};
+ghost use Rattle.iox2_dynamic.specs.PortsState.{side_of};
+ghost use Rattle.service_conformance.specs.Sides.{HasPart, LacksPart, ports_at};
 
 mod following;
 mod given;
@@ -16,7 +17,7 @@ mod seeing;
 
 use super::possible::Part;
 use super::registry_check::RegistryCheck;
-use super::sides::{part, side};
+use super::sides::part;
 use iox2_config::hash::PatternKind;
 use iox2_container::container::Role;
 use iox2_dynamic::dynamic_config::{MessagingPatternSettings, PortDetails, PortRoles};
@@ -213,7 +214,7 @@ impl ServiceCheck {
         if role == Role::Node {
             return Some(Part::Nodes);
         }
-        let Some(first) = side(self.pattern, role) else {
+        let Some(first) = self.pattern.side(role) else {
             return None;
         };
         Some(part(first))

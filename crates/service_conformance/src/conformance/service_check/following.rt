@@ -11,10 +11,9 @@ ghost use Rattle.service_descriptions.specs.declared.replay.machine.command.Comm
 
 use super::super::line_reply::LineReply;
 use super::super::replies::{given, is_removal, named};
-use super::super::sides::side;
 use super::{ServiceCheck, has_ports_in};
 use iox2_container::container::{ContainerHandle, ReleaseMode};
-use iox2_dynamic::dynamic_config::PortDetails;
+use iox2_dynamic::dynamic_config::{PortDetails, PortRoles};
 use iox2_ids::identifiers::UniqueNodeId;
 use service_descriptions::replay::{Cleanup, LineCommand};
 use std::alloc::AllocError;
@@ -67,7 +66,7 @@ impl ServiceCheck {
         let Some(handle) = given(reply) else {
             return Ok(());
         };
-        let Some(first) = side(self.pattern, details.role()) else {
+        let Some(first) = self.pattern.side(details.role()) else {
             return Ok(());
         };
         if first {
@@ -92,7 +91,7 @@ impl ServiceCheck {
         if !is_removal(reply) {
             return;
         }
-        let Some(first) = side(self.pattern, handle.role()) else {
+        let Some(first) = self.pattern.side(handle.role()) else {
             return;
         };
         if first {

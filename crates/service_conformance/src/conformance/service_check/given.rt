@@ -4,10 +4,9 @@ ghost use Rattle.iox2_dynamic.specs.Service.{IsService, entries_of_node};
 ghost use Rattle.service_conformance.specs.Given.{Becomes, GivesNode, GivesNodes, GivesPort};
 ghost use Rattle.service_conformance.specs.Given.{GivesPorts};
 
-use super::super::sides::side;
 use super::ServiceCheck;
 use iox2_container::container::Role;
-use iox2_dynamic::dynamic_config::PortDetails;
+use iox2_dynamic::dynamic_config::{PortDetails, PortRoles};
 use iox2_ids::identifiers::UniqueNodeId;
 use std::alloc::AllocError;
 
@@ -40,7 +39,7 @@ impl ServiceCheck {
     {
         // For the proof: what is true of every check.
         let _pattern = &self.pattern;
-        let Some(first) = side(self.pattern, role) else {
+        let Some(first) = self.pattern.side(role) else {
             return false;
         };
         if first {
@@ -88,7 +87,7 @@ impl ServiceCheck {
         if !self.has_node(&details.node_id()) {
             return Ok(false);
         }
-        let Some(first) = side(self.pattern, details.role()) else {
+        let Some(first) = self.pattern.side(details.role()) else {
             return Ok(false);
         };
         if first {

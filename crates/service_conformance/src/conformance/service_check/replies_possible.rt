@@ -13,10 +13,10 @@ ghost use Rattle.service_descriptions.specs.declared.replay.machine.command.Comm
 use super::super::line_reply::LineReply;
 use super::super::possible::{Part, Possible};
 use super::super::replies::{named, possible_add, reply_of_owners};
-use super::super::sides::{part, side};
+use super::super::sides::part;
 use super::ServiceCheck;
 use iox2_container::container::{ContainerHandle, Role};
-use iox2_dynamic::dynamic_config::PortDetails;
+use iox2_dynamic::dynamic_config::{PortDetails, PortRoles};
 use iox2_ids::identifiers::UniqueNodeId;
 use service_descriptions::replay::{Cleanup, LineCommand};
 use std::alloc::{AllocError, Global};
@@ -36,7 +36,7 @@ impl ServiceCheck {
     fn possible_attach(&self, details: PortDetails) -> Possible
         ensures { ArePossible self.now (ServesAdd self.now details) result }
     {
-        let Some(first) = side(self.pattern, details.role()) else {
+        let Some(first) = self.pattern.side(details.role()) else {
             return Possible::One(LineReply::WrongPattern);
         };
         if self.nodes.is_locked() {
@@ -75,7 +75,7 @@ impl ServiceCheck {
         let Some(handle) = handle else {
             return Possible::One(LineReply::NoHandle);
         };
-        let Some(first) = side(kind, handle.role()) else {
+        let Some(first) = kind.side(handle.role()) else {
             return Possible::One(LineReply::NotOwned);
         };
         let Some(_details) = self.ports(first).get(handle) else {
@@ -117,7 +117,7 @@ impl ServiceCheck {
         ensures { IfOk result (ArePossible self.now (Reports self.now (ServesList self.now role))) }
     {
         let kind = self.kind();
-        let Some(first) = side(kind, role) else {
+        let Some(first) = kind.side(role) else {
             return Ok(Possible::One(LineReply::WrongPattern));
         };
         let ports = self.ports(first).listed(alloc)?;
@@ -129,7 +129,7 @@ impl ServiceCheck {
         ensures { ArePossible self.now (Reports self.now (ServesCount self.now role)) result }
     {
         let kind = self.kind();
-        let Some(first) = side(kind, role) else {
+        let Some(first) = kind.side(role) else {
             return Possible::One(LineReply::WrongPattern);
         };
         let n = self.ports(first).len();

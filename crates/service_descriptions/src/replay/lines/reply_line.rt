@@ -1,14 +1,13 @@
 //! The lines of replies, and of what answers commands. A list that answers a command is written as
 //! the slots of its items are met.
-ghost use Rattle.std.specs.Prelude.{◌≡◌, ◌+◌, ◌≤◌, ◌++◌, ◌∷◌, [], IfNone, IfSome, OnErr, OnOk};
+ghost use Rattle.std.specs.Prelude.{◌≡◌, ◌+◌, ◌≤◌, ◌++◌, ◌∷◌, [], OnErr, OnOk};
 ghost use Rattle.std.specs.Prelude.{codes, decimal, drop, length, take, vec_len};
 ghost use Rattle.std.specs.List.{flat_map};
 ghost use Rattle.iox2_container.specs.Steps.{listed};
 ghost use Rattle.iox2_dynamic.specs.Ports.{ports_as};
 ghost use Rattle.iox2_texts.specs.VerifyErrors.{verification_error_text};
-ghost use Rattle.service_descriptions.specs.LineAnswers.{IsRoleOf, PutsText, PutsWord, WritesLine};
+ghost use Rattle.service_descriptions.specs.LineAnswers.{PutsText, PutsWord, WritesLine};
 ghost use Rattle.service_descriptions.specs.LineAnswers.{kind_text, ports_text};
-ghost use Rattle.service_descriptions.specs.Listings.{LacksRole};
 ghost use Rattle.service_descriptions.specs.Replies.{id_word, port_word, reply_line, reply_of};
 ghost use Rattle.service_descriptions.specs.declared.replay.machine.reply.LineAnswer.TheVariants as answers;
 
@@ -335,22 +334,6 @@ fn put_ports(
     }
 }
 
-/// Whether the role is that of the pattern's first kind of ports, and not of its second; `None`
-/// where the pattern has no such ports.
-fn is_first(service: &DynamicConfig, role: Role) -> Option<bool>
-    ensures some { IfSome result (IsRoleOf service.now.pattern role) }
-    ensures none { IfNone result (LacksRole service.now role) }
-{
-    let (first, second) = service.kind().port_roles();
-    if role == first {
-        return Some(true);
-    }
-    if role == second {
-        return Some(false);
-    }
-    None
-}
-
 /// Appends the line that lists the nodes, perhaps a part of it where memory is refused. It is not
 /// inlined, so that its loop has all registers.
 #[inline(never)]
@@ -375,7 +358,7 @@ fn append_ports(service: &DynamicConfig, role: Role, out: &mut Vec<u8>) -> Resul
         (WritesLine service.now (answers.Ports role) out.old.items out.new.items) }
     ensures err { OnErr result (take (vec_len out.old) out.new.items ≡ out.old.items) }
 {
-    let Some(is_first) = is_first(service, role) else {
+    let Some(is_first) = service.kind().side(role) else {
         return out.extend_from_slice(b"wrong-pattern\n");
     };
     out.extend_from_slice(b"list")?;

@@ -235,14 +235,12 @@ fn add(service: &mut DynamicConfig, details: PortDetails) -> LineReply
     ensures served { ServesAdd service.old details (reply_of result) service.new }
     ensures kept { IsService service.new }
 {
-    if !service.has_role(details.role()) {
-        return LineReply::WrongPattern;
-    }
-    match service.attach(details) {
-        Ok(handle) => LineReply::Handle(handle),
-        Err(AttachError::ServiceIsLocked) => LineReply::Locked,
-        Err(AttachError::NodeNotRegistered) => LineReply::NotRegistered,
-        Err(AttachError::OutOfSpace) => LineReply::Full,
+    match service.attach_if_has_role(details) {
+        Some(Ok(handle)) => LineReply::Handle(handle),
+        Some(Err(AttachError::ServiceIsLocked)) => LineReply::Locked,
+        Some(Err(AttachError::NodeNotRegistered)) => LineReply::NotRegistered,
+        Some(Err(AttachError::OutOfSpace)) => LineReply::Full,
+        None => LineReply::WrongPattern,
     }
 }
 

@@ -1,5 +1,5 @@
-use Rattle.std.proofs.Common.{refl, subst, ◌<◌, ◌≤◌, length}
-use Rattle.iox2sd.proofs.Listings.{counted, at_front}
+use Rattle.std.proofs.Common.{refl, subst, sym, ◌<◌, ◌≤◌, length}
+use Rattle.iox2sd.proofs.Listings.{counted, at_front, is_first}
 use Rattle.iox2sd.proofs.service.listings.list_ports.Goals as goal
 
 pub returns-then-number-out : goal.returns-then-number-out
@@ -23,8 +23,10 @@ returns c =
       found.1,
       (
         fits,
-        at_front c.args.service.now _ _ c.is_first.ensures _ _ c.put_ports.new.used
-            c.put_ports.ensures found.0 found.1 fits,
+        at_front c.args.service.now _ _
+            (rw (c.eq-is_first.ensures, sym c.kind.ensures.kind)
+            (is_first _ _ c.side.result c.side.ensures.some c.side.ensures.none))
+            _ _ c.put_ports.new.used c.put_ports.ensures found.0 found.1 fits,
         found.2,
       ),
     )

@@ -5,7 +5,8 @@ use Rattle.service_descriptions.specs.declared.replay.machine.reply.Reply.TheVar
 use Rattle.service_descriptions.specs.Steps.{ServesAdd}
 use Rattle.service_conformance.specs.Quiet.{CanServe}
 use Rattle.service_conformance.specs.ServiceFields.{service_of}
-use Rattle.service_conformance.specs.Sides.{role_at, side_of}
+use Rattle.iox2_dynamic.specs.PortsState.{side_of}
+use Rattle.iox2_dynamic.specs.Service.{role_at}
 use Rattle.service_conformance.proofs.Following.{attach_enters, attach_may, attach_stays}
 use Rattle.service_conformance.proofs.conformance.service_check.ServiceCheck.follow_attach.Goals.{In-Some-side}
 use Rattle.service_conformance.proofs.conformance.service_check.ServiceCheck.follow_attach.Goals as goal

@@ -3,7 +3,8 @@ use Rattle.iox2_dynamic.specs.PortsState.Side.{First, Second}
 use Rattle.service_descriptions.specs.Steps.{ServesRelease}
 use Rattle.service_conformance.specs.Possible.{reply_in}
 use Rattle.service_conformance.specs.ServiceFields.{service_of}
-use Rattle.service_conformance.specs.Sides.{role_at, side_of}
+use Rattle.iox2_dynamic.specs.PortsState.{side_of}
+use Rattle.iox2_dynamic.specs.Service.{role_at}
 use Rattle.service_conformance.proofs.Following.{one_kept, release_goes, release_none, release_stays}
 use Rattle.service_conformance.proofs.conformance.service_check.ServiceCheck.follow_release.Goals.{In-Some-side}
 use Rattle.service_conformance.proofs.conformance.service_check.ServiceCheck.follow_release.Goals as goal

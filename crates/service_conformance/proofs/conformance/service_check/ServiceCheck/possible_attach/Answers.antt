@@ -1,9 +1,9 @@
 use Rattle.std.proofs.Common.{◌≡◌, ◌<◌, sym, ◌∙◌, ap}
 use Rattle.iox2_dynamic.specs.Details.{role_of, node_of}
-use Rattle.iox2_dynamic.specs.Service.{entries_of_node}
+use Rattle.iox2_dynamic.specs.Service.{entries_of_node, role_at}
 use Rattle.service_conformance.specs.Possible.{possible_add}
 use Rattle.service_conformance.specs.ServiceFields.{service_of}
-use Rattle.service_conformance.specs.Sides.{role_at, side_of}
+use Rattle.iox2_dynamic.specs.PortsState.{side_of}
 use Rattle.service_conformance.proofs.Attaching.{locked, unregistered, attaches}
 use Rattle.service_conformance.proofs.Sides.{has_role, positive}
 use Rattle.service_conformance.proofs.conformance.service_check.ServiceCheck.possible_attach.Goals.{In-Some}
