@@ -207,6 +207,9 @@ fn a_service_knows_its_numbers(rt: HostRuntime) -> Result<(), Fail> {
 #[test]
 fn roles_are_in_the_order_of_recovery(rt: HostRuntime) {
     for pattern in &PATTERNS {
-        assert_eq!(rt; pattern.kind.port_roles(), (pattern.first, pattern.second));
+        let (kind, first, second) = (pattern.kind, pattern.first, pattern.second);
+        assert_eq!(rt; kind.port_roles(), (first, second));
+        let sides = [kind.side(first), kind.side(second), kind.side(Role::Node)];
+        assert_eq!(rt; sides, [Some(true), Some(false), None]);
     }
 }
