@@ -16,12 +16,7 @@ pub ruleset places_of_add = (entries_fit, slice_get_within, length-map)
 -- no entry stands in a free slot
 free_everywhere : {T : Type 0} (cells : List (Option (Occupant T))) (slot : ℕ)
     → slice_get cells slot ≡ Some None → All (λ (e : Entry T). e.slot ≢ slot) (entries_from 0 cells)
-free_everywhere {T} cells slot free =
-    All-weaker (λ (e : Entry T). slice_get cells e.slot ≡ Some (Some (occupant e.ticket e.details)))
-    (λ (e : Entry T). e.slot ≢ slot)
-    (λ e shown q. (let z : slice_get cells slot ≡ Some (Some (occupant e.ticket e.details)) =
-    rw q at shown in cc))
-    (entries_from 0 cells) (shown_from cells)
+free_everywhere {T} cells slot free = grind (arith, All-weaker, shown_from)
 
 -- an entry goes into a free slot
 module _ {T : Type 0} (a : RegistryHeader) (cells s : List (Option (Occupant T))) (slot : ℕ) (d : T)

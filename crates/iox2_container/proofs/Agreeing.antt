@@ -1,4 +1,5 @@
 -- Replies that agree, by any `==` of their details.
+use Rattle.std.proofs.Common.{rules, arith}
 use Rattle.iox2_container.proofs.Prelude.{[], ◌↔◌, ◌∙◌, ◌∷◌, ◌≡◌, AllZip, Bool, IsPermutation, IsTrue, List, count_by, eq-eqb, eqb, eqb-true, length, length_permutation, list_all, sum_by-IsPermutation, sym}
 use Rattle.iox2_container.specs.Prelude.{AgreesBy, EquallyMany, RegistryReply, SameKind, SameReply}
 use Rattle.std.proofs.lemmas.List.Sums.{AllPass-from_list_all, list_all-from_AllPass}
@@ -23,16 +24,12 @@ tells_equally_many eq ones others all as_long e = (
 
 permuted_equally : {T : Type 0} (eq : T → T → Bool) (ones others : List T)
     → IsPermutation ones others → EquallyMany eq ones others
-permuted_equally eq ones others p = record {
-  as_long = sym (length_permutation ones others p);
-  each = λ k d below. sym (sum_by-IsPermutation _ ones others p);
-}
+permuted_equally eq ones others p = grind (arith, length_permutation, sum_by-IsPermutation)
 
 same_agree : {T : Type 0} (eq : T → T → Bool) (one other : RegistryReply T) → SameReply one other
     → AgreesBy eq one other
 same_agree eq (Reply.Handle one) (Reply.Handle other) same = tt
-same_agree eq (Reply.Entries one) (Reply.Entries other) same =
-    permuted_equally eq one.items other.items same
+same_agree eq (Reply.Entries one) (Reply.Entries other) same = search (rules, permuted_equally)
 same_agree eq one other same = same
 
 -- replies of one kind agree

@@ -14,11 +14,10 @@ Asked-push calls f items answers g item answer h a c = absurd a
 -- the details in the first cells, and those after them
 pub entries_split : {T : Type 0} (low i : ℕ) (cells : List (Option (Occupant T)))
     → (rest : List (Entry T)) × (entries_from low cells ≡ entries_from low (take i cells) ++ rest)
-entries_split low zero cells = (entries_from low cells, refl)
-entries_split low (suc i) [] = ([], refl)
-entries_split low (suc i) (None ∷ cells) = entries_split (low + 1) i cells
-entries_split low (suc i) (Some o ∷ cells) =
-    let r = entries_split (low + 1) i cells in (r.0, rw r.1 refl)
+entries_split low zero cells = grind arith
+entries_split low (suc i) [] = grind arith
+entries_split low (suc i) (None ∷ cells) = grind (arith, entries_split (low + 1) i cells)
+entries_split low (suc i) (Some o ∷ cells) = grind (arith, entries_split (low + 1) i cells)
 
 abbrev pub details_of : {T : Type 0} → List (Entry T) → List T
 details_of es = map (λ e. e.details) es

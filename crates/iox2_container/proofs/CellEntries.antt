@@ -61,22 +61,13 @@ pub gains_write : {T : Type 0} (low : ℕ) (cells : List (Option (Occupant T))) 
     → slice_get cells i ≡ Some None → x.slot ≡ low + i
     → InsertsOne (entries_from low cells)
     (entries_from low (slice_set cells i (Some (occupant x.ticket x.details)))) x
-gains_write low [] i x h s = (cc)
-gains_write {T} low (None ∷ cells) zero x h s =
-    let e : low ≡ x.slot = omega arith in
-    record {
-      before = [];
-      after = entries_from (low + 1) cells;
-      old_is = refl;
-      new_is = rw e refl;
-    }
-gains_write low (Some o ∷ cells) zero x h s = (cc)
-gains_write low (None ∷ cells) (suc i) x h s = gains_write (low + 1) cells i x h (omega arith)
+gains_write low [] i x h s = cc
+gains_write {T} low (None ∷ cells) zero x h s = grind arith
+gains_write low (Some o ∷ cells) zero x h s = cc
+gains_write low (None ∷ cells) (suc i) x h s =
+    grind (arith, gains_write (low + 1) cells i x h (omega arith))
 gains_write {T} low (Some o ∷ cells) (suc i) x h s =
-    gains_later (entries_from (low + 1) cells)
-    (entries_from (low + 1) (slice_set cells i (Some (occupant x.ticket x.details)))) x
-    (record { slot = low; ticket = o.ticket; details = o.details })
-    (gains_write (low + 1) cells i x h (omega arith))
+    grind (arith, gains_later, gains_write (low + 1) cells i x h (omega arith))
 
 -- a cell that is emptied
 pub gains_clear : {T : Type 0} (low : ℕ) (cells : List (Option (Occupant T))) (i : ℕ) (x : Entry T)

@@ -36,25 +36,21 @@ module _ {F T : Type 0} (takes : F → T → Type 0)
       → TakesCell takes f cell
       × ((h : F) → AskedOfCell calls f cell Continue h
       → MayVisit takes calls h (details_from (i + 1) cells))
-  visit_at f cells i cell is m =
-      rw (add-one i)
-      (rw (add-one i) at (shows f i cell (drop (suc i) cells) (rw (drop_one cells i cell is) at m)))
+  visit_at f cells i cell is m = grind (arith, add-one, shows, drop_one)
 
 -- the candidates from a cell on
 candidate_here : {T : Type 0} (is_dead : T → Bool) (cells : List (Option (Occupant T)))
     (i ticket : ℕ) (details : T) → slice_get cells i ≡ Some (Some (occupant ticket details))
     → is_dead details ≡ true
     → candidates_from is_dead i cells ≡ details ∷ candidates_from is_dead (i + 1) cells
-candidate_here is_dead cells i ticket details is e =
-    rw (drop_one cells i (Some (occupant ticket details)) is, e, add-one i) refl
+candidate_here is_dead cells i ticket details is e = grind (arith, drop_one, add-one)
 
 candidate_past : {T : Type 0} (node : T → ℕ) (id : ℕ) (cells : List (Option (Occupant T)))
     (i : ℕ) (cell : Option (Occupant T)) → slice_get cells i ≡ Some cell
     → false ≡ cell_is_of node id cell
     → candidates_from (is_of node id) i cells ≡ candidates_from (is_of node id) (i + 1) cells
-candidate_past node id cells i None is e = rw (drop_one cells i None is, ← add-one i) refl
-candidate_past node id cells i (Some o) is e =
-    rw (drop_one cells i (Some o) is, ← e, add-one i) refl
+candidate_past node id cells i None is e = grind (arith, drop_one, add-one)
+candidate_past node id cells i (Some o) is e = grind (arith, drop_one, add-one)
 
 -- a sweep that has come to a place: what it did so far, and whom it may still ask
 pub record HasSwept {F T : Type 0} (takes : F → T → Type 0) (calls : F → T → Bool → F → Type 0)
@@ -95,8 +91,7 @@ module _ {F T N : Type 0} (takes : F → T → Type 0) (calls : F → T → Bool
 
   asks : MayAsk takes calls g
       (found.details ∷ candidates_from (is_of node id) (found.slot + 1) cs)
-  asks = rw (candidate_here (is_of node id) cs found.slot next.here.1.0 found.details stands
-      next.here.0) at so_far.callable
+  asks = grind (arith, candidate_here, stands, so_far)
 
   -- the callback may be asked about it
   pub takes_next : takes g found.details

@@ -1,5 +1,5 @@
 -- How many entries a test holds of.
-use Rattle.iox2_container.proofs.Prelude.{[], ◌&&◌, ◌++◌, ◌+◌, ◌<◌, ◌∙◌, ◌∷◌, ◌≡◌, ◌≤◌, ◌⊎◌, All, All-cons, All-nil, Bool, IsSome, List, MatchBool, MatchOption, None, Option, Some, ℕ, add-one, ap, arith, false, if◌then◌else◌, inl, inr, leb_tells, length, lt-ltb, nat_lt, not, refl, same_Some, slice_get, suc, sym, take, true}
+use Rattle.iox2_container.proofs.Prelude.{[], ◌++◌, ◌+◌, ◌<◌, ◌∙◌, ◌∷◌, ◌≡◌, ◌≤◌, ◌⊎◌, All, All-cons, All-nil, Bool, IsSome, List, MatchBool, MatchOption, None, Option, Some, ℕ, add-one, ap, arith, false, if◌then◌else◌, inl, inr, leb_tells, length, lt-ltb, nat_lt, refl, same_Some, slice_get, suc, sym, take, true}
 use Rattle.iox2_container.specs.Prelude.{AreOthers, Entry, Found, InsertsOne, IsLastOf, IsNextOf, IsTakenAt, NoneFrom, Occupant, PlaceIsOf, candidates, cell_is_of, entries_from, is_of, staying}
 use Rattle.iox2_container.proofs.AskedInTurn.{entries_split, taken_free, taken_more}
 use Rattle.iox2_container.proofs.CellEntries.{all_before}
@@ -16,29 +16,19 @@ one_if b = if b then 1 else 0
 -- the first entry, and the others
 pub counted-cons : {T : Type 0} (p : T → Bool) (e : Entry T) (es : List (Entry T))
     → counted p (e ∷ es) ≡ one_if (p e.details) + counted p es
-counted-cons p e es =
-    elim (p e.details) as
-    (λ b. length (if b then e ∷ candidates p es else candidates p es)
-    ≡ one_if b + counted p es) [ true ↦ omega arith | false ↦ omega arith ]
+counted-cons p e es = grind arith
 
 -- the entries round one
 pub counted-between : {T : Type 0} (p : T → Bool) (xs : List (Entry T)) (x : Entry T)
     (ys : List (Entry T))
     → counted p (xs ++ x ∷ ys) ≡ counted p (xs ++ ys) + one_if (p x.details)
-counted-between p [] x ys = omega (arith, counted-cons p x ys)
-counted-between p (e ∷ xs) x ys =
-    omega (
-      arith,
-      counted-cons p e (xs ++ x ∷ ys),
-      counted-cons p e (xs ++ ys),
-      counted-between p xs x ys,
-    )
+counted-between p [] x ys = grind (arith, counted-cons)
+counted-between p (e ∷ xs) x ys = grind (arith, counted-cons, counted-between p xs x ys)
 
 counted-append : {T : Type 0} (p : T → Bool) (xs ys : List (Entry T))
     → counted p (xs ++ ys) ≡ counted p xs + counted p ys
-counted-append p [] ys = omega arith
-counted-append p (e ∷ xs) ys =
-    omega (arith, counted-cons p e (xs ++ ys), counted-cons p e xs, counted-append p xs ys)
+counted-append p [] ys = grind arith
+counted-append p (e ∷ xs) ys = grind (arith, counted-cons, counted-append p xs ys)
 
 pub few_more : (n m slot : ℕ) (b : Bool) → m ≡ n + one_if b → n ≤ slot → m ≤ slot + 1
 few_more n m slot true e h = omega arith
@@ -65,8 +55,7 @@ module _ {T : Type 0} (node : T → ℕ) (id : ℕ) (cells : List (Option (Occup
       → slice_get cells i ≡ Some cell → b ≡ cell_is_of node id cell → m ≡ n + one_if b
       → n ≡ counted (is_of node id) (entries_from 0 (take i cells))
       → m ≡ counted (is_of node id) (entries_from 0 (take (i + 1) cells))
-  counted_more i n m cell b h e em en =
-      rw (add-one i) (omega (arith, em, en, ap one_if e, counted_cell i cell h))
+  counted_more i n m cell b h e em en = grind (arith, add-one, counted_cell)
 
   -- some entry is the node's, where one stands in a place
   pub some_counted : (i : ℕ) → PlaceIsOf node id cells i true
@@ -158,10 +147,7 @@ module _ {T : Type 0} (node : T → ℕ) (id : ℕ) (cells : List (Option (Occup
   -- not both has the node an entry there and not
   not_both : (slot : ℕ) → PlaceIsOf node id cells slot true → PlaceIsOf node id cells slot false
       → ⊥
-  not_both slot has others =
-      let same : Some has.0 ≡ Some others.0 = sym has.1 ∙ others.1 in
-      let e : true ≡ false =
-      has.2 ∙ (ap (cell_is_of node id) (same_Some has.0 others.0 same) ∙ sym others.2) in cc
+  not_both slot has others = grind (arith, same_Some)
 
   -- a search that begins at an entry of the node looks at no other place
   module _ (end middle slot : ℕ) (free : NoneFrom cells end)
@@ -188,10 +174,7 @@ module _ {T : Type 0} (node : T → ℕ) (id : ℕ) (cells : List (Option (Occup
 -- one entry more
 pub counted-InsertsOne : {T : Type 0} (p : T → Bool) (old new : List (Entry T)) (x : Entry T)
     → InsertsOne old new x → counted p new ≡ counted p old + one_if (p x.details)
-counted-InsertsOne p old new x g =
-    ap (counted p) g.new_is
-    ∙ (counted-between p g.before x g.after
-    ∙ ap (λ es. counted p es + one_if (p x.details)) (sym g.old_is))
+counted-InsertsOne p old new x g = grind (arith, counted-between)
 
 -- a recovery leaves entries that are not dead
 pub counted-staying : {T : Type 0} (p is_dead : T → Bool)
@@ -199,20 +182,7 @@ pub counted-staying : {T : Type 0} (p is_dead : T → Bool)
     → counted p (staying is_dead marked es) ≡ counted p es
 counted-staying p is_dead other marked [] = refl
 counted-staying {T} p is_dead other marked (e ∷ es) =
-    let left : List (Entry T) = staying is_dead marked es in
-    let k = counted-staying p is_dead other marked es in
-    let more = counted-cons p e left in
-    let all = counted-cons p e es in
-    (elim (is_dead e.details) as
-    (λ b. (b ≡ true → p e.details ≡ false)
-    → counted p (if not (b && marked e.slot) then e ∷ left else left) ≡ counted p (e ∷ es)) [
-      | true ↦ λ o. elim (marked e.slot) as
-          (λ m. counted p (if not m then e ∷ left else left) ≡ counted p (e ∷ es)) [
-            | true ↦ omega (arith, all, k, ap one_if (o refl))
-            | false ↦ omega (arith, all, k, more)
-          ]
-      | false ↦ λ o. omega (arith, all, k, more)
-    ]) (other e.details)
+    grind (arith, counted-cons, counted-staying p is_dead other marked es)
 
 not_one : (b : Bool) → one_if b ≡ 0 → b ≡ false
 not_one true h = absurd (omega arith)

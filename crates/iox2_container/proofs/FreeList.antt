@@ -1,5 +1,5 @@
 -- The list of free slots, that is linked through the cells.
-use Rattle.iox2_container.proofs.Prelude.{[], ◌<◌, ◌∙◌, ◌∷◌, ◌≡◌, ◌≢◌, All, All-cons, All-head, All-nil, All-tail, All-weaker, List, None, Option, Some, ℕ, ap, arith, length, map, refl, replicate, slice_get, slice_set, suc, zero}
+use Rattle.iox2_container.proofs.Prelude.{[], ◌<◌, ◌∷◌, ◌≡◌, ◌≢◌, All, All-cons, All-head, All-nil, All-tail, All-weaker, List, None, Option, Some, ℕ, arith, length, map, refl, replicate, slice_get, slice_set, suc, zero}
 use Rattle.iox2_container.specs.Prelude.{Free, IsFreeAt, LeadsThrough, Linked, Occupant, Taken, occupant, shown}
 use Rattle.iox2_container.proofs.ListEdits.{get_set_other, get_set_same}
 use Rattle.iox2_container.proofs.ShownCells.{shown_at}
@@ -26,15 +26,14 @@ pub threads_kept : {T : Type 0} (cells : List (Linked T)) (head : Option ℕ) (f
     (slot : ℕ) (cell : Linked T) → All (λ other. other ≢ slot) free
     → LeadsThrough cells head free → LeadsThrough (slice_set cells slot cell) head free
 threads_kept cells None [] slot cell o t = t
-threads_kept cells (Some head) (s ∷ slots) slot cell o t = (
-  t.0,
-  t.1,
-  (
-    t.2.0,
-    get_set_other cells slot s cell (All-head (λ other. other ≢ slot) s slots o) ∙ t.2.1,
-    threads_kept cells t.2.0 slots slot cell (All-tail (λ other. other ≢ slot) s slots o) t.2.2,
-  ),
-)
+threads_kept cells (Some head) (s ∷ slots) slot cell o t =
+    grind (
+      arith,
+      get_set_other,
+      All-head,
+      All-tail,
+      threads_kept cells t.2.0 slots slot cell (All-tail (λ other. other ≢ slot) s slots o) t.2.2,
+    )
 threads_kept cells head free slot cell o t = absurd t
 
 -- a slot is put before the list
@@ -68,12 +67,8 @@ shown_free cells slot f = shown_at cells slot (Free f.0) f.1
 pub taken_of_shown : {T : Type 0} (cell : Linked T) (ticket : ℕ) (details : T)
     → ◌≡◌ {A = Option (Occupant T)} (shown cell) (Some (occupant ticket details))
     → cell ≡ Taken ticket details
-taken_of_shown {T} (Taken t d) ticket details e =
-    let p : ◌≡◌ {A = Occupant T} (occupant t d) (occupant ticket details) = (cc) in
-    let et : t ≡ ticket = ap (λ (q : Occupant T). q.ticket) p in
-    let ed : d ≡ details = ap (λ (q : Occupant T). q.details) p in
-    (cc)
-taken_of_shown (Free next) ticket details e = (cc)
+taken_of_shown {T} (Taken t d) ticket details e = grind arith
+taken_of_shown (Free next) ticket details e = cc
 
 pub replicate_free : {T : Type 0} (n slot ticket : ℕ) (details : T)
     → slice_get (replicate n (let cell : Linked T = Free None in cell)) slot
@@ -86,8 +81,7 @@ replicate_free (suc n) (suc slot) ticket details e = replicate_free n slot ticke
 pub taken_at : {T : Type 0} (cells : List (Linked T)) (slot ticket : ℕ) (details : T)
     → ◌≡◌ {A = Option (Option (Occupant T))} (slice_get (map shown cells) slot)
     (Some (Some (occupant ticket details))) → slice_get cells slot ≡ Some (Taken ticket details)
-taken_at [] slot ticket details h = (cc)
-taken_at {T} (cell ∷ cells) zero ticket details h =
-    let e : ◌≡◌ {A = Option (Occupant T)} (shown cell) (Some (occupant ticket details)) = (cc) in
-    ap (λ (c : Linked T). Some c) (taken_of_shown cell ticket details e)
-taken_at (cell ∷ cells) (suc slot) ticket details h = taken_at cells slot ticket details h
+taken_at [] slot ticket details h = cc
+taken_at {T} (cell ∷ cells) zero ticket details h = grind (arith, taken_of_shown)
+taken_at (cell ∷ cells) (suc slot) ticket details h =
+    grind (arith, taken_at cells slot ticket details h)

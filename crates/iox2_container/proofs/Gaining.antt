@@ -1,5 +1,6 @@
 -- What follows where a list of entries gains one.
-use Rattle.iox2_container.proofs.Prelude.{[], ◌++◌, ◌+◌, ◌∙◌, ◌∷◌, ◌≡◌, All, All-append, All-cons, All-drop, All-head, All-tail, All-take, AllPairs, AllPairs-cons, List, ap, arith, length, length-append, suc, zero}
+use Rattle.std.proofs.Common.{arith, rules}
+use Rattle.iox2_container.proofs.Prelude.{[], ◌++◌, ◌+◌, ◌∷◌, ◌≡◌, All, All-append, All-cons, All-drop, All-head, All-tail, All-take, AllPairs, AllPairs-cons, List, arith, length, length-append, suc, zero}
 use Rattle.iox2_container.specs.Prelude.{Entry, InsertsOne}
 use Rattle.std.proofs.Math.Seq.{take-append_seam, drop-append_seam}
 
@@ -19,8 +20,7 @@ All-back P b a h = rw drop-append_seam at (All-drop P (length b) (b ++ a) h)
 
 pub All-put : {X : Type 0} (P : X → Type 0) (b a : List X) (x : X) → All P (b ++ a) → P x
     → All P (b ++ x ∷ a)
-All-put P b a x h p =
-    All-append P b (x ∷ a) (All-front P b a h) (All-cons P x a p (All-back P b a h))
+All-put P b a x h p = search (rules, All-append, All-front, All-cons, All-back)
 
 pub All-cut : {X : Type 0} (P : X → Type 0) (b a : List X) (x : X) → All P (b ++ x ∷ a)
     → All P (b ++ a)
@@ -46,11 +46,4 @@ AllPairs-cut R (y ∷ b) a x p =
 -- there is one more
 pub length-InsertsOne : {T : Type 0} (old new : List (Entry T)) (x : Entry T) → InsertsOne old new x
     → length new ≡ length old + 1
-length-InsertsOne old new x g =
-    ap length g.new_is
-    ∙ (omega (
-      arith,
-      length-append g.before (x ∷ g.after),
-      length-append g.before g.after,
-      ap length g.old_is,
-    ))
+length-InsertsOne old new x g = grind (arith, length-append)

@@ -1,6 +1,6 @@
 -- What each change leaves as it was, what it adds and what it takes out.
 use Rattle.iox2_container.proofs.Prelude.{[], ◌∙◌, ◌∷◌, ◌≡◌, ◌≤◌, ◌⊎◌, Bool, Contains, Err, List, Ok, Result, ℕ, ap, arith, inl, inr, map, refl, sym}
-use Rattle.iox2_container.specs.Prelude.{AddStep, Adding, Change, ChangeStep, ContainerAddFailure, ContainerRemoveError, Enters, Entry, Handle, IsLocked, IsRegistry, Leaves, OutOfSpace, Recovering, Recovers, RegistryState, ReleaseMode, ReleaseState, RemoveStep, Removing, Role, TakesOut, handle_of, leaving}
+use Rattle.iox2_container.specs.Prelude.{AddStep, Adding, Change, ChangeStep, ContainerAddFailure, ContainerRemoveError, Enters, Entry, Handle, IsLocked, IsRegistry, Leaves, OutOfSpace, Recovering, Recovers, RegistryState, ReleaseMode, ReleaseState, RemoveStep, Removing, TakesOut, handle_of, leaving}
 use Rattle.iox2_container.proofs.Members.{Among, DifferBy, among_contained, among_less, among_more, contains_among, gained, moved, other_differs}
 use Rattle.iox2_container.proofs.Leaving.{leaves_among, stays_among, stays_apart, stays_or_leaves}
 
@@ -12,16 +12,12 @@ pub record Grows {T : Type 0} (old new : RegistryState T) : Type 0 where
   pub entries : (x : Entry T) → Among x new.entries → Among x old.entries ⊎ (x.ticket ≡ old.used)
 
 pub grows_same : {T : Type 0} (old new : RegistryState T) → new ≡ old → Grows old new
-grows_same old new e =
-    rw e (record { service = refl; role = refl; used = omega arith; entries = λ x a. inl a })
+grows_same old new e = grind arith
 
 -- an entry has one handle before and after
 pub same_key : {T : Type 0} (old new : RegistryState T) (x : Entry T) → Grows old new
     → handle_of old x ≡ handle_of new x
-same_key {T} old new x g =
-    let make : ℕ → Role → Handle =
-    λ n q. record { service = n; role = q; slot = x.slot; ticket = x.ticket } in
-    ap (λ n. make n old.role) (sym g.service) ∙ ap (make new.service) (sym g.role)
+same_key {T} old new x g = grind arith
 
 -- what a change does to the entries: who was there is there still or is taken out, and who is there
 -- was there and is not taken out, or was added
@@ -57,13 +53,7 @@ among_handles r (e ∷ es) x (inr h) = inr (among_handles r es x h)
 -- a change that was refused
 edits_none : {T : Type 0} (old new : RegistryState T) (change : Change T) → new ≡ old
     → ((handle : Handle) → TakesOut handle change → ⊥) → Edits old change new
-edits_none old new change e none =
-    rw e (record {
-      grows = grows_same old old refl;
-      stays = λ x a. inl a;
-      was = λ x a. inl (a, λ w. none (handle_of old x));
-      out = λ handle t. absurd (none handle t);
-    })
+edits_none old new change e none = grind (arith, grows_same)
 
 pub edits : {T : Type 0} (old : RegistryState T) (change : Change T) (new : RegistryState T)
     → ChangeStep old change new → Edits old change new

@@ -1,5 +1,6 @@
 -- What histories of registries say of their entries.
-use Rattle.iox2_container.proofs.Prelude.{[], ◌++◌, ◌+◌, ◌<◌, ◌↔◌, ◌∙◌, ◌∷◌, ◌≡◌, ◌≢◌, ◌≤◌, ◌⊎◌, All, All-cons, All-head, All-nil, All-tail, All-weaker, AllPairs, AllPairs-cons, Any, Err, List, Ok, Result, ap, arith, cons_option, inl, inr, refl, sym}
+use Rattle.std.proofs.Common.{arith, rules}
+use Rattle.iox2_container.proofs.Prelude.{[], ◌++◌, ◌<◌, ◌↔◌, ◌∙◌, ◌∷◌, ◌≡◌, ◌≢◌, ◌≤◌, ◌⊎◌, All, All-cons, All-head, All-nil, All-tail, All-weaker, AllPairs, AllPairs-cons, Any, Err, List, Ok, Result, ap, arith, cons_option, inl, inr, refl, sym}
 use Rattle.iox2_container.specs.Prelude.{Adding, Change, ChangeStep, ContainerRemoveError, Enters, Entry, Handle, HasEntry, History, IsNew, IsRefused, IsRegistry, Leaves, RegistryState, ReleaseMode, ReleaseState, Remains, RemoveStep, TakesOut, handle_given_by, handle_of, handles_given}
 use Rattle.iox2_container.specs.declared.container.refusal.ContainerRemoveError.TheVariants.{ContainerHandleNotOwnedByContainer}
 use Rattle.iox2_container.proofs.Members.{Among, of_all, moved, first_or_other, gained, without}
@@ -92,10 +93,9 @@ added_at_end : {T : Type 0} (old new : RegistryState T) (earlier later : List (C
     (handle : Handle) (details : T)
     → History old (earlier ++ Adding details (Ok handle) ∷ later) new
     → All (λ change. TakesOut handle change → ⊥) later → IsHeld new handle details
-added_at_end old new [] later handle details s f =
-    held_at_end s.0 new later handle details s.3 (held_new old s.0 handle details s.1) f
+added_at_end old new [] later handle details s f = search (rules, held_at_end, held_new)
 added_at_end old new (c ∷ cs) later handle details s f =
-    added_at_end s.0 new cs later handle details s.3 f
+    search (rules, added_at_end s.0 new cs later handle details s.3 f)
 
 pub what_remains : {T : Type 0} (start now : RegistryState T) (changes : List (Change T))
     (handle : Handle) (details : T) → IsNew start → History start changes now
@@ -206,16 +206,11 @@ first_differs : {T : Type 0} (old mid : RegistryState T) (change : Change T) (gi
     → ChangeStep old change mid → All (λ h. mid.used ≤ h.ticket) given → AllPairs ◌≢◌ given
     → AllPairs ◌≢◌ (cons_option (handle_given_by change) given)
 first_differs {T} old mid (Adding d (Ok handle)) given s h p =
-    let used : mid.used ≡ old.used + 1 = ap (λ (r : RegistryState T). r.used) s.2.3 in
-    AllPairs-cons ◌≢◌ handle given
-    (All-weaker (λ (k : Handle). mid.used ≤ k.ticket) (λ (k : Handle). handle ≢ k)
-    (λ k l e. omega (arith, l, used, ticket_of handle k e, new_ticket old mid handle d s)) given h)
-    p
+    grind (arith, AllPairs-cons, All-weaker, ticket_of, new_ticket)
 first_differs old mid change given s h p = p
 
 pub handles_differ : {T : Type 0} (old new : RegistryState T) (changes : List (Change T))
     → History old changes new → AllPairs ◌≢◌ (handles_given changes)
-handles_differ old new [] s = λ i j d h l. absurd (omega (arith, l))
+handles_differ old new [] s = search rules
 handles_differ old new (c ∷ cs) s =
-    first_differs old s.0 c (handles_given cs) s.1 (tickets_to_come s.0 new cs s.3)
-    (handles_differ s.0 new cs s.3)
+    search (rules, first_differs, tickets_to_come, handles_differ s.0 new cs s.3)

@@ -71,11 +71,8 @@ module _ {T : Type 0} (old new : ContainerState T) (reply : RegistryReply T) whe
 
   goes_given : (given : Option Handle) (mode : ReleaseMode) → RemoveGiven old given mode reply new
       → Goes old.registry new.registry reply
-  goes_given None mode s = goes_still Reply.NoHandle s.0 s.1 tt
-  goes_given (Some handle) mode s = record {
-    grows = grows_remove old.registry handle mode s.result new.registry s.step.step;
-    knows = rw s.reply_is (knows_removed new.registry s.result);
-  }
+  goes_given None mode s = grind (arith, goes_still)
+  goes_given (Some handle) mode s = grind (arith, grows_remove, knows_removed)
 
   goes_on : (node number : T → ℕ) (earlier : List (RegistryReply T)) (call : RegistryCall T)
       → IsRegistry old.registry → CallStep node number old earlier call reply new
@@ -106,9 +103,8 @@ known_moved old new (Some handle) m k = knows_on old new handle m k
 
 known_push : {T : Type 0} (old new : RegistryState T) (xs : List (RegistryReply T))
     (x : RegistryReply T) → Goes old new x → AllKnown old xs → AllKnown new (xs ++ x ∷ [])
-known_push old new [] x g a = (g.knows, tt)
-known_push old new (y ∷ ys) x g a =
-    (known_moved old new (given_by y) g.grows a.0, known_push old new ys x g a.1)
+known_push old new [] x g a = grind arith
+known_push old new (y ∷ ys) x g a = grind (arith, known_moved, known_push old new ys x g a.1)
 
 -- after one more call all handles that were given are known
 pub known_on : {T : Type 0} (node number : T → ℕ) (old : ContainerState T)

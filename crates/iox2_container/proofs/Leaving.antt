@@ -1,4 +1,5 @@
 -- Which entries stay and which leave in a recovery.
+use Rattle.std.proofs.Common.{arith}
 use Rattle.iox2_container.proofs.Prelude.{[], ◌&&◌, ◌∙◌, ◌∷◌, ◌≡◌, ◌≢◌, ◌⊎◌, Bool, List, ℕ, ap, false, if◌then◌else◌, inl, inr, map, not, refl, sym, true}
 use Rattle.iox2_container.specs.Prelude.{Entry, candidates, is_leaving, leaving, marks_of, staying}
 use Rattle.iox2_container.proofs.AskedInTurn.{details_of}
@@ -17,13 +18,7 @@ module _ {T : Type 0} (is_dead : T → Bool) (marked : ℕ → Bool) (es : List 
 
   pub stays_or_leaves : (x : Entry T) → Among x es
       → Among x (staying is_dead marked es) ⊎ Among x (leaving is_dead marked es)
-  stays_or_leaves x h =
-      (elim (is_leaving is_dead marked x) as
-      (λ b. is_leaving is_dead marked x ≡ b
-      → Among x (staying is_dead marked es) ⊎ Among x (leaving is_dead marked es)) [
-        | true ↦ λ e. inr (filter_to (is_leaving is_dead marked) es x h e)
-        | false ↦ λ e. inl (filter_to stays es x h (ap not e))
-      ]) refl
+  stays_or_leaves x h = grind (arith, filter_to)
 
   pub stays_apart : (n : Entry T → ℕ) (x y : Entry T) → DifferBy n es
       → Among x (staying is_dead marked es) → Among y (leaving is_dead marked es) → n x ≢ n y

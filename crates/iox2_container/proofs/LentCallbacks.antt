@@ -1,6 +1,7 @@
 -- Callbacks that are asked in turn, seen through another state or with other details.
-use Rattle.iox2_container.proofs.Prelude.{[], ◌&&◌, ◌∙◌, ◌∷◌, ◌≡◌, Bool, List, ℕ, ap, filter_agree, inl, inr, length-map, map, map-id, map-map, not, refl}
-use Rattle.iox2_container.specs.Prelude.{Asked, CallbackProgression, ContainerState, Continue, Entry, RecoverStep, RecoversBy, RegistryState, ReleaseMode, ReleaseState, Stop, Visit, Visits, asked_about, candidates, entry_as, is_leaving, marks_of, registry_as, staying}
+use Rattle.std.proofs.Common.{arith}
+use Rattle.iox2_container.proofs.Prelude.{[], ◌∙◌, ◌∷◌, ◌≡◌, Bool, List, ℕ, ap, filter_agree, inl, inr, length-map, map, map-id, map-map, refl}
+use Rattle.iox2_container.specs.Prelude.{Asked, CallbackProgression, ContainerState, Continue, Entry, RecoverStep, RecoversBy, RegistryState, ReleaseMode, ReleaseState, Stop, Visit, Visits, asked_about, candidates, entry_as, marks_of, registry_as, staying}
 use Rattle.iox2_container.proofs.Callable.{Asked-keeps}
 use Rattle.iox2_container.proofs.ListEdits.{filter-map}
 use Rattle.iox2_container.proofs.Mapped.{candidates-as, listed-as}
@@ -59,12 +60,7 @@ module _ {T U : Type 0} (g : T → U) (is_dead : T → Bool) (is_dead' : U → B
 
   staying-as : (marked : ℕ → Bool) (es : List (Entry T))
       → staying is_dead' marked (map (entry_as g) es) ≡ map (entry_as g) (staying is_dead marked es)
-  staying-as marked es =
-      filter-map (λ e. not (is_leaving is_dead' marked e)) (entry_as g) es
-      ∙ ap (map (entry_as g))
-      (filter_agree (λ e. not (is_dead' (g e.details) && marked e.slot))
-      (λ e. not (is_leaving is_dead marked e))
-      (λ e. ap (λ b. not (b && marked e.slot)) (same e.details)) es)
+  staying-as marked es = grind (arith, filter-map, filter_agree)
 
   pub RecoverStep-as : {F : Type 0} (calls : F → T → Bool → F → Type 0)
       (others : F → U → Bool → F → Type 0)
@@ -119,5 +115,4 @@ module _ {F G A B : Type 0} (calls : F → A → CallbackProgression → F → T
 
   pub Visit-lent : (f : F) (items : List A) (h : F) → Visit calls f items h
       → (name h ≡ name f) × Visit others (k f) (map u items) (k h)
-  Visit-lent f items h visit =
-      let all = visits-lent f items h visit.visits in (all.0, record { visits = all.1 })
+  Visit-lent f items h visit = grind (arith, visits-lent)

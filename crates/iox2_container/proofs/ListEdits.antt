@@ -1,5 +1,6 @@
 -- Lists in which one element was written, and lists that were mapped and filtered.
-use Rattle.iox2_container.proofs.Prelude.{[], ◌<◌, ◌∷◌, ◌≡◌, ◌≢◌, Bool, List, Some, ℕ, ap, false, filter, get_or-set_same, if◌then◌else◌, length, length-set, map, refl, slice_get, slice_get_read, slice_set, suc, sym, true, zero}
+use Rattle.std.proofs.Common.{arith, rules}
+use Rattle.iox2_container.proofs.Prelude.{[], ◌<◌, ◌∷◌, ◌≡◌, ◌≢◌, Bool, List, Some, ℕ, ap, filter, get_or-set_same, length, length-set, map, refl, slice_get, slice_get_read, slice_set, suc, zero}
 
 -- the others are as they were
 pub get_set_other : {A : Type 0} (xs : List A) (i j : ℕ) (a : A) → j ≢ i
@@ -13,17 +14,9 @@ get_set_other (x ∷ xs) (suc i) (suc j) a n = get_set_other xs i j a (λ e. n (
 -- it is what was written
 pub get_set_same : {A : Type 0} (xs : List A) (i : ℕ) (a : A) → i < length xs
     → slice_get (slice_set xs i a) i ≡ Some a
-get_set_same xs i a h =
-    slice_get_read (slice_set xs i a) (length xs) i a (sym (length-set xs i a)) h
-    (sym (get_or-set_same xs i a a h))
+get_set_same xs i a h = search (rules, slice_get_read, length-set, get_or-set_same)
 
 pub filter-map : {A B : Type 0} (p : B → Bool) (u : A → B) (xs : List A)
     → filter p (map u xs) ≡ map u (filter (λ x. p (u x)) xs)
 filter-map p u [] = refl
-filter-map {A} {B} p u (x ∷ xs) =
-    elim (p (u x)) as
-    (λ b. (if b then u x ∷ filter p (map u xs) else filter p (map u xs))
-    ≡ map u (if b then x ∷ filter (λ x. p (u x)) xs else filter (λ x. p (u x)) xs)) [
-      | true ↦ ap (λ (l : List B). u x ∷ l) (filter-map p u xs)
-      | false ↦ filter-map p u xs
-    ]
+filter-map {A} {B} p u (x ∷ xs) = grind (arith, filter, filter-map p u xs, filter-map p u xs)

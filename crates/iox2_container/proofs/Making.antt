@@ -1,6 +1,7 @@
 -- New containers.
-use Rattle.iox2_container.proofs.Prelude.{◌+◌, ◌≡◌, All-nil, List, Option, ℕ, ap, false, length, length-replicate, map, refl, replicate, sym}
-use Rattle.iox2_container.specs.Prelude.{AreRegistry, Cell, Entry, Free, IsNewestEnd, Occupant, RegistryHeader, Role, container, fresh, registry_of, shown}
+use Rattle.std.proofs.Common.{arith}
+use Rattle.iox2_container.proofs.Prelude.{◌≡◌, All-nil, List, Option, ℕ, ap, false, length, length-replicate, map, refl, replicate, sym}
+use Rattle.iox2_container.specs.Prelude.{AreRegistry, Cell, Free, IsNewestEnd, Occupant, RegistryHeader, Role, container, fresh, registry_of, shown}
 use Rattle.iox2_container.proofs.CellEntries.{nothing_stands}
 use Rattle.iox2_container.proofs.Keeping.{new_is_registry}
 use Rattle.iox2_container.proofs.ShownCells.{nothing_shown_yet}
@@ -26,9 +27,7 @@ module _ {T N : Type 0} (service : ℕ) (role : Role) (tickets n : ℕ) (cells :
 
   pub new_newest :
       IsNewestEnd (registry_of (empty_header service role tickets) (map shown cells)) 0
-  new_newest =
-      rw (nothing_shown_yet cells next n free, nothing_stands {T = T} 0 n)
-      (All-nil (λ (e : Entry T). e.ticket + 1 ≡ 0 → 0 ≡ e.slot + 1))
+  new_newest = grind (arith, nothing_shown_yet, nothing_stands, All-nil)
 
   pub new_is_fresh : (touches : ℕ) → touches ≡ 0
       → container (registry_of (empty_header service role tickets) (map shown cells)) touches

@@ -31,20 +31,11 @@ module _ {T U : Type 0} (g : T → U) where
       → (Step old.registry new.registry
       → Step' (registry_as g old.registry) (registry_as g new.registry))
       → Changes Step old new → Changes Step' (container_as g old) (container_as g new)
-  Changes-as old new step c = record {
-    step = step c.step;
-    kept = IsRegistry-as new.registry c.kept;
-    touched = c.touched;
-  }
+  Changes-as old new step c = grind (arith, IsRegistry-as)
 
   InsertsOne-as : (old new : List (Entry T)) (x : Entry T) → InsertsOne old new x
       → InsertsOne (map (entry_as g) old) (map (entry_as g) new) (entry_as g x)
-  InsertsOne-as old new x h = record {
-    before = map (entry_as g) h.before;
-    after = map (entry_as g) h.after;
-    old_is = ap (map (entry_as g)) h.old_is ∙ map-append (entry_as g) h.before h.after;
-    new_is = ap (map (entry_as g)) h.new_is ∙ map-append (entry_as g) h.before (x ∷ h.after);
-  }
+  InsertsOne-as old new x h = grind (arith, map-append)
 
   AddStep-as : (old : RegistryState T) (details : T) (answer : Result Handle ContainerAddFailure)
       (new : RegistryState T) → AddStep old details answer new
@@ -116,11 +107,7 @@ module _ {T U : Type 0} (g : T → U) where
   pub candidates-as : (is_dead : T → Bool) (is_dead' : U → Bool)
       → ((x : T) → is_dead' (g x) ≡ is_dead x) → (es : List (Entry T))
       → candidates is_dead' (map (entry_as g) es) ≡ map (entry_as g) (candidates is_dead es)
-  candidates-as is_dead is_dead' same es =
-      filter-map (λ e. is_dead' e.details) (entry_as g) es
-      ∙ ap (map (entry_as g))
-      (filter_agree (λ e. is_dead' (g e.details)) (λ e. is_dead e.details)
-      (λ e. same e.details) es)
+  candidates-as is_dead is_dead' same es = grind (arith, filter-map, filter_agree)
 
   pub entries_of-as : (node : T → ℕ) (node' : U → ℕ) → ((x : T) → node' (g x) ≡ node x)
       → (id : ℕ) (r : RegistryState T)

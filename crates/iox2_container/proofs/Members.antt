@@ -46,11 +46,10 @@ among_put_self (z ∷ b) a x = inr (among_put_self b a x)
 
 among_cut : {X : Type 0} (b a : List X) (x y : X) → Among y (b ++ x ∷ a) → Among y (b ++ a)
     ⊎ (y ≡ x)
-among_cut [] a x y (inl e) = inr e
-among_cut [] a x y (inr h) = inl h
-among_cut (z ∷ b) a x y (inl e) = inl (inl e)
-among_cut {X} (z ∷ b) a x y (inr h) =
-    elim (among_cut b a x y h) [ inl k ↦ inl (inr k) | inr e ↦ inr e ]
+among_cut [] a x y (inl e) = grind arith
+among_cut [] a x y (inr h) = grind arith
+among_cut (z ∷ b) a x y (inl e) = grind arith
+among_cut {X} (z ∷ b) a x y (inr h) = grind (arith, among_cut b a x y h)
 
 -- the entry that was gained, the others, and no third
 pub gained : {T : Type 0} (old new : List (Entry T)) (x : Entry T) → InsertsOne old new x
@@ -64,8 +63,7 @@ among_more old new x y g h =
 
 pub among_less : {T : Type 0} (old new : List (Entry T)) (x y : Entry T) → InsertsOne old new x
     → Among y new → Among y old ⊎ (y ≡ x)
-among_less old new x y g h =
-    rw g.old_is (among_cut g.before g.after x y (rw g.new_is at h))
+among_less old new x y g h = grind (arith, among_cut)
 
 -- a list without one of its entries
 pub record Without {T : Type 0} (es : List (Entry T)) (x : Entry T) : Type 0 where

@@ -1,6 +1,6 @@
 -- What a removal does.
-use Rattle.iox2_container.proofs.Prelude.{[], ◌+◌, ◌-◌, ◌∙◌, ◌∷◌, ◌≡◌, ◌≤◌, Bool, IsTrue, List, None, Ok, Option, Some, ℕ, ap, arith, length, length-set, refl, slice_set, suc, sym, zero}
-use Rattle.iox2_container.specs.Prelude.{AreRegistry, Default, Entry, Finds, Handle, InsertsOne, IsNewestEnd, LockIfLastIndex, Occupant, RegistryHeader, RegistryState, ReleaseMode, RemoveStep, entries_from, lock_after, registry_of, release_state}
+use Rattle.iox2_container.proofs.Prelude.{[], ◌+◌, ◌-◌, ◌∙◌, ◌∷◌, ◌≡◌, ◌≤◌, Bool, IsTrue, List, None, Ok, Option, Some, ℕ, ap, arith, length, length-set, refl, slice_set, suc, zero}
+use Rattle.iox2_container.specs.Prelude.{AreRegistry, Default, Entry, Finds, Handle, InsertsOne, IsNewestEnd, LockIfLastIndex, Occupant, RegistryHeader, ReleaseMode, RemoveStep, entries_from, lock_after, registry_of, release_state}
 use Rattle.iox2_container.proofs.CellEntries.{gains_clear, below_from}
 use Rattle.iox2_container.proofs.Gaining.{length-InsertsOne}
 use Rattle.iox2_container.proofs.Handles.{has_parts}
@@ -34,9 +34,7 @@ left_by a gone mode = record a {
 pub left_empty : {T : Type 0} (a : RegistryHeader) (gone : ℕ) (mode : ReleaseMode)
     (old new : List (Entry T)) → a.count ≡ length old → (IsTrue a.locked → old ≡ [])
     → a.count - gone ≡ length new → IsTrue (left_by a gone mode).locked → new ≡ []
-left_empty a gone mode old new counted empty left t =
-    nothing_left new (sym left ∙ locks_empty mode a.count (a.count - gone) a.locked t
-    (λ u. counted ∙ ap length (empty u)) (omega arith))
+left_empty a gone mode old new counted empty left t = grind (arith, nothing_left, locks_empty)
 
 -- the entry of a handle goes
 module _ {T : Type 0} (a : RegistryHeader) (cells s : List (Option (Occupant T))) (handle : Handle)

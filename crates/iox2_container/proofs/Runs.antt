@@ -1,5 +1,6 @@
 -- Runs of calls on a registry.
-use Rattle.iox2_container.proofs.Prelude.{[], ◌++◌, ◌+◌, ◌<◌, ◌∙◌, ◌∷◌, ◌≡◌, List, ℕ, ap, append-nil, append_assoc, get_or, length, length-append, refl, take, take_more}
+use Rattle.std.proofs.Common.{arith}
+use Rattle.iox2_container.proofs.Prelude.{[], ◌++◌, ◌+◌, ◌<◌, ◌∙◌, ◌∷◌, ◌≡◌, List, ℕ, ap, append-nil, append_assoc, get_or, length, length-append, take, take_more}
 use Rattle.iox2_container.specs.Prelude.{Answered, CallRun, CallStep, ContainerState, IsNew, IsRegistry, Made, RegistryCall, RegistryReply, SameKind}
 use Rattle.iox2_container.proofs.SameContents.{same_kind}
 
@@ -10,15 +11,14 @@ run_more : {T : Type 0} (node number : T → ℕ) (old : ContainerState T)
     → CallRun node number old earlier calls replies mid
     → CallStep node number mid (earlier ++ replies) call reply new → IsRegistry new.registry
     → CallRun node number old earlier (calls ++ call ∷ []) (replies ++ reply ∷ []) new
-run_more node number old earlier [] [] mid call reply new s k w =
-    (new, rw (s, append-nil) at k, w, refl)
-run_more node number old earlier (c ∷ cs) (r ∷ rs) mid call reply new s k w = (
-  s.0,
-  s.1,
-  s.2,
-  run_more node number s.0 (earlier ++ r ∷ []) cs rs mid call reply new s.3
-      (rw append_assoc k) w,
-)
+run_more node number old earlier [] [] mid call reply new s k w = grind (arith, append-nil)
+run_more node number old earlier (c ∷ cs) (r ∷ rs) mid call reply new s k w =
+    grind (
+      arith,
+      append_assoc,
+      run_more node number s.0 (earlier ++ r ∷ []) cs rs mid call reply new s.3
+          (rw append_assoc k) w,
+    )
 run_more node number old earlier calls replies mid call reply new s k w = absurd s
 
 module _ {T : Type 0} {node number : T → ℕ} {mid new : ContainerState T}
@@ -52,5 +52,4 @@ pub same_made : {T : Type 0} {node number : T → ℕ} {a b a' b' : ContainerSta
     → Made node number a calls ones a' → Made node number b calls others b'
     → SameKind ones others
 same_made {calls = calls} {ones = ones} {others = others} new capacity budget same p q =
-    same_kind _ _ _ _ _ _ (take (length others) calls) ones others new capacity budget
-    (rw same at p.run) q.run
+    grind (arith, same_kind)

@@ -51,12 +51,7 @@ module _ {T : Type 0} (a b : RegistryState T) (there : AreAmong a.entries b.entr
   same_listed = same_members a.entries b.entries v.tickets_differ w.tickets_differ there back
 
   same_length : length a.entries ≡ length b.entries
-  same_length = omega (
-    arith,
-    length_permutation (listed a) (listed b) same_listed,
-    length-map a.entries (λ e. e.details),
-    length-map b.entries (λ e. e.details),
-  )
+  same_length = grind (arith, length_permutation, same_listed, length-map)
 
 abbrev TicketsAgree : Option Handle → Option Handle → Type 0
 TicketsAgree None None = ⊤

@@ -1,5 +1,6 @@
 -- Lists of entries that hold the same details with the same tickets, whatever their slots are.
-use Rattle.iox2_container.proofs.Prelude.{[], ◌++◌, ◌∙◌, ◌∷◌, ◌≡◌, ◌≢◌, Bool, IsPermutation, IsPermutation-cons, IsPermutation-middle, IsPermutation-refl, IsPermutation-sym, IsPermutation-trans, List, ℕ, ap, filter, inl, inr, map-append, refl, subst, sym}
+use Rattle.std.proofs.Common.{arith}
+use Rattle.iox2_container.proofs.Prelude.{[], ◌∙◌, ◌∷◌, ◌≡◌, ◌≢◌, Bool, IsPermutation, IsPermutation-cons, IsPermutation-middle, IsPermutation-refl, IsPermutation-sym, IsPermutation-trans, List, ℕ, ap, filter, inl, inr, map-append, refl, subst, sym}
 use Rattle.iox2_container.specs.Prelude.{Entry, InsertsOne}
 use Rattle.iox2_container.proofs.Keeping.{AllPairs-loss}
 use Rattle.iox2_container.proofs.AskedInTurn.{details_of}
@@ -21,16 +22,7 @@ AreAmong {T} es fs = (ticket : ℕ) (details : T) → HoldsEntry es ticket detai
 details_without : {T : Type 0} (rest es : List (Entry T)) (x : Entry T) → InsertsOne rest es x
     → IsPermutation (x.details ∷ details_of rest) (details_of es)
 details_without rest es x g =
-    let b = details_of g.before in
-    let a = details_of g.after in
-    rw (
-      g.old_is,
-      g.new_is,
-      map-append (λ e. e.details) g.before g.after,
-      map-append (λ e. e.details) g.before (x ∷ g.after),
-    )
-    (IsPermutation-sym (b ++ x.details ∷ a) (x.details ∷ (b ++ a))
-    (IsPermutation-middle b x.details a))
+    grind (arith, details_of, map-append, IsPermutation-sym, IsPermutation-middle)
 
 -- lists that hold the same are the same but for the order
 pub same_members : {T : Type 0} (xs ys : List (Entry T)) → DifferBy ticket_in xs

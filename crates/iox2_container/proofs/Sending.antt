@@ -1,4 +1,5 @@
 -- Registries may be sent to another thread, if their details may.
+use Rattle.std.proofs.Common.{rules}
 use denote.RattleType.{RattleType}
 use denote.Enum.Declared as enum
 use denote.Enum.Enum.{Enum}
@@ -77,8 +78,4 @@ pub ListContainer-send : (T : RattleType) (clone : CloneGhosts T.Denot) → IsSe
     → IsSend (SlotMap.the_row T FreeList.the_row (Option.the_row u64-field.row)
     (FreeListSlotAllocator.ghosts T clone FreeListSlotAllocator.no_dict)
     (OptionDebug.ghosts u64-field.row UsizeDebug.ghosts OptionDebug.no_dict))
-ListContainer-send T clone s =
-    SlotMap-send T FreeList.the_row (Option.the_row u64-field.row)
-    (FreeListSlotAllocator.ghosts T clone FreeListSlotAllocator.no_dict)
-    (OptionDebug.ghosts u64-field.row UsizeDebug.ghosts OptionDebug.no_dict) s FreeList-send
-    next
+ListContainer-send T clone s = search (rules, SlotMap-send, FreeList-send, next)

@@ -1,7 +1,7 @@
 -- What cells show.
+use Rattle.std.proofs.Common.{arith}
 use Rattle.iox2_container.proofs.Prelude.{◌∙◌, ◌∷◌, ◌≡◌, List, None, Option, Some, ℕ, ap, map, map-set, refl, replicate, slice_get, slice_get-map, slice_set, suc, zero}
 use Rattle.iox2_container.specs.Prelude.{Cell, Free, Occupant, shown}
-use Rattle.std.specs.Option.{option_map}
 
 nothing_shown : {T N : Type 0} (next : N) (n : ℕ)
     → map (shown {T = T} {N = N}) (replicate n (Free next)) ≡ replicate n None
@@ -12,15 +12,13 @@ nothing_shown {T} next (suc n) =
 -- free cells show nothing
 pub nothing_shown_yet : {T N : Type 0} (cells : List (Cell T N)) (next : N) (n : ℕ)
     → cells ≡ replicate n (Free next) → map shown cells ≡ replicate n None
-nothing_shown_yet {T} {N} cells next n e = ap (λ (cs : List (Cell T N)). map shown cs) e
-    ∙ nothing_shown next n
+nothing_shown_yet {T} {N} cells next n e = grind (arith, nothing_shown)
 
 -- what the cell of a slot shows
 pub shown_at : {T N : Type 0} (cells : List (Cell T N)) (slot : ℕ) (cell : Cell T N)
     → slice_get cells slot ≡ Some cell
     → ◌≡◌ {A = Option (Option (Occupant T))} (slice_get (map shown cells) slot) (Some (shown cell))
-shown_at {T} {N} cells slot cell e = slice_get-map shown cells slot
-    ∙ ap (λ (o : Option (Cell T N)). option_map shown o) e
+shown_at {T} {N} cells slot cell e = grind (arith, slice_get-map)
 
 -- what a write to cells shows
 pub ruleset writes = (map-set)

@@ -50,16 +50,8 @@ took_last : {T : Type 0} (cells : List (Linked T)) (head : Option ℕ) (freed : 
     → TakesFirst cells head fresh slot head' fresh'
     → (left : List ℕ) × LeadsThrough cells head' left × All (λ other. other ≢ slot) left
     × TakesLastFreed freed fresh slot left fresh'
-took_last cells None [] fresh slot head' fresh' th takes =
-    ([], rw takes.1 tt, All-nil (λ other. other ≢ slot), (takes.0, refl, takes.2))
-took_last {T} cells (Some h) (s ∷ slots) fresh slot head' fresh' th takes =
-    let same : slot ≡ s = takes.0 ∙ th.0 in
-    let next : th.2.0 ≡ head' = (let z = sym th.2.1 ∙ (rw th.0 at takes.1) in cc) in (
-      slots,
-      rw (sym next) th.2.2,
-      rw same th.1,
-      (same, refl, takes.2),
-    )
+took_last cells None [] fresh slot head' fresh' th takes = grind (arith, All-nil)
+took_last {T} cells (Some h) (s ∷ slots) fresh slot head' fresh' th takes = grind arith
 took_last cells head freed fresh slot head' fresh' th takes = absurd th
 
 -- a slot is taken of cells whose free ones are in a list

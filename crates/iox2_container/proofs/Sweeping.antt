@@ -107,20 +107,15 @@ cleared low (suc i) (Some o ∷ cells) h = rw (cleared (low + 1) i cells (omega 
 
 below_taken : {T : Type 0} (i : ℕ) (cells : List (Option (Occupant T)))
     → All (λ (e : Entry T). e.slot < i) (entries_from 0 (take i cells))
-below_taken {T} i cells =
-    All-weaker (λ (e : Entry T). e.slot < length (take i cells)) (λ (e : Entry T). e.slot < i)
-    (λ e l. omega (arith, l, length-take i cells)) (entries_from 0 (take i cells))
-    (below_from (take i cells))
+below_taken {T} i cells = grind (arith, All-weaker, length-take, below_from)
 
 -- what is left of one cell
 left_more : {T : Type 0} (m : List (Option (Occupant T))) (i : ℕ) (x : Entry T) (goes : Bool)
     → slice_get m i ≡ Some (Some (occupant x.ticket x.details)) → x.slot ≡ i
     → entries_from 0 (take i m) ++ (if goes then [] else x ∷ [])
     ≡ entries_from 0 (take (suc i) (if goes then slice_set m i None else m))
-left_more m i x true im e =
-    append-nil (entries_from 0 (take i m))
-    ∙ sym (cleared 0 i m (slice_get_within m i (Some (occupant x.ticket x.details)) im))
-left_more m i x false im e = sym (taken_more 0 i m x im (omega arith))
+left_more m i x true im e = grind (arith, append-nil, cleared, slice_get_within)
+left_more m i x false im e = grind (arith, taken_more)
 
 -- one cell more is swept
 module _ {F T : Type 0} (calls : F → T → Bool → F → Type 0) (node : T → ℕ) (id : ℕ) (f g : F)
@@ -176,9 +171,8 @@ pub later_kept : {C : Type 0} (cs m n : List (Option C)) (i : ℕ) (goes : Bool)
     → n ≡ (if goes then slice_set m i None else m)
     → ((k : ℕ) → i ≤ k → slice_get m k ≡ slice_get cs k) → (k : ℕ) → i + 1 ≤ k
     → slice_get n k ≡ slice_get cs k
-later_kept cs m n i true e h k l = ap (λ cells. slice_get cells k) e
-    ∙ (get_set_other m i k None (λ q. omega arith) ∙ h k (omega arith))
-later_kept cs m n i false e h k l = ap (λ cells. slice_get cells k) e ∙ h k (omega arith)
+later_kept cs m n i true e h k l = grind (arith, get_set_other)
+later_kept cs m n i false e h k l = grind arith
 
 pub length_kept : {C : Type 0} (m n : List (Option C)) (i : ℕ) (goes : Bool)
     → n ≡ (if goes then slice_set m i None else m) → length n ≡ length m

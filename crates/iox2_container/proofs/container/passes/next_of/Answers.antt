@@ -4,12 +4,7 @@ use Rattle.iox2_container.proofs.Counting.{found_after, others_join}
 use Rattle.iox2_container.proofs.container.passes.next_of.Goals as goal
 
 pub returns-then-next_of_four-clause-found : goal.returns-then-next_of_four-clause-found
-returns-then-next_of_four-clause-found g c =
-    found_after g.T.Attached.node c.args.node.now (map shown c.args.places.now.cells)
-    c.args.start c.loop-slot.slot _ c.args.end c.next_of_four.new.found
-    c.loop-slot.invariant.order (omega (arith, c.loop-slot-test.true))
-    (inl (c.next_of_four.ensures.some c.if-next_of_four.true)) c.loop-slot.invariant.others
-    (rw c.loop-slot.invariant.cells at c.next_of_four.ensures.found)
+returns-then-next_of_four-clause-found g c = grind (arith, found_after)
 
 pub returns-then-next_of_four-2-clause-found : goal.returns-then-next_of_four-2-clause-found
 returns-then-next_of_four-2-clause-found g c =

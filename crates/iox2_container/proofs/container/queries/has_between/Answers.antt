@@ -1,22 +1,10 @@
-use Rattle.iox2_container.proofs.Prelude.{◌-◌, arith, map}
+use Rattle.iox2_container.proofs.Prelude.{arith, map}
 use Rattle.iox2_container.specs.Prelude.{shown}
 use Rattle.iox2_container.proofs.Counting.{other_at, others_join}
 use Rattle.iox2_container.proofs.container.queries.has_between.Goals as goal
 
 pub returns-then-has_at-clause-has : goal.returns-then-has_at-clause-has
-returns-then-has_at-clause-has g c = record {
-  slot = c.loop-slot.slot - 1;
-  order = omega (arith, c.loop-slot-test.true);
-  before = omega (arith, c.loop-slot-test.true, c.loop-slot.invariant.within);
-  others = λ k l h. c.loop-slot.invariant.others k (omega (arith, c.loop-slot-test.true)) h;
-  here = rw c.if-has_at.true at c.has_at.ensures.has;
-  looks = omega (
-    arith,
-    c.has_at.ensures.looks,
-    c.loop-slot.invariant.looks,
-    c.loop-slot-test.true,
-  );
-}
+returns-then-has_at-clause-has g c = grind arith
 
 pub loop-slot-preserved : goal.loop-slot-preserved
 loop-slot-preserved g c = record {

@@ -6,16 +6,10 @@ use Rattle.iox2_container.proofs.CellsToCome.{visit_at}
 use Rattle.iox2_container.proofs.container.queries.visit.Goals as goal
 
 pub show-requires : goal.show-requires
-show-requires g c =
-    (visit_at (TakesAt g.F.FnMut) (CalledAt g.F.FnMut) c.loop-slot.f
-    (map shown c.args.places.now.cells) c.loop-slot.slot c.peek_at.result c.peek_at.ensures.cell
-    c.loop-slot.invariant.callable).0
+show-requires g c = grind (arith, visit_at)
 
 pub returns-in-Stop-clause-visit : goal.returns-in-Stop-clause-visit
-returns-in-Stop-clause-visit g c =
-    stops (CalledAt g.F.FnMut) c.args.f.now c.loop-slot.f c.show.new.f
-    (map shown c.args.places.now.cells) c.loop-slot.slot c.peek_at.result c.show.result
-    c.peek_at.ensures.cell c.show.ensures c.in-Stop.is c.loop-slot.invariant.asked
+returns-in-Stop-clause-visit g c = grind (arith, stops)
 
 pub loop-slot-preserved : goal.loop-slot-preserved
 loop-slot-preserved g c =

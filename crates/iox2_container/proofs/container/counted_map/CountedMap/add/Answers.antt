@@ -4,15 +4,7 @@ use Rattle.iox2_container.proofs.Adding.{kept_write, add_step, newest_write}
 use Rattle.iox2_container.proofs.container.counted_map.CountedMap.add.Goals as goal
 
 pub invariant_of-self : goal.invariant_of-self
-invariant_of-self g c = (
-  kept_write c.self.inside.header (map shown c.self.inside.places.cells) _ c.put-slot.result
-      c.args.details c.self.invariant.0 c.put-slot.ensures.free c.put-slot.ensures.cells
-      c.if-self.false c.if-self-2.false,
-  c.put-slot.ensures.fits,
-  newest_write c.self.inside.header (map shown c.self.inside.places.cells) _ c.put-slot.result
-      c.args.details c.self.invariant.0 c.put-slot.ensures.free c.put-slot.ensures.cells
-      c.if-self.false c.if-self-2.false,
-)
+invariant_of-self g c = grind (arith, kept_write, newest_write)
 
 pub returns-clause-adds : goal.returns-clause-adds
 returns-clause-adds g c = rw (← c.self.view_is) (record {

@@ -1,4 +1,4 @@
-use Rattle.iox2_container.proofs.Prelude.{CalledAt, arith, length-map, map, rules}
+use Rattle.iox2_container.proofs.Prelude.{CalledAt, arith, length-map, map}
 use Rattle.iox2_container.specs.Prelude.{is_of, shown}
 use Rattle.iox2_container.proofs.CellEntries.{room_from}
 use Rattle.iox2_container.proofs.Recovering.{kept_recover, newest_recover, recovers_none}
@@ -26,18 +26,4 @@ returns-then-self-eq0-clause-recovers g c =
     (nothing_left _ (omega (arith, c.self.invariant.0.1, c.if-self-eq0.true))))
 
 pub returns-clause-recovers : goal.returns-clause-recovers
-returns-clause-recovers g c =
-    rw (← c.self.view_is) (record {
-      step = search rules;
-      kept = (invariant_of-self g c).0.0;
-      touched = (
-        omega (
-          arith,
-          c.sweep-gone.ensures.touched,
-          c.sweep-gone.ensures.swept.gone_is,
-          room_from 0 (map shown c.self.inside.places.cells),
-          length-map c.self.inside.places.cells shown,
-        ),
-        c.sweep-gone.ensures.counted,
-      );
-    })
+returns-clause-recovers g c = grind (arith, invariant_of-self, room_from, length-map)

@@ -1,12 +1,9 @@
+use Rattle.std.proofs.Common.{rules, arith}
 use Rattle.iox2_container.proofs.SlotAllocator.{threaded_clear, clears_first}
 use Rattle.iox2_container.proofs.container.free.free_list.FreeListSlotAllocator.clear.Goals as goal
 
 pub returns-clause-fits : goal.returns-clause-fits
-returns-clause-fits g c =
-    threaded_clear c.args.places.now.cells c.write.new.self.cells c.args.self.now c.args.slot
-    c.requires.taken c.write.ensures.cells c.requires.fits
+returns-clause-fits g c = grind (arith, threaded_clear)
 
 pub returns-clause-freed : goal.returns-clause-freed
-returns-clause-freed g c =
-    clears_first c.args.places.now.cells c.write.new.self.cells c.args.self.now c.args.slot
-    c.requires.taken c.write.ensures.cells
+returns-clause-freed g c = search (rules, clears_first)
