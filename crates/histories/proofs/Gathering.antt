@@ -114,6 +114,19 @@ module _ {S : Type 0} where
         r.2 ∙ sym made,
       )) g
 
+  -- there is the same already
+  pub gathers_had : (from : Config S) (slot call : ℕ) (state : S) (old : List (Config S))
+      → (known : Config S) × Contains old known × (known.state ≡ state)
+      × (known.waiting ≡ cleared from.waiting slot)
+      → Gathers (IsNextIn from slot call (state ∷ [])) old old
+  gathers_had from slot call state old is = record {
+    sound = λ k has. inl has;
+    kept = λ k has. has;
+    complete = λ k r.
+        (is.0, is.1, (is.2 ∙ sym (only_state state k.state r.0.0 r.0.1 r.0.2), is.3 ∙ sym r.1));
+    once = λ a. a;
+  }
+
   -- one state more
   pub gathers_states : (from : Config S) (slot call : ℕ) (states : List S) (state : S)
       (old mid new : List (Config S)) → Gathers (IsNextIn from slot call states) old mid

@@ -5,7 +5,7 @@ ghost use Rattle.histories.specs.Frontier.{HasSlot, IsWaiting, cleared};
 ghost use Rattle.histories.specs.Gathering.{FromOne, Gathers, GoesOn, IsCloseOutcome, IsDone, IsDropped, IsNextAt, IsNextIn, IsNextLayer, IsNextOther, MovesBeforeAt, MovesFirst, spot_of};
 
 use super::front::{Config, MAX_CONFIGS};
-use super::gather::{Gathered, add, copy_of};
+use super::gather::{Gathered, add, add_new, copy_of, has_same};
 use super::in_place::make_in;
 use super::left::Left;
 use super::machine::Machine;
@@ -13,32 +13,18 @@ use super::sets::{has, without};
 use super::settle::settle_all;
 use std::alloc::{AllocError, Global};
 
-/// The configuration in which the call in the slot was made and left this state.
-fn next_config<S: Drop>(
-    alloc: Global,
-    config: &Config<S>,
-    slot: usize,
-    call: usize,
-    state: S,
-) -> Result<Config<S>, AllocError>
-    requires { slot < 64 }
-    ensures { IfOk result (λ next. (next.state ≡ state)
-        × (next.waiting ≡ cleared config.now.waiting slot)
-        × (next.base ≡ config.now.base)
-        × (next.made.items ≡ config.now.made.items ++ call ∷ [])) }
+/// The calls with one more.
+fn with_call(alloc: Global, calls: &[usize], call: usize) -> Result<Vec<usize>, AllocError>
+    ensures { IfOk result (λ more. more.items ≡ calls.now ++ call ∷ []) }
 {
-    let mut made = Vec::with_capacity(alloc, config.made.len() + 1)?;
-    made.extend_from_slice(&config.made)?;
-    made.push(call)?;
-    Ok(Config {
-        state,
-        waiting: without(config.waiting, slot),
-        base: config.base,
-        made,
-    })
+    let mut more = Vec::with_capacity(alloc, calls.len() + 1)?;
+    more.extend_from_slice(calls)?;
+    more.push(call)?;
+    Ok(more)
 }
 
-/// Adds the configuration in which the call in the slot was made and left this state.
+/// Adds the configuration in which the call in the slot was made and left this state. Where there
+/// is the same, its calls are not listed.
 fn make_state<M: Machine>(
     alloc: Global,
     machine: &M,
@@ -51,8 +37,17 @@ fn make_state<M: Machine>(
     requires { slot < 64 }
     ensures { OnOk result (Gathers (IsNextIn config.now slot call (state ∷ [])) next.old next.new) }
 {
-    let made = next_config(alloc, config, slot, call, state)?;
-    add(alloc, machine, next, made)
+    let mut made = Config {
+        state,
+        waiting: without(config.waiting, slot),
+        base: config.base,
+        made: Vec::new(alloc),
+    };
+    if has_same(machine, next, &made) {
+        return Ok(());
+    }
+    made.made = with_call(alloc, &config.made, call)?;
+    add_new(alloc, next, made)
 }
 
 /// The same for each of these states.

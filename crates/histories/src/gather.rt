@@ -1,5 +1,5 @@
 //! Configurations that are gathered, each once.
-ghost use Rattle.std.specs.Prelude.{◌≡◌, ◌↔◌, ◌∷◌, List, [], IfOk, OnOk, IsTrue};
+ghost use Rattle.std.specs.Prelude.{◌≡◌, ◌↔◌, ◌∷◌, List, [], IfOk, OnOk, IsTrue, false};
 ghost use Rattle.histories.specs.declared.front.Link.{Link};
 ghost use Rattle.histories.specs.Chained.{AreChained};
 ghost use Rattle.histories.specs.Frontier.{IsFrontOf, IsSame};
@@ -116,6 +116,36 @@ fn is_known<M: Machine>(
     is_among(machine, &configs[before.len()..], config)
 }
 
+/// Whether one of the configurations that were gathered is the same.
+pub fn has_same<M: Machine>(
+    machine: &M,
+    gathered: &Gathered<M::State>,
+    config: &Config<M::State>,
+) -> bool
+    ensures { IsKnown gathered.now config.now result }
+{
+    is_known(
+        machine,
+        &gathered.configs,
+        &gathered.heads,
+        &gathered.before,
+        config,
+    )
+}
+
+/// Adds a configuration, where none is the same.
+pub fn add_new<S: Drop>(
+    alloc: Global,
+    gathered: &mut Gathered<S>,
+    config: Config<S>,
+) -> Result<(), AllocError>
+    requires { IsKnown gathered.old config false }
+    ensures { OnOk result (Gathers (IsCopy config) gathered.old gathered.new) }
+{
+    gathered.configs.push(config)?;
+    gathered.link_many(alloc)
+}
+
 /// Adds a configuration, unless there is the same.
 pub fn add<M: Machine>(
     alloc: Global,
@@ -125,17 +155,10 @@ pub fn add<M: Machine>(
 ) -> Result<(), AllocError>
     ensures { OnOk result (Gathers (IsCopy config) gathered.old gathered.new) }
 {
-    if is_known(
-        machine,
-        &gathered.configs,
-        &gathered.heads,
-        &gathered.before,
-        &config,
-    ) {
+    if has_same(machine, gathered, &config) {
         return Ok(());
     }
-    gathered.configs.push(config)?;
-    gathered.link_many(alloc)
+    add_new(alloc, gathered, config)
 }
 
 /// The first configurations, and of the others those that are not there yet.
