@@ -23,7 +23,7 @@ use Rattle.service_descriptions.specs.Steps.{Run, Serves, ServesDeregister, Serv
 use Rattle.service_descriptions.proofs.Moves.{moves}
 use Rattle.service_descriptions.proofs.Serving.{keeps}
 use Rattle.service_conformance.specs.Alone.{Answered, Gives, IsBare, IsBounded, IsBoundedRegistry, added_role, calls_of, handle_named, judged_of}
-use Rattle.service_conformance.specs.Calls.{Call, CallStep, answered, at_first, call_of}
+use Rattle.service_conformance.specs.Calls.{Call, CallStep, answered, at_first, call_of, handle_for}
 use Rattle.service_conformance.specs.Judged.{Judged, JudgedStep, WindowStep}
 use Rattle.service_conformance.specs.Judged.Judged.{call}
 use Rattle.service_conformance.specs.Looks.{Watched, unwatched}
@@ -151,7 +151,7 @@ module _ (s mid : Service) (i : IsService s) (kept : IsService mid) (b : IsBound
 
 -- a command that names a number is one that names command 0, where that gave its handle
 first_serves : (s mid : Service) (handles : List (Option Handle)) (c : Command) (r : Reply)
-    → Serves s None (handle_named handles c ∷ []) (at_first c) r mid
+    → Serves s None (handle_for c (handle_named handles c) ∷ []) (at_first c) r mid
     ≡ Serves s None handles c r mid
 first_serves s mid handles (command.Deregister k) r = refl
 first_serves s mid handles (command.Release k) r = refl

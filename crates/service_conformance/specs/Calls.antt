@@ -27,9 +27,15 @@ at_first (command.Deregister k) = command.Deregister 0
 at_first (command.Release k) = command.Release 0
 at_first c = c
 
+-- the handle, where the command is a removal
+abbrev pub handle_for : Command → Option Handle → Option Handle
+handle_for (command.Deregister k) handle = handle
+handle_for (command.Release k) handle = handle
+handle_for c handle = None
+
 -- a call whose reply was not seen
 abbrev pub call_of : Command → Option Handle → Call
-call_of c handle = record { command = at_first c; handle = handle; words = None }
+call_of c handle = record { command = at_first c; handle = handle_for c handle; words = None }
 
 -- the same call, where the reply that was seen has these words
 abbrev pub answered : Call → List ℕ → Call

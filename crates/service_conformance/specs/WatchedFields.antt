@@ -4,7 +4,7 @@ use Rattle.service_conformance.specs.Looks.{IsWatched, Watched}
 
 -- the service that they tell, with the weak listings
 abbrev pub watched_of : Inside → Watched
-watched_of c = record { service = c.service; looks = c.looks.items }
+watched_of c = record { service = c.service.value; looks = c.looks.items }
 
 -- the weak listings have seen it
 abbrev pub IsSoundWatched : Inside → Type 0

@@ -137,7 +137,7 @@ pub(super) fn details_of<T: Copy>(
 ) -> Result<Vec<T>, AllocError>
     ensures { IfOk result (λ list. list.items ≡ map (λ e. e.details) entries.now) }
 {
-    let mut list = Vec::new(alloc);
+    let mut list = Vec::with_capacity(alloc, entries.len())?;
     for entry in entries {
         list.push(entry.details())?;
     }
@@ -169,7 +169,7 @@ pub(super) fn slots_of<T: Copy>(
 ) -> Result<Vec<usize>, AllocError>
     ensures { IfOk result (λ list. list.items ≡ map (λ e. e.slot) entries.now) }
 {
-    let mut list = Vec::new(alloc);
+    let mut list = Vec::with_capacity(alloc, entries.len())?;
     for entry in entries {
         list.push(entry.slot())?;
     }

@@ -251,13 +251,13 @@ impl<T: Copy + Same> RegistryCheck<T> {
     pub(super) fn same(&self, other: &Self) -> bool
         ensures { IsTrue result ↔ (self.now ≡ other.now) }
     {
-        self.service == other.service
+        self.used == other.used
+            && are_same(&self.entries, &other.entries)
+            && self.locked == other.locked
+            && self.service == other.service
             && self.role == other.role
             && self.capacity == other.capacity
             && self.tickets == other.tickets
-            && self.used == other.used
-            && self.locked == other.locked
-            && are_same(&self.entries, &other.entries)
     }
 }
 

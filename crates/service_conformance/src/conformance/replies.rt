@@ -2,7 +2,6 @@
 ghost use Rattle.std.specs.Prelude.{◌≡◌, IfNone, IfSome, None};
 ghost use Rattle.service_conformance.specs.Possible.{possible_add, reply_in, reply_of_owners};
 ghost use Rattle.service_conformance.specs.Quiet.{is_removal};
-ghost use Rattle.service_descriptions.specs.Handles.{named};
 ghost use Rattle.service_descriptions.specs.Steps.{handle_in};
 
 use super::line_reply::LineReply;
@@ -29,16 +28,6 @@ pub(super) fn possible_add(why: Option<ContainerAddFailure>, part: Part) -> Poss
         None => Possible::Given(part),
         Some(ContainerAddFailure::IsLocked) => Possible::One(LineReply::Locked),
         Some(ContainerAddFailure::OutOfSpace) => Possible::One(LineReply::Full),
-    }
-}
-
-/// The handle that the earlier command of this number was answered with.
-pub(super) fn named(earlier: &[Option<ContainerHandle>], k: usize) -> Option<ContainerHandle>
-    ensures { result ≡ named earlier.now k }
-{
-    match earlier.get(k) {
-        Some(handle) => *handle,
-        None => None,
     }
 }
 

@@ -4,7 +4,7 @@ ghost use Rattle.histories.specs.Frontier.{IsMade, states_in};
 ghost use Rattle.histories.specs.Histories.{AreAll};
 ghost use Rattle.service_conformance.specs.Calls.{AreRepliesOf, CallStep, ChangesNothing, GivesBelow};
 ghost use Rattle.service_conformance.specs.Calls.{IsIdleCall, ServesCall};
-ghost use Rattle.service_conformance.specs.Calls.{answered, at_first, call_of, unanswered};
+ghost use Rattle.service_conformance.specs.Calls.{answered, call_of, unanswered};
 ghost use Rattle.service_conformance.specs.Movers.{IsChange};
 ghost use Rattle.service_conformance.specs.Possible.{ArePossible, IsCovered, reply_in};
 ghost use Rattle.service_conformance.specs.Quiet.{CanServe, LeadsTo};
@@ -12,6 +12,7 @@ ghost use Rattle.service_conformance.specs.Seen.{changes_nothing, seen_text};
 ghost use Rattle.service_descriptions.specs.Lines.{command_of};
 ghost use Rattle.service_conformance.specs.declared.conformance.possible.Possible.TheVariants as possible;
 
+use super::asked::Asked;
 use super::line_reply::LineReply;
 use super::mover::{Change, change_of};
 use super::possible::{Part, Possible, PossibleReplies};
@@ -23,12 +24,11 @@ use service_descriptions::replay::LineCommand;
 use std::alloc::{AllocError, Global};
 use std::marker::Model;
 
-/// A call: its command, the handle that the command names, if it names one, and the reply that was
-/// seen, or none.
+/// A call: its command, with the handle that a removal names, if it names one, and the reply that
+/// was seen, or none.
 #[derive(Drop)]
 pub struct SeenCall {
-    command: LineCommand,
-    handle: Option<ContainerHandle>,
+    asked: Asked,
     seen: Option<SeenReply>,
 }
 
@@ -43,22 +43,6 @@ impl Model for SeenCall {
     ghost invariant = { IsSoundSeen };
 }
 
-/// The command, where it names command 0.
-fn at_first(command: LineCommand) -> LineCommand
-    ensures { command_of result ≡ at_first (command_of command) }
-{
-    match command {
-        LineCommand::Register(id) => LineCommand::Register(id),
-        LineCommand::Deregister(_) => LineCommand::Deregister(0),
-        LineCommand::Nodes => LineCommand::Nodes,
-        LineCommand::Add(port) => LineCommand::Add(port),
-        LineCommand::Release(_) => LineCommand::Release(0),
-        LineCommand::List(role) => LineCommand::List(role),
-        LineCommand::Count(role) => LineCommand::Count(role),
-        LineCommand::Dead(node, cleanup) => LineCommand::Dead(node, cleanup),
-    }
-}
-
 impl SeenCall {
     /// A call whose reply was not seen. The command of a removal names the handle, whatever its
     /// number; where it names none, and for other commands, there is none.
@@ -67,8 +51,7 @@ impl SeenCall {
         ensures { result ≡ call_of (command_of command) handle }
     {
         SeenCall {
-            command: at_first(command),
-            handle,
+            asked: Asked::new(command, handle),
             seen: None,
         }
     }
@@ -86,7 +69,7 @@ impl SeenCall {
         ensures possible { IfOk result (ArePossible state.now (ServesCall self.now state.now)) }
         ensures covered { IsCovered self.now.command }
     {
-        state.possible_for_line(alloc, &[self.handle], &self.command)
+        state.possible_for(alloc, &self.asked)
     }
 
     /// Makes the call in this state, with this reply. Where memory is refused, nothing changes.
@@ -95,7 +78,7 @@ impl SeenCall {
         ensures { OnOk result (LeadsTo (ServesCall self.now state.old) (reply_in reply.now)
             state.new) }
     {
-        state.follow_line(&[self.handle], &self.command, reply)
+        state.follow_asked(&self.asked, reply)
     }
 
     /// The state that the call leaves with this reply.
@@ -299,6 +282,6 @@ impl SeenCall {
     {
         // For the proof: what is true of every check.
         let _pattern = state.kind();
-        state.possible_replies(alloc, &[self.handle], &self.command)
+        state.possible_replies(alloc, &self.asked)
     }
 }

@@ -167,10 +167,10 @@ impl ServiceCheck {
     pub(super) fn same(&self, other: &Self) -> bool
         ensures { IsTrue result ↔ (self.now ≡ other.now) }
     {
-        self.pattern == other.pattern
-            && self.nodes.same(&other.nodes)
+        self.nodes.same(&other.nodes)
             && self.first.same(&other.first)
             && self.second.same(&other.second)
+            && self.pattern == other.pattern
     }
 
     /// The ports of one kind.

@@ -13,10 +13,11 @@ use super::service_check::ServiceCheck;
 use std::alloc::{AllocError, Global};
 use std::marker::Model;
 
-/// What a service must hold, and the weak listings that are open and lack something.
+/// What a service must hold, and the weak listings that are open and lack something. It is small,
+/// since a search moves it often.
 #[derive(Drop)]
 pub struct WatchedService {
-    service: ServiceCheck,
+    service: Box<ServiceCheck>,
     looks: Vec<OpenLook>,
 }
 
@@ -108,7 +109,7 @@ impl WatchedService {
         ensures { IfOk result (λ new. new ≡ unwatched service.now) }
     {
         Ok(WatchedService {
-            service: service.copied(alloc)?,
+            service: Box::new(alloc, service.copied(alloc)?)?,
             looks: Vec::new(alloc),
         })
     }
@@ -122,6 +123,7 @@ impl WatchedService {
         ensures { IfOk result (λ new. new ≡ watched service looks.now) }
     {
         let looks = looks_after(alloc, &service, looks)?;
+        let service = Box::new(alloc, service)?;
         Ok(WatchedService { service, looks })
     }
 
@@ -146,7 +148,7 @@ impl WatchedService {
         ensures { IfOk result (λ copy. copy ≡ self.now) }
     {
         Ok(WatchedService {
-            service: self.service.copied(alloc)?,
+            service: Box::new(alloc, self.service.copied(alloc)?)?,
             looks: copied(alloc, &self.looks)?,
         })
     }

@@ -1,21 +1,22 @@
 //! The state that a reply leaves.
-ghost use Rattle.std.specs.Prelude.{◌≡◌, None, OnOk, OnErr};
+ghost use Rattle.std.specs.Prelude.{◌≡◌, OnOk, OnErr};
 ghost use Rattle.iox2_dynamic.specs.Service.{IsService};
+ghost use Rattle.service_conformance.specs.Asked.{ServesAsked, asked_command};
 ghost use Rattle.service_conformance.specs.Possible.{IsCovered, reply_in};
 ghost use Rattle.service_conformance.specs.Quiet.{CanServe, LeadsTo};
 ghost use Rattle.service_descriptions.specs.Cleanups.{ServesDead};
-ghost use Rattle.service_descriptions.specs.Lines.{command_of};
-ghost use Rattle.service_descriptions.specs.Steps.{Serves, ServesAdd, ServesDeregister, ServesRegister, ServesRelease};
+ghost use Rattle.service_descriptions.specs.Steps.{ServesAdd, ServesDeregister, ServesRegister, ServesRelease};
 ghost use Rattle.service_descriptions.specs.declared.replay.machine.command.Cleanup.TheVariants as cleanup;
 ghost use Rattle.service_descriptions.specs.declared.replay.machine.command.Command.TheVariants as command;
 
+use super::super::asked::Asked;
 use super::super::line_reply::LineReply;
-use super::super::replies::{given, is_removal, named};
+use super::super::replies::{given, is_removal};
 use super::{ServiceCheck, has_ports_in};
 use iox2_container::container::{ContainerHandle, ReleaseMode};
 use iox2_dynamic::dynamic_config::{PortDetails, PortRoles};
 use iox2_ids::identifiers::UniqueNodeId;
-use service_descriptions::replay::{Cleanup, LineCommand};
+use service_descriptions::replay::Cleanup;
 use std::alloc::AllocError;
 
 impl ServiceCheck {
@@ -132,40 +133,37 @@ impl ServiceCheck {
         }
     }
 
-    /// The service after a command that has a line, and its reply.
+    /// The service after a command and its reply.
     #[tactic(auto, using(crate::proofs::Following::reported))]
-    pub(in super::super) fn follow_line(
+    pub(in super::super) fn follow_asked(
         &mut self,
-        earlier: &[Option<ContainerHandle>],
-        command: &LineCommand,
+        asked: &Asked,
         reply: &LineReply,
     ) -> Result<(), AllocError>
-        requires covered { IsCovered (command_of command.now) }
-        requires can { CanServe (Serves self.old None earlier.now (command_of command.now))
-            (reply_in reply.now) }
-        ensures ok { OnOk result
-            (LeadsTo (Serves self.old None earlier.now (command_of command.now))
-            (reply_in reply.now) self.new) }
+        requires covered { IsCovered (asked_command asked.now) }
+        requires can { CanServe (ServesAsked asked.now self.old) (reply_in reply.now) }
+        ensures ok { OnOk result (LeadsTo (ServesAsked asked.now self.old) (reply_in reply.now)
+            self.new) }
         ensures err { OnErr result (self.new ≡ self.old) }
         ensures kept { IsService self.new }
     {
         // For the proof: what is true of every check.
         let _pattern = &self.pattern;
-        match command {
-            LineCommand::Register(id) => self.follow_register(*id, reply),
-            LineCommand::Deregister(k) => {
-                self.follow_deregister(named(earlier, *k), reply);
+        match asked {
+            Asked::Register(id) => self.follow_register(*id, reply),
+            Asked::Deregister(handle) => {
+                self.follow_deregister(*handle, reply);
                 Ok(())
             }
-            LineCommand::Add(port) => self.follow_attach(port.details(), reply),
-            LineCommand::Release(k) => {
-                self.follow_release(named(earlier, *k), reply);
+            Asked::Add(port) => self.follow_attach(port.details(), reply),
+            Asked::Release(handle) => {
+                self.follow_release(*handle, reply);
                 Ok(())
             }
-            LineCommand::Nodes => Ok(()),
-            LineCommand::List(_) => Ok(()),
-            LineCommand::Count(_) => Ok(()),
-            LineCommand::Dead(dead, cleanup) => {
+            Asked::Nodes => Ok(()),
+            Asked::List(_) => Ok(()),
+            Asked::Count(_) => Ok(()),
+            Asked::Dead(dead, cleanup) => {
                 self.follow_cleanup(dead, cleanup, reply);
                 Ok(())
             }

@@ -1,24 +1,25 @@
 //! The replies that a command may have.
-ghost use Rattle.std.specs.Prelude.{◌≡◌, ◌<◌, IfNone, IfOk, IfSome, None};
+ghost use Rattle.std.specs.Prelude.{◌≡◌, ◌<◌, IfNone, IfOk, IfSome};
 ghost use Rattle.iox2_container.specs.Handle.{Handle};
+ghost use Rattle.service_conformance.specs.Asked.{ServesAsked, asked_command};
 ghost use Rattle.service_conformance.specs.Possible.{ArePossible, IsCovered, MayGiveIn};
 ghost use Rattle.service_conformance.specs.Quiet.{Reports};
 ghost use Rattle.service_descriptions.specs.Cleanups.{ServesDead};
-ghost use Rattle.service_descriptions.specs.Lines.{command_of};
 ghost use Rattle.service_descriptions.specs.Listings.{ServesCount, ServesList, ServesNodes};
-ghost use Rattle.service_descriptions.specs.Steps.{Serves, ServesAdd, ServesDeregister, ServesRegister, ServesRelease};
+ghost use Rattle.service_descriptions.specs.Steps.{ServesAdd, ServesDeregister, ServesRegister, ServesRelease};
 ghost use Rattle.service_descriptions.specs.declared.replay.machine.command.Cleanup.TheVariants as cleanup;
 ghost use Rattle.service_descriptions.specs.declared.replay.machine.command.Command.TheVariants as command;
 
+use super::super::asked::Asked;
 use super::super::line_reply::LineReply;
 use super::super::possible::{Part, Possible};
-use super::super::replies::{named, possible_add, reply_of_owners};
+use super::super::replies::{possible_add, reply_of_owners};
 use super::super::sides::part;
 use super::ServiceCheck;
 use iox2_container::container::{ContainerHandle, Role};
 use iox2_dynamic::dynamic_config::{PortDetails, PortRoles};
 use iox2_ids::identifiers::UniqueNodeId;
-use service_descriptions::replay::{Cleanup, LineCommand};
+use service_descriptions::replay::Cleanup;
 use std::alloc::{AllocError, Global};
 
 impl ServiceCheck {
@@ -136,27 +137,25 @@ impl ServiceCheck {
         Possible::One(LineReply::Count(n))
     }
 
-    /// The replies that a command may have, where earlier ones gave these handles.
+    /// The replies that a command may have.
     #[inline(always)]
-    pub(in super::super) fn possible_for_line(
+    pub(in super::super) fn possible_for(
         &self,
         alloc: Global,
-        earlier: &[Option<ContainerHandle>],
-        command: &LineCommand,
+        asked: &Asked,
     ) -> Result<Possible, AllocError>
-        requires { IsCovered (command_of command.now) }
-        ensures { IfOk result (ArePossible self.now
-            (Serves self.now None earlier.now (command_of command.now))) }
+        requires { IsCovered (asked_command asked.now) }
+        ensures { IfOk result (ArePossible self.now (ServesAsked asked.now self.now)) }
     {
-        match command {
-            LineCommand::Register(id) => Ok(self.possible_register(*id)),
-            LineCommand::Deregister(k) => Ok(self.possible_deregister(named(earlier, *k))),
-            LineCommand::Nodes => self.possible_nodes(alloc),
-            LineCommand::Add(port) => Ok(self.possible_attach(port.details())),
-            LineCommand::Release(k) => Ok(self.possible_release(named(earlier, *k))),
-            LineCommand::List(role) => self.possible_list(alloc, *role),
-            LineCommand::Count(role) => Ok(self.possible_count(*role)),
-            LineCommand::Dead(dead, cleanup) => Ok(self.possible_cleanup(dead, cleanup)),
+        match asked {
+            Asked::Register(id) => Ok(self.possible_register(*id)),
+            Asked::Deregister(handle) => Ok(self.possible_deregister(*handle)),
+            Asked::Nodes => self.possible_nodes(alloc),
+            Asked::Add(port) => Ok(self.possible_attach(port.details())),
+            Asked::Release(handle) => Ok(self.possible_release(*handle)),
+            Asked::List(role) => self.possible_list(alloc, *role),
+            Asked::Count(role) => Ok(self.possible_count(*role)),
+            Asked::Dead(dead, cleanup) => Ok(self.possible_cleanup(dead, cleanup)),
         }
     }
 

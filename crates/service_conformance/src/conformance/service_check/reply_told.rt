@@ -1,19 +1,17 @@
 //! The replies that a call may have, and who is there.
-ghost use Rattle.std.specs.Prelude.{◌≡◌, ◌++◌, IfOk, None, map};
+ghost use Rattle.std.specs.Prelude.{◌≡◌, ◌++◌, IfOk, map};
 ghost use Rattle.iox2_container.specs.Steps.{listed};
+ghost use Rattle.service_conformance.specs.Asked.{ServesAsked, asked_command};
 ghost use Rattle.service_conformance.specs.Looks.{ids_in};
 ghost use Rattle.service_conformance.specs.Possible.{IsCovered};
 ghost use Rattle.service_conformance.specs.Words.{ArePossibleWords, IsNextIn};
-ghost use Rattle.service_descriptions.specs.Lines.{command_of};
-ghost use Rattle.service_descriptions.specs.Steps.{Serves};
 
+use super::super::asked::Asked;
 use super::super::possible::{NextHandle, Part, Possible, PossibleReplies};
 use super::super::says::Printed;
 use super::ServiceCheck;
-use iox2_container::container::ContainerHandle;
 use iox2_dynamic::dynamic_config::PortDetails;
 use iox2_ids::identifiers::UniqueNodeId;
-use service_descriptions::replay::LineCommand;
 use std::alloc::{AllocError, Global};
 
 /// The ids that are printed of the items.
@@ -54,18 +52,16 @@ impl ServiceCheck {
         }
     }
 
-    /// The replies that a command may have, where earlier ones gave these handles.
+    /// The replies that a command may have.
     pub(in super::super) fn possible_replies(
         &self,
         alloc: Global,
-        earlier: &[Option<ContainerHandle>],
-        command: &LineCommand,
+        asked: &Asked,
     ) -> Result<PossibleReplies, AllocError>
-        requires { IsCovered (command_of command.now) }
-        ensures { IfOk result
-            (ArePossibleWords (Serves self.now None earlier.now (command_of command.now))) }
+        requires { IsCovered (asked_command asked.now) }
+        ensures { IfOk result (ArePossibleWords (ServesAsked asked.now self.now)) }
     {
-        match self.possible_for_line(alloc, earlier, command)? {
+        match self.possible_for(alloc, asked)? {
             Possible::One(one) => Ok(PossibleReplies::One(one.reply())),
             Possible::Given(part) => Ok(PossibleReplies::Handle(self.next_in(alloc, part)?)),
         }

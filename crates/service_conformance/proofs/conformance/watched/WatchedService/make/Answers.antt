@@ -17,4 +17,4 @@ returns c =
     subst (λ (v : Watched). IfOk c.make.result (IsMade (CallLeaves c.args.made.now v) v new))
     c.self.view_is
     (made_leaves c.args.made.now w c.make.result c.make.new.state c.self.invariant none
-    c.make.ensures)
+    (rw c.deref_mut.ensures.value at c.make.ensures))

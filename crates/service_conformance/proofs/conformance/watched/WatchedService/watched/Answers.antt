@@ -5,5 +5,6 @@ use Rattle.service_conformance.proofs.conformance.watched.WatchedService.watched
 
 pub invariant_of-result : goal.invariant_of-result
 invariant_of-result c =
-    subst (λ (l : List Look). looks_after c.args.service l ≡ l) (sym c.in_ok-looks.ensures)
-    (looks_twice c.args.service c.args.looks.now)
+    rw c.in_ok-service.ensures.ok
+    (subst (λ (l : List Look). looks_after c.args.service l ≡ l) (sym c.in_ok-looks.ensures)
+    (looks_twice c.args.service c.args.looks.now))
