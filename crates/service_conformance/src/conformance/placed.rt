@@ -15,7 +15,7 @@ use std::alloc::{AllocError, Global};
 use std::marker::Model;
 
 /// Details in a slot, and the ticket that they were given.
-#[derive(Debug, Drop)]
+#[derive(Clone, Copy, Debug)]
 pub(super) struct Placed<T: Copy> {
     pub(super) slot: usize,
     pub(super) ticket: u64,
@@ -142,24 +142,6 @@ pub(super) fn details_of<T: Copy>(
         list.push(entry.details())?;
     }
     Ok(list)
-}
-
-/// A copy of the entries.
-pub(super) fn copied<T: Copy>(
-    alloc: Global,
-    entries: &[Placed<T>],
-) -> Result<Vec<Placed<T>>, AllocError>
-    ensures { IfOk result (λ copy. copy.items ≡ entries.now) }
-{
-    let mut copy = Vec::with_capacity(alloc, entries.len())?;
-    for entry in entries {
-        copy.push(Placed {
-            slot: entry.slot(),
-            ticket: entry.ticket,
-            details: entry.details(),
-        })?;
-    }
-    Ok(copy)
 }
 
 /// The slots of the entries.

@@ -15,7 +15,7 @@ ghost use Rattle.service_conformance.specs.Words.{IsNextHandle, TellsHandle, han
 
 mod given;
 
-use super::placed::{Placed, copied, details_of, free_position, position_with, put, slots_of};
+use super::placed::{Placed, details_of, free_position, position_with, put, slots_of};
 use super::possible::NextHandle;
 use super::same::{Same, are_same};
 use iox2_container::container::{ContainerAddFailure, ContainerHandle, ReleaseMode, Role};
@@ -91,7 +91,7 @@ impl<T: Copy> RegistryCheck<T> {
             tickets: self.tickets,
             used: self.used,
             locked: self.locked,
-            entries: copied(alloc, &self.entries)?,
+            entries: Vec::from_slice(alloc, &self.entries)?,
         })
     }
 
