@@ -1,11 +1,11 @@
 //! Calls that can be made before others, wherever they can be made right after them.
 ghost use Rattle.std.specs.Prelude.{IfSome, IsTrue, Some};
+ghost use Rattle.service_conformance.specs.Asked.{asked_command};
 ghost use Rattle.service_conformance.specs.Movers.{IsChange, MovesBeforeChange};
 ghost use Rattle.service_conformance.specs.Seen.{seen_text};
-ghost use Rattle.service_descriptions.specs.Lines.{command_of};
 
+use super::asked::Asked;
 use super::seen_reply::{ReplyWord, SeenReply};
-use service_descriptions::replay::LineCommand;
 
 /// What a call changed that was answered, as far as it matters which of two calls was made first.
 #[derive(Clone, Copy)]
@@ -17,15 +17,15 @@ pub(super) enum Change {
 }
 
 /// What a call with this command and this reply changed, if it is one of the changes.
-pub(super) fn change_of(command: &LineCommand, seen: &SeenReply) -> Option<Change>
+pub(super) fn change_of(asked: &Asked, seen: &SeenReply) -> Option<Change>
     ensures { IfSome result (λ change.
-        IsChange change (command_of command.now) (Some (seen_text seen.now))) }
+        IsChange change (asked_command asked.now) (Some (seen_text seen.now))) }
 {
-    match (command, seen) {
-        (LineCommand::Deregister(_), SeenReply::Word(ReplyWord::HasOwners)) => {
+    match (asked, seen) {
+        (Asked::Deregister(_), SeenReply::Word(ReplyWord::HasOwners)) => {
             Some(Change::NodeRemoved)
         }
-        (LineCommand::Release(_), SeenReply::Word(ReplyWord::Released)) => {
+        (Asked::Release(_), SeenReply::Word(ReplyWord::Released)) => {
             Some(Change::PortRemoved)
         }
         _ => None,

@@ -267,7 +267,7 @@ impl SeenCall {
         ensures { IfSome result (λ change. IsChange change self.now.command self.now.words) }
     {
         match &self.seen {
-            Some(seen) => change_of(&self.command, seen),
+            Some(seen) => change_of(&self.asked, seen),
             None => None,
         }
     }
