@@ -47,6 +47,7 @@ fn handle_of(bytes: &[u8]) -> Option<(usize, u64)>
 }
 
 /// The command whose text this is.
+#[inline(always)]
 pub(crate) fn read_command(alloc: Global, line: &[u8]) -> Result<Option<LogCommand>, AllocError>
     ensures { IfOk result (λ found. Reads HasText command_text (option_map named found) line.now) }
 {

@@ -45,6 +45,7 @@ pub fn is_note(line: &[u8]) -> bool
 }
 
 /// The call whose text this is, alone or the begin of one, after the number of its service.
+#[inline(always)]
 fn call_of<'a>(
     alloc: Global,
     number: Option<u64>,
@@ -76,6 +77,7 @@ fn call_of<'a>(
 }
 
 /// The state or the call whose text this is, after the number of its service.
+#[inline(always)]
 fn on_service<'a>(
     alloc: Global,
     number: Option<u64>,
