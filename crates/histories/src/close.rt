@@ -13,11 +13,14 @@ use super::sets::{has, without};
 use super::settle::settle_all;
 use std::alloc::{AllocError, Global};
 
+/// The capacity that is left for calls that are made later in the same step.
+const SPARE: usize = 4;
+
 /// The calls with one more.
 fn with_call(alloc: Global, calls: &[usize], call: usize) -> Result<Vec<usize>, AllocError>
     ensures { IfOk result (λ more. more.items ≡ calls.now ++ call ∷ []) }
 {
-    let mut more = Vec::with_capacity(alloc, calls.len() + 1)?;
+    let mut more = Vec::with_capacity(alloc, calls.len() + SPARE)?;
     more.extend_from_slice(calls)?;
     more.push(call)?;
     Ok(more)
@@ -261,7 +264,8 @@ fn close_round<M: Machine>(
     ensures { IfOk result (λ next. Gathers (FromOne (IsDone slot) layer.items) done.old done.new
         × GoesOn (M.Step machine.now) slots.now slot layer.items [] next.items) }
 {
-    let mut next = Gathered::with_capacity(alloc, layer.len())?;
+    let count = layer.len().saturating_mul(2).saturating_add(2);
+    let mut next = Gathered::with_capacity(alloc, count)?;
     for config in layer {
         close_one(alloc, machine, slots, config, slot, done, &mut next)?;
     }
