@@ -8,21 +8,20 @@ that the next one needs beside them.
 import re
 from dataclasses import dataclass
 
-from reference_site.parts import NAME, cited, code, plural
+from reference_site.parts import WORD, cited, code, plural
 
 CITED = re.compile(r"((?:`[\w:]+`(?:, | and )?)+)\s+of\s+`(\w+)`")
 
 
 @dataclass
 class Function:
-    """A function that a sentence names, with what the names in its clauses stand for."""
+    """A function that a sentence names: where it stands, and what shows it."""
 
-    crate: str
     name: str
     item: object
-    owner: object
     module: object
-    scope: dict
+    block: object
+    owner: object
     href: str
 
 
@@ -59,30 +58,29 @@ class Headline:
             item, module = shown.item, shown.module
             if item.kind == "fn" and item.name == name and (
                     not owner or shown.path[-2:-1] == tuple(owner.split("::"))):
-                return Function(crate, path, item, None, module, module.scope(), shown.href)
+                return Function(path, item, module, item, None, shown.href)
             methods = shown.methods + [(m, module, item) for m in item.members if m.kind == "fn"]
             for method, home, block in methods if item.name == owner else ():
                 if method.name == name:
-                    return Function(crate, path, method, shown, home, home.scope(block),
-                                    f"{shown.href}.{name}")
+                    return Function(path, method, home, block, shown, f"{shown.href}.{name}")
         self.parts.problems.add(f"docs/PROMISES.md: {crate} has no `{path}`")
         return None
 
     def models(self, function):
         """The models of the types that a function takes or returns: what contracts see of them."""
-        names = [match[0].rpartition("::")[2] for match in NAME.finditer(function.item.signature)]
+        signature = re.split(r"\n *(?:requires|ensures)\b", function.item.text)[0]
+        names = [match[0] for match in WORD.finditer(signature)]
         types = [function.owner, *(self.project.type_named(function.module, n) for n in names)]
         for shown in {id(shown): shown for shown in types if shown}.values():
-            for block, home in shown.models:
-                yield shown, block, home.scope(block)
+            yield from ((block, home) for block, home in shown.blocks if "Model for" in block.text)
 
     def closure(self, functions):
         """All definitions behind the clauses and the models. What they take from libraries is
         noted."""
-        clauses = [(clause, f.scope) for f in functions for clause in f.item.clauses]
-        clauses += [(clause, scope) for f in functions for _, block, scope in self.models(f)
-                    for member in block.members for clause in member.clauses]
-        left = [taken for clause, scope in clauses for _, taken in cited(clause.text, scope)]
+        texts = [(f.item.text, f.module.scope(f.block)) for f in functions]
+        texts += [(ghost.text, home.scope(block)) for f in functions
+                  for block, home in self.models(f) for ghost in block.ghosts]
+        left = [taken for text, scope in texts for taken in cited(text, scope)]
         found = {}
         while left:
             taken = self.project.origin(left.pop())
@@ -91,7 +89,7 @@ class Headline:
                 self.trusted.add((taken.crate, taken.path, taken.name))
             elif definition and id(definition) not in found:
                 found[id(definition)] = definition
-                left += [further for _, further in cited(definition.text, definition.scope)]
+                left += cited(definition.text, definition.scope)
         return [d for d in self.in_reading_order() if id(d) in found]
 
     def in_reading_order(self):
@@ -108,18 +106,9 @@ class Headline:
                 done.append(next((m for m in left if uses[m] <= {m, *done}), left[0]))
             yield from sorted(crate.definitions, key=lambda d: done.index(d.module))
 
-    def commented(self, definitions):
-        """The definitions, each with its comment, or none where this was just said."""
-        said = None
-        for found in definitions:
-            about = self.project.crates[found.crate].abouts[found.module]
-            yield found, "" if found.comment in (said, about) else found.comment
-            said = found.comment
-
     def counts(self, between):
         """How many definitions each list needs, and their lines with the comments above them."""
-        lines = [sum(found.text.strip().count("\n") + 1 + (len(comment) + 96) // 97
-                     for found, comment in self.commented(each)) for each in self.lists]
+        lines = [sum(d.text.strip().count("\n") + 2 for d in each) for each in self.lists]
         return between.join(f"{plural(len(each), 'definition')} in {n} lines"
                             for each, n in zip(self.lists, lines))
 
@@ -138,21 +127,19 @@ class Headline:
         for text, functions in self.sentences:
             rows.append(f"<h3>{self.parts.inline(text.partition(' (')[0])}.</h3>")
             for function in functions:
-                rows.append(f"<p>{code(function.name, function.href)} of <code>{function.crate}"
-                            f"</code>:</p>{self.parts.clauses([function.item], function.scope)}")
-                for shown, block, scope in self.models(function):
-                    ghosts = [m for m in block.members if m.kind == "ghost"]
-                    models.setdefault(shown.item.name, f"<h3><code>{shown.item.name}</code></h3>"
-                                      + self.parts.clauses(ghosts, scope))
+                rows.append(f"<p>{code(function.name, function.href)} of <code>"
+                            f"{function.module.crate}</code>:</p>"
+                            + self.parts.item(function.item, function.module, function.block))
+                models |= {id(block): self.parts.item(block, home)
+                           for block, home in self.models(function)}
         module = None
-        for found, comment in [pair for each in self.lists for pair in self.commented(each)]:
+        for found in [definition for each in self.lists for definition in each]:
             if (found.crate, found.module) != module:
                 module = (found.crate, found.module)
                 about = self.parts.inline(self.project.crates[found.crate].abouts[found.module])
                 texts.append(f"<h3>{found.crate}: {found.module}</h3><p>{about}</p>")
-            if comment:
-                texts.append(f"<p>{self.parts.inline(comment)}</p>")
-            texts.append(self.parts.text(found))
+            texts.append(f"<p>{self.parts.inline(found.comment)}</p>"
+                         + self.parts.definition(found))
         names = ", ".join(f"<code>{name}</code>" for _, _, name in sorted(self.trusted))
         return (
             "<p>Each sentence of the headline, and the clauses that carry it. Below stand all "

@@ -44,12 +44,12 @@ class Pages:
             "</details></nav>"
             f"<main><h1>{escape(title)}</h1>\n{body}</main></body></html>\n")
 
-    def section(self, anchor, title, *body):
+    def section(self, anchor, title, body):
         """A part of a page about one name."""
         self.names += 1
         anchor = escape(anchor)
         return (f'<section class="item" id="{anchor}"><h4><a href="#{anchor}">{breakable(title)}'
-                f"</a></h4>{''.join(body)}</section>\n")
+                f"</a></h4>{body}</section>\n")
 
     # A crate.
 
@@ -108,45 +108,14 @@ class Pages:
         return "::".join(shown.path[-2:] if len(same) > 1 else shown.path[-1:])
 
     def shown(self, shown):
-        item, module, parts = shown.item, shown.module, self.parts
-        if item.kind == "fn":
-            return self.function(item, module, module.scope(), shown.anchor, item.name)
-        derived = [a for a in item.attributes if a.startswith(("#[derive", "#[repr"))]
-        head = parts.code("\n".join([*derived, item.signature]), module)
-        body = [f'<pre class="signature">{head}</pre>', parts.prose(item.doc, module),
-                self.fields(item, module)]
-        for block, home in shown.models:
-            body.append(f"<p>Contracts see it so:</p>{self.ghosts(block, home)}")
-        rows = "".join(f"<li><code>{parts.code(trait, home)}</code>{parts.prose(block.doc, home)}"
-                       f"{self.ghosts(block, home)}" for trait, block, home in shown.implemented)
-        body.append(f'<p>Implements:</p><ul class="implemented">{rows}</ul>' if rows else "")
-        methods = list(shown.methods)
-        if item.kind == "trait":
-            if ghosts := self.ghosts(item, module):
-                body.append(f"<p>What an implementation says of itself:</p>{ghosts}")
-            methods += [(m, module, item) for m in item.members if m.kind == "fn"]
-        title = self.title(shown)
-        return self.section(shown.anchor, title, *body) + "\n".join(
-            self.function(method, home, home.scope(block), f"{shown.anchor}.{method.name}",
-                          f"{title}::{method.name}") for method, home, block in methods)
-
-    def ghosts(self, block, module):
-        """What a block says of its type: its ghost members."""
-        members = [m for m in block.members if m.kind == "ghost"]
-        docs = "".join(self.parts.prose(m.doc, module) for m in members)
-        return docs + self.parts.explained(members, module.scope(block))
-
-    def fields(self, item, module):
-        rows = [f"<div><dt><code>{self.parts.code(f.signature.removeprefix('pub '), module)}</code>"
-                f"</dt><dd>{self.parts.prose(f.doc, module)}</dd></div>"
-                for f in item.members if f.kind == "field" and (f.public or item.kind == "enum")]
-        return f'<dl class="fields">{"".join(rows)}</dl>' if rows else ""
-
-    def function(self, function, module, scope, anchor, title):
-        return self.section(
-            anchor, title,
-            f'<pre class="signature">{self.parts.code(function.signature, module)}</pre>',
-            self.parts.prose(function.doc, module), self.parts.explained([function], scope))
+        """An item with what it implements, and a section for each method."""
+        item, module, part = shown.item, shown.module, self.parts.item
+        title = item.name if item.kind == "fn" else self.title(shown)
+        blocks = "".join(part(block, home) for block, home in shown.blocks)
+        methods = [*shown.methods, *((m, module, item) for m in item.members if m.kind == "fn")]
+        return self.section(shown.anchor, title, part(item, module) + blocks) + "".join(
+            self.section(f"{shown.anchor}.{method.name}", f"{title}::{method.name}",
+                         part(method, home, block)) for method, home, block in methods)
 
     # Definitions and the index.
 
@@ -159,8 +128,8 @@ class Pages:
                 about = self.parts.inline(crate.abouts[module])
                 body.append(f'<h2 id="{module}">{module}</h2><p>{about}</p>')
             body.append(self.section(f"{module}.{found.name}", found.name,
-                                     f"<p>{self.parts.inline(found.comment)}</p>",
-                                     self.parts.text(found)))
+                                     f"<p>{self.parts.inline(found.comment)}</p>"
+                                     + self.parts.definition(found)))
         return self.page(f"Definitions of {crate.name}", "\n".join(body), crate.name)
 
     def index_page(self, headline, words):
@@ -175,8 +144,7 @@ class Pages:
             "<p>The public items of each crate, with what is proved of them. A condition "
             "(<code>requires</code>) is what a caller is proved to keep; a promise "
             "(<code>ensures</code>) is what the function is proved to keep, for every argument. "
-            "Below the promises, the definitions in them are explained, each with a link to the "
-            "definition itself.</p>"
+            "Each definition in them is a link, and says what it means where one points at it.</p>"
             f"<h2>What is proved</h2>{headline.summary()}"
             f'<h2>Crates, bottom up</h2><div class="named">{crates}</div>'
             f'<h2>Words</h2><div class="named">{meanings}</div>')

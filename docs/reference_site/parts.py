@@ -1,10 +1,9 @@
-"""Writes the parts of a page: code, clauses and doc text with links."""
+"""Writes the parts of a page: code and doc text with links."""
 
 import html
 import re
 
 WORD = re.compile(r"[^\W\d][\w']*(?:\.[^\W\d][\w']*)*")
-NAME = re.compile(r"(?:\w+::)*\w+")
 STRING = re.compile(r'("(?:[^"\\]|\\.)*")')
 LINK = re.compile(r"\[`(?P<link>[^`]+)`\](?:\((?P<path>[^)]+)\))?|`(?P<code>[^`]+)`")
 
@@ -31,11 +30,9 @@ def first_sentence(doc):
 
 
 def cited(text, scope):
-    """The names in a clause or a definition that stand for something, and what."""
-    for match in WORD.finditer(STRING.sub("", text)):
-        name = match[0].partition(".")[0]
-        if name in scope:
-            yield name, scope[name]
+    """What the names in a clause or a definition stand for, where they do."""
+    heads = (match[0].partition(".")[0] for match in WORD.finditer(STRING.sub("", text)))
+    return [scope[head] for head in heads if head in scope]
 
 
 class Parts:
@@ -56,23 +53,32 @@ class Parts:
         shown = self.project.type_declared(taken)
         return (shown.href, first_sentence(shown.item.doc)) if shown else None
 
-    def contract(self, text, scope, own=""):
-        """A clause, or the definition `own`, in which each other name of ours is a link."""
+    def linked(self, text, scope, module=None, own=""):
+        """Code in which each name but `own` that a contract cites, and each public type, is a
+        link."""
         def link(match):
             head, dot, rest = match[0].partition(".")
-            target = self.target(scope[head]) if head in scope and head != own else None
+            target = None
+            if head in scope:
+                target = self.target(scope[head]) if head != own else None
+            elif shown := module and self.project.type_named(module, head):
+                target = shown.href, ""
             if not target:
                 return match[0]
             return f'<a href="{target[0]}" title="{escape(target[1])}">{head}</a>{dot}{rest}'
         return "".join(escape(part) if part.startswith('"') else WORD.sub(link, escape(part))
                        for part in STRING.split(text))
 
-    def code(self, text, module):
-        """Code in which each public type of the repository is a link."""
-        def link(match):
-            shown = self.project.type_named(module, match[0].rpartition("::")[2])
-            return f'<a href="{shown.href}">{match[0]}</a>' if shown else match[0]
-        return NAME.sub(link, escape(text))
+    def item(self, item, module, block=None):
+        """An item without its body, with what it says of itself, and its doc text."""
+        kept = [a for a in item.attributes if a.startswith(("#[derive", "#[repr"))]
+        text = "\n".join([*kept, item.text, *(ghost.text for ghost in item.ghosts)])
+        docs = "".join(self.prose(each.doc, module) for each in (item, *item.ghosts))
+        return f"<pre>{self.linked(text, module.scope(block or item), module)}</pre>{docs}"
+
+    def definition(self, found):
+        """The text of a definition."""
+        return f"<pre>{self.linked(found.text, found.scope, own=found.name)}</pre>"
 
     def prose(self, doc, module):
         """Doc text: paragraphs, lists, code, and links to items."""
@@ -103,7 +109,7 @@ class Parts:
         owner = self.project.type_named(module, owners[-1]) if owners else None
         if owner and any(method.name == name for method, _, _ in owner.methods):
             return f"{owner.href}.{name}"
-        if owner and any(re.match(rf"{name}\b", m.signature) for m in owner.item.members):
+        if owner and re.search(rf"^    (pub )?{name}\b", owner.item.text, re.M):
             return owner.href  # A variant stands with its type.
         of_crate = self.project.crates[module.crate].shown.values()
         shown = self.project.type_named(module, name) or next(
@@ -112,34 +118,3 @@ class Parts:
             return shown.href
         self.problems.add(f"{module.file}: no page has what [`{path}`] leads to")
         return "#"
-
-    def clauses(self, items, scope):
-        """The clauses of items."""
-        rows = "".join(
-            f'<div class="{c.kind}"><dt>{escape(f"{c.kind} {c.name}".removeprefix("ghost "))}</dt>'
-            f"<dd><code>{self.contract(c.text, scope)}</code></dd></div>"
-            for item in items for c in item.clauses)
-        return f'<dl class="clauses">{rows}</dl>' if rows else ""
-
-    def explained(self, items, scope):
-        """The clauses of items, and the definitions that they name, each with its comment and,
-        folded, its text."""
-        named = {name: taken for item in items for clause in item.clauses
-                 for name, taken in cited(clause.text, scope)}
-        meanings = "".join(self.meaning(name, taken) for name, taken in named.items())
-        return self.clauses(items, scope) + (
-            f'<div class="named">{meanings}</div>' if meanings else "")
-
-    def meaning(self, name, taken):
-        """A name with its comment and its text, or nothing for a name of the library."""
-        target = self.target(taken)
-        if not target or not target[1]:
-            return ""
-        line = f"{code(name, target[0])}: {self.inline(target[1])}"
-        found = self.project.definition(taken)
-        return f"<details><summary>{line}</summary>{self.text(found)}</details>" if found else (
-            f"<p>{line}</p>")
-
-    def text(self, found):
-        """The text of a definition."""
-        return f"<pre>{self.contract(found.text, found.scope, found.name)}</pre>"

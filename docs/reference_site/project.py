@@ -31,9 +31,9 @@ class Module:
 
     def used(self, public=""):
         """The path of each name that a `use` brings here, or a `pub use` alone."""
-        uses = [re.sub(r"^(pub(\([a-z: ]+\))? )?use |;$", "", item.signature)
+        uses = [re.sub(r"^(pub(\([a-z: ]+\))? )?use |;$", "", item.text)
                 for item in self.items
-                if item.kind == "use" and item.signature.startswith(public)]
+                if item.kind == "use" and item.text.startswith(public)]
         return {name: path for use in uses for name, path in expand_use(use).items()}
 
     def all_below(self):
@@ -50,8 +50,8 @@ class Shown:
     module: Module
     path: tuple
     methods: list = field(default_factory=list)
-    models: list = field(default_factory=list)
-    implemented: list = field(default_factory=list)
+    # What it implements, its model among that.
+    blocks: list = field(default_factory=list)
 
     @property
     def anchor(self):
@@ -200,7 +200,7 @@ class Project:
         for block in module.items:
             if block.kind != "impl" or block.is_for_tests:
                 continue
-            head = re.sub(r"^impl\s*(<.*?>(?= ))?\s*", "", " ".join(block.signature.split()))
+            head = re.sub(r"^impl\s*(<.*?>(?= ))?\s*", "", " ".join(block.text.split()))
             trait, is_for, target = head.rpartition(" for ")
             name = re.match(r"&?(?:\w+::)*(\w+)", target)
             shown = self.type_named(module, name[1]) if name else None
@@ -209,10 +209,8 @@ class Project:
             if not is_for:
                 shown.methods += [(m, module, block) for m in block.members
                                   if m.kind in ("fn", "const") and m.public]
-            elif trait == "Model":
-                shown.models.append((block, module))
             else:
-                shown.implemented.append((trait, block, module))
+                shown.blocks.append((block, module))
 
     def origin(self, taken):
         """What a name stands for where the files that only hand it on are passed over."""

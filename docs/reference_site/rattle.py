@@ -1,4 +1,4 @@
-"""Reads the items of a file of Rattle: doc text, signatures, conditions and promises.
+"""Reads the items of a file of Rattle: their doc texts, and their texts without bodies.
 
 It is a reader of what `rt fmt` laid out, by indentation, and not a compiler: it raises what it does
 not know.
@@ -9,11 +9,12 @@ from dataclasses import dataclass, field
 
 HEAD = re.compile(r"(?P<visible>pub(\([a-z: ]+\))? )?(const |unsafe |extern \"C\" )*"
                   r"(?P<kind>fn|struct|enum|trait|impl|mod|use|type|const|static|ghost)\b(?: (?P<name>\w+))?")
-FIELD = re.compile(r"(?P<visible>pub(\([a-z: ]+\))? )?(?P<name>\w+)")
-CLAUSE = re.compile(r"(?P<kind>requires|ensures)\*?(?P<name> [\w ]+?)? \{")
+CLAUSE = re.compile(r"(requires|ensures)\*?( [\w ]+?)? \{")
 MACRO = re.compile(r"[\w:]+!\s*\w*\s*[({\[]")
 # A text is one line, whatever its lines.
 TEXT = re.compile(r"//[^\n]*|'(?:\\.[^']*|[^'\\])'|\"(?:[^\"\\]|\\.)*\"", re.S)
+# A field that is not public, with what stands above it.
+PRIVATE = re.compile(r"(?:^    (?:///|#).*\n)*^    (?!pub |///|#)\S.*\n(?:^     .*\n)*", re.M)
 
 
 class Unreadable(Exception):
@@ -21,37 +22,31 @@ class Unreadable(Exception):
 
 
 @dataclass
-class Clause:
-    """A condition, a promise, or a ghost member such as the model of a type."""
-
-    kind: str
-    name: str
-    text: str
-
-
-@dataclass
 class Item:
-    """One item, with the items inside it where it has any."""
+    """One item, with the items inside it where it is a block of such."""
 
     kind: str
     name: str
     public: bool
     doc: str
-    signature: str
+    text: str
     attributes: list
-    clauses: list = field(default_factory=list)
     members: list = field(default_factory=list)
 
     @property
     def is_for_tests(self):
         return any(a.startswith("#[cfg(test") for a in self.attributes)
 
+    @property
+    def ghosts(self):
+        """What a block says of its type."""
+        return [member for member in self.members if member.kind == "ghost"]
 
-def dedent(text):
-    """Lines without the indentation that all but the first have in common."""
-    first, *lines = text.replace("\0", "\n").strip().split("\n")
-    common = min((len(line) - len(line.lstrip()) for line in lines if line.strip()), default=0)
-    return "\n".join([first, *(line[common:] for line in lines)])
+
+def text_of(lines):
+    """Lines as they stand in the file, without comments."""
+    lines = "\n".join(lines).replace("\0", "\n").split("\n")
+    return "\n".join(line for line in lines if not re.match(" *//(?!/)", line))
 
 
 def item_end(lines, at):
@@ -69,9 +64,8 @@ def item_end(lines, at):
     return len(lines)
 
 
-def read_items(path, lines, is_block):
-    """The doc text of a module, and the items of lines without indentation: the fields or variants
-    of a type where they are no block of items."""
+def read_items(path, lines):
+    """The doc text of a module, and the items of lines without indentation."""
     inner, doc, attributes, items, at = [], [], [], [], 0
     while at < len(lines):
         line, end = lines[at], at + 1
@@ -85,64 +79,35 @@ def read_items(path, lines, is_block):
             attributes.append("\n".join(lines[at:end]))
         elif line.strip() and not line.startswith("//"):
             end = item_end(lines, at)
-            if item := read_item(path, lines[at:end], is_block, "\n".join(doc), attributes):
+            if item := read_item(path, lines[at:end], "\n".join(doc), attributes):
                 items.append(item)
             doc, attributes = [], []
         at = end
     return "\n".join(inner), items
 
 
-def read_item(path, lines, is_block, doc, attributes):
+def read_item(path, lines, doc, attributes):
     head = HEAD.match(lines[0])
-    if not is_block and not (head and head["kind"] == "ghost"):
-        found, text = FIELD.match(lines[0]), dedent("\n".join(lines)).removesuffix(",")
-        return Item("field", found["name"], found["visible"] == "pub ", doc, text, [])
     if not head:
         if not MACRO.match(lines[0]):
             raise Unreadable(f"{path}: no item is known here: {lines[0]}")
         return None
-    kind = head["kind"]
-    item = Item(kind, head["name"] or "", head["visible"] == "pub ", doc, "", attributes)
-    if kind == "ghost":
-        return read_ghost(item, "\n".join(lines))
-    if kind in ("use", "type", "const", "static"):
-        item.signature = dedent("\n".join(lines))
-        item.name = item.signature if kind == "use" else item.name
-        return item
-    body = next((n for n, line in enumerate(lines) if line[:1].strip() and
-                 line.endswith(("{", "}", ";"))), len(lines))
-    starts = [n for n, line in enumerate(lines[:body]) if CLAUSE.match(line[4:])]
-    for start, end in zip(starts, [*starts[1:], body]):
-        text = "\n".join(line for line in lines[start:end] if not line.strip().startswith("//"))
-        clause = CLAUSE.match(text, 4)
-        text = text[clause.end():].rstrip("; \n").removesuffix("}")
-        item.clauses.append(Clause(clause["kind"], (clause["name"] or "").strip(), dedent(text)))
-    signature = "\n".join(lines[:(starts or [body + 1])[0]])
-    if kind in ("struct", "enum") and signature.endswith(");"):
-        item.signature = dedent(signature)
-        return item
-    item.signature = dedent(re.sub(r" *\{[^{]*\}$|[{;]$", "", signature))
-    if kind in ("struct", "enum", "trait", "impl", "mod"):
-        inside = [line[4:] for line in lines[body + 1:-1]]
-        _, item.members = read_items(path, inside, kind not in ("struct", "enum"))
-    return item
-
-
-def read_ghost(item, text):
-    """`ghost use ..;`, or a ghost member, which is kept as a clause."""
-    text = text.removeprefix("ghost ").rstrip(";,")
-    if text.startswith("use "):
-        item.kind, item.name = "ghost use", text[4:]
-    else:
-        name, _, value = text.partition(":" if ":" in text.split("{")[0] else "=")
-        value = value.strip()
-        value = value[1:-1] if value.startswith("{") else value
-        item.name = name.strip()
-        item.clauses = [Clause("ghost", item.name, dedent(value))]
-    return item
+    kind, name, text = head["kind"], head["name"] or "", text_of(lines)
+    members = []
+    if kind in ("fn", "trait", "impl", "mod"):
+        body = next((n for n, line in enumerate(lines) if line[:1].strip() and
+                     line.endswith(("{", "}", ";"))), len(lines))
+        text = re.sub(r"\s*\{[^{]*\}$|\s*[{;]$", "", text_of(lines[:body + 1]))
+        if kind != "fn":
+            _, members = read_items(path, [line[4:] for line in lines[body + 1:-1]])
+    elif kind == "struct":
+        text = PRIVATE.sub("", text)
+    elif text.startswith("ghost use "):
+        kind, name = "ghost use", text.removeprefix("ghost use ").rstrip(";")
+    return Item(kind, name, head["visible"] == "pub ", doc, text, attributes, members)
 
 
 def read_source(path, text):
     """The doc text and the items of a file."""
     lines = TEXT.sub(lambda found: found[0].replace("\n", "\0"), text).split("\n")
-    return read_items(path, lines, True)
+    return read_items(path, lines)
