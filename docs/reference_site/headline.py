@@ -6,23 +6,11 @@ that the next one needs beside them.
 """
 
 import re
-from dataclasses import dataclass
 
 from reference_site.parts import WORD, cited, code, plural
+from reference_site.project import head_of
 
 CITED = re.compile(r"((?:`[\w:]+`(?:, | and )?)+)\s+of\s+`(\w+)`")
-
-
-@dataclass
-class Function:
-    """A function that a sentence names: where it stands, and what shows it."""
-
-    name: str
-    item: object
-    module: object
-    block: object
-    owner: object
-    href: str
 
 
 def sentences(promises):
@@ -54,32 +42,29 @@ class Headline:
     def function(self, crate, path):
         """The function at a path of a crate: of a module, of a type or of a trait."""
         owner, _, name = path.rpartition("::")
-        for shown in self.project.crates[crate].shown.values():
-            item, module = shown.item, shown.module
-            if item.kind == "fn" and item.name == name and (
-                    not owner or shown.path[-2:-1] == tuple(owner.split("::"))):
-                return Function(path, item, module, item, None, shown.href)
-            methods = shown.methods + [(m, module, item) for m in item.members if m.kind == "fn"]
-            for method, home, block in methods if item.name == owner else ():
-                if method.name == name:
-                    return Function(path, method, home, block, shown, f"{shown.href}.{name}")
+        for shown in [s for each in self.project.crates[crate].shown.values() for s in each]:
+            if shown.item.kind == "fn" and (shown.title == path or not shown.owner and (
+                    shown.item.name == name and shown.module.path[-1:] == (owner,))):
+                return shown
         self.parts.problems.add(f"docs/PROMISES.md: {crate} has no `{path}`")
         return None
 
     def models(self, function):
         """The models of the types that a function takes or returns: what contracts see of them."""
         signature = re.split(r"\n *(?:requires|ensures)\b", function.item.text)[0]
-        names = [match[0] for match in WORD.finditer(signature)]
-        types = [function.owner, *(self.project.type_named(function.module, n) for n in names)]
-        for shown in {id(shown): shown for shown in types if shown}.values():
-            yield from ((block, home) for block, home in shown.blocks if "Model for" in block.text)
+        names = [function.owner, *(match[0] for match in WORD.finditer(signature))]
+        types = [self.project.type_named(function.module, name) for name in names]
+        for owner in {id(found): found for found in types if found}.values():
+            for shown in self.project.crates[owner.module.crate].shown[owner.module.name]:
+                if head_of(shown.item) == ("Model", owner.item.name):
+                    yield shown
 
     def closure(self, functions):
         """All definitions behind the clauses and the models. What they take from libraries is
         noted."""
         texts = [(f.item.text, f.module.scope(f.block)) for f in functions]
-        texts += [(ghost.text, home.scope(block)) for f in functions
-                  for block, home in self.models(f) for ghost in block.ghosts]
+        texts += [(ghost.text, model.module.scope(model.item)) for f in functions
+                  for model in self.models(f) for ghost in model.item.ghosts]
         left = [taken for text, scope in texts for taken in cited(text, scope)]
         found = {}
         while left:
@@ -115,7 +100,7 @@ class Headline:
     def summary(self):
         """The sentences, each with links to its functions."""
         rows = "".join(f"<li>{self.parts.inline(text.partition(' (')[0])}: "
-                       + ", ".join(code(f.name, f.href) for f in functions)
+                       + ", ".join(code(f.title, f.href) for f in functions)
                        for text, functions in self.sentences)
         return (f'<ul>{rows}</ul><p><a href="headline.html">The definitions behind these '
                 "sentences</a>, to be read in one sitting: "
@@ -127,11 +112,11 @@ class Headline:
         for text, functions in self.sentences:
             rows.append(f"<h3>{self.parts.inline(text.partition(' (')[0])}.</h3>")
             for function in functions:
-                rows.append(f"<p>{code(function.name, function.href)} of <code>"
+                rows.append(f"<p>{code(function.title, function.href)} of <code>"
                             f"{function.module.crate}</code>:</p>"
                             + self.parts.item(function.item, function.module, function.block))
-                models |= {id(block): self.parts.item(block, home)
-                           for block, home in self.models(function)}
+                models |= {id(model): self.parts.item(model.item, model.module)
+                           for model in self.models(function)}
         module = None
         for found in [definition for each in self.lists for definition in each]:
             if (found.crate, found.module) != module:

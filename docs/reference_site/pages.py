@@ -1,14 +1,11 @@
 """Writes the pages: one for each crate and one for its definitions, the headline and an index."""
 
 import shutil
-from collections import defaultdict
 from pathlib import Path
 
 from reference_site.headline import Headline
 from reference_site.parts import Parts, breakable, code, escape, first_sentence, plural
 
-KINDS = {"trait": "Traits", "struct": "Types", "enum": "Types", "type": "Other names of types",
-         "const": "Constants", "fn": "Functions"}
 TITLE = "service_descriptions"
 
 
@@ -54,7 +51,8 @@ class Pages:
     # A crate.
 
     def crate_page(self, crate):
-        lead = [self.parts.prose(crate.root.doc, crate.root)]
+        root = crate.root
+        lead = [self.parts.prose(root.doc, root)]
         uses = [f'<a href="{u}.html">{u}</a>' if u in self.project.crates else escape(u)
                 for u in crate.uses]
         if uses:
@@ -63,59 +61,30 @@ class Pages:
             count = plural(len(crate.definitions), "definition")
             lead.append(f'<p><a href="{crate.name}-definitions.html">{count}</a> '
                         "that its contracts cite.</p>")
-        lead.append(self.parts.prose(crate.unproved(), crate.root))
-        for again in crate.again.values():
-            rows = "".join(f"<li>{code(name, f'{p[0]}.html#' + '.'.join(p[1:]))} of "
-                           f"<code>{p[0]}</code>" for name, p in again)
-            lead.append(f"<p>Modules of other crates under its name:</p><ul>{rows}</ul>")
-        by_module = defaultdict(list)
-        for shown in crate.shown.values():
-            by_module[shown.path[:-1]].append(shown)
-        modules = [m for m in crate.modules if m.public and (m.path in by_module or m.path)]
-        modules.sort(key=lambda module: module.path[:1] == ("laws",))
-        contents = "".join(self.contents(m, by_module[m.path]) for m in modules)
-        body = "".join(self.module(m, by_module[m.path]) for m in modules)
+        lead.append(self.parts.prose(crate.unproved(), root))
+        contents = "".join(self.contents(m, crate.shown[m.name]) for m in crate.modules)
+        body = "".join(self.module(m, crate.shown[m.name]) for m in crate.modules)
         return self.page(crate.name, "\n".join(lead) + f'<div class="contents">{contents}</div>'
                          + body, crate.name)
 
-    def contents(self, module, items):
-        name = "::".join(module.path) or "the crate itself"
-        rows = ", ".join(f'<a href="#{s.anchor}">{escape(s.item.name)}</a>' for s in items)
-        return f"<p><b><code>{escape(name)}</code></b>: {rows}</p>" if items else ""
+    def contents(self, module, shown):
+        rows = ", ".join(f'<a href="#{s.anchor}">{escape(s.title)}</a>' for s in shown
+                         if s.item.kind != "impl")
+        return f"<p><b><code>{module.name}</code></b>: {rows}</p>" if rows else ""
 
-    def module(self, module, items):
-        if not items and not module.doc:
+    def module(self, module, shown):
+        """The file of a module: what it passes on from others, and what is public in it."""
+        uses = [self.parts.item(item, module) for item in module.items
+                if item.kind == "use" and item.public]
+        if not uses and not shown:
             return ""
-        title = doc = ""
-        if module.path:
-            self.names += 1
-            title = (f'<h2 id="{".".join(module.path)}">Module <code>{"::".join(module.path)}'
-                     "</code></h2>")
-            doc = self.parts.prose(module.doc, module)
-        sections = defaultdict(list)
-        for shown in items:
-            sections[KINDS[shown.item.kind]].append(self.shown(shown))
-        return title + doc + "".join(
-            f"<h3>{kind}</h3>{''.join(sections[kind])}" for kind in dict.fromkeys(KINDS.values())
-            if sections[kind])
-
-    # Items.
-
-    def title(self, shown):
-        """The name of a type, with its module where its crate has another one of that name."""
-        of_crate = self.project.crates[shown.module.crate].shown.values()
-        same = [other for other in of_crate if other.item.name == shown.item.name]
-        return "::".join(shown.path[-2:] if len(same) > 1 else shown.path[-1:])
+        doc = self.parts.prose(module.doc, module) if module.path else ""
+        return (f'<h2 id="{module.name}"><code>{"::".join(module.path) or module.crate}</code></h2>'
+                f"{doc}{''.join(uses)}{''.join(map(self.shown, shown))}")
 
     def shown(self, shown):
-        """An item with what it implements, and a section for each method."""
-        item, module, part = shown.item, shown.module, self.parts.item
-        title = item.name if item.kind == "fn" else self.title(shown)
-        blocks = "".join(part(block, home) for block, home in shown.blocks)
-        methods = [*shown.methods, *((m, module, item) for m in item.members if m.kind == "fn")]
-        return self.section(shown.anchor, title, part(item, module) + blocks) + "".join(
-            self.section(f"{shown.anchor}.{method.name}", f"{title}::{method.name}",
-                         part(method, home, block)) for method, home, block in methods)
+        text = self.parts.item(shown.item, shown.module, shown.block)
+        return text if shown.item.kind == "impl" else self.section(shown.anchor, shown.title, text)
 
     # Definitions and the index.
 

@@ -107,13 +107,13 @@ class Parts:
         """Where `[`Type::method`]` of a doc text leads; what leads nowhere is noted."""
         *owners, name = [p for p in path.split("::") if p not in ("super", "crate", "self")]
         owner = self.project.type_named(module, owners[-1]) if owners else None
-        if owner and any(method.name == name for method, _, _ in owner.methods):
-            return f"{owner.href}.{name}"
+        if owner and (member := self.project.members.get((owner.module.crate, f"{owner.title}::{name}"))):
+            return member.href
         if owner and re.search(rf"^    (pub )?{name}\b", owner.item.text, re.M):
             return owner.href  # A variant stands with its type.
         of_crate = self.project.crates[module.crate].shown.values()
         shown = self.project.type_named(module, name) or next(
-            (s for s in of_crate if s.item.name == name), None)
+            (s for each in of_crate for s in each if s.item.name == name), None)
         if shown:
             return shown.href
         self.problems.add(f"{module.file}: no page has what [`{path}`] leads to")

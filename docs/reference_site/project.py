@@ -1,14 +1,13 @@
-"""The crates of the repository: their modules, what is public in them, and what names stand for."""
+"""The crates of the repository: their files, what is public in them, and what names stand for."""
 
 import re
-from collections import defaultdict
-from dataclasses import dataclass, field
+from dataclasses import dataclass
 
 from reference_site.definitions import read_definitions, taken_names
 from reference_site.rattle import read_source
 
-SHOWN = ("trait", "struct", "enum", "type", "const", "fn")
 TYPES = ("trait", "struct", "enum", "type")
+SHOWN = (*TYPES, "const", "fn")
 
 
 @dataclass
@@ -20,42 +19,43 @@ class Module:
     file: str
     doc: str
     items: list
-    public: bool
-    parent: "Module" = None
-    children: dict = field(default_factory=dict)
+
+    @property
+    def href(self):
+        return f"{self.crate}.html#{self.name}"
+
+    @property
+    def name(self):
+        return ".".join(self.path) or "crate"
 
     def scope(self, block=None):
         """What the names in contracts stand for, in the file or in a block of it."""
         uses = [i for i in [*self.items, *(block.members if block else ())] if i.kind == "ghost use"]
         return {name: taken for use in uses for name, taken in taken_names(use.name).items()}
 
-    def used(self, public=""):
-        """The path of each name that a `use` brings here, or a `pub use` alone."""
+    def used(self):
+        """The path of each name that a `use` brings here."""
         uses = [re.sub(r"^(pub(\([a-z: ]+\))? )?use |;$", "", item.text)
-                for item in self.items
-                if item.kind == "use" and item.text.startswith(public)]
+                for item in self.items if item.kind == "use"]
         return {name: path for use in uses for name, path in expand_use(use).items()}
-
-    def all_below(self):
-        yield self
-        for child in self.children.values():
-            yield from child.all_below()
 
 
 @dataclass
 class Shown:
-    """A public item at its public path, with the module that its text stands in."""
+    """What is shown of a file: an item, or a member of a block, which has an owner."""
 
     item: object
     module: Module
-    path: tuple
-    methods: list = field(default_factory=list)
-    # What it implements, its model among that.
-    blocks: list = field(default_factory=list)
+    owner: str = ""
+    block: object = None
+
+    @property
+    def title(self):
+        return f"{self.owner}::{self.item.name}" if self.owner else self.item.name
 
     @property
     def anchor(self):
-        return ".".join(self.path)
+        return f"{self.module.name}.{self.title.replace('::', '.')}"
 
     @property
     def href(self):
@@ -75,14 +75,21 @@ def expand_use(path):
             for name, path in expand_use(head + entry.strip()).items()}
 
 
+def head_of(block):
+    """The trait of an `impl` block, if it has one, and the name of its type."""
+    head = re.sub(r"^impl\s*(<.*?>(?= ))?\s*", "", " ".join(block.text.split()))
+    trait, _, target = head.rpartition(" for ")
+    name = re.match(r"&?(?:\w+::)*(\w+)", target)
+    return trait, name[1] if name else ""
+
+
 class Crate:
     """A crate as its line of `crates.txt` and its folder describe it."""
 
     def __init__(self, top, line):
         head, _, uses = line.partition(":")
-        self.top, self.name, self.uses = top, head.split()[0], uses.split()
+        self.name, self.uses = head.split()[0], uses.split()
         self.folder = top / "crates" / self.name
-        self.shown, self.again = {}, {}
         self.definitions, self.handed_on, self.abouts = [], {}, {}
         for file in sorted((self.folder / "specs").glob("*.antt")):
             if file.stem != "Lib":
@@ -90,23 +97,42 @@ class Crate:
                 self.abouts[file.stem] = about
                 self.definitions += found
                 self.handed_on |= handed
-        root = self.folder / "src" / "lib.rt"
-        self.is_library = root.exists()
-        self.root = self.module(root if self.is_library else root.with_name("main.rt"), (), True)
-        self.modules = list(self.root.all_below())
+        src = self.folder / "src"
+        self.is_library = (src / "lib.rt").exists()
+        self.modules = []
+        for file in sorted(src.rglob("*.rt")):
+            path = file.relative_to(src).with_suffix("").parts
+            name = str(file.relative_to(top))
+            path = () if path in (("lib",), ("main",)) else path
+            self.modules.append(Module(self.name, path, name, *read_source(name, file.read_text())))
+        self.modules.sort(key=lambda module: (module.path[:1] == ("laws",), module.path))
+        self.root = self.modules[0]
+        uses = [i.text for m in self.modules for i in m.items if i.kind == "use" and i.public]
+        self.handed_out = set(re.findall(r"\w+", " ".join(uses)))
+        self.shown = {module.name: list(self.shown_of(module)) for module in self.modules}
 
-    def module(self, file, path, public, parent=None):
-        """The module in a file, and those below it, but for tests."""
-        doc, items = read_source(str(file), file.read_text())
-        name = str(file.relative_to(self.top))
-        module = Module(self.name, path, name, doc, items, public, parent)
-        folder = file.parent if file.stem in ("lib", "main") else file.parent / file.stem
-        for item in items:
-            below = folder / f"{item.name}.rt"
-            if item.kind == "mod" and not item.is_for_tests and below.exists():
-                module.children[item.name] = self.module(
-                    below, (*path, item.name), public and item.public, module)
-        return module
+    def is_public(self, module):
+        """Whether the module of a file, and each above it, is public."""
+        paths = [module.path[:n] for n in range(1, len(module.path) + 1)]
+        public = {(*m.path, i.name) for m in self.modules for i in m.items
+                  if i.kind == "mod" and i.public and not i.is_for_tests}
+        return all(path in public for path in paths)
+
+    def shown_of(self, module):
+        """The public items of a file, and the methods and blocks of its public types."""
+        public = self.is_public(module)
+        for item in module.items:
+            if item.is_for_tests:
+                continue
+            if item.kind in SHOWN and item.public and (public or item.name in self.handed_out):
+                yield Shown(item, module)
+                members = item.members if item.kind == "trait" else ()
+                yield from (Shown(m, module, item.name, item) for m in members if m.kind == "fn")
+            elif item.kind == "impl":
+                trait, owner = head_of(item)
+                if trait:
+                    yield Shown(item, module)
+                yield from (Shown(m, module, owner, item) for m in item.members if m.public)
 
     def unproved(self):
         """The paragraph of its page that says what is not proved, with a list below it."""
@@ -126,54 +152,22 @@ class Project:
         self.crates = {crate.name: crate for crate in crates}
         self.definitions = {(d.crate, d.module, d.name): d for c in crates for d in c.definitions}
         self.handed_on = {name: of for c in crates for name, of in c.handed_on.items()}
-        # What a `pub use` leads to and no file of the crate has.
-        self.unfound = []
+        self.types, self.members = {}, {}
         for crate in crates:
-            for module in crate.modules:
-                if module.public:
-                    self.show(crate, module)
-        self.types = defaultdict(list)
+            for shown in [shown for each in crate.shown.values() for shown in each]:
+                if shown.owner:
+                    self.members.setdefault((crate.name, shown.title), shown)
+                elif shown.item.kind in TYPES:
+                    self.types.setdefault(shown.item.name, []).append(shown)
+        # A block stands only beside a public type.
         for crate in crates:
-            for shown in crate.shown.values():
-                if shown.item.kind in TYPES:
-                    self.types[shown.item.name].append(shown)
-        for crate in crates:
-            for module in crate.modules:
-                self.attach_impls(crate, module)
+            for name, each in crate.shown.items():
+                crate.shown[name] = [s for s in each if self.is_of_public_type(s)]
 
-    def show(self, crate, module):
-        """Takes up what is public in a public module, by itself or by `pub use`, and notes the
-        modules of other crates."""
-        for item in module.items:
-            if item.kind in SHOWN and item.public and not item.is_for_tests:
-                path = (*module.path, item.name)
-                crate.shown[path] = Shown(item, module, path)
-        for name, path in module.used("pub use ").items():
-            found = path[0] not in self.crates and self.item_at(crate, module, path)
-            if path[0] in self.crates:
-                crate.again.setdefault(module.path, []).append((name, path))
-            elif found:
-                crate.shown[(*module.path, name)] = Shown(*found, (*module.path, name))
-            elif not self.module_at(crate, module, path):
-                self.unfound.append(f"{module.file}: `pub use` of {'::'.join(path)}: no such item")
-
-    def item_at(self, crate, module, path):
-        """The item that a path leads to from a module, also by a `pub use` there, and its module."""
-        home = self.module_at(crate, module, path[:-1])
-        for item in home.items if home else ():
-            if item.kind in SHOWN and item.name == path[-1]:
-                return item, home
-        further = home and home.used("pub use ").get(path[-1])
-        return self.item_at(crate, home, further) if further else None
-
-    def module_at(self, crate, module, path):
-        """The module that a path leads to from another one of the crate."""
-        for step in path:
-            if step == "crate":
-                module = crate.root
-            elif module:
-                module = module.parent if step == "super" else module.children.get(step)
-        return module
+    def is_of_public_type(self, shown):
+        owner = head_of(shown.item)[1] if shown.item.kind == "impl" else shown.owner
+        found = self.type_named(shown.module, owner) if owner else None
+        return not owner or found and found.module.crate == shown.module.crate
 
     def type_named(self, module, name):
         """The public type that a name stands for in a module, where that is certain."""
@@ -182,35 +176,16 @@ class Project:
         path = module.used().get(name)
         if own or path is None:
             return own[0] if own else None
-        if path[0] in self.crates:
-            return self.crates[path[0]].shown.get(path[1:])
-        crate = self.crates.get(module.crate)
-        home = self.module_at(crate, module, path[:-1]) if crate else None
-        return next((s for s in found if home and
-                     (s.module is home or s.path == (*home.path, name))), None)
+        crate = path[0] if path[0] in self.crates else module.crate
+        found = [s for s in found if s.module.crate == crate and s.item.name == path[-1]]
+        named = [s for s in found if s.module.path[-1:] == path[-2:-1]]
+        return min(named or found, key=lambda s: len(s.module.path), default=None)
 
     def type_declared(self, taken):
         """The public type at a path of `declared`, as `declared.container.role.Role`."""
-        path, crate = tuple(taken.path.split(".")[1:-1]), self.crates.get(taken.crate)
-        return next((s for s in crate.shown.values() if s.item.name == taken.name
-                     and s.module.path == path), None) if crate else None
-
-    def attach_impls(self, crate, module):
-        """Gives each public type the methods and the traits of its `impl` blocks."""
-        for block in module.items:
-            if block.kind != "impl" or block.is_for_tests:
-                continue
-            head = re.sub(r"^impl\s*(<.*?>(?= ))?\s*", "", " ".join(block.text.split()))
-            trait, is_for, target = head.rpartition(" for ")
-            name = re.match(r"&?(?:\w+::)*(\w+)", target)
-            shown = self.type_named(module, name[1]) if name else None
-            if not shown or shown.module.crate != crate.name:
-                continue
-            if not is_for:
-                shown.methods += [(m, module, block) for m in block.members
-                                  if m.kind in ("fn", "const") and m.public]
-            else:
-                shown.blocks.append((block, module))
+        path = tuple(taken.path.split(".")[1:-1])
+        return next((s for s in self.types.get(taken.name, ())
+                     if (s.module.crate, s.module.path) == (taken.crate, path)), None)
 
     def origin(self, taken):
         """What a name stands for where the files that only hand it on are passed over."""
