@@ -1,0 +1,193 @@
+"""Draws scripts for `iox2-replay`, good ones and broken ones, and runs a program on them."""
+
+import os
+import random
+
+import machine
+import running
+from machine import LAST_U32, LAST_U64, ROLES, Result
+
+SECONDS_FOR_A_SCRIPT = 20
+
+# ---- Good scripts ----
+
+PARTS_OF_IDS = [0, 0, 1, 1, 2, 5, 9, 10, 255, 65536, 4294967294, LAST_U32]
+NUMBERS = [0, 1, 7, 2**32, 2**63, LAST_U64 - 1, LAST_U64]
+TOO_MANY = [machine.TOO_MANY_PLACES, 2**56, 2**59 + 1, 2**60, 2**63 - 1, 2**63, LAST_U64 - 1, LAST_U64]
+ALL_ROLES = [role for pair in ROLES.values() for role in pair]
+WORDS = [b"register", b"deregister", b"nodes", b"add", b"release", b"list", b"count", b"dead"]
+
+
+class Writer:
+    """Writes one good script line by line, and keeps a service beside it to name what is there."""
+
+    def __init__(self, dice):
+        self.dice = dice
+        pattern = dice.choice(list(ROLES))
+        self.roles = ROLES[pattern]
+        capacities = [self.capacity() for _ in range(3)]
+        number = dice.choice([dice.choice(NUMBERS), dice.getrandbits(64)])
+        line = b"service %s %d %d %d %d" % (pattern, number, *capacities)
+        self.lines = [line]
+        self.service = machine.new_service(line) if max(capacities) < machine.TOO_MANY_PLACES else None
+        self.nodes = [self.id(of_node=True) for _ in range(dice.randint(1, 6))]
+        self.ports = [self.id() for _ in range(dice.randint(1, 8))] + self.nodes[:1]
+        self.weights = [dice.choice([1, 2, 4, 8]) for _ in WORDS]
+        self.weights[WORDS.index(b"release")] *= 2
+        self.weights[WORDS.index(b"add")] *= 3
+        self.stays_open = dice.random() < 0.7
+        for _ in range(self.length()):
+            self.write(self.command())
+            if self.service and self.service.locked and dice.random() < 0.15:
+                break
+
+    def script(self):
+        return b"".join(line + b"\n" for line in self.lines)
+
+    def capacity(self):
+        if self.dice.random() < 0.004:
+            return self.dice.choice(TOO_MANY)
+        return self.dice.choice([0, 1, 1, 2, 2, 3, 3, 4, 4, 5, 5, 8, 8, 20, 100])
+
+    def length(self):
+        bounds = self.dice.choices([(0, 5), (5, 40), (40, 150), (300, 2500)], [100, 700, 195, 5])[0]
+        return self.dice.randint(*bounds)
+
+    def id(self, of_node=False):
+        while True:
+            parts = [self.dice.choice(PARTS_OF_IDS) for _ in range(4)]
+            if self.dice.random() < 0.1:
+                parts[self.dice.randrange(4)] = self.dice.getrandbits(32)
+            if not of_node or parts[0] or parts[3]:
+                return b"%d.%d.%d.%d" % tuple(parts)
+
+    def write(self, line):
+        self.lines.append(line)
+        if self.service:
+            self.service.step(line)
+
+    def command(self):
+        word, = self.dice.choices(WORDS, self.weights)
+        if word in (b"deregister", b"dead") and self.stays_open and self.may_lock() and self.dice.random() < 0.97:
+            word = b"register"
+        if word == b"nodes":
+            return word
+        return word + b" " + getattr(self, word.decode())()
+
+    def may_lock(self):
+        if not self.service:
+            return False
+        held = self.service.places[machine.Service.NODE].entries.values()
+        return len({entry.node for entry in held}) < 2
+
+    def register(self):
+        return self.node()
+
+    def deregister(self):
+        return self.earlier(of_node=True)
+
+    def add(self):
+        return b" ".join([self.role(), self.port(), self.node()])
+
+    def release(self):
+        return self.earlier(of_node=False)
+
+    def list(self):
+        return self.role()
+
+    count = list
+
+    def dead(self):
+        if self.dice.random() < 0.4:
+            return self.node()
+        skipped = [self.port() for _ in range(self.dice.choice([1, 1, 1, 2, 3, 8]))]
+        return b" ".join([self.node(), b"skip", *skipped])
+
+    def node(self):
+        return self.dice.choice(self.nodes) if self.dice.random() < 0.97 else self.id(of_node=True)
+
+    def port(self):
+        return self.dice.choice(self.ports) if self.dice.random() < 0.9 else self.id()
+
+    def role(self):
+        return self.dice.choice(self.roles if self.dice.random() < 0.93 else ALL_ROLES)
+
+    def earlier(self, of_node):
+        """The number of an earlier command: mostly of one that holds an entry of the wanted kind,
+        at times of any other."""
+        handles = self.service.handles if self.service else {}
+        commands = len(self.lines) - 1
+        others = [self.dice.randint(0, commands), commands, commands + 1, self.dice.choice(NUMBERS)]
+        held = [number for number, handle in handles.items() if self.is_held(handle, of_node)]
+        chosen = self.dice.choices([held or [*handles], [*handles], others], [7, 2, 1])[0]
+        return b"%d" % self.dice.choice(chosen or others)
+
+    def is_held(self, handle, of_node):
+        kind, slot, ticket = handle
+        return (kind == machine.Service.NODE) == of_node and self.service.places[kind].holds(slot, ticket)
+
+
+# ---- Broken scripts ----
+
+TELLING_BYTES = b" \n.0123456789\r\t\0\x0b-+aAeghikldrsx\x7f\x80\xc8\xff"
+
+
+def mutated(dice, script):
+    """`script` with one to three bytes replaced, put in, taken out or exchanged with the next; in a
+    third of all scripts only digits are replaced by digits, and a tenth is cut before any byte."""
+    if dice.random() < 0.1:
+        return script[: dice.randrange(len(script))]
+    digits_alone = dice.random() < 0.33
+    script = bytearray(script)
+    for _ in range(dice.randint(1, 3)):
+        length = len(script)
+        if digits_alone:
+            digit = dice.choice([place for place, byte in enumerate(script) if byte in b"0123456789"])
+            script[digit] = dice.choice(b"0123456789")
+            continue
+        place = dice.choice([dice.randrange(length), dice.randrange(min(length, 40)), length - 1 - dice.randrange(min(length, 20))])
+        byte = dice.choice([dice.choice(TELLING_BYTES), script[dice.randrange(length)], dice.randrange(256)])
+        kind = dice.randrange(4)
+        if kind == 0:
+            script[place] = byte
+        elif kind == 1:
+            script.insert(dice.choice([place, length]), byte)
+        elif kind == 2 and length > 1:
+            del script[place]
+        elif kind == 3:
+            script[place : place + 2] = script[place : place + 2][::-1]
+    return bytes(script)
+
+
+def drawn(seed):
+    """The script of a seed, and what a program shows for it. Good scripts have even seeds, broken
+    ones odd seeds."""
+    dice = random.Random(seed)
+    while True:
+        script = Writer(dice).script()
+        if seed % 2 == 1:
+            script = mutated(dice, script)
+        shown = machine.expected(script)
+        if shown is not None:
+            return script, shown
+
+
+# ---- The program under test ----
+
+class Program:
+    def __init__(self, path):
+        self.path = path
+        self.streams = [os.fdopen(os.memfd_create(name), "w+b", buffering=0) for name in ("script", "output", "errors")]
+
+    def shows(self, script, arguments=()):
+        stdin, stdout, stderr = self.streams
+        for stream in self.streams:
+            stream.seek(0)
+            stream.truncate()
+        stdin.write(script)
+        stdin.seek(0)
+        command = [self.path, *arguments]
+        status = running.run(command, stdin, stdout, stderr, SECONDS_FOR_A_SCRIPT).status
+        for stream in (stdout, stderr):
+            stream.seek(0)
+        return Result(status, stdout.read(), stderr.read())
