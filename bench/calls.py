@@ -1,7 +1,7 @@
 #!/usr/bin/env python3
 """Typed calls: `bench_calls` beside `plain_calls`, a program without proofs, and calls from C and
 Rust beside plain programs of the same calls, and from C beside those inside. Alone it prints these
-tables. A program takes lines of a call, the places of a service, a number of rounds and of calls in
+figures. A program takes lines of a call, the places of a service, a number of rounds and of calls in
 a round; a round sets up the same whatever the number of calls. So the instructions of a call are
 the difference of two runs that differ in that number alone."""
 
@@ -16,6 +16,7 @@ from typing import NamedTuple
 sys.dont_write_bytecode = True
 
 import measure
+from measure import difference, ratio
 
 HERE = Path(__file__).resolve().parent
 PLAIN = HERE / "plain_calls"
@@ -47,7 +48,7 @@ class Call(NamedTuple):
             scripts.append(script)
         made = self.rounds * (self.many - self.few)
         counted = ([measure.instructions(program, script) for script in scripts] for program in programs)
-        return [measure.difference(many, few, made) for few, many in counted]
+        return [difference(many, few, made) for few, many in counted]
 
 
 DEFAULT, LARGE, SIZES, NONE = "20 8 2", "500 250 250", "40 8 24", "0 0 0"
@@ -95,31 +96,18 @@ BESIDE_PLAIN_RUST = [
 KEPT = [Call("keep", f"1 {kept} 0", 1, 2, 4, 22.5) for kept in (1_000, 16_000)]
 
 
-def table(pair, by, rows, programs, work):
-    """Prints a row for each call, if there are programs, and gives what each came to and its mark."""
-    compared = {"Ratio": measure.ratio, "More": measure.difference}[by]
-    if programs:
-        print(f"\n| {pair} | Nodes, subscribers, publishers | Instructions a call | {by} | Mark |\n|---|---|---|---|---|", flush=True)
-    found = []
+def measure_calls(pair, compared, rows, programs, work, marks):
+    """Prints what each call takes in two programs, if there are such, beside its mark."""
+    print(f"\n{pair}, instructions a call")
     for call in rows:
         figures = call.instructions(programs, work) if programs else [None, None]
-        mark = measure.Mark(f"{pair}: {call.name} {call.places}", compared(*figures), call.mark)
-        if programs:
-            places = "" if call.places in (SIZES, NONE) else call.places.replace(" ", ", ")
-            cells = [call.name, places, measure.pair(",.0f", *figures), mark.of(), f"{mark.most:g}"]
-            print("| " + " | ".join(cells) + ", missed" * mark.is_missed() + " |", flush=True)
-        found.append(mark)
-    return found
+        marks.show(f"{call.name} {'' if call.places == NONE else call.places}".strip(), figures, call.mark, compared)
 
 
-def growth(programs, work):
-    """Prints what a death takes that keeps all of many ports, and gives its mark."""
-    few, many = (call.instructions(programs, work) if programs else [None, None] for call in KEPT)
-    mark = measure.Mark("From C: 16,000 ports kept, times 1,000", measure.ratio(many[0], few[0]), KEPT[0].mark)
-    if programs:
-        pairs = " and ".join(measure.pair(",.0f", *figures) for figures in (few, many))
-        print(f"\nA death that keeps 1,000 and 16,000 ports, from C / plain C++: {pairs}, growth {mark.of()}, at most {mark.most}{', missed' * mark.is_missed()}", flush=True)
-    return mark
+def measure_kept(programs, work, marks):
+    """Prints what a death takes that keeps all of many ports, beside that of few."""
+    few, many = (call.instructions(programs, work)[0] if programs else None for call in KEPT)
+    marks.show("a death that keeps 16,000 ports, beside one that keeps 1,000", [many, few], KEPT[0].mark, ratio)
 
 
 def run(*command, **more):
@@ -152,8 +140,8 @@ def built_for_rust():
     return [str(FFI / "rust" / "target" / "release" / name) for name in ("from_rust", "plain")]
 
 
-def tables():
-    """Prints a table for each pair of programs, and gives what each call came to and its mark."""
+def measure_all(marks):
+    """Prints what the calls of each pair of programs take, beside their marks."""
     inside, c, rust = built(), None, None
     with tempfile.TemporaryDirectory() as folder:
         work = Path(folder)
@@ -163,13 +151,15 @@ def tables():
             print(f"Calls from C and Rust are not measured: there is no {', no '.join(absent)}.")
         else:
             c, rust = built_for_c(work), built_for_rust()
-        found = table("Inside / plain", "Ratio", SINGLE, inside, work)
-        found += table("From C / plain C++", "Ratio", BESIDE_PLAIN_CPP, c, work)
-        found.append(growth(c, work))
-        found += table("From C / inside", "More", BEYOND_INSIDE, c and inside and [c[0], inside[0]], work)
-        found += table("From C / plain C++", "More", BEYOND_A_READ, c, work)
-        return found + table("From Rust / plain Rust", "Ratio", BESIDE_PLAIN_RUST, rust, work)
+        measure_calls("Inside / plain", ratio, SINGLE, inside, work, marks)
+        measure_calls("From C / plain C++", ratio, BESIDE_PLAIN_CPP, c, work, marks)
+        measure_kept(c, work, marks)
+        measure_calls("From C / inside", difference, BEYOND_INSIDE, c and inside and [c[0], inside[0]], work, marks)
+        measure_calls("From C / plain C++", difference, BEYOND_A_READ, c, work, marks)
+        measure_calls("From Rust / plain Rust", ratio, BESIDE_PLAIN_RUST, rust, work, marks)
 
 
 if __name__ == "__main__":
-    measure.print_summary(tables())
+    found = measure.Marks()
+    measure_all(found)
+    found.print_summary()

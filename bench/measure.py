@@ -7,24 +7,37 @@ import shutil
 import subprocess
 import sys
 import tempfile
-from typing import NamedTuple
 
 SECONDS = 300
 GNU_TIME = "/usr/bin/time"
 
 
-class Mark(NamedTuple):
-    """What a figure is, and the most that it may be."""
+class Marks:
+    """Figures that are printed beside the most that they may be, and which of them are more."""
 
-    name: str
-    figure: float
-    most: float
+    def __init__(self):
+        self.count, self.left_out, self.missed = 0, 0, []
 
-    def of(self):
-        return "-" if self.figure is None else f"{self.figure:,.2f}"
+    def show(self, name, figures, most, compared=None, form=",.0f"):
+        """Prints figures, as of the proved program and of the plain one, with what they come to
+        where they are compared, and the most that this, or else the first, may be."""
+        found = compared(*figures) if compared else figures[0]
+        words = [" / ".join("-" if figure is None else f"{figure:{form}}" for figure in figures)]
+        if compared and found is not None:
+            words.append(f"{compared.__name__} {found:,.2f}")
+        words.append(f"at most {most:,}")
+        self.count += 1
+        self.left_out += found is None
+        if found is not None and round(found, 2) > most:
+            self.missed.append(f"{name}: {found:,.2f}, mark {most:,}")
+            words.append("MISSED")
+        print(f"{name}: {', '.join(words)}", flush=True)
 
-    def is_missed(self):
-        return self.figure is not None and round(self.figure, 2) > self.most
+    def print_summary(self):
+        """Prints how many marks there are, and which are missed. Ends where nothing was measured."""
+        print(f"\nMarks: {self.count}, missed: {len(self.missed)}, not measured: {self.left_out}", *self.missed, sep="\n")
+        if self.left_out == self.count:
+            sys.exit("nothing was measured")
 
 
 def ratio(one, other):
@@ -34,22 +47,6 @@ def ratio(one, other):
 def difference(more, fewer, times=1):
     """By how much one figure is above another, for each time."""
     return None if more is None or fewer is None else (more - fewer) / times
-
-
-def pair(form, one, other, unit=""):
-    """Two figures as the tables have them."""
-    return "-" if one is None or other is None else f"{one:{form}} / {other:{form}}{unit}"
-
-
-def print_summary(found):
-    """Prints how many marks there are, and which are missed. Ends where nothing was measured."""
-    missed = [mark for mark in found if mark.is_missed()]
-    left_out = sum(mark.figure is None for mark in found)
-    print(f"\nMarks: {len(found)}, missed: {len(missed)}" + f", not measured: {left_out}" * (left_out > 0))
-    for mark in missed:
-        print(f"{mark.name}: {mark.of()}, mark {mark.most:,}")
-    if left_out == len(found):
-        sys.exit("nothing was measured")
 
 
 def missing():
