@@ -1,10 +1,9 @@
 """Draws scripts for `iox2-replay`, good ones and broken ones, and runs a program on them."""
 
-import os
 import random
+import subprocess
 
 import machine
-import running
 from machine import LAST_U32, LAST_U64, ROLES, Result
 
 SECONDS_FOR_A_SCRIPT = 20
@@ -174,20 +173,11 @@ def drawn(seed):
 
 # ---- The program under test ----
 
-class Program:
-    def __init__(self, path):
-        self.path = path
-        self.streams = [os.fdopen(os.memfd_create(name), "w+b", buffering=0) for name in ("script", "output", "errors")]
 
-    def shows(self, script, arguments=()):
-        stdin, stdout, stderr = self.streams
-        for stream in self.streams:
-            stream.seek(0)
-            stream.truncate()
-        stdin.write(script)
-        stdin.seek(0)
-        command = [self.path, *arguments]
-        status = running.run(command, stdin, stdout, stderr, SECONDS_FOR_A_SCRIPT).status
-        for stream in (stdout, stderr):
-            stream.seek(0)
-        return Result(status, stdout.read(), stderr.read())
+def shown_by(program, script, arguments=()):
+    """What a program shows for a script, or a status that none has where it takes too long."""
+    try:
+        ended = subprocess.run([program, *arguments], input=script, capture_output=True, timeout=SECONDS_FOR_A_SCRIPT)
+    except subprocess.TimeoutExpired:
+        return Result(None, b"", b"")
+    return Result(ended.returncode, ended.stdout, ended.stderr)
