@@ -1,7 +1,6 @@
 #!/usr/bin/env bash
 # Runs the callers' tests in C, C++, Rust and Python, those of C and C++ under sanitizers and
-# valgrind too, then the examples, random calls in all four languages, and what an installation
-# gives, as far as their tools are found.
+# valgrind too, then the examples, and what an installation gives, as far as their tools are found.
 # bindings/build.sh comes first. The last line is 'N passed, N failed'.
 set -uo pipefail
 cd "$(dirname "$0")"
@@ -336,13 +335,6 @@ if has cargo; then
     done
 fi
 
-# ---- Random calls ----
-
-if has cc && has c++ && has cargo && has python3; then
-    run "random calls are answered alike in four languages" \
-        env CARGO_TARGET_DIR="$work/rust" random/compare
-fi
-
 # ---- What an installation gives ----
 
 # Builds and runs first.c and first.cpp in a folder outside, with these flags, and compares.
@@ -396,11 +388,6 @@ installation() {
         run "find_package, in other directories" by_find_package "$work/debian"
         run "pkg-config, in other directories" by_pkg_config "$work/debian" lib/x86_64-linux-gnu
         rm -rf "$work/outside"/*
-    fi
-    if has gcc && has g++; then
-        run "plain flags, static" outside "-I$prefix/include" "$prefix/lib/libiox2sd.a"
-        run "plain flags, shared" outside "-I$prefix/include" "-L$prefix/lib" -liox2sd \
-            "-Wl,-rpath,$prefix/lib"
     fi
     installed_at "$prefix" ""
     mv "$prefix" "$work/moved"
