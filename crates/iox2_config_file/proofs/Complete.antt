@@ -1,5 +1,5 @@
 -- The table of settings has a row for each field: settings are made of their rows.
-use Rattle.std.proofs.Common.{◌≡◌, ◌∙◌, ap, refl, sym, ℕ, Bool, true, List, [], Option, Some, None}
+use Rattle.std.proofs.Common.{arith, ◌≡◌, ◌∙◌, ap, refl, sym, ℕ, Bool, true, List, [], Option, Some, None}
 use Rattle.std.specs.Duration.{as_nanos}
 use Rattle.std.specs.Prelude.{option_map}
 use Rattle.std.specs.declared.time.Duration.{Duration}
@@ -136,21 +136,7 @@ event_from deadline xs = record {
 event_back : (d : Option Duration) (s : Event)
     → event_from d (event_settings s) ≡ record s { deadline = d }
 unfolding event_from number_of
-event_back d s =
-    ap (λ x. record s {
-      deadline = d;
-      notifier_created_event = x;
-      notifier_dropped_event =
-          optional_number_of (Some (option_value number s.notifier_dropped_event));
-      notifier_dead_event = optional_number_of (Some (option_value number s.notifier_dead_event));
-    }) (optional_number_back s.notifier_created_event)
-    ∙ ap (λ x. record s {
-      deadline = d;
-      notifier_dropped_event = x;
-      notifier_dead_event = optional_number_of (Some (option_value number s.notifier_dead_event));
-    }) (optional_number_back s.notifier_dropped_event)
-    ∙ ap (λ x. record s { deadline = d; notifier_dead_event = x })
-    (optional_number_back s.notifier_dead_event)
+event_back d s = grind (arith, optional_number_of, optional_number_back)
 
 -- settings are made of their rows
 request_response_from : List Setting → RequestResonse

@@ -12,11 +12,8 @@ IsFar n row = (j : ℕ) → (j ≤ row j + n) × (n ≤ row j + j)
 next_is_far : (c before : ℕ → ℕ) (n : ℕ) → IsFar n before
     → IsFar (suc n) (next_row c before (suc n))
 unfolding next_row
-next_is_far c before n far zero = (omega arith, omega arith)
-next_is_far c before n far (suc j) =
-    let step = next_is_far c before n far j in
-    let one = far j in
-    let other = far (suc j) in (omega (arith, clamps), omega (arith, clamps))
+next_is_far c before n far zero = grind arith
+next_is_far c before n far (suc j) = grind (arith, clamps, next_is_far c before n far j)
 
 rows_are_far : {T : Type 0} (eq : T → T → Bool) (xs ys : List T) (n : ℕ) (before : ℕ → ℕ)
     → IsFar n before → IsFar (n + length xs) (rows eq xs ys n before)
@@ -30,6 +27,4 @@ rows_are_far eq (x ∷ xs) ys n before far j =
 pub is_far : (a b : List ℕ) → (length (chars a) ≤ edit_distance a b + length (chars b))
     × (length (chars b) ≤ edit_distance a b + length (chars a))
 unfolding edit_distance
-is_far a b =
-    let cell = rows_are_far nat_eq (chars a) (chars b) 0 (λ j. j)
-    (λ j. (omega arith, omega arith)) (length (chars b)) in (omega arith, omega arith)
+is_far a b = grind (arith, rows_are_far, nat_eq)

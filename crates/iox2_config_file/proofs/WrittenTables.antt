@@ -86,10 +86,9 @@ table_block default config s table written (head, entries, whole, headed, listed
 tables_block : (default config : Config) (ss : List Section) (tables : List ℕ)
     → AllWritten default config → IsTablesText default config ss tables
     → Block tables (flat_map (table_lines config) ss)
-tables_block default config [] tables written h = rw h block_none
+tables_block default config [] tables written h = grind (arith, block_none)
 tables_block default config (s ∷ ss) tables written (table, more, whole, this, rest) =
-    let below = tables_block default config ss more written rest in
-    grind (arith, block_append, table_block)
+    grind (arith, block_append, table_block, tables_block default config ss more written rest)
 
 title : List ℕ
 title = codes " The settings of the middleware. A key that is left out has its default."
