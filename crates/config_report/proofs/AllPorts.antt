@@ -19,10 +19,7 @@ is_sum limits c g =
 -- the limits of all ports
 sum-all : (ports : ℕ) (limits : List ℕ) → sum (all_limits ports limits) ≡ ports * sum limits
 sum-all zero limits = grind arith
-sum-all (suc ports) limits =
-    let more = sum-all ports limits in
-    let first = sum_by-append (λ x. x) limits (all_limits ports limits) in
-    grind (arith, first, more)
+sum-all (suc ports) limits = grind (arith, sum_by-append, sum-all ports limits)
 
 pub all_of_some : (limits : List ℕ) (c ports : ℕ) (all : Option ℕ) → IsGreatest limits c
     → SomeIff all (c * ports < 2 ^ 64) (c * ports) → TellsGreatest (all_limits ports limits) all

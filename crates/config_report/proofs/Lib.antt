@@ -1,3 +1,4 @@
 mod AllPorts
 pub mod Lines
+pub mod Pairs
 mod Printable

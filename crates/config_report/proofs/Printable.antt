@@ -1,23 +1,18 @@
 -- All that is found stands in one line each.
-use Rattle.std.proofs.Common.{◌≡◌, ◌∙◌, ◌++◌, ◌&&◌, if◌then◌else◌, Bool, true, false, List, [], ◌∷◌, ℕ, Option, Some, None, option_map, map, codes, take, ap, refl, inl, inr}
+use Rattle.std.proofs.Common.{rules, arith, ◌≡◌, ◌∙◌, ◌++◌, ◌&&◌, if◌then◌else◌, Bool, true, false, List, [], ◌∷◌, ℕ, Option, Some, None, option_map, map, ap, refl, inl, inr}
 use Rattle.std.proofs.lemmas.List.Elements.{All-cons, All-nil}
 use Rattle.std.proofs.lemmas.List.Sorted.{All-permutation}
-use Rattle.iox2_config_file.specs.Faults.{reason_text}
-use Rattle.iox2_config_file.specs.Rows.{prefix_of}
-use Rattle.config_report.specs.Contradictions.{Contradiction, Side, beside_text, contradiction_note, contradictions_in, is_later, placed_note, side_note, side_position}
-use Rattle.config_report.specs.Findings.{Checks, notes_in, topics_in}
+use Rattle.config_report.specs.Contradictions.{Contradiction, Side, contradiction_note, placed_note, side_note}
+use Rattle.config_report.specs.Findings.{Checks}
 use Rattle.config_report.specs.InLine.{AreInLine, is_in_line, key_in_line}
 use Rattle.config_report.specs.Lines.{has_no_control, in_line}
-use Rattle.config_report.specs.Notes.{Note, Topic, fault, unknown, meant_text, note, note_in, topic_note, topic_position, finding_view}
+use Rattle.config_report.specs.Notes.{Note, Topic, fault, unknown, note, note_in, topic_note, finding_view}
 use Rattle.config_report.specs.Unread.{IsNoFile, error_behind}
 use Rattle.config_report.specs.declared.contradiction.Effect.{Effect}
 use Rattle.config_report.specs.declared.finding.Finding.{Finding}
 use Rattle.config_report.specs.declared.finding.Findings.{Findings}
 use Rattle.config_report.specs.declared.finding.Severity.{Severity}
-use Rattle.config_report.specs.declared.finding.Severity.TheVariants.{Error, Warning}
-use Rattle.toml_positions.specs.Position.{position_after}
 use Rattle.toml_positions.specs.declared.position.Position.{Position}
-use Rattle.toml_writer.specs.Text.{key_text}
 
 choose : (b : Bool) (x y : List ℕ) → (b ≡ true → has_no_control x ≡ true)
     → has_no_control y ≡ true → has_no_control (if b then x else y) ≡ true
@@ -25,8 +20,7 @@ choose true x y f g = f refl
 choose false x y f g = g
 
 line_of : (text : List ℕ) → has_no_control (in_line text) ≡ true
-line_of text =
-    choose (has_no_control text) text (codes "a text with control characters") (λ e. e) refl
+line_of text = grind (arith, choose)
 
 key_of : (key : Option (List ℕ)) → key_in_line (option_map in_line key) ≡ true
 key_of None = refl
@@ -40,15 +34,12 @@ note_of : (at : Option Position) (severity : Severity) (key : Option (List ℕ))
 note_of at severity key words = both _ _ (key_of key) (line_of words)
 
 topic_of : (at : Option Position) (topic : Topic) → is_in_line (topic_note at topic) ≡ true
-topic_of at (fault (s, key, reason)) =
-    note_of at Error (Some (prefix_of s ++ key)) (reason_text reason)
-topic_of at (unknown (s, key, meant)) =
-    note_of at Warning (Some (prefix_of s ++ key_text key)) (meant_text meant)
+topic_of at (fault (s, key, reason)) = grind (arith, note_of)
+topic_of at (unknown (s, key, meant)) = grind (arith, note_of)
 
 side_of : (at : Option Position) (one : Side) (other : Option Side) (effect : Effect)
     → is_in_line (side_note at one other effect) ≡ true
-side_of at one other effect =
-    note_of at Warning (Some (prefix_of one.0 ++ one.1)) (beside_text one other effect)
+side_of at one other effect = grind (arith, note_of)
 
 choose_note : (b : Bool) (m n : Note) → is_in_line m ≡ true → is_in_line n ≡ true
     → is_in_line (if b then m else n) ≡ true
@@ -57,13 +48,8 @@ choose_note false m n p q = q
 
 placed_of : (bytes : List ℕ) (one : Side) (other : Option Side) (effect : Effect)
     → is_in_line (placed_note bytes one other effect) ≡ true
-placed_of bytes one None effect = side_of (side_position bytes one) one None effect
-placed_of bytes one (Some other) effect =
-    let p = side_position bytes one in
-    let q = side_position bytes other in
-    choose_note (is_later p q) (side_note q other (Some one) effect)
-    (side_note p one (Some other) effect) (side_of q other (Some one) effect)
-    (side_of p one (Some other) effect)
+placed_of bytes one None effect = grind (arith, side_of)
+placed_of bytes one (Some other) effect = grind (arith, choose_note, side_of)
 
 abbrev Lined : Finding → Type 0
 Lined f = is_in_line (finding_view f) ≡ true
@@ -76,14 +62,12 @@ LinedNotes (n ∷ ns) = (is_in_line n ≡ true) × LinedNotes ns
 contradictions_lined : (bytes : List ℕ) (cs : List Contradiction)
     → LinedNotes (map (contradiction_note bytes) cs)
 contradictions_lined bytes [] = tt
-contradictions_lined bytes (c ∷ cs) =
-    (placed_of bytes c.one c.other c.effect, contradictions_lined bytes cs)
+contradictions_lined bytes (c ∷ cs) = grind (arith, placed_of, contradictions_lined bytes cs)
 
 topics_lined : (bytes : List ℕ) (ts : List Topic) (more : List Note) → LinedNotes more
     → LinedNotes (map (note_in bytes) ts ++ more)
-topics_lined bytes [] more h = h
-topics_lined bytes (t ∷ ts) more h =
-    (topic_of (topic_position bytes t) t, topics_lined bytes ts more h)
+topics_lined bytes [] more h = grind arith
+topics_lined bytes (t ∷ ts) more h = grind (arith, topic_of, topics_lined bytes ts more h)
 
 all_of : (fs : List Finding) (ns : List Note) → LinedNotes ns → map finding_view fs ≡ ns
     → AreInLine fs
@@ -101,26 +85,15 @@ one_of fs n h e = all_of fs (n ∷ []) (h, tt) e
 -- what is said of bytes that are no file of settings
 error_of : (bytes : List ℕ) (said : Note) (n : ℕ) (words : List ℕ)
     → said ≡ error_behind n bytes words → is_in_line said ≡ true
-error_of bytes said n words is =
-    ap (λ m. is_in_line m) is
-    ∙ note_of (Some (position_after (take n bytes))) Error None words
+error_of bytes said n words is = grind (arith, note_of)
 
 no_file_of : (bytes : List ℕ) (said : Note) → IsNoFile bytes said → is_in_line said ≡ true
-no_file_of bytes said (inl (n, refuted, valid, is)) =
-    error_of bytes said n (codes "the file is no UTF-8") is
-no_file_of bytes said (inr (inl (n, utf8, deep, is))) =
-    error_of bytes said n (codes "tables and arrays are more than 32 deep in one another") is
-no_file_of bytes said (inr (inr (n, words, within, text, unparsed, is))) =
-    error_of bytes said n words is
+no_file_of bytes said (inl (n, refuted, valid, is)) = grind (arith, error_of)
+no_file_of bytes said (inr (inl (n, utf8, deep, is))) = grind (arith, error_of)
+no_file_of bytes said (inr (inr (n, words, within, text, unparsed, is))) = grind (arith, error_of)
 
 pub checks_in_line : (bytes : List ℕ) (found : Findings) → Checks bytes found
     → AreInLine found.list.items
-checks_in_line bytes found (inl h) =
-    one_of found.list.items h.said (no_file_of bytes h.said h.no_file) h.list
+checks_in_line bytes found (inl h) = search (rules, one_of, no_file_of)
 checks_in_line bytes found (inr h) =
-    let (fs, same, order) = h.list in
-    All-permutation Lined fs found.list.items order.same
-    (all_of fs (notes_in bytes h.default h.file found.config)
-    (topics_lined bytes (topics_in h.default h.file)
-    (map (contradiction_note bytes) (contradictions_in found.config))
-    (contradictions_lined bytes (contradictions_in found.config))) same)
+    search (rules, All-permutation, all_of, topics_lined, contradictions_lined)

@@ -4,6 +4,7 @@ pub mod InLine
 pub mod Limits
 pub mod Lines
 pub mod Notes
+pub mod Pairs
 pub mod Positions
 pub mod Report
 pub mod Subjects

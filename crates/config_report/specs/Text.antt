@@ -9,12 +9,13 @@ use Rattle.iox2_config.specs.declared.config.service.Service.{Service}
 use Rattle.iox2_config_file.specs.declared.section.Section.{Section}
 use Rattle.iox2_config_file.specs.Read.{sections}
 use Rattle.iox2_config_file.specs.Rows.{prefix_of}
-use Rattle.iox2_config_file.specs.Settings.{Setting, settings_in}
+use Rattle.iox2_config_file.specs.Settings.{Setting}
 use Rattle.iox2_config_file.specs.Values.{SettingValue}
 use Rattle.iox2_config_file.specs.Write.{value_text}
 use Rattle.iox2_static.specs.Chunks.{TellsGreatest}
 use Rattle.iox2_texts.specs.Path.{join}
 use Rattle.config_report.specs.declared.files.FileKind.{FileKind}
+use Rattle.config_report.specs.Pairs.{TablesGive}
 use Rattle.config_report.specs.Limits.{all_limits, sample_limits_of, request_limits_of, response_limits_of}
 
 -- the line of a setting whose value is its default: its path and its value
@@ -30,24 +31,9 @@ marked_line s key value default =
 
 -- the line of a setting: it has a mark exactly where its value differs from the default
 abbrev pub IsSettingLine : Section → Setting → Setting → List ℕ → Type 0
-IsSettingLine s default x line =
+IsSettingLine s x default line =
     ((x.value ≡ default.value) × (line ≡ usual_line s x.key x.value))
     ⊎ ((x.value ≢ default.value) × (line ≡ marked_line s x.key x.value default.value))
-
--- a line for each of some settings, in their order
-abbrev pub AreSettingLines : Section → List Setting → List Setting → List ℕ → Type 0
-AreSettingLines s (default ∷ defaults) (x ∷ xs) lines =
-    (line : List ℕ) × (more : List ℕ) × (lines ≡ line ++ more)
-    × IsSettingLine s default x line × AreSettingLines s defaults xs more
-AreSettingLines s _ _ lines = lines ≡ []
-
--- the lines of all settings of some tables, in the order of the tables
-abbrev pub AreTableLines : Config → Config → List Section → List ℕ → Type 0
-AreTableLines default config [] lines = lines ≡ []
-AreTableLines default config (s ∷ ss) lines =
-    (table : List ℕ) × (more : List ℕ) × (lines ≡ table ++ more)
-    × AreSettingLines s (settings_in s default) (settings_in s config) table
-    × AreTableLines default config ss more
 
 -- a name, filled with spaces to 22 characters
 abbrev pub padded_name : List ℕ → List ℕ
@@ -148,7 +134,7 @@ abbrev pub IsSettingsText : Config → Config → List ℕ → Type 0
 IsSettingsText default config text =
     (lines : List ℕ)
     × (text ≡ codes "settings, with ! where they differ from the defaults\n" ++ lines)
-    × AreTableLines default config sections lines
+    × TablesGive IsSettingLine config default sections lines
 
 -- all settings, and the directories, the files and the chunks that follow
 abbrev pub IsReportOver : Config → Config → List ℕ → Type 0

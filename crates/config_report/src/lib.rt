@@ -32,5 +32,6 @@ pub use report::{
     FileConfig, Report, ReportError, default_file, read_file, report_file, settings_text,
 };
 pub use subject::Subject;
+pub use text::is_same;
 pub use toml_positions::Position;
 pub use unread::{Unread, contents_of, text_of};

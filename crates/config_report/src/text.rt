@@ -1,10 +1,10 @@
 //! All settings, and what follows from them, as text.
-ghost use Rattle.std.specs.Prelude.{◌≡◌, ◌≢◌, ◌++◌, ◌↔◌, ℕ, List, IsTrue, OnOk, string_bytes};
-ghost use Rattle.iox2_config_file.specs.Settings.{Setting, settings_in};
+ghost use Rattle.std.specs.Prelude.{◌≡◌, ◌++◌, ◌↔◌, ℕ, List, IsTrue, OnOk, string_bytes};
+ghost use Rattle.iox2_config_file.specs.Settings.{settings_in};
 ghost use Rattle.iox2_config_file.specs.Write.{value_view};
-ghost use Rattle.config_report.specs.Text.{IsSettingLine, AreSettingLines, AreTableLines};
+ghost use Rattle.config_report.specs.Pairs.{Adds, SettingsGive, TablesGive};
+ghost use Rattle.config_report.specs.Text.{IsSettingLine, IsSettingsText, IsReportOver};
 ghost use Rattle.config_report.specs.Text.{usual_line, marked_line};
-ghost use Rattle.config_report.specs.Text.{IsSettingsText, IsReportOver};
 ghost use Rattle.std.specs.Duration.{as_nanos};
 ghost use Rattle.iox2_config_file.specs.Values.{duration};
 
@@ -53,7 +53,7 @@ fn write_tables(
 ) -> Result<(), AllocError>
     ensures { OnOk result ((lines : List ℕ)
         × (string_bytes out.new ≡ string_bytes out.old ++ lines)
-        × AreTableLines default.now config.now sections.now lines) }
+        × TablesGive IsSettingLine config.now default.now sections.now lines) }
 {
     for section in sections {
         write_table(out, *section, config, default)?;
@@ -70,8 +70,8 @@ fn write_table(
 ) -> Result<(), AllocError>
     ensures { OnOk result ((lines : List ℕ)
         × (string_bytes out.new ≡ string_bytes out.old ++ lines)
-        × AreSettingLines section (settings_in section default.now)
-        (settings_in section config.now) lines) }
+        × SettingsGive (IsSettingLine section) (settings_in section config.now)
+        (settings_in section default.now) lines) }
 {
     let rows = rows(section);
     for index in 0..rows.len() {
@@ -94,11 +94,9 @@ fn write_setting(
     value: SettingValue<'_>,
     usual: SettingValue<'_>,
 ) -> Result<(), AllocError>
-    ensures { OnOk result ((x : Setting) (default : Setting)
-        → x.key ≡ row.now.key.now → x.value ≡ value_view value.entry
-        → default.value ≡ value_view usual.entry
-        → (line : List ℕ) × (string_bytes out.new ≡ string_bytes out.old ++ line)
-        × IsSettingLine section default x line) }
+    ensures { OnOk result (Adds (IsSettingLine section) row.now.key.now
+        (value_view value.entry) (value_view usual.entry)
+        (string_bytes out.old) (string_bytes out.new)) }
 {
     if is_same(value, usual) {
         write_usual(out, section, row.key, value)
@@ -139,7 +137,7 @@ fn write_marked(
 }
 
 /// Whether two settings have one value.
-fn is_same(value: SettingValue<'_>, usual: SettingValue<'_>) -> bool
+pub fn is_same(value: SettingValue<'_>, usual: SettingValue<'_>) -> bool
     ensures { IsTrue result ↔ (value_view value.entry ≡ value_view usual.entry) }
 {
     match value {

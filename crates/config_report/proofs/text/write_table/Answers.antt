@@ -1,16 +1,17 @@
 use Rattle.std.proofs.Common.{sym}
 use Rattle.std.proofs.lemmas.Option.{slice_get-get_or}
-use Rattle.config_report.proofs.Lines.{setting_next, ends_past, ends_at_rows}
+use Rattle.config_report.proofs.Pairs.{setting_next, ends_past, ends_at_rows}
+use Rattle.config_report.specs.Text.{IsSettingLine}
 use Rattle.config_report.proofs.text.write_table.Goals as goal
 
 pub loop-index-preserved : goal.loop-index-preserved
 loop-index-preserved c =
     let (done, was, follows) = c.loop-index.invariant in
     let rows = c.rows-rows.result.now in
-    setting_next c.args.section rows _ _ _ c.loop-index.index _ _ _ _ _ _ done
+    setting_next (IsSettingLine c.args.section) rows _ _ _ c.loop-index.index _ _ _ _ _ _ done
     (c.rows-rows.ensures.keys c.args.config.now)
     (slice_get-get_or rows c.loop-index.index _ c.loop-index-test.true)
-    (sym c.in-Some-value_at.ensures) (sym c.in-Some.ensures) c.in_ok-write_setting.ensures
+    (sym c.in-Some.ensures) (sym c.in-Some-value_at.ensures) c.in_ok-write_setting.ensures
     was follows
 
 pub returns-in_default : goal.returns-in_default
@@ -18,7 +19,8 @@ returns-in_default c =
     let (done, was, follows) = c.loop-index.invariant in (
       done,
       was,
-      ends_past c.args.section _ _ c.loop-index.index done follows (sym c.in_default.ensures),
+      ends_past (IsSettingLine c.args.section) _ _ c.loop-index.index done follows
+          (sym c.in_default.ensures),
     )
 
 pub returns : goal.returns
@@ -26,6 +28,6 @@ returns c =
     let (done, was, follows) = c.loop-index.invariant in (
       done,
       was,
-      ends_at_rows c.args.section c.rows-rows.result.now _ _ _ c.loop-index.index done
-          (c.rows-rows.ensures.keys c.args.config.now) c.loop-index-test.false follows,
+      ends_at_rows (IsSettingLine c.args.section) c.rows-rows.result.now _ _ _ c.loop-index.index
+          done (c.rows-rows.ensures.keys c.args.config.now) c.loop-index-test.false follows,
     )
