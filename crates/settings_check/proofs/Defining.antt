@@ -1,5 +1,5 @@
 -- The keys and the tables of the schema, one after the other.
-use Rattle.std.proofs.Common.{◌≡◌, ℕ, ◌+◌, ◌≤◌, ◌<◌, true, false, Bool, List, [], ◌∷◌, ◌++◌, length, map, drop, get_or, refl, sym, ap, ◌∙◌, subst, append_assoc, append-nil, drop_of_length-le}
+use Rattle.std.proofs.Common.{arith, ◌≡◌, ℕ, ◌+◌, ◌≤◌, ◌<◌, false, Bool, List, [], ◌++◌, length, drop, get_or, refl, sym, ap, ◌∙◌, subst, append_assoc, append-nil, drop_of_length-le}
 use Rattle.iox2_config_file.specs.declared.section.Row.{Row}
 use Rattle.iox2_config_file.specs.declared.section.Section.{Section}
 use Rattle.settings_check.specs.Schema.{comma_if, properties, property, definition_of, HasDefinition, AreDefinitions}
@@ -12,20 +12,13 @@ pub property_next : (s : Section) (rows : List Row) (i : ℕ) (d : Row) (is_firs
     → new ≡ out ++ (comma_if is_first ++ property s (get_or rows i d))
     → new ++ properties s false (drop (i + 1) rows) ≡ whole
 property_next s rows i d is_first out new whole lt before wrote =
-    let row = get_or rows i d in
-    let more = properties s false (drop (i + 1) rows) in
-    ap (λ l. l ++ more) wrote
-    ∙ append_assoc out (comma_if is_first ++ property s row) more
-    ∙ ap (λ l. out ++ l) (append_assoc (comma_if is_first) (property s row) more)
-    ∙ ap (λ l. out ++ properties s is_first l) (sym (split_at rows i d lt)) ∙ before
+    grind (arith, append_assoc, split_at)
 
 -- past the last key all are written
 pub properties_end : (s : Section) (rows : List Row) (i : ℕ) (is_first : Bool)
     (out whole : List ℕ) → length rows ≤ i
     → out ++ properties s is_first (drop i rows) ≡ whole → out ≡ whole
-properties_end s rows i is_first out whole all is =
-    let ended : out ++ [] ≡ whole = rw (drop_of_length-le rows all) at is in
-    sym (append-nil out) ∙ ended
+properties_end s rows i is_first out whole all is = grind (arith, drop_of_length-le, append-nil)
 
 -- the tables from one on follow those before it
 abbrev pub DefinitionsFollow : List Section → ℕ → List ℕ → Type 0

@@ -1,5 +1,5 @@
 -- Texts without control characters, one character after the other.
-use Rattle.std.proofs.Common.{◌≡◌, ℕ, List, [], ◌∷◌, ◌++◌, length, arith, IsUtf8, chars, encode_utf8, sym, ap, ◌∙◌, append_assoc, append-nil}
+use Rattle.std.proofs.Common.{◌≡◌, ℕ, List, [], ◌∷◌, ◌++◌, length, arith, IsUtf8, chars, encode_utf8, append_assoc, append-nil}
 use Rattle.std.specs.Prelude.{flat_map}
 use Rattle.std.proofs.lemmas.Str.{chars-nil, chars_past_char}
 use Rattle.settings_check.specs.Printable.{printable, printable_char}
@@ -9,10 +9,7 @@ pub printed_next : (text rest : List ℕ) (c : ℕ) (out new whole : List ℕ) �
     → text ≡ encode_utf8 c ++ rest → out ++ flat_map printable_char (chars text) ≡ whole
     → new ≡ out ++ printable_char c → new ++ flat_map printable_char (chars rest) ≡ whole
 printed_next text rest c out new whole utf8 parts before wrote =
-    let more = flat_map printable_char (chars rest) in
-    ap (λ l. l ++ more) wrote ∙ append_assoc out (printable_char c) more
-    ∙ ap (λ l. out ++ flat_map printable_char l) (sym (chars_past_char text rest c utf8 parts))
-    ∙ before
+    grind (arith, chars, append_assoc, chars_past_char)
 
 -- an empty text has no characters
 pub chars_end : (text : List ℕ) → length text ≡ 0 → chars text ≡ []
@@ -24,7 +21,4 @@ pub printed_end : (rest first text : List ℕ) (out before : List ℕ)
     → out ++ flat_map printable_char (chars rest)
     ≡ before ++ flat_map printable_char (chars first)
     → length rest ≡ 0 → first ≡ text → out ≡ before ++ printable text
-printed_end rest first text out before same none all =
-    sym (append-nil out)
-    ∙ ap (λ l. out ++ flat_map printable_char l) (sym (chars_end rest none)) ∙ same
-    ∙ ap (λ t. before ++ flat_map printable_char (chars t)) all
+printed_end rest first text out before same none all = grind (arith, append-nil, chars_end, chars)

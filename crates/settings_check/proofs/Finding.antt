@@ -1,5 +1,5 @@
 -- What is found in files, one after the other.
-use Rattle.std.proofs.Common.{◌≡◌, ℕ, ◌+◌, ◌≤◌, ◌<◌, List, [], ◌∷◌, ◌++◌, length, map, drop, get_or, refl, sym, ap, ◌∙◌, subst, append_assoc, append-nil, Result, drop_of_length-le, string_bytes}
+use Rattle.std.proofs.Common.{arith, ◌≡◌, ℕ, ◌+◌, ◌≤◌, ◌<◌, List, ◌∷◌, length, drop, get_or, refl, sym, ap, ◌∙◌, subst, append_assoc, append-nil, Result, drop_of_length-le, string_bytes}
 use Rattle.std.specs.Prelude.{String}
 use Rattle.std.specs.declared.alloc.Global.{Global}
 use Rattle.settings_check.specs.Found.{Said, Seen, nothing_seen, both_seen, AddsFile, IsFound, AreFound}
@@ -9,12 +9,7 @@ use Rattle.settings_check.specs.declared.files.FileError.{FileError}
 use Rattle.settings_check.proofs.Lists.{split_at}
 
 pub both_assoc : (a b c : Seen) → both_seen (both_seen a b) c ≡ both_seen a (both_seen b c)
-both_assoc a b c =
-    rw (
-      append_assoc a.said b.said c.said,
-      append_assoc a.unread b.unread c.unread,
-      append_assoc a.configs b.configs c.configs,
-    ) refl
+both_assoc a b c = grind (arith, append_assoc)
 
 pub both_nothing : (a : Seen) → both_seen a nothing_seen ≡ a
 both_nothing a = rw (append-nil a.said, append-nil a.unread, append-nil a.configs) refl
@@ -62,6 +57,4 @@ seen said unread configs = record { said = said; unread = unread; configs = conf
 -- what has the same parts is the same
 pub same_parts : (a b : Seen) → a.said ≡ b.said → a.unread ≡ b.unread → a.configs ≡ b.configs
     → a ≡ b
-same_parts a b p q r =
-    ap (λ s. seen s a.unread a.configs) p ∙ ap (λ u. seen b.said u a.configs) q
-    ∙ ap (λ x. seen b.said b.unread x) r
+same_parts a b p q r = grind arith

@@ -1,6 +1,5 @@
 pub mod Comparing
 pub mod Defining
-pub mod Differing
 pub mod Escaping
 pub mod Finding
 pub mod Lists

@@ -1,9 +1,9 @@
 -- What words say, one after the other.
-use Rattle.std.proofs.Common.{◌≡◌, ℕ, true, false, List, [], ◌∷◌, ◌++◌, Option, Some, None, Result, Ok, Err, refl, sym, ap, ◌∙◌, subst, append_assoc, append-nil, string_bytes, arith, length-append}
-use Rattle.std.specs.Prelude.{String, IsSome, ◌↔◌, ◌<◌, option_map, option_to_list, map, drop, length}
+use Rattle.std.proofs.Common.{◌≡◌, ℕ, true, false, List, [], ◌∷◌, ◌++◌, Option, Some, None, Result, Ok, Err, refl, sym, ap, append_assoc, append-nil, string_bytes, arith}
+use Rattle.std.specs.Prelude.{String, IsSome, ◌↔◌, ◌<◌, option_map, option_to_list, drop, length}
 use Rattle.std.proofs.lemmas.List.{map-append}
 use Rattle.std.specs.declared.alloc.Global.{Global}
-use Rattle.settings_check.specs.Words.{names_file, said, after_files, chosen_with, none_chosen, texts_of, RequestsIn, RequestsWith, IsRequest, IsNoRequest}
+use Rattle.settings_check.specs.Words.{names_file, said, after_files, chosen_with, none_chosen, texts_of, RequestsIn, RequestsWith}
 use Rattle.settings_check.specs.declared.arguments.Chosen.{Chosen}
 use Rattle.settings_check.specs.declared.arguments.Request.{Request}
 use Rattle.settings_check.specs.declared.arguments.RequestError.{RequestError}
@@ -34,13 +34,7 @@ pub taken : (o next : Chosen) (w : String Global) (old new : List (String Global
     (ws : List (List ℕ)) → names_file o (string_bytes w) ≡ true → next ≡ o → new ≡ old ++ w ∷ []
     → after_files (texts_of old) (said o (string_bytes w ∷ ws))
     ≡ after_files (texts_of new) (said next ws)
-taken o next w old new ws h same now =
-    let more : texts_of new ≡ texts_of old ++ string_bytes w ∷ [] =
-    ap texts_of now ∙ map-append (λ t. string_bytes t) old (w ∷ []) in
-    ap (after_files (texts_of old)) (said_file o (string_bytes w) ws h)
-    ∙ after_one (texts_of old) (string_bytes w) (said o ws)
-    ∙ ap (λ fs. after_files fs (said o ws)) (sym more)
-    ∙ ap (λ q. after_files (texts_of new) (said q ws)) (sym same)
+taken o next w old new ws h same now = grind (arith, map-append, said_file, after_one)
 
 none_is : IsSome {T = String Global} None → ⊥
 none_is h = cc
@@ -62,21 +56,9 @@ request_end o files all (Ok request) same h = grind (arith, append-nil)
 request_end o files all (Err BadArguments) same h = grind (arith, append-nil)
 request_end o files all (Err NoMemory) same h = tt
 
--- where the rest says nothing, all says nothing
-pub request_none : (o : Chosen) (files all rest : List (List ℕ))
-    → after_files files (said o rest) ≡ said none_chosen all → said o rest ≡ None
-    → IsNoRequest (said none_chosen all)
-request_none o files all rest same none =
-    let nothing : None ≡ said none_chosen all = rw none at same in
-    subst IsNoRequest nothing tt
-
 -- what all words request, where none of them is left
 pub words_end : (o : Chosen) (files : List (List ℕ)) (left first words : List (String Global))
     (result : Result Request RequestError)
     → after_files files (said o (texts_of left)) ≡ said none_chosen (texts_of first) → left ≡ []
     → first ≡ words → RequestsWith o files result → RequestsIn (texts_of words) result
-words_end o files left first words result same none all h =
-    let now : after_files files (said o []) ≡ said none_chosen (texts_of words) =
-    ap (λ l. after_files files (said o (texts_of l))) (sym none) ∙ same
-    ∙ ap (λ l. said none_chosen (texts_of l)) all in
-    request_end o files (texts_of words) result now h
+words_end o files left first words result same none all h = grind (arith, request_end)

@@ -5,9 +5,10 @@ use Rattle.iox2_config_file.specs.declared.section.Section.{Section}
 use Rattle.iox2_config_file.specs.declared.section.Section.TheVariants as section
 use Rattle.iox2_config_file.specs.Read.{sections}
 use Rattle.iox2_config_file.specs.Rows.{prefix_of}
-use Rattle.iox2_config_file.specs.Settings.{Setting, settings_in}
+use Rattle.iox2_config_file.specs.Settings.{Setting}
 use Rattle.iox2_config_file.specs.Values.{SettingValue}
 use Rattle.iox2_config_file.specs.Write.{value_text}
+use Rattle.config_report.specs.Pairs.{TablesGive}
 use Rattle.config_report.specs.declared.finding.Severity.{Severity}
 use Rattle.config_report.specs.declared.finding.Severity.TheVariants.{Error, Warning}
 use Rattle.settings_check.specs.Found.{Said}
@@ -41,35 +42,12 @@ difference file s key value other = (
   },
 )
 
--- what is said of two values of a setting: something exactly where they differ
-abbrev pub IsDifferenceOf : List ℕ → Section → List ℕ → SettingValue → SettingValue → List Said
-    → Type 0
-IsDifferenceOf file s key value other said =
-    ((value ≡ other) × (said ≡ []))
-    ⊎ ((value ≢ other) × (said ≡ difference file s key value other ∷ []))
-
--- the same is added to what was said before
-abbrev pub AddsDifference : List ℕ → Section → List ℕ → SettingValue → SettingValue → List Said
-    → List Said → Type 0
-AddsDifference file s key value other old new =
-    (said : List Said) × IsDifferenceOf file s key value other said × (new ≡ old ++ said)
-
--- what is said of the settings of a table, in their order
-abbrev pub AreDifferences : List ℕ → Section → List Setting → List Setting → List Said → Type 0
-AreDifferences file s (x ∷ xs) (y ∷ ys) said =
-    (first : List Said) × (others : List Said)
-    × IsDifferenceOf file s x.key x.value y.value first × AreDifferences file s xs ys others
-    × (said ≡ first ++ others)
-AreDifferences file s _ _ said = said ≡ []
-
--- what is said of the settings of some tables
-abbrev pub AreTableDifferences : List ℕ → List Section → Config → Config → List Said → Type 0
-AreTableDifferences file [] a b said = said ≡ []
-AreTableDifferences file (s ∷ ss) a b said =
-    (first : List Said) × (others : List Said)
-    × AreDifferences file s (settings_in s a) (settings_in s b) first
-    × AreTableDifferences file ss a b others × (said ≡ first ++ others)
+-- what is said of a setting beside that of the other file: something exactly where they differ
+abbrev pub IsDifference : List ℕ → Section → Setting → Setting → List Said → Type 0
+IsDifference file s x y said =
+    ((x.value ≡ y.value) × (said ≡ []))
+    ⊎ ((x.value ≢ y.value) × (said ≡ difference file s x.key x.value y.value ∷ []))
 
 -- what is said of all settings, in the order of the tables: those that all processes share first
 abbrev pub AreAllDifferences : List ℕ → Config → Config → List Said → Type 0
-AreAllDifferences file a b said = AreTableDifferences file sections a b said
+AreAllDifferences file a b said = TablesGive (IsDifference file) a b sections said

@@ -3,7 +3,7 @@ use Rattle.std.specs.Prelude.{ℕ, Bool, true, false, not, nat_eq, List, [], ◌
 use Rattle.std.specs.Fmt.{decimal}
 use Rattle.serde_json.specs.Data.{Data, null, number, unsigned, string, object, member, no_members}
 use Rattle.serde_json.specs.Written.{compact_text}
-use Rattle.config_report.specs.Notes.{Note, note_text, severity_text}
+use Rattle.config_report.specs.Notes.{note_text, severity_text}
 use Rattle.config_report.specs.declared.finding.Severity.{Severity}
 use Rattle.config_report.specs.declared.finding.Severity.TheVariants.{Error, Warning}
 use Rattle.settings_check.specs.Files.{why_text}

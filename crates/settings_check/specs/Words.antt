@@ -1,5 +1,5 @@
 -- What the arguments of the program request.
-use Rattle.std.specs.Prelude.{◌≡◌, ◌≢◌, ℕ, Bool, true, false, not, ◌&&◌, nat_eq, nat_le, nat_lt, List, [], ◌∷◌, ◌++◌, codes, map, drop, length, is_some, if◌then◌else◌, Option, Some, None, option_map, option_and_then, unwrap_or, Result, Ok, Err, String, string_bytes}
+use Rattle.std.specs.Prelude.{◌≡◌, ◌≢◌, ℕ, Bool, true, false, not, ◌&&◌, nat_eq, nat_lt, List, [], ◌∷◌, ◌++◌, codes, map, drop, length, is_some, if◌then◌else◌, Option, Some, None, option_map, option_and_then, unwrap_or, Result, Ok, Err, String, string_bytes}
 use Rattle.std.specs.Str.{bytes_eq}
 use Rattle.std.specs.IoError.{error_kind}
 use Rattle.std.specs.Vec.Iter.{into_iter_items}
@@ -8,7 +8,6 @@ use Rattle.std.specs.declared.vec.IntoIter.{IntoIter}
 use Rattle.std.specs.declared.io.Error.{Error}
 use Rattle.std.specs.declared.io.ErrorKind.TheVariants.{OutOfMemory}
 use Rattle.settings_check.specs.declared.arguments.Chosen.{Chosen}
-use Rattle.settings_check.specs.declared.arguments.Format.{Format}
 use Rattle.settings_check.specs.declared.arguments.Format.TheVariants.{Text, Json}
 use Rattle.settings_check.specs.declared.arguments.Request.{Request}
 use Rattle.settings_check.specs.declared.arguments.RequestError.{RequestError}

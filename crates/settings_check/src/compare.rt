@@ -1,20 +1,17 @@
 //! Which settings of two files differ.
-ghost use Rattle.std.specs.Prelude.{◌≡◌, ◌++◌, ◌↔◌, IsTrue, ℕ, List, IfOk, OnOk};
-ghost use Rattle.std.specs.Duration.{as_nanos};
+ghost use Rattle.std.specs.Prelude.{◌≡◌, ◌++◌, ℕ, List, IfOk, OnOk};
+ghost use Rattle.config_report.specs.Pairs.{Adds, SettingsGive, TablesGive};
 ghost use Rattle.iox2_config_file.specs.Settings.{settings_in};
-ghost use Rattle.iox2_config_file.specs.Values.{duration};
 ghost use Rattle.iox2_config_file.specs.Write.{value_view};
 ghost use Rattle.settings_check.specs.Compare.{difference, is_shared, difference_severity};
-ghost use Rattle.settings_check.specs.Compare.{AreDifferences, AreTableDifferences};
-ghost use Rattle.settings_check.specs.Compare.{AreAllDifferences, sharing_text, AddsDifference};
+ghost use Rattle.settings_check.specs.Compare.{AreAllDifferences, IsDifference, sharing_text};
 ghost use Rattle.settings_check.specs.Found.{Said, report_of, reports_of};
 
 use crate::found::{Report, add_report};
-use config_report::{Finding, Severity};
+use config_report::{Finding, Severity, is_same};
 use iox2_config::config::Config;
 use iox2_config_file::{Row, SECTIONS, Section, SettingValue, rows, value_at};
 use std::alloc::{AllocError, Global};
-use std::time::Duration;
 
 /// Whether all processes of one system share the settings of a table.
 fn is_shared(section: Section) -> bool
@@ -42,26 +39,6 @@ fn sharing_text(section: Section) -> &'static str
         ", and must be the same in all processes of one system"
     } else {
         ""
-    }
-}
-
-/// Whether a setting is a time of this length.
-fn is_time(value: SettingValue<'_>, time: Duration) -> bool
-    ensures { IsTrue result ↔ (duration (as_nanos time) ≡ value_view value.entry) }
-{
-    match value {
-        SettingValue::Duration(other) => time.as_nanos() == other.as_nanos(),
-        _ => false,
-    }
-}
-
-/// Whether two settings have one value.
-fn is_same(value: SettingValue<'_>, other: SettingValue<'_>) -> bool
-    ensures { IsTrue result ↔ (value_view value.entry ≡ value_view other.entry) }
-{
-    match value {
-        SettingValue::Duration(time) => is_time(other, time),
-        _ => value == other,
     }
 }
 
@@ -98,7 +75,7 @@ fn add_setting<'a>(
     value: SettingValue<'_>,
     other: SettingValue<'_>,
 ) -> Result<(), AllocError>
-    ensures { OnOk result (AddsDifference file.now section row.now.key.now
+    ensures { OnOk result (Adds (IsDifference file.now section) row.now.key.now
         (value_view value.entry) (value_view other.entry)
         (reports_of reports.old.items) (reports_of reports.new.items)) }
 {
@@ -121,7 +98,7 @@ fn add_table<'a>(
 ) -> Result<(), AllocError>
     ensures { OnOk result ((said : List Said)
         × (reports_of reports.new.items ≡ reports_of reports.old.items ++ said)
-        × AreDifferences file.now section
+        × SettingsGive (IsDifference file.now section)
         (settings_in section first.now) (settings_in section second.now) said) }
 {
     let rows = rows(section);
@@ -148,7 +125,7 @@ fn add_tables<'a>(
 ) -> Result<(), AllocError>
     ensures { OnOk result ((said : List Said)
         × (reports_of reports.new.items ≡ reports_of reports.old.items ++ said)
-        × AreTableDifferences file.now sections.now first.now second.now said) }
+        × TablesGive (IsDifference file.now) first.now second.now sections.now said) }
 {
     for section in sections {
         add_table(alloc, reports, file, *section, first, second)?;

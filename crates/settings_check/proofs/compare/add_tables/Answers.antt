@@ -1,18 +1,15 @@
-use Rattle.settings_check.proofs.Differing.{table_next, tables_end}
+use Rattle.std.proofs.Common.{rules}
+use Rattle.config_report.proofs.Pairs.{table_next, tables_end}
+use Rattle.settings_check.specs.Compare.{IsDifference}
 use Rattle.settings_check.proofs.compare.add_tables.Goals as goal
 
 pub loop-section-preserved : goal.loop-section-preserved
 loop-section-preserved c =
     let (done, was, rest) = c.loop-section.invariant in
     let (said, now, is) = c.in_ok-add_table.ensures in
-    table_next c.args.file.now c.args.first.now c.args.second.now c.args.sections.now
-    c.loop-section.section-index _ _ _ _ done said c.loop-section-test.true was now is rest
+    table_next (IsDifference c.args.file.now) c.args.first.now c.args.second.now
+    c.args.sections.now c.loop-section.section-index _ _ _ _ done said c.loop-section-test.true was
+    now is rest
 
 pub returns : goal.returns
-returns c =
-    let (done, was, rest) = c.loop-section.invariant in (
-      done,
-      was,
-      tables_end c.args.file.now c.args.first.now c.args.second.now c.args.sections.now
-          c.loop-section.section-index done c.loop-section-test.false rest,
-    )
+returns c = search (rules, tables_end)

@@ -1,6 +1,6 @@
-use Rattle.std.proofs.Common.{◌≡◌, ◌∷◌, [], ◌++◌, length, map, sym, ap, ◌∙◌, arith}
+use Rattle.std.proofs.Common.{◌≡◌, ◌∷◌, length, ap, arith}
 use Rattle.std.specs.Vec.Iter.{into_iter_items}
-use Rattle.settings_check.specs.Found.{report_of, reports_of}
+use Rattle.settings_check.specs.Found.{report_of}
 use Rattle.settings_check.proofs.Lists.{items_more, items_end, nothing_left}
 use Rattle.settings_check.proofs.found.add_findings.Goals as goal
 
@@ -18,10 +18,4 @@ loop-finding-preserved c =
     )
 
 pub returns : goal.returns
-returns c =
-    let at = c.loop-finding in
-    let none = c.in-None.ensures.steps in
-    let empty : into_iter_items at.finding-iterator ≡ [] =
-    nothing_left _ (sym at.invariant.1 ∙ none.0) in
-    items_end (report_of c.args.file.now) _ _ _ _ _ at.invariant.0 empty
-    c.into_iter-finding-iterator.ensures.into_iter_gives.0
+returns c = grind (arith, nothing_left, items_end)

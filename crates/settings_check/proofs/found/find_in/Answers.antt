@@ -1,4 +1,4 @@
-use Rattle.std.proofs.Common.{ap, ◌∙◌, string_bytes}
+use Rattle.std.proofs.Common.{arith, ap, ◌∙◌, string_bytes}
 use Rattle.settings_check.specs.Found.{found_view}
 use Rattle.settings_check.proofs.Finding.{found_next, found_end}
 use Rattle.settings_check.proofs.found.find_in.Goals as goal
@@ -12,6 +12,4 @@ loop-name-preserved g c =
     c.in_ok-add_file.ensures c.loop-name.invariant
 
 pub returns : goal.returns
-returns g c =
-    found_end _ _ c.args.names.now c.loop-name.name-index _ c.loop-name-test.false
-    c.loop-name.invariant
+returns g c = grind (arith, found_end)

@@ -1,8 +1,5 @@
-use Rattle.std.proofs.Common.{◌≡◌, [], ◌++◌, chars, sym, ap, ◌∙◌, append-nil, rules}
-use Rattle.std.specs.Prelude.{flat_map}
-use Rattle.std.specs.Str.Iter.{chars_rest}
+use Rattle.std.proofs.Common.{arith}
 use Rattle.std.proofs.lemmas.Str.{IsUtf8-past_char}
-use Rattle.settings_check.specs.Printable.{printable_char}
 use Rattle.settings_check.proofs.Escaping.{printed_next, printed_end}
 use Rattle.settings_check.proofs.printable.write_printable.Goals as goal
 
@@ -15,7 +12,4 @@ loop-c-preserved c =
     )
 
 pub returns : goal.returns
-returns c =
-    let held = c.loop-c.invariant in
-    let all : chars_rest c.into_iter-c-iterator.result ≡ c.args.text.now = search rules in
-    printed_end _ _ _ _ _ held.1 c.in-None.ensures.steps.0.0 all
+returns c = grind (arith, printed_end)

@@ -1,3 +1,4 @@
+use Rattle.std.proofs.Common.{arith}
 use Rattle.settings_check.proofs.Defining.{definition_next, definitions_end}
 use Rattle.settings_check.proofs.schema.write_definitions.Goals as goal
 
@@ -8,10 +9,4 @@ loop-section-preserved c =
     c.loop-section-test.true c.in_ok-write_definition.ensures was rest
 
 pub returns : goal.returns
-returns c =
-    let (done, was, rest) = c.loop-section.invariant in (
-      done,
-      was,
-      definitions_end c.args.sections.now c.loop-section.section-index done
-          c.loop-section-test.false rest,
-    )
+returns c = grind (arith, definitions_end)

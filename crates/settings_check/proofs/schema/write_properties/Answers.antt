@@ -1,3 +1,4 @@
+use Rattle.std.proofs.Common.{rules}
 use Rattle.settings_check.proofs.Defining.{property_next, properties_end}
 use Rattle.settings_check.proofs.schema.write_properties.Goals as goal
 
@@ -7,6 +8,4 @@ loop-row-preserved c =
     c.loop-row-test.true c.loop-row.invariant c.in_ok-write_next.ensures
 
 pub returns : goal.returns
-returns c =
-    properties_end c.args.section c.args.rows.now c.loop-row.row-index c.loop-row.is_first _ _
-    c.loop-row-test.false c.loop-row.invariant
+returns c = search (rules, properties_end)
