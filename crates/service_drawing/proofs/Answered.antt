@@ -1,5 +1,5 @@
 -- What is answered, and what follows from a status.
-use Rattle.std.proofs.Common.{◌≡◌, ◌∙◌, ℕ, List, Option, IfSome, Result, Ok, Err, IfOk, OnOk, String, arith, sym}
+use Rattle.std.proofs.Common.{◌≡◌, ℕ, List, Option, IfSome, Result, Ok, Err, IfOk, OnOk, String, arith}
 use Rattle.std.specs.Io.KnownBytes.{Appends, IsAtEnd}
 use Rattle.std.specs.declared.alloc.Global.{Global}
 use Rattle.std.specs.declared.io.Error.{Error}
@@ -7,7 +7,7 @@ use Rattle.std.specs.declared.vec.IntoIter.{IntoIter}
 use Rattle.std.specs.Result.{IsErr, IsErrAnd, MatchResult}
 use Rattle.iox2_config.specs.declared.config.Config.{Config}
 use Rattle.service_drawing.specs.Descriptions.{StopsReading}
-use Rattle.service_drawing.specs.Fronts.{IsOver, IsNotOver}
+use Rattle.service_drawing.specs.Fronts.{IsOver}
 use Rattle.service_drawing.specs.Reasons.{IsReason}
 use Rattle.service_drawing.specs.Arguments.{AsksFor, IsRead}
 use Rattle.service_drawing.specs.Streams.{status_of, output_text, error_text, TellsBadLine, Draws, Answers, Reported}
@@ -33,16 +33,7 @@ pub reported_where_written : (arguments : Result (IntoIter (String Global) Globa
     → OnOk wrote (Appends err_old err_new (error_text end))
     → IfOk wrote (λ status. Reported arguments status given left out_old out_new err_old err_new)
 reported_where_written arguments asked end (Ok status) given left out_old out_new err_old err_new
-    asks answered read told output errors = record {
-      asked = asked;
-      end = end;
-      asks = asks;
-      answered = answered;
-      told = told;
-      read = λ e. answered_at_zero end _ read (sym told ∙ e);
-      output = output;
-      errors = errors;
-    }
+    asks answered read told output errors = grind (arith, answered_at_zero)
 reported_where_written arguments asked end (Err why) given left out_old out_new err_old err_new
     asks answered read told output errors = tt
 
@@ -69,10 +60,6 @@ draws_no_more base warnings rest bytes expected BadArgument over s h = h
 draws_no_more base warnings rest bytes expected (BadSettings lines) over s h = absurd h
 draws_no_more base warnings rest bytes expected NoEnd over s h = absurd h
 draws_no_more base warnings rest bytes expected NoMemory over s h = tt
-
--- why there is no configuration is why nothing is drawn
-pub draws_none : (bytes : List ℕ) (fault : Fault) → IsNotOver bytes fault → Draws bytes (Err fault)
-draws_none bytes fault h = grind arith
 
 -- what is true of what was read is true of what the reader gave
 pub true_of_given : (P : List ℕ → Type 0) (given : Option (List ℕ)) (items bytes : List ℕ)

@@ -185,13 +185,10 @@ exchange_lawful Blackboard =
 
 -- none of its lines sets something
 pub exchange_apart : (k : PatternKind) → HasNoLine (codes "set ") (exchange_example k ++ [])
-exchange_apart PublishSubscribe text rest l =
-    omega (arith, ap (λ (b : List ℕ). get_or b 0 0) l.spelled)
-exchange_apart Event text rest l = none_begins (codes "set ") text rest l
-exchange_apart RequestResponse text rest l =
-    omega (arith, ap (λ (b : List ℕ). get_or b 0 0) l.spelled)
-exchange_apart Blackboard text rest l =
-    omega (arith, ap (λ (b : List ℕ). get_or b 0 0) l.spelled)
+exchange_apart PublishSubscribe text rest l = grind arith
+exchange_apart Event text rest l = grind (arith, none_begins)
+exchange_apart RequestResponse text rest l = grind arith
+exchange_apart Blackboard text rest l = grind arith
 
 abbrev with_opener : MessageTypeDetails → ℕ → Option MessageTypeDetails → Message
 with_opener d n o = record { details = d; elements = n; opener = o }

@@ -33,10 +33,8 @@ lines_then (t ∷ ts) us mid rest bytes l k = (l.0, l.1, lines_then ts us mid re
 
 lines_split : (ts us : List (List ℕ)) (rest bytes : List ℕ) → AreLines (ts ++ us) rest bytes
     → (mid : List ℕ) × AreLines ts mid bytes × AreLines us rest mid
-lines_split [] us rest bytes k = (bytes, refl, k)
-lines_split (t ∷ ts) us rest bytes k =
-    let more = lines_split ts us rest k.0 k.2 in
-    (more.0, (k.0, k.1, more.1), more.2)
+lines_split [] us rest bytes k = grind arith
+lines_split (t ∷ ts) us rest bytes k = grind (arith, lines_split ts us rest k.0 k.2)
 
 -- the same lines before other bytes
 pub lines_before : (ts : List (List ℕ)) (rest bytes : List ℕ) → AreLines ts rest bytes
@@ -64,9 +62,8 @@ none_of_nothing (begin ∷ begins) = (none_begins begin, none_of_nothing begins)
 
 none_of_both : (ps qs : List (List ℕ)) (bytes : List ℕ) → NoneOf (ps ++ qs) bytes
     → NoneOf ps bytes × NoneOf qs bytes
-none_of_both [] qs bytes n = (tt, n)
-none_of_both (p ∷ ps) qs bytes n =
-    let more = none_of_both ps qs bytes n.1 in ((n.0, more.0), more.1)
+none_of_both [] qs bytes n = grind arith
+none_of_both (p ∷ ps) qs bytes n = grind (arith, none_of_both ps qs bytes n.1)
 
 -- the bytes may stand in the place of the rest: they begin with the same line, or in no way that
 -- would go on with what stands before
@@ -76,9 +73,8 @@ MayFollow ends rest other = HasSameLine rest other ⊎ NoneOf ends other
 follow_through : (ts ends : List (List ℕ)) (rest other bytes whole : List ℕ)
     → AreLines ts rest bytes → AreLines ts other whole → MayFollow ends rest other
     → MayFollow ends bytes whole
-follow_through [] ends rest other bytes whole e k follows = rw (e, k) at follows
-follow_through (t ∷ ts) ends rest other bytes whole l k follows =
-    inl (inr (record { line = t; rest = l.0; other_rest = k.0; first = l.1; second = k.1 }))
+follow_through [] ends rest other bytes whole e k follows = grind arith
+follow_through (t ∷ ts) ends rest other bytes whole l k follows = grind arith
 
 -- lines stand before the rest, and would stand so before other bytes that may follow
 pub record IsPart (ends : List (List ℕ)) (Has : List ℕ → List ℕ → Type 0)
@@ -168,9 +164,7 @@ made_lawful {F} make f = record {
 -- lines before more bytes
 lines_append : (ts : List (List ℕ)) (rest bytes end : List ℕ) → AreLines ts rest bytes
     → AreLines ts (rest ++ end) (bytes ++ end)
-lines_append ts rest bytes end l =
-    let before = lines_before ts rest bytes l in
-    rw (before.1, append_assoc) (before.2 (rest ++ end))
+lines_append ts rest bytes end l = grind (arith, lines_before, append_assoc)
 
 -- one, and then another: what may end the first does not begin the example of the other
 pub then_lawful : {A K B : Type 0} {ps qs : List (List ℕ)} {first : List ℕ} {next : K → List ℕ}

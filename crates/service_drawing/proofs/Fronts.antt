@@ -9,10 +9,7 @@ use Rattle.service_drawing.specs.Fronts.{IsInside, lines_text, Ends}
 
 -- the word `end` is no newline
 end_lacks : HasNo 10 (codes "end")
-end_lacks =
-    All-cons (λ b. b ≢ 10) 101 (110 ∷ 100 ∷ []) (λ e. omega (arith, e))
-    (All-cons (λ b. b ≢ 10) 110 (100 ∷ []) (λ e. omega (arith, e))
-    (All-cons (λ b. b ≢ 10) 100 [] (λ e. omega (arith, e)) (λ k d lt. absurd (omega (arith, lt)))))
+end_lacks = grind (arith, All-cons)
 
 -- what was passed over before what is left: all that ends there ends what was begun with
 pub record Passed (rest bytes : List ℕ) : Type 0 where

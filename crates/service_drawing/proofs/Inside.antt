@@ -2,7 +2,7 @@
 use Rattle.std.proofs.Common.{◌≡◌, ℕ, ◌+◌, ◌*◌, ◌^◌, ◌<◌, ◌≤◌, arith}
 use Rattle.std.proofs.Math.Nat.{mul-le-mul_right}
 use Rattle.std.proofs.lemmas.Nat.Gcd.{dvd-zero}
-use Rattle.iox2_config.specs.Blocks.{HoldsEverywhere, HoldsMessage}
+use Rattle.iox2_config.specs.Blocks.{HoldsEverywhere}
 use Rattle.iox2_config.specs.Layout.{user_header_place, payload_place}
 use Rattle.iox2_config.specs.declared.types.message_details.MessageTypeDetails.{MessageTypeDetails}
 
@@ -10,21 +10,16 @@ use Rattle.iox2_config.specs.declared.types.message_details.MessageTypeDetails.{
 pub ends_inside : (d : MessageTypeDetails) (n size : ℕ) → HoldsEverywhere d n size → size < 2 ^ 63
     → (user_header_place d 0 + d.user_header.size ≤ size)
     × (payload_place d 0 + d.payload.size * n ≤ size)
-ends_inside d n size h limit =
-    let first : HoldsMessage d n size 0 = h.alone 0 (dvd-zero _) (omega arith) in
-    (omega (arith, first.own.inside.1.0.1), omega (arith, first.own.inside.1.1.0.1))
+ends_inside d n size h limit = grind (arith, dvd-zero)
 
 -- an element ends where the payload does, or before
 pub element_inside : (start element elements i end : ℕ) → end ≡ start + element * elements
     → i < elements
     → start + i * element + element ≤ end
-element_inside start element elements i end is there =
-    let more : i + 1 ≤ elements = omega arith in
-    omega (arith, is, mul-le-mul_right element more)
+element_inside start element elements i end is there = grind (arith, mul-le-mul_right)
 
 -- elements begin where the payload ends, or before
 pub elements_inside : (start element elements i end : ℕ) → end ≡ start + element * elements
     → i ≤ elements
     → start + i * element ≤ end
-elements_inside start element elements i end is there =
-    omega (arith, is, mul-le-mul_right element there)
+elements_inside start element elements i end is there = grind (arith, mul-le-mul_right)

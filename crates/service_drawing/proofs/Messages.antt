@@ -1,5 +1,5 @@
 -- The lines of a message, in one way.
-use Rattle.std.proofs.Common.{◌≡◌, ℕ, ◌<◌, ◌≤◌, ◌^◌, List, [], ◌∷◌, ◌++◌, cond, codes, length, Option, Some, None, Err, refl, sym, ◌∙◌, ap, arith, IsTrue}
+use Rattle.std.proofs.Common.{rules, ◌≡◌, ℕ, ◌<◌, ◌≤◌, ◌^◌, List, [], ◌∷◌, ◌++◌, cond, codes, length, Option, Some, None, Err, refl, sym, ◌∙◌, ap, arith, IsTrue}
 use Rattle.std.specs.Prelude.{◌==◌}
 use Rattle.std.specs.Fmt.{decimal}
 use Rattle.std.specs.Int.{is_power_of_two}
@@ -89,14 +89,12 @@ pub no_line : {A : Type 0} (begin : List ℕ) (IsLegal : A → Type 0) (spelled 
     (text rest bytes : List ℕ) → IsLine (begin ++ text) rest bytes
     → ((x : A) → IsLegal x → ¬ (text ≡ spelled x)) → (x : A) (r : List ℕ)
     → ¬ HasLine begin IsLegal spelled x r bytes
-no_line begin IsLegal spelled text rest bytes l bad x r h =
-    bad x h.legal (same_text begin text rest bytes l (spelled x) r h.line)
+no_line begin IsLegal spelled text rest bytes l bad x r h = search (rules, same_text)
 
 -- the line of an opener that is refused
 pub no_opener : (prefix text rest bytes : List ℕ)
     → IsLine (prefix ++ codes "opener " ++ text) rest bytes
     → ((d : MessageTypeDetails) → AreAlignments d → ¬ (text ≡ alignments_text d))
     → (o : Option MessageTypeDetails) (x : List ℕ) → ¬ HasOpener prefix o x bytes
-no_opener prefix text rest bytes l bad None x h = h.1 text rest l
-no_opener prefix text rest bytes l bad (Some d) x h =
-    no_line (prefix ++ codes "opener ") AreAlignments alignments_text text rest bytes l bad d x h
+no_opener prefix text rest bytes l bad None x h = search rules
+no_opener prefix text rest bytes l bad (Some d) x h = search (rules, no_line)

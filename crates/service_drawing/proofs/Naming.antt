@@ -15,9 +15,7 @@ past_end names i e = grind (arith, slice_get_cases, none-some)
 -- there is no setting from this number on
 pub none_named : (names : List (List ℕ)) (i : ℕ) (word : List ℕ) → None ≡ slice_get names i
     → ((k : ℕ) → k < i → HasName names k word → ⊥) → (k : ℕ) → HasName names k word → ⊥
-none_named names i word past before k h =
-    before k (omega (arith, slice_get_within names k h.name h.stands, past_end names i (sym past)))
-    h
+none_named names i word past before k h = grind (arith, slice_get_within, past_end)
 
 -- the setting of the same word
 pub as_word : (names : List (List ℕ)) (i : ℕ) (word other : List ℕ) → word ≡ other

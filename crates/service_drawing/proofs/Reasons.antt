@@ -1,6 +1,5 @@
 -- The reason for which a line is bad.
 use Rattle.std.proofs.Common.{◌≡◌, ◌≢◌, ℕ, ◌≤◌, ◌<◌, true, false, Bool, List, [], ◌∷◌, ◌++◌, inl, inr, codes, map, length, refl, sym, ◌∙◌, ap, subst, arith, length-append}
-use Rattle.iox2_config.specs.Hashing.{pattern_word}
 use Rattle.iox2_config.specs.declared.config.Config.{Config}
 use Rattle.iox2_config.specs.declared.hash.input.PatternKind.{PatternKind}
 use Rattle.service_drawing.specs.Descriptions.{StopsReading, after_settings}
@@ -22,14 +21,12 @@ line_within text rest bytes l = grind (arith, length-append, l.spelled)
 
 texts_within : (texts : List (List ℕ)) (at bytes : List ℕ) → AreLines texts at bytes
     → length at ≤ length bytes
-texts_within [] at bytes e = omega (arith, ap length e)
-texts_within (t ∷ ts) at bytes l =
-    omega (arith, line_within t l.0 bytes l.1, texts_within ts at l.0 l.2)
+texts_within [] at bytes e = grind arith
+texts_within (t ∷ ts) at bytes l = grind (arith, line_within, texts_within ts at l.0 l.2)
 
 up_within : {A : Type 0} (begin : List ℕ) (Spells : A → List ℕ → Type 0) (xs : List A)
     (at bytes : List ℕ) → UpTo begin Spells xs at bytes → length at ≤ length bytes
-up_within begin Spells xs at bytes u =
-    let lines = up_lines begin Spells xs at bytes u in texts_within lines.0 at bytes lines.1
+up_within begin Spells xs at bytes u = grind (arith, up_lines, texts_within)
 
 -- the lines up to one place give the same keys
 same_keys : {A K : Type 0} (begin : List ℕ) (Spells : A → List ℕ → Type 0) (key : A → K)
@@ -136,10 +133,7 @@ no_service_reason base reason left bytes none b = grind arith
 -- a service that is read has no internal name
 from_outside : (k : PatternKind) (name rest bytes : List ℕ) → HasService k name rest bytes
     → ¬ BeginsInternal bytes
-from_outside k name rest bytes h i =
-    let lines = line_one i.text (pattern_word k ++ 32 ∷ name) i.rest rest bytes i.line h.line in
-    let same = same_pattern i.internal.0 k i.internal.1 name (sym i.internal.2 ∙ lines.0) in
-    h.named.from_outside (rw same.1 at i.internal.3)
+from_outside k name rest bytes h i = grind (arith, line_one, same_pattern)
 
 -- the settings are those of the pattern of the first line
 of_the_pattern : (base : Config) (Holds : List (List ℕ) → List Value → List ℕ → List ℕ → Type 0)

@@ -1,8 +1,7 @@
 -- Names that a service cannot have.
-use Rattle.std.proofs.Common.{◌≡◌, ℕ, List, [], ◌∷◌, ◌++◌, Bool, true, false, cond, codes, Err, MatchBool, refl, sym, ◌∙◌, ap, subst, arith, nat_eq, IsTrue}
+use Rattle.std.proofs.Common.{◌≡◌, ℕ, List, [], ◌∷◌, ◌++◌, Bool, true, false, cond, codes, Err, MatchBool, refl, arith, nat_eq}
 use Rattle.std.specs.Prelude.{◌==◌}
 use Rattle.std.specs.List.{starts_with}
-use Rattle.std.proofs.lemmas.Bool.{false≢true}
 use Rattle.std.proofs.lemmas.List.{append_cancel_left}
 use Rattle.iox2_texts.specs.Name.{IsName, MakesServiceName, MakesPublicName}
 use Rattle.iox2_texts.specs.declared.service_name.ServiceNameError.{ServiceNameError}
@@ -12,7 +11,6 @@ use Rattle.iox2_config.specs.declared.hash.input.PatternKind.{PatternKind}
 use Rattle.iox2_config.specs.declared.hash.input.PatternKind.TheVariants.{PublishSubscribe, Event, RequestResponse, Blackboard}
 use Rattle.iox2_config.specs.declared.hash.service_hash.ServiceHashError.{ServiceHashError}
 use Rattle.iox2_config.specs.declared.hash.service_hash.ServiceHashError.TheVariants.{HasherFailed, IllegalText}
-use Rattle.line_streams.specs.Numerals.{cons_same}
 use Rattle.service_drawing.specs.Lines.{IsLine, MayBeNamed, IsInternal, HasService}
 use Rattle.service_drawing.proofs.Words.{line_one}
 
@@ -31,30 +29,19 @@ pattern_front Blackboard x = refl
 -- a line has one pattern and one name
 pub same_pattern : (j k : PatternKind) (m n : List ℕ)
     → pattern_word j ++ 32 ∷ m ≡ pattern_word k ++ 32 ∷ n → (j ≡ k) × (m ≡ n)
-same_pattern j k m n e =
-    let kinds : j ≡ k =
-    sym (pattern_front j (32 ∷ m)) ∙ ap pattern_at e ∙ pattern_front k (32 ∷ n) in (
-      kinds,
-      (cons_same
-          (append_cancel_left (pattern_word k) (32 ∷ m) (32 ∷ n)
-          (ap (λ i. pattern_word i ++ 32 ∷ m) (sym kinds) ∙ e))).1,
-    )
+same_pattern j k m n e = grind (arith, pattern_front, append_cancel_left)
 
 -- what is true of the one name of a line
 pub of_the_line : (P : PatternKind → List ℕ → Type 0) (line : List ℕ) (k : PatternKind)
     (name : List ℕ) → line ≡ pattern_word k ++ 32 ∷ name → ¬ P k name → (j : PatternKind)
     (m : List ℕ) → P j m → ¬ (line ≡ pattern_word j ++ 32 ∷ m)
-of_the_line P line k name e bad j m p is =
-    let same = same_pattern j k m name (sym is ∙ e) in
-    bad (subst (λ i. P i name) same.0 (subst (λ (x : List ℕ). P j x) same.1 p))
+of_the_line P line k name e bad j m p is = grind (arith, same_pattern)
 
 -- a line without an internal name has none
 pub not_internal : (line : List ℕ) (k : PatternKind) (name : List ℕ)
     → line ≡ pattern_word k ++ 32 ∷ name → false ≡ starts_with nat_eq name (codes "iox2://")
     → ¬ IsInternal line
-not_internal line k name e other s =
-    of_the_line (λ j n. IsTrue (starts_with nat_eq n (codes "iox2://"))) line k name e
-    (λ is. false≢true (other ∙ is)) s.0 s.1 s.3 s.2
+not_internal line k name e other s = grind (arith, of_the_line)
 
 second : (b : Bool) (P Q : Type 0) → b ≡ false → MatchBool b P Q → Q
 second true P Q e h = cc
@@ -69,10 +56,7 @@ refused name ExceedsMaximumLength h legal = omega (arith, h, legal.0.0)
 pub not_made : (k : PatternKind) (name : List ℕ) (why : ServiceNameError)
     → MakesPublicName name (Err why) → starts_with nat_eq name (codes "iox2://") ≡ false
     → ¬ MayBeNamed k name
-not_made k name why h e may =
-    refused name why
-    (second (starts_with nat_eq name (codes "iox2://")) _ (MakesServiceName name (Err why)) e h)
-    may.name
+not_made k name why h e may = grind (arith, refused, second)
 
 -- a hash text that is refused
 pub not_hashed : (k : PatternKind) (name : List ℕ) (why : ServiceHashError)

@@ -1,18 +1,16 @@
 -- Lines, and numbers before a space, in one way.
-use Rattle.std.proofs.Common.{◌≡◌, ◌≢◌, ℕ, ◌<◌, ◌^◌, true, List, [], ◌∷◌, ◌++◌, length, arith, sym, ◌∙◌, ap, subst, append_assoc, length-append}
+use Rattle.std.proofs.Common.{◌≡◌, ◌≢◌, ℕ, ◌<◌, ◌^◌, List, [], ◌∷◌, ◌++◌, length, arith, sym, ◌∙◌, ap, subst, append_assoc, length-append}
 use Rattle.std.specs.Fmt.{decimal}
 use Rattle.std.proofs.lemmas.List.{append_cancel_left, append-nil}
 use Rattle.line_streams.specs.Numerals.{cons_same}
 use Rattle.line_streams.specs.Numerals as numerals
 use Rattle.line_streams.specs.OneWay.{before_one}
 use Rattle.line_streams.specs.Spelling.{EndsNumber, HasNo}
-use Rattle.service_drawing.specs.Causes.{is_plain}
 use Rattle.service_drawing.specs.Lines.{IsPlain, IsLine, HasNoLine}
 
 -- a plain byte is no newline
 pub plain_lacks : (text : List ℕ) → IsPlain text → HasNo 10 text
-plain_lacks text h k d within e =
-    let newline : is_plain 10 ≡ true = subst (λ b. is_plain b ≡ true) e (h k d within) in cc
+plain_lacks text h k d within e = grind arith
 
 -- bytes begin with one line
 pub line_one : (s t x y bytes : List ℕ) → IsLine s x bytes → IsLine t y bytes → (s ≡ t) × (x ≡ y)

@@ -1,5 +1,5 @@
 -- Known bytes over two writes.
-use Rattle.std.proofs.Common.{◌≡◌, ℕ, List, ◌++◌, Option, Result, Ok, Err, OnOk, subst, sym}
+use Rattle.std.proofs.Common.{arith, ◌≡◌, ℕ, List, ◌++◌, Option, Result, Ok, Err, OnOk}
 use Rattle.std.specs.Io.KnownBytes.{Appends}
 use Rattle.line_streams.proofs.Written.{appends_more}
 
@@ -7,6 +7,5 @@ use Rattle.line_streams.proofs.Written.{appends_more}
 pub appends_then : {E : Type 0} (a b c : Option (List ℕ)) (xs ys zs : List ℕ)
     (r : Result (Unit {0}) E)
     → Appends a b xs → OnOk r (Appends b c ys) → zs ≡ xs ++ ys → OnOk r (Appends a c zs)
-appends_then a b c xs ys zs (Ok done) first second is =
-    subst (λ (text : List ℕ). Appends a c text) (sym is) (appends_more a b c xs ys first second)
+appends_then a b c xs ys zs (Ok done) first second is = grind (arith, appends_more)
 appends_then a b c xs ys zs (Err why) first second is = tt

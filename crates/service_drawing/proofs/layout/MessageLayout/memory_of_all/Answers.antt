@@ -1,4 +1,4 @@
-use Rattle.std.proofs.Common.{◌+◌, ◌*◌, ◌^◌, ◌<◌, ◌≤◌, ℕ, zero, suc, arith}
+use Rattle.std.proofs.Common.{◌*◌, ◌^◌, ◌<◌, ◌≤◌, ℕ, zero, suc, arith}
 use Rattle.service_drawing.proofs.layout.MessageLayout.memory_of_all.Goals as goal
 
 -- so many ports take no less than one
