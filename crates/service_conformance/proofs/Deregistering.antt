@@ -50,7 +50,7 @@ one_details {T} r h a b k m n =
     sym m.2 ∙ (ap (λ (e : Entry T). e.details) (sym same) ∙ n.2)
 
 -- what has an entry is not locked
-was_open : {T : Type 0} (r : RegistryState T) (n : ℕ) → IsRegistry r → length r.entries ≡ n + 1
+pub was_open : {T : Type 0} (r : RegistryState T) (n : ℕ) → IsRegistry r → length r.entries ≡ n + 1
     → r.locked ≡ false
 was_open r n k e =
     unlocked r.locked (λ t.

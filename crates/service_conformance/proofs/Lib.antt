@@ -25,6 +25,7 @@ pub mod Given
 pub mod WeakListings
 pub mod MovingEntries
 pub mod MovingLooks
+pub mod MovingParts
 pub mod MovingNodes
 pub mod MovingPorts
 pub mod Moving

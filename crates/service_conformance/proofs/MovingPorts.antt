@@ -1,59 +1,60 @@
--- Removals of ports.
-use Rattle.std.proofs.Common.{◌≡◌, inl, inr, ℕ, true, Option, Some, None, Result, Ok, Err, List, map, refl, sym, ◌∙◌, ap, subst}
-use Rattle.std.specs.Prelude.{◌==◌}
+-- Ports that go, and ports that come.
+use Rattle.std.proofs.Common.{◌≡◌, ◌≢◌, inl, inr, ℕ, zero, suc, ◌≤◌, true, false, Option, Some, None, Result, Ok, Err, List, map, refl, sym, ◌∙◌, ap, subst, arith}
+use Rattle.std.specs.Prelude.{◌==◌, ◌||◌, nat_lt}
+use Rattle.std.proofs.lemmas.Bool.{lt-ltb, ne_eqb}
 use Rattle.iox2_container.specs.declared.container.refusal.ContainerRemoveError.{ContainerRemoveError}
 use Rattle.iox2_container.specs.declared.container.refusal.ContainerRemoveError.TheVariants.{ContainerHandleNotOwnedByContainer}
 use Rattle.iox2_container.specs.declared.container.release.ReleaseMode.TheVariants.{Default}
 use Rattle.iox2_container.specs.declared.container.release.ReleaseState.{ReleaseState}
-use Rattle.iox2_container.specs.Changes.{Removes}
-use Rattle.iox2_container.specs.ContainerState.{ContainerState, container}
 use Rattle.iox2_container.specs.Handle.{Handle}
 use Rattle.iox2_container.specs.State.{Entry, RegistryState, IsRegistry}
-use Rattle.iox2_container.specs.Steps.{RemoveStep}
+use Rattle.iox2_container.specs.Steps.{AddStep, RemoveStep, is_of}
+use Rattle.iox2_container.proofs.Counting.{counted, counted-InsertsOne, one_if}
 use Rattle.iox2_dynamic.specs.declared.dynamic_config.port_details.PortDetails.{PortDetails}
-use Rattle.iox2_dynamic.specs.Details.{port_of}
-use Rattle.iox2_dynamic.specs.Ports.{Ports, RemovesFrom}
+use Rattle.iox2_dynamic.specs.Details.{node_of, port_of, role_of}
+use Rattle.iox2_dynamic.specs.Ports.{has_ports_of}
 use Rattle.iox2_dynamic.specs.PortsState.{Side}
 use Rattle.iox2_dynamic.specs.PortsState.Side.{First, Second}
-use Rattle.iox2_dynamic.specs.Service.{Service, IsService, first_role, second_role}
-use Rattle.iox2_dynamic.specs.Steps.{RemovesPort}
-use Rattle.iox2_dynamic.proofs.Moving.{release_kept}
+use Rattle.iox2_dynamic.specs.Service.{Service, IsService}
+use Rattle.iox2_dynamic.specs.Steps.{IsOpenFor, RemovesPort}
+use Rattle.iox2_dynamic.proofs.Moving.{attach_kept, release_kept}
 use Rattle.iox2_ids.specs.PortId.{port_value}
 use Rattle.service_descriptions.specs.declared.replay.machine.reply.Reply.TheVariants as reply
-use Rattle.service_descriptions.specs.Steps.{ServesRelease}
+use Rattle.service_descriptions.specs.Steps.{ServesAdd, ServesRelease}
 use Rattle.service_conformance.specs.declared.conformance.possible.Part.TheVariants as part
 use Rattle.service_conformance.specs.Looks.{is_among, port_ids}
 use Rattle.service_conformance.specs.Quiet.{quiet}
-use Rattle.service_conformance.specs.Sides.{role_at, ports_at, with_ports_at}
-use Rattle.service_conformance.proofs.Following.{at_side, by_ports}
+use Rattle.service_conformance.specs.Sides.{role_at, ports_at}
+use Rattle.service_conformance.proofs.Following.{at_side}
 use Rattle.service_conformance.proofs.MovingEntries.{in_whole, removals_swap}
-use Rattle.service_conformance.proofs.MovingLooks.{LosesIds}
-use Rattle.service_conformance.proofs.Quiet.{service_quiet}
-use Rattle.service_conformance.proofs.Sides.{ports_are, steps_at}
-use Rattle.service_conformance.proofs.Touching.{untouching}
+use Rattle.service_conformance.proofs.MovingLooks.{LosesIds, loses_between}
+use Rattle.service_conformance.proofs.MovingParts.{ChangesPorts, Exchange, ports_after, ports_changed, ports_left, ports_step}
+use Rattle.service_conformance.proofs.Sides.{has_role, ports_are}
+
+-- a port is removed
+abbrev pub PortRemoval : Handle → ReleaseState → RegistryState PortDetails
+    → RegistryState PortDetails → Type 0
+PortRemoval h state r m = RemoveStep r h Default (Ok state) m
+
+-- a port is added
+abbrev pub PortAddition : PortDetails → Handle → RegistryState PortDetails
+    → RegistryState PortDetails → Type 0
+PortAddition d h r m = AddStep r d (Ok h) m
 
 -- the port of a handle is removed
 pub record LosesPort (h : Handle) (s t : Service) : Type 0 where
-  pub side : Side
-  pub role : h.role ≡ role_at s.pattern side
   pub state : ReleaseState
-  pub ports : RegistryState PortDetails
-  pub step : RemoveStep (ports_at s side).registry h Default (Ok state) ports
-  pub whole : IsRegistry ports
-  pub left : t ≡ at_side side s ports
+  pub changes : ChangesPorts h.role (PortRemoval h state) s t
+
+-- the port is added, as its node is registered
+pub record GainsPort (d : PortDetails) (h : Handle) (s t : Service) : Type 0 where
+  pub opens : IsOpenFor s (node_of d)
+  pub changes : ChangesPorts (role_of d) (PortAddition d h) s t
 
 removed_port : (s mid : Service) (h : Handle) (state : ReleaseState)
     → RemovesPort s h (Ok state) mid → LosesPort h s (quiet mid)
-removed_port s mid h state (inl a, e) = record {
-  side = a.side;
-  role = a.role_is;
-  state = state;
-  ports = (ports_at mid a.side).registry;
-  step = a.step.step;
-  whole = a.step.kept;
-  left = by_ports a.side s mid (ports_at mid a.side).registry
-      (ap (λ (n : Service). n.pattern) e) (ap (λ (n : Service). n.nodes.registry) e) refl a.others;
-}
+removed_port s mid h state (inl a, e) =
+    record { state = state; changes = ports_changed h.role (PortRemoval h state) s mid a e }
 removed_port s mid h state (inr a, e) =
     absurd (let z : ◌≡◌ {A = Result ReleaseState ContainerRemoveError} (Ok state)
     (Err ContainerHandleNotOwnedByContainer) = a.1 in cc)
@@ -63,41 +64,55 @@ pub loses_port : (s mid : Service) (o : Option Handle) → ServesRelease s o rep
 loses_port s mid None so = absurd so
 loses_port s mid (Some h) so = (h, refl, removed_port s mid h so.0 so.1)
 
-same_at : (side : Side) (s : Service) (m : ContainerState PortDetails)
-    → quiet (record s { ports = with_ports_at side s.ports m }) ≡ at_side side s m.registry
-same_at First s m = refl
-same_at Second s m = refl
+pub gains_port : (s mid : Service) (d : PortDetails) (h : Handle)
+    → ServesAdd s d (reply.Handle h) mid → GainsPort d h s (quiet mid)
+gains_port s mid d h so = record {
+  opens = so.1.0;
+  changes = ports_changed (role_of d) (PortAddition d h) s mid so.1.1.0 so.1.1.1;
+}
 
-module _ (h : Handle) (s t : Service) (a : LosesPort h s t) where
-  abbrev lost_ports : Ports
-  lost_ports = with_ports_at a.side s.ports (container a.ports (ports_at s a.side).touches)
+-- the service with the touches that it had
+abbrev pub service_after : (h : Handle) (s t : Service) → LosesPort h s t → Service
+service_after h s t a =
+    record s { ports = ports_after h.role (PortRemoval h a.state) s t a.changes }
 
-  abbrev pub port_lost : Service
-  port_lost = record s { ports = lost_ports }
+abbrev pub service_with : (d : PortDetails) (h : Handle) (s t : Service) → GainsPort d h s t
+    → Service
+service_with d h s t a =
+    record s { ports = ports_after (role_of d) (PortAddition d h) s t a.changes }
 
-  removes_lost : RemovesFrom (first_role s.pattern) (second_role s.pattern) s.ports h (Ok a.state)
-      lost_ports
-  removes_lost =
-      let old = ports_at s a.side in
-      inl (steps_at s.pattern a.side s.ports h.role (λ o n. Removes o h Default (Ok a.state) n)
-      (container a.ports old.touches) a.role (untouching _ old a.ports a.step a.whole))
+module _ (h : Handle) (s t : Service) where
+  module _ (a : LosesPort h s t) where
+    pub serves_release : ServesRelease s (Some h) reply.Released (service_after h s t a)
+    serves_release =
+        (a.state, (inl (ports_step h.role (PortRemoval h a.state) s t a.changes), refl))
 
-  pub port_lost_kept : IsService s → IsService port_lost
-  port_lost_kept i = release_kept s s.pattern lost_ports h (Ok a.state) refl removes_lost i
+    pub release_left : quiet (service_after h s t a) ≡ t
+    release_left = ports_left h.role (PortRemoval h a.state) s t a.changes
 
-  pub port_lost_is : quiet port_lost ≡ t
-  port_lost_is =
-      same_at a.side s (container a.ports (ports_at s a.side).touches) ∙ sym a.left
+    pub released_kept : IsService s → IsService (service_after h s t a)
+    released_kept i =
+        release_kept s s.pattern (ports_after h.role (PortRemoval h a.state) s t a.changes) h
+        (Ok a.state) refl (inl (ports_step h.role (PortRemoval h a.state) s t a.changes)) i
 
-  pub loses_port_kept : IsService s → IsService t
-  loses_port_kept i = subst IsService port_lost_is (service_quiet port_lost (port_lost_kept i))
+  module _ (d : PortDetails) (a : GainsPort d h s t) where
+    pub serves_add : ServesAdd s d (reply.Handle h) (service_with d h s t a)
+    serves_add = (
+      has_role s.pattern a.changes.side (role_of d) a.changes.role_is,
+      (a.opens, (ports_step (role_of d) (PortAddition d h) s t a.changes, refl)),
+    )
 
-  pub serves_release : ServesRelease s (Some h) reply.Released port_lost
-  serves_release = (a.state, (removes_lost, refl))
+    pub add_left : quiet (service_with d h s t a) ≡ t
+    add_left = ports_left (role_of d) (PortAddition d h) s t a.changes
+
+    pub added_kept : IsService s → IsService (service_with d h s t a)
+    added_kept i =
+        attach_kept s s.pattern (ports_after (role_of d) (PortAddition d h) s t a.changes) d (Ok h)
+        refl a.opens.1 (ports_step (role_of d) (PortAddition d h) s t a.changes) i
 
 -- an id of a port that is left was there
 lost_id : (r m : RegistryState PortDetails) (h : Handle) (state : ReleaseState)
-    → RemoveStep r h Default (Ok state) m → (id : ℕ) → is_among (port_ids m) id ≡ true
+    → PortRemoval h state r m → (id : ℕ) → is_among (port_ids m) id ≡ true
     → is_among (port_ids r) id ≡ true
 lost_id r m h state step id e =
     in_whole
@@ -107,7 +122,7 @@ lost_id r m h state step id e =
     m.entries r.entries step.0.0 step.0.2 e
 
 lost_at : (side : Side) (s : Service) (m : RegistryState PortDetails) (h : Handle)
-    (state : ReleaseState) → RemoveStep (ports_at s side).registry h Default (Ok state) m
+    (state : ReleaseState) → PortRemoval h state (ports_at s side).registry m
     → LosesIds s (at_side side s m)
 lost_at First s m h state step part.Nodes id e = e
 lost_at First s m h state step part.First id e =
@@ -118,18 +133,18 @@ lost_at Second s m h state step part.First id e = e
 lost_at Second s m h state step part.Second id e =
     lost_id s.ports.second.registry m h state step id e
 
-pub port_loss_loses : (h : Handle) (s t : Service) → LosesPort h s t → LosesIds s t
+port_loss_loses : (h : Handle) (s t : Service) → LosesPort h s t → LosesIds s t
 port_loss_loses h s t a =
-    subst (λ (x : Service). LosesIds s x) (sym a.left)
-    (lost_at a.side s a.ports h a.state a.step)
+    subst (λ (x : Service). LosesIds s x) (sym a.changes.left)
+    (lost_at a.changes.side s a.changes.ports h a.state a.changes.step)
 
 -- of two removals the second can be made first
 module _ (h k : Handle) (s t : Service) (i : IsService s) (n m : RegistryState PortDetails)
     (one two : ReleaseState) where
   swap_at : (side other : Side) → h.role ≡ role_at s.pattern side
-      → RemoveStep (ports_at s side).registry h Default (Ok one) n → IsRegistry n
+      → PortRemoval h one (ports_at s side).registry n → IsRegistry n
       → k.role ≡ role_at (at_side side s n).pattern other
-      → RemoveStep (ports_at (at_side side s n) other).registry k Default (Ok two) m
+      → PortRemoval k two (ports_at (at_side side s n) other).registry m
       → IsRegistry m → t ≡ at_side other (at_side side s n) m
       → (x : Service) × LosesPort k s x × LosesPort h x t
   swap_at First First r a u q b v e =
@@ -137,22 +152,28 @@ module _ (h k : Handle) (s t : Service) (i : IsService s) (n m : RegistryState P
       (ports_are s First i).is_registry a b in (
         at_side First s w.mid,
         record {
-          side = First;
-          role = q;
           state = one;
-          ports = w.mid;
-          step = w.before;
-          whole = w.kept;
-          left = refl;
+          changes =
+              record {
+                side = First;
+                role_is = q;
+                ports = w.mid;
+                step = w.before;
+                whole = w.kept;
+                left = refl;
+              };
         },
         record {
-          side = First;
-          role = r;
           state = two;
-          ports = m;
-          step = w.after;
-          whole = v;
-          left = e;
+          changes =
+              record {
+                side = First;
+                role_is = r;
+                ports = m;
+                step = w.after;
+                whole = v;
+                left = e;
+              };
         },
       )
   swap_at Second Second r a u q b v e =
@@ -160,39 +181,134 @@ module _ (h k : Handle) (s t : Service) (i : IsService s) (n m : RegistryState P
       (ports_are s Second i).is_registry a b in (
         at_side Second s w.mid,
         record {
-          side = Second;
-          role = q;
           state = one;
-          ports = w.mid;
-          step = w.before;
-          whole = w.kept;
-          left = refl;
+          changes =
+              record {
+                side = Second;
+                role_is = q;
+                ports = w.mid;
+                step = w.before;
+                whole = w.kept;
+                left = refl;
+              };
         },
         record {
-          side = Second;
-          role = r;
           state = two;
-          ports = m;
-          step = w.after;
-          whole = v;
-          left = e;
+          changes =
+              record {
+                side = Second;
+                role_is = r;
+                ports = m;
+                step = w.after;
+                whole = v;
+                left = e;
+              };
         },
       )
   swap_at First Second r a u q b v e = (
     at_side Second s m,
-    record { side = Second; role = q; state = two; ports = m; step = b; whole = v; left = refl },
-    record { side = First; role = r; state = one; ports = n; step = a; whole = u; left = e },
+    record {
+      state = two;
+      changes =
+          record { side = Second; role_is = q; ports = m; step = b; whole = v; left = refl };
+    },
+    record {
+      state = one;
+      changes = record { side = First; role_is = r; ports = n; step = a; whole = u; left = e };
+    },
   )
   swap_at Second First r a u q b v e = (
     at_side First s m,
-    record { side = First; role = q; state = two; ports = m; step = b; whole = v; left = refl },
-    record { side = Second; role = r; state = one; ports = n; step = a; whole = u; left = e },
+    record {
+      state = two;
+      changes = record { side = First; role_is = q; ports = m; step = b; whole = v; left = refl };
+    },
+    record {
+      state = one;
+      changes = record { side = Second; role_is = r; ports = n; step = a; whole = u; left = e };
+    },
   )
 
 pub port_losses_swap : (h k : Handle) (s mid t : Service) → IsService s → LosesPort h s mid
-    → LosesPort k mid t → (m : Service) × LosesPort k s m × LosesPort h m t
+    → LosesPort k mid t → Exchange (LosesPort h) (LosesPort k) s mid t
 port_losses_swap h k s mid t i a b0 =
-    let b : LosesPort k (at_side a.side s a.ports) t =
-    subst (λ (x : Service). LosesPort k x t) a.left b0 in
-    swap_at h k s t i a.ports b.ports a.state b.state a.side b.side a.role a.step a.whole b.role
-    b.step b.whole b.left
+    let n : RegistryState PortDetails = a.changes.ports in
+    let b : LosesPort k (at_side a.changes.side s n) t =
+    subst (λ (x : Service). LosesPort k x t) a.changes.left b0 in
+    let w = swap_at h k s t i n b.changes.ports a.state b.state a.changes.side b.changes.side
+    a.changes.role_is a.changes.step a.changes.whole b.changes.role_is b.changes.step
+    b.changes.whole b.changes.left in
+    record {
+      between = w.0;
+      before = w.1;
+      after = w.2;
+      first = loses_between s mid t (port_loss_loses h s mid a) (port_loss_loses k mid t b0);
+      second = loses_between s w.0 t (port_loss_loses k s w.0 w.1) (port_loss_loses h w.0 t w.2);
+    }
+
+-- whether some port has a node, where others had it before
+more_some : (a before b more : ℕ) → a ≤ before → b ≤ more → (nat_lt 0 a || nat_lt 0 b) ≡ true
+    → (nat_lt 0 before || nat_lt 0 more) ≡ true
+more_some (suc a) before b more l m e =
+    ap (λ q. q || nat_lt 0 more) (lt-ltb 0 before (omega (arith, l)))
+more_some zero before zero more l m e = absurd (let z : false ≡ true = e in cc)
+more_some zero zero (suc b) more l m e = lt-ltb 0 more (omega (arith, m))
+more_some zero (suc before) (suc b) more l m e =
+    ap (λ q. q || nat_lt 0 more) (lt-ltb 0 (suc before) (omega arith))
+
+abbrev of_node : ℕ → RegistryState PortDetails → ℕ
+of_node id r = counted (is_of node_of id) r.entries
+
+fewer_of : (r m : RegistryState PortDetails) (h : Handle) (state : ReleaseState)
+    → PortRemoval h state r m → (id : ℕ) → of_node id m ≤ of_node id r
+fewer_of r m h state step id =
+    omega (
+      arith,
+      counted-InsertsOne (is_of node_of id) m.entries r.entries step.0.0 step.0.2,
+    )
+
+fewer_at : (side : Side) (s : Service) (m : RegistryState PortDetails) (h : Handle)
+    (state : ReleaseState) → PortRemoval h state (ports_at s side).registry m → (id : ℕ)
+    → has_ports_of id (at_side side s m).ports ≡ true → has_ports_of id s.ports ≡ true
+fewer_at First s m h state step id e =
+    let b = of_node id s.ports.second.registry in
+    more_some (of_node id m) (of_node id s.ports.first.registry) b b
+    (fewer_of s.ports.first.registry m h state step id) (omega arith) e
+fewer_at Second s m h state step id e =
+    let a = of_node id s.ports.first.registry in
+    more_some a a (of_node id m) (of_node id s.ports.second.registry) (omega arith)
+    (fewer_of s.ports.second.registry m h state step id) e
+
+pub ports_fewer : (h : Handle) (s t : Service) → LosesPort h s t → (id : ℕ)
+    → has_ports_of id t.ports ≡ true → has_ports_of id s.ports ≡ true
+ports_fewer h s t a id e =
+    fewer_at a.changes.side s a.changes.ports h a.state a.changes.step id
+    (subst (λ (x : Service). has_ports_of id x.ports ≡ true) a.changes.left e)
+
+-- other nodes have the ports that they had
+same_of : (r m : RegistryState PortDetails) (d : PortDetails) (h : Handle) → PortAddition d h r m
+    → (id : ℕ) → node_of d ≢ id → of_node id m ≡ of_node id r
+same_of r m d h step id other =
+    let x : Entry PortDetails = record { slot = h.slot; ticket = r.used; details = d } in
+    let none : one_if (is_of node_of id d) ≡ 0 = ap one_if (ne_eqb (node_of d) id other) in
+    omega (
+      arith,
+      none,
+      counted-InsertsOne (is_of node_of id) r.entries m.entries x step.2.2,
+    )
+
+others_at : (side : Side) (s : Service) (m : RegistryState PortDetails) (d : PortDetails)
+    (h : Handle) → PortAddition d h (ports_at s side).registry m → (id : ℕ) → node_of d ≢ id
+    → has_ports_of id (at_side side s m).ports ≡ has_ports_of id s.ports
+others_at First s m d h step id other =
+    ap (λ n. nat_lt 0 n || nat_lt 0 (of_node id s.ports.second.registry))
+    (same_of s.ports.first.registry m d h step id other)
+others_at Second s m d h step id other =
+    ap (λ n. nat_lt 0 (of_node id s.ports.first.registry) || nat_lt 0 n)
+    (same_of s.ports.second.registry m d h step id other)
+
+pub others_stay : (d : PortDetails) (h : Handle) (s t : Service) → GainsPort d h s t → (id : ℕ)
+    → node_of d ≢ id → has_ports_of id t.ports ≡ has_ports_of id s.ports
+others_stay d h s t a id other =
+    ap (λ (x : Service). has_ports_of id x.ports) a.changes.left
+    ∙ others_at a.changes.side s a.changes.ports d h a.changes.step id other

@@ -1,6 +1,8 @@
 -- Calls that can be made before others, wherever they can be made right after them.
 use Rattle.std.specs.Prelude.{◌≡◌, ℕ, List, Option, Some}
-use Rattle.service_descriptions.specs.declared.replay.machine.command.Command.{Command}
+use Rattle.iox2_container.specs.Handle.{Handle}
+use Rattle.iox2_dynamic.specs.declared.dynamic_config.port_details.PortDetails.{PortDetails}
+use Rattle.iox2_dynamic.specs.Details.{node_of, role_of}
 use Rattle.service_descriptions.specs.declared.replay.machine.command.Command.TheVariants as command
 use Rattle.service_conformance.specs.declared.conformance.mover.Change.{Change}
 use Rattle.service_conformance.specs.declared.conformance.mover.Change.TheVariants as change
@@ -10,13 +12,24 @@ use Rattle.service_conformance.specs.Judged.{CallLeaves, Judged}
 use Rattle.service_conformance.specs.Judged.Judged.{call}
 use Rattle.service_conformance.specs.Looks.{Watched}
 use Rattle.service_conformance.specs.Seen.{word_text}
+use Rattle.service_conformance.specs.Words.{handle_words}
 
--- calls with this command and these words make the change
-abbrev pub IsChange : Change → Command → Option (List ℕ) → Type 0
-IsChange change.NodeRemoved c words =
-    ((k : ℕ) × (c ≡ command.Deregister k)) × (words ≡ Some (word_text word.HasOwners))
-IsChange change.PortRemoved c words =
-    ((k : ℕ) × (c ≡ command.Release k)) × (words ≡ Some (word_text word.Released))
+-- the words are those of a handle
+abbrev pub GaveHandle : Option (List ℕ) → Type 0
+GaveHandle words = (slot : ℕ) × (ticket : ℕ) × (words ≡ Some (handle_words slot ticket))
+
+-- the call, by its command and the words of its reply, makes the change
+abbrev pub IsChange : Change → Call → Type 0
+IsChange change.NodeRemoved c =
+    ((k : ℕ) × (c.command ≡ command.Deregister k)) × (c.words ≡ Some (word_text word.HasOwners))
+IsChange (change.PortRemoved role) c =
+    ((k : ℕ) × (c.command ≡ command.Release k))
+    × ((h : Handle) × (c.handle ≡ Some h) × (h.role ≡ role))
+    × (c.words ≡ Some (word_text word.Released))
+IsChange (change.NodeRegistered id) c = (c.command ≡ command.Register id) × GaveHandle c.words
+IsChange (change.PortAdded role node) c =
+    ((d : PortDetails) × (c.command ≡ command.Add d) × (role_of d ≡ role) × (node_of d ≡ node))
+    × GaveHandle c.words
 
 -- the call, wherever it can be made right after the other, can be made right before it, and both
 -- leave the same
@@ -28,12 +41,11 @@ MovesBeforeCall c other =
 -- the same of all calls with these changes
 abbrev pub MovesBeforeChange : Change → Change → Type 0
 MovesBeforeChange change by =
-    (c other : Call) → IsChange change c.command c.words → IsChange by other.command other.words
-    → MovesBeforeCall c other
+    (c other : Call) → IsChange change c → IsChange by other → MovesBeforeCall c other
 
 -- it is a call that makes the change
 abbrev pub MakesChange : Change → Judged → Type 0
-MakesChange change j = (c : Call) × (j ≡ call c) × IsChange change c.command c.words
+MakesChange change j = (c : Call) × (j ≡ call c) × IsChange change c
 
 -- what has the number is a call that makes the change
 abbrev pub ChangesAt : ℕ → List Judged → ℕ → Change → Type 0

@@ -1,35 +1,57 @@
 //! Calls that can be made before others, wherever they can be made right after them.
-ghost use Rattle.std.specs.Prelude.{IfSome, IsTrue, Some};
-ghost use Rattle.service_conformance.specs.Asked.{asked_command};
+ghost use Rattle.std.specs.Prelude.{◌≢◌, IfSome, IsTrue, Some};
+ghost use Rattle.service_conformance.specs.Asked.{asked_command, asked_handle};
 ghost use Rattle.service_conformance.specs.Movers.{IsChange, MovesBeforeChange};
 ghost use Rattle.service_conformance.specs.Seen.{seen_text};
 
 use super::asked::Asked;
 use super::seen_reply::{ReplyWord, SeenReply};
+use iox2_container::container::Role;
 
 /// What a call changed that was answered, as far as it matters which of two calls was made first.
 #[derive(Clone, Copy)]
 pub(super) enum Change {
     /// An entry of a node was removed, and others are left.
     NodeRemoved,
-    /// A port was removed.
-    PortRemoved,
+    /// A port of this role was removed.
+    PortRemoved(Role),
+    /// The node whose id has this number was registered.
+    NodeRegistered(u128),
+    /// A port of this role was added, of the node whose id has this number.
+    PortAdded(Role, u128),
 }
 
-/// What a call with this command and this reply changed, if it is one of the changes.
+/// What a call that was asked so and had this reply changed, if it is one of the changes.
 pub(super) fn change_of(asked: &Asked, seen: &SeenReply) -> Option<Change>
-    ensures { IfSome result (λ change.
-        IsChange change (asked_command asked.now) (Some (seen_text seen.now))) }
+    ensures { IfSome result (λ change. IsChange change (record {
+      command = asked_command asked.now;
+      handle = asked_handle asked.now;
+      words = Some (seen_text seen.now);
+    })) }
 {
     match (asked, seen) {
         (Asked::Deregister(_), SeenReply::Word(ReplyWord::HasOwners)) => {
             Some(Change::NodeRemoved)
         }
-        (Asked::Release(_), SeenReply::Word(ReplyWord::Released)) => {
-            Some(Change::PortRemoved)
+        (Asked::Release(Some(handle)), SeenReply::Word(ReplyWord::Released)) => {
+            Some(Change::PortRemoved(handle.role()))
+        }
+        (Asked::Register(id), SeenReply::Handle(_, _)) => {
+            Some(Change::NodeRegistered(id.value()))
+        }
+        (Asked::Add(port), SeenReply::Handle(_, _)) => {
+            let details = port.details();
+            Some(Change::PortAdded(details.role(), details.node_id().value()))
         }
         _ => None,
     }
+}
+
+/// Whether two roles are not the same. Ports of two roles stand in two registries.
+fn differ(role: Role, other: Role) -> bool
+    ensures { IsTrue result → role ≢ other }
+{
+    role != other
 }
 
 impl Change {
@@ -40,7 +62,16 @@ impl Change {
     {
         match (self, other) {
             (Change::NodeRemoved, Change::NodeRemoved) => true,
-            (Change::PortRemoved, Change::PortRemoved) => true,
+            (Change::PortRemoved(_), Change::NodeRemoved) => true,
+            (Change::PortRemoved(_), Change::PortRemoved(_)) => true,
+            (Change::PortRemoved(_), Change::NodeRegistered(_)) => true,
+            (Change::PortRemoved(role), Change::PortAdded(added, _)) => differ(role, added),
+            (Change::NodeRegistered(_), Change::PortRemoved(_)) => true,
+            (Change::NodeRegistered(_), Change::PortAdded(_, _)) => true,
+            (Change::PortAdded(_, _), Change::NodeRemoved) => true,
+            (Change::PortAdded(role, _), Change::PortRemoved(removed)) => differ(role, removed),
+            (Change::PortAdded(_, node), Change::NodeRegistered(id)) => node != id,
+            (Change::PortAdded(role, _), Change::PortAdded(added, _)) => differ(role, added),
             _ => false,
         }
     }

@@ -264,7 +264,7 @@ impl SeenCall {
 
     /// What the call changed, if it was answered and is one of the changes.
     pub(super) fn change(&self) -> Option<Change>
-        ensures { IfSome result (λ change. IsChange change self.now.command self.now.words) }
+        ensures { IfSome result (λ change. IsChange change self.now) }
     {
         match &self.seen {
             Some(seen) => change_of(&self.asked, seen),
