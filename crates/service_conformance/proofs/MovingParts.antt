@@ -13,7 +13,8 @@ use Rattle.iox2_dynamic.specs.Service.{Service, first_role, second_role}
 use Rattle.service_conformance.specs.declared.conformance.possible.Part.TheVariants as part
 use Rattle.service_conformance.specs.Looks.{is_among}
 use Rattle.service_conformance.specs.Quiet.{at_rest, quiet}
-use Rattle.service_conformance.specs.Sides.{role_at, ports_at, with_ports_at}
+use Rattle.iox2_dynamic.specs.Service.{role_at}
+use Rattle.service_conformance.specs.Sides.{ports_at, with_ports_at}
 use Rattle.service_conformance.proofs.Following.{at_side, by_ports}
 use Rattle.service_conformance.proofs.MovingLooks.{IsBetween}
 use Rattle.service_conformance.proofs.Sides.{steps_at}

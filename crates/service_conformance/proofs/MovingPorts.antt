@@ -24,7 +24,8 @@ use Rattle.service_descriptions.specs.Steps.{ServesAdd, ServesRelease}
 use Rattle.service_conformance.specs.declared.conformance.possible.Part.TheVariants as part
 use Rattle.service_conformance.specs.Looks.{is_among, port_ids}
 use Rattle.service_conformance.specs.Quiet.{quiet}
-use Rattle.service_conformance.specs.Sides.{role_at, ports_at}
+use Rattle.iox2_dynamic.specs.Service.{role_at}
+use Rattle.service_conformance.specs.Sides.{ports_at}
 use Rattle.service_conformance.proofs.Following.{at_side}
 use Rattle.service_conformance.proofs.MovingEntries.{in_whole, removals_swap}
 use Rattle.service_conformance.proofs.MovingLooks.{LosesIds, loses_between}

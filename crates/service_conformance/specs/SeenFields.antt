@@ -1,7 +1,7 @@
 -- What the fields of a call that was seen tell.
 use Rattle.std.specs.Option.{option_map}
 use Rattle.service_conformance.specs.declared.conformance.seen_call.SeenCall.TheInside.{Inside}
-use Rattle.service_conformance.specs.Asked.{asked_command, asked_handle}
+use Rattle.service_conformance.specs.Requests.{request_command, request_handle}
 use Rattle.service_conformance.specs.Calls.{Call}
 use Rattle.service_conformance.specs.Possible.{IsCovered}
 use Rattle.service_conformance.specs.Seen.{seen_text}
@@ -9,11 +9,11 @@ use Rattle.service_conformance.specs.Seen.{seen_text}
 -- the call that they tell
 abbrev pub seen_as : Inside → Call
 seen_as c = record {
-  command = asked_command c.asked;
-  handle = asked_handle c.asked;
+  command = request_command c.request;
+  handle = request_handle c.request;
   words = option_map seen_text c.seen;
 }
 
 -- its possible replies are known
 abbrev pub IsSoundSeen : Inside → Type 0
-IsSoundSeen c = IsCovered (asked_command c.asked)
+IsSoundSeen c = IsCovered (request_command c.request)

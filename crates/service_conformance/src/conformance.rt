@@ -1,6 +1,6 @@
 //! The calls that were seen of a service, as a machine whose steps are those of services.
 
-mod asked;
+mod request;
 mod calls;
 mod id_word;
 mod judged_call;

@@ -1,10 +1,10 @@
 //! Calls that can be made before others, wherever they can be made right after them.
 ghost use Rattle.std.specs.Prelude.{◌≢◌, IfSome, IsTrue, Some};
-ghost use Rattle.service_conformance.specs.Asked.{asked_command, asked_handle};
+ghost use Rattle.service_conformance.specs.Requests.{request_command, request_handle};
 ghost use Rattle.service_conformance.specs.Movers.{IsChange, MovesBeforeChange};
 ghost use Rattle.service_conformance.specs.Seen.{seen_text};
 
-use super::asked::Asked;
+use super::request::Request;
 use super::seen_reply::{ReplyWord, SeenReply};
 use iox2_container::container::Role;
 
@@ -21,25 +21,25 @@ pub(super) enum Change {
     PortAdded(Role, u128),
 }
 
-/// What a call that was asked so and had this reply changed, if it is one of the changes.
-pub(super) fn change_of(asked: &Asked, seen: &SeenReply) -> Option<Change>
+/// What a call with this request and this reply changed, if it is one of the changes.
+pub(super) fn change_of(request: &Request, seen: &SeenReply) -> Option<Change>
     ensures { IfSome result (λ change. IsChange change (record {
-      command = asked_command asked.now;
-      handle = asked_handle asked.now;
+      command = request_command request.now;
+      handle = request_handle request.now;
       words = Some (seen_text seen.now);
     })) }
 {
-    match (asked, seen) {
-        (Asked::Deregister(_), SeenReply::Word(ReplyWord::HasOwners)) => {
+    match (request, seen) {
+        (Request::Deregister(_), SeenReply::Word(ReplyWord::HasOwners)) => {
             Some(Change::NodeRemoved)
         }
-        (Asked::Release(Some(handle)), SeenReply::Word(ReplyWord::Released)) => {
+        (Request::Release(Some(handle)), SeenReply::Word(ReplyWord::Released)) => {
             Some(Change::PortRemoved(handle.role()))
         }
-        (Asked::Register(id), SeenReply::Handle(_, _)) => {
+        (Request::Register(id), SeenReply::Handle(_, _)) => {
             Some(Change::NodeRegistered(id.value()))
         }
-        (Asked::Add(port), SeenReply::Handle(_, _)) => {
+        (Request::Add(port), SeenReply::Handle(_, _)) => {
             let details = port.details();
             Some(Change::PortAdded(details.role(), details.node_id().value()))
         }

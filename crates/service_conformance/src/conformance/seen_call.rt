@@ -12,7 +12,7 @@ ghost use Rattle.service_conformance.specs.Seen.{changes_nothing, seen_text};
 ghost use Rattle.service_descriptions.specs.Lines.{command_of};
 ghost use Rattle.service_conformance.specs.declared.conformance.possible.Possible.TheVariants as possible;
 
-use super::asked::Asked;
+use super::request::Request;
 use super::line_reply::LineReply;
 use super::mover::{Change, change_of};
 use super::possible::{Part, Possible, PossibleReplies};
@@ -28,7 +28,7 @@ use std::marker::Model;
 /// was seen, or none.
 #[derive(Drop)]
 pub struct SeenCall {
-    asked: Asked,
+    request: Request,
     seen: Option<SeenReply>,
 }
 
@@ -51,7 +51,7 @@ impl SeenCall {
         ensures { result ≡ call_of (command_of command) handle }
     {
         SeenCall {
-            asked: Asked::new(command, handle),
+            request: Request::new(command, handle),
             seen: None,
         }
     }
@@ -69,7 +69,7 @@ impl SeenCall {
         ensures possible { IfOk result (ArePossible state.now (ServesCall self.now state.now)) }
         ensures covered { IsCovered self.now.command }
     {
-        state.possible_for(alloc, &self.asked)
+        state.possible_for(alloc, &self.request)
     }
 
     /// Makes the call in this state, with this reply. Where memory is refused, nothing changes.
@@ -78,7 +78,7 @@ impl SeenCall {
         ensures { OnOk result (LeadsTo (ServesCall self.now state.old) (reply_in reply.now)
             state.new) }
     {
-        state.follow_asked(&self.asked, reply)
+        state.follow_request(&self.request, reply)
     }
 
     /// The state that the call leaves with this reply.
@@ -267,7 +267,7 @@ impl SeenCall {
         ensures { IfSome result (λ change. IsChange change self.now) }
     {
         match &self.seen {
-            Some(seen) => change_of(&self.asked, seen),
+            Some(seen) => change_of(&self.request, seen),
             None => None,
         }
     }
@@ -282,6 +282,6 @@ impl SeenCall {
     {
         // For the proof: what is true of every check.
         let _pattern = state.kind();
-        state.possible_replies(alloc, &self.asked)
+        state.possible_replies(alloc, &self.request)
     }
 }

@@ -1,7 +1,7 @@
 //! The state that a reply leaves.
 ghost use Rattle.std.specs.Prelude.{◌≡◌, OnOk, OnErr};
 ghost use Rattle.iox2_dynamic.specs.Service.{IsService};
-ghost use Rattle.service_conformance.specs.Asked.{ServesAsked, asked_command};
+ghost use Rattle.service_conformance.specs.Requests.{ServesRequest, request_command};
 ghost use Rattle.service_conformance.specs.Possible.{IsCovered, reply_in};
 ghost use Rattle.service_conformance.specs.Quiet.{CanServe, LeadsTo};
 ghost use Rattle.service_descriptions.specs.Cleanups.{ServesDead};
@@ -9,7 +9,7 @@ ghost use Rattle.service_descriptions.specs.Steps.{ServesAdd, ServesDeregister, 
 ghost use Rattle.service_descriptions.specs.declared.replay.machine.command.Cleanup.TheVariants as cleanup;
 ghost use Rattle.service_descriptions.specs.declared.replay.machine.command.Command.TheVariants as command;
 
-use super::super::asked::Asked;
+use super::super::request::Request;
 use super::super::line_reply::LineReply;
 use super::super::replies::{given, is_removal};
 use super::{ServiceCheck, has_ports_in};
@@ -135,35 +135,35 @@ impl ServiceCheck {
 
     /// The service after a command and its reply.
     #[tactic(auto, using(crate::proofs::Following::reported))]
-    pub(in super::super) fn follow_asked(
+    pub(in super::super) fn follow_request(
         &mut self,
-        asked: &Asked,
+        request: &Request,
         reply: &LineReply,
     ) -> Result<(), AllocError>
-        requires covered { IsCovered (asked_command asked.now) }
-        requires can { CanServe (ServesAsked asked.now self.old) (reply_in reply.now) }
-        ensures ok { OnOk result (LeadsTo (ServesAsked asked.now self.old) (reply_in reply.now)
+        requires covered { IsCovered (request_command request.now) }
+        requires can { CanServe (ServesRequest request.now self.old) (reply_in reply.now) }
+        ensures ok { OnOk result (LeadsTo (ServesRequest request.now self.old) (reply_in reply.now)
             self.new) }
         ensures err { OnErr result (self.new ≡ self.old) }
         ensures kept { IsService self.new }
     {
         // For the proof: what is true of every check.
         let _pattern = &self.pattern;
-        match asked {
-            Asked::Register(id) => self.follow_register(*id, reply),
-            Asked::Deregister(handle) => {
+        match request {
+            Request::Register(id) => self.follow_register(*id, reply),
+            Request::Deregister(handle) => {
                 self.follow_deregister(*handle, reply);
                 Ok(())
             }
-            Asked::Add(port) => self.follow_attach(port.details(), reply),
-            Asked::Release(handle) => {
+            Request::Add(port) => self.follow_attach(port.details(), reply),
+            Request::Release(handle) => {
                 self.follow_release(*handle, reply);
                 Ok(())
             }
-            Asked::Nodes => Ok(()),
-            Asked::List(_) => Ok(()),
-            Asked::Count(_) => Ok(()),
-            Asked::Dead(dead, cleanup) => {
+            Request::Nodes => Ok(()),
+            Request::List(_) => Ok(()),
+            Request::Count(_) => Ok(()),
+            Request::Dead(dead, cleanup) => {
                 self.follow_cleanup(dead, cleanup, reply);
                 Ok(())
             }

@@ -1,7 +1,7 @@
 //! The replies that a command may have.
 ghost use Rattle.std.specs.Prelude.{◌≡◌, ◌<◌, IfNone, IfOk, IfSome};
 ghost use Rattle.iox2_container.specs.Handle.{Handle};
-ghost use Rattle.service_conformance.specs.Asked.{ServesAsked, asked_command};
+ghost use Rattle.service_conformance.specs.Requests.{ServesRequest, request_command};
 ghost use Rattle.service_conformance.specs.Possible.{ArePossible, IsCovered, MayGiveIn};
 ghost use Rattle.service_conformance.specs.Quiet.{Reports};
 ghost use Rattle.service_descriptions.specs.Cleanups.{ServesDead};
@@ -10,7 +10,7 @@ ghost use Rattle.service_descriptions.specs.Steps.{ServesAdd, ServesDeregister, 
 ghost use Rattle.service_descriptions.specs.declared.replay.machine.command.Cleanup.TheVariants as cleanup;
 ghost use Rattle.service_descriptions.specs.declared.replay.machine.command.Command.TheVariants as command;
 
-use super::super::asked::Asked;
+use super::super::request::Request;
 use super::super::line_reply::LineReply;
 use super::super::possible::{Part, Possible};
 use super::super::replies::{possible_add, reply_of_owners};
@@ -142,20 +142,20 @@ impl ServiceCheck {
     pub(in super::super) fn possible_for(
         &self,
         alloc: Global,
-        asked: &Asked,
+        request: &Request,
     ) -> Result<Possible, AllocError>
-        requires { IsCovered (asked_command asked.now) }
-        ensures { IfOk result (ArePossible self.now (ServesAsked asked.now self.now)) }
+        requires { IsCovered (request_command request.now) }
+        ensures { IfOk result (ArePossible self.now (ServesRequest request.now self.now)) }
     {
-        match asked {
-            Asked::Register(id) => Ok(self.possible_register(*id)),
-            Asked::Deregister(handle) => Ok(self.possible_deregister(*handle)),
-            Asked::Nodes => self.possible_nodes(alloc),
-            Asked::Add(port) => Ok(self.possible_attach(port.details())),
-            Asked::Release(handle) => Ok(self.possible_release(*handle)),
-            Asked::List(role) => self.possible_list(alloc, *role),
-            Asked::Count(role) => Ok(self.possible_count(*role)),
-            Asked::Dead(dead, cleanup) => Ok(self.possible_cleanup(dead, cleanup)),
+        match request {
+            Request::Register(id) => Ok(self.possible_register(*id)),
+            Request::Deregister(handle) => Ok(self.possible_deregister(*handle)),
+            Request::Nodes => self.possible_nodes(alloc),
+            Request::Add(port) => Ok(self.possible_attach(port.details())),
+            Request::Release(handle) => Ok(self.possible_release(*handle)),
+            Request::List(role) => self.possible_list(alloc, *role),
+            Request::Count(role) => Ok(self.possible_count(*role)),
+            Request::Dead(dead, cleanup) => Ok(self.possible_cleanup(dead, cleanup)),
         }
     }
 

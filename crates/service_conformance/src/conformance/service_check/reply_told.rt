@@ -1,12 +1,12 @@
 //! The replies that a call may have, and who is there.
 ghost use Rattle.std.specs.Prelude.{◌≡◌, ◌++◌, IfOk, map};
 ghost use Rattle.iox2_container.specs.Steps.{listed};
-ghost use Rattle.service_conformance.specs.Asked.{ServesAsked, asked_command};
+ghost use Rattle.service_conformance.specs.Requests.{ServesRequest, request_command};
 ghost use Rattle.service_conformance.specs.Looks.{ids_in};
 ghost use Rattle.service_conformance.specs.Possible.{IsCovered};
 ghost use Rattle.service_conformance.specs.Words.{ArePossibleWords, IsNextIn};
 
-use super::super::asked::Asked;
+use super::super::request::Request;
 use super::super::possible::{NextHandle, Part, Possible, PossibleReplies};
 use super::super::says::Printed;
 use super::ServiceCheck;
@@ -56,12 +56,12 @@ impl ServiceCheck {
     pub(in super::super) fn possible_replies(
         &self,
         alloc: Global,
-        asked: &Asked,
+        request: &Request,
     ) -> Result<PossibleReplies, AllocError>
-        requires { IsCovered (asked_command asked.now) }
-        ensures { IfOk result (ArePossibleWords (ServesAsked asked.now self.now)) }
+        requires { IsCovered (request_command request.now) }
+        ensures { IfOk result (ArePossibleWords (ServesRequest request.now self.now)) }
     {
-        match self.possible_for(alloc, asked)? {
+        match self.possible_for(alloc, request)? {
             Possible::One(one) => Ok(PossibleReplies::One(one.reply())),
             Possible::Given(part) => Ok(PossibleReplies::Handle(self.next_in(alloc, part)?)),
         }

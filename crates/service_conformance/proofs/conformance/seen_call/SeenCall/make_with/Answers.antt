@@ -1,4 +1,4 @@
 use Rattle.service_conformance.proofs.conformance.seen_call.SeenCall.make_with.Goals as goal
 
 pub returns : goal.returns
-returns c = rw (← c.self.view_is) c.follow_asked.ensures.ok
+returns c = rw (← c.self.view_is) c.follow_request.ensures.ok

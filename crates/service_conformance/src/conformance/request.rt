@@ -1,6 +1,6 @@
 //! Commands as they were called.
 ghost use Rattle.std.specs.Prelude.{◌≡◌};
-ghost use Rattle.service_conformance.specs.Asked.{asked_command, asked_handle};
+ghost use Rattle.service_conformance.specs.Requests.{request_command, request_handle};
 ghost use Rattle.service_conformance.specs.Calls.{at_first, handle_for};
 ghost use Rattle.service_descriptions.specs.Lines.{command_of};
 
@@ -11,7 +11,7 @@ use service_descriptions::replay::{Cleanup, LineCommand, ScriptPort};
 /// A command that has a line, as the variant of `LineCommand` of this name. A removal has the
 /// handle that it names, or none, in place of the number of a command.
 #[derive(Drop)]
-pub(super) enum Asked {
+pub(super) enum Request {
     Register(UniqueNodeId),
     Deregister(Option<ContainerHandle>),
     Nodes,
@@ -22,21 +22,21 @@ pub(super) enum Asked {
     Dead(UniqueNodeId, Cleanup),
 }
 
-impl Asked {
+impl Request {
     /// The command, which names this handle or none if it is a removal.
     pub(super) fn new(command: LineCommand, handle: Option<ContainerHandle>) -> Self
-        ensures command { asked_command result ≡ at_first (command_of command) }
-        ensures handle { asked_handle result ≡ handle_for (command_of command) handle }
+        ensures command { request_command result ≡ at_first (command_of command) }
+        ensures handle { request_handle result ≡ handle_for (command_of command) handle }
     {
         match command {
-            LineCommand::Register(id) => Asked::Register(id),
-            LineCommand::Deregister(_) => Asked::Deregister(handle),
-            LineCommand::Nodes => Asked::Nodes,
-            LineCommand::Add(port) => Asked::Add(port),
-            LineCommand::Release(_) => Asked::Release(handle),
-            LineCommand::List(role) => Asked::List(role),
-            LineCommand::Count(role) => Asked::Count(role),
-            LineCommand::Dead(node, cleanup) => Asked::Dead(node, cleanup),
+            LineCommand::Register(id) => Request::Register(id),
+            LineCommand::Deregister(_) => Request::Deregister(handle),
+            LineCommand::Nodes => Request::Nodes,
+            LineCommand::Add(port) => Request::Add(port),
+            LineCommand::Release(_) => Request::Release(handle),
+            LineCommand::List(role) => Request::List(role),
+            LineCommand::Count(role) => Request::Count(role),
+            LineCommand::Dead(node, cleanup) => Request::Dead(node, cleanup),
         }
     }
 }
