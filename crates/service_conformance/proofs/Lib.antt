@@ -28,4 +28,6 @@ pub mod MovingLooks
 pub mod MovingParts
 pub mod MovingNodes
 pub mod MovingPorts
+pub mod MovingSteps
+pub mod MovingPairs
 pub mod Moving

@@ -3,6 +3,8 @@
 #![tactic(auto)]
 
 #[cfg(test)]
+mod movers;
+#[cfg(test)]
 mod overlapping;
 #[cfg(test)]
 mod seen;

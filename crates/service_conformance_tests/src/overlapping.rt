@@ -18,7 +18,7 @@ use std::test::Fail;
 
 /// A command's line, the handle that it names, and the words of its reply; none where it was never
 /// answered.
-type Call = (&'static str, Option<(Role, usize, u64)>, &'static str);
+pub(crate) type Call = (&'static str, Option<(Role, usize, u64)>, &'static str);
 
 /// A history of calls on an event service with room for three nodes and two listeners.
 #[derive(Clone, Copy)]
@@ -261,7 +261,7 @@ fn command(alloc: Global, line: &str) -> Result<Option<LineCommand>, AllocError>
 }
 
 /// The calls as they were seen.
-fn calls_of(alloc: Global, calls: &[Call]) -> Result<Vec<JudgedCall>, AllocError> {
+pub(crate) fn calls_of(alloc: Global, calls: &[Call]) -> Result<Vec<JudgedCall>, AllocError> {
     let mut list = Vec::new(alloc);
     for (line, named, words) in calls {
         let handle = match named {
