@@ -237,7 +237,8 @@ module _ (role other : Role) (differ : role ≢ other)
       between = at_side Second s m;
       before = record { side = Second; role_is = q; ports = m; step = b; whole = v; left = refl };
       after = record { side = First; role_is = r; ports = n; step = a; whole = u; left = e };
-      first = subst (λ (x : Service). IsBetween s (at_side First s n) x) (sym e) (between_first n m);
+      first = subst (λ (x : Service). IsBetween s (at_side First s n) x) (sym e)
+          (between_first n m);
       second = subst (λ (x : Service). IsBetween s (at_side Second s m) x) (sym e)
           (between_second m n);
     }
@@ -251,7 +252,8 @@ module _ (role other : Role) (differ : role ≢ other)
           (between_first m n);
     }
 
-    pub others_first : (mid : Service) → ChangesPorts role Step s mid → ChangesPorts other Other mid t
+    pub others_first : (mid : Service) → ChangesPorts role Step s mid
+        → ChangesPorts other Other mid t
         → Exchange (ChangesPorts role Step) (ChangesPorts other Other) s mid t
     others_first mid a b0 =
         let b : ChangesPorts other Other (at_side a.side s a.ports) t =

@@ -23,12 +23,11 @@ use Rattle.service_conformance.proofs.Quiet.{service_quiet}
 use Rattle.service_conformance.proofs.Seen.{is_word, no_handle_text}
 
 -- The call does this, with one of these handles, and nothing else.
-pub record Does (c : Call) (May : Handle → Type 0) (Step : Handle → Service → Service → Type 0) : Type 0
-  where
-    pub there : (old new : Service) → CallStep c old new
-        → (h : Handle) × May h × Step h old new
-    pub back : (h : Handle) → May h → (old new : Service) → IsService old → quiet old ≡ old
-        → Step h old new → CallStep c old new
+pub record Does (c : Call) (May : Handle → Type 0)
+    (Step : Handle → Service → Service → Type 0) : Type 0 where
+  pub there : (old new : Service) → CallStep c old new → (h : Handle) × May h × Step h old new
+  pub back : (h : Handle) → May h → (old new : Service) → IsService old → quiet old ≡ old
+      → Step h old new → CallStep c old new
 
 -- a call leaves a service of which no touch is counted
 pub leaves_service : (c : Call) (old new : Service) → CallStep c old new
