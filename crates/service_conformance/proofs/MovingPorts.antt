@@ -108,8 +108,8 @@ module _ (h : Handle) (s t : Service) where
 
     pub added_kept : IsService s → IsService (service_with d h s t a)
     added_kept i =
-        attach_kept s s.pattern (ports_after (role_of d) (PortAddition d h) s t a.changes) d (Ok h)
-        refl a.opens.1 (ports_step (role_of d) (PortAddition d h) s t a.changes) i
+        attach_kept s (service_with d h s t a) d (Ok h)
+        (a.opens, (ports_step (role_of d) (PortAddition d h) s t a.changes, refl)) i
 
 -- an id of a port that is left was there
 lost_id : (r m : RegistryState PortDetails) (h : Handle) (state : ReleaseState)
