@@ -23,7 +23,12 @@ ReadsRole number None = (role : Role) → role_number role ≢ number
 
 -- the handle as C sees it
 abbrev pub c_handle : ContainerHandle → Handle
-c_handle h = record { service = h.service; role = role_number h.role; slot = h.slot; ticket = h.ticket }
+c_handle h = record {
+  service = h.service;
+  role = role_number h.role;
+  slot = h.slot;
+  ticket = h.ticket;
+}
 
 -- the number of no role
 abbrev pub no_role : ℕ

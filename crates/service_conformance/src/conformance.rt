@@ -1,6 +1,5 @@
 //! The calls that were seen of a service, as a machine whose steps are those of services.
 
-mod request;
 mod calls;
 mod id_word;
 mod judged_call;
@@ -11,6 +10,7 @@ mod placed;
 mod possible;
 mod registry_check;
 mod replies;
+mod request;
 mod same;
 mod says;
 mod seen_call;

@@ -12,10 +12,10 @@ ghost use Rattle.service_conformance.specs.Seen.{changes_nothing, seen_text};
 ghost use Rattle.service_descriptions.specs.Lines.{command_of};
 ghost use Rattle.service_conformance.specs.declared.conformance.possible.Possible.TheVariants as possible;
 
-use super::request::Request;
 use super::line_reply::LineReply;
 use super::mover::{Change, change_of};
 use super::possible::{Part, Possible, PossibleReplies};
+use super::request::Request;
 use super::seen_reply::{SeenReply, changes_nothing};
 use super::service_check::ServiceCheck;
 use histories::Left;

@@ -9,9 +9,9 @@ ghost use Rattle.service_descriptions.specs.Steps.{ServesAdd, ServesDeregister, 
 ghost use Rattle.service_descriptions.specs.declared.replay.machine.command.Cleanup.TheVariants as cleanup;
 ghost use Rattle.service_descriptions.specs.declared.replay.machine.command.Command.TheVariants as command;
 
-use super::super::request::Request;
 use super::super::line_reply::LineReply;
 use super::super::replies::{given, is_removal};
+use super::super::request::Request;
 use super::{ServiceCheck, has_ports_in};
 use iox2_container::container::{ContainerHandle, ReleaseMode};
 use iox2_dynamic::dynamic_config::{PortDetails, PortRoles};

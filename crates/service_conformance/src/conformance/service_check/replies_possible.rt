@@ -10,10 +10,10 @@ ghost use Rattle.service_descriptions.specs.Steps.{ServesAdd, ServesDeregister, 
 ghost use Rattle.service_descriptions.specs.declared.replay.machine.command.Cleanup.TheVariants as cleanup;
 ghost use Rattle.service_descriptions.specs.declared.replay.machine.command.Command.TheVariants as command;
 
-use super::super::request::Request;
 use super::super::line_reply::LineReply;
 use super::super::possible::{Part, Possible};
 use super::super::replies::{possible_add, reply_of_owners};
+use super::super::request::Request;
 use super::super::sides::part;
 use super::ServiceCheck;
 use iox2_container::container::{ContainerHandle, Role};

@@ -6,8 +6,8 @@ ghost use Rattle.service_conformance.specs.Looks.{ids_in};
 ghost use Rattle.service_conformance.specs.Possible.{IsCovered};
 ghost use Rattle.service_conformance.specs.Words.{ArePossibleWords, IsNextIn};
 
-use super::super::request::Request;
 use super::super::possible::{NextHandle, Part, Possible, PossibleReplies};
+use super::super::request::Request;
 use super::super::says::Printed;
 use super::ServiceCheck;
 use iox2_dynamic::dynamic_config::PortDetails;
