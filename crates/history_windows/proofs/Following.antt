@@ -16,25 +16,18 @@ use Rattle.histories.specs.Splitting.{BeginsAnew, IsQuiet}
 use Rattle.histories.proofs.Events.{begins_none, open_begin_now, sound_end, sound_none, stands_within}
 use Rattle.histories.proofs.Explaining.{explains_begin, explains_end}
 use Rattle.histories.proofs.Cutting.{begins-append}
-use Rattle.histories.proofs.Verdicts.{AreNumbered, agrees_same, ends_of, explained_take, frontier_explained, frontier_refused, frontier_some, next_fresh, next_of, numbered_more, numbered_none, one_more, sound_more}
+use Rattle.histories.proofs.Verdicts.{agrees_same, ends_of, explained_take, frontier_explained, frontier_refused, frontier_some, next_fresh, next_of, numbered_more, numbered_none, one_more, sound_more}
 use Rattle.history_windows.specs.declared.window.Cut.{Cut}
 use Rattle.history_windows.specs.declared.window.Cut.TheVariants as cut
 use Rattle.history_windows.specs.declared.window.Stop.TheVariants as stop
 use Rattle.history_windows.specs.declared.window.Window.{Window}
-use Rattle.history_windows.specs.Windows.{BeginsWindow, CutsAt, IsStop, IsStopAt, IsWindowOf, LeadsTooFar}
+use Rattle.history_windows.specs.Goings.{GoesTo}
+use Rattle.history_windows.specs.Windows.{BeginsWindow, CutsAt, IsStop, LeadsTooFar}
 use Rattle.history_windows.proofs.Joins.{open_inside, open_whole, quiet_both, sound_back}
 
 module _ {S : Type 0} (Step : S → ℕ → S → Type 0) (olds : List S) where
-  -- the events end in the window, and each part of them is sound
-  pub record GoesTo (events : List Event) (window : Window S) : Type 0 where
-    pub is : IsWindowOf Step olds events window
-    pub first : IsSound is.past
-    pub second : IsSound is.inside
-    pub whole : IsSound events
-    pub numbered : AreNumbered events
-
   pub goes_begin : (front : Front S) → 0 < length olds → IsFrontOf Step front [] olds
-      → GoesTo [] (record { begin = 0; front = front })
+      → GoesTo Step olds [] (record { begin = 0; front = front })
   goes_begin front some f = record {
     is = record {
       past = [];
@@ -55,8 +48,8 @@ module _ {S : Type 0} (Step : S → ℕ → S → Type 0) (olds : List S) where
     numbered = numbered_none;
   }
 
-  module _ (es : List Event) (w : Window S) (g : GoesTo es w) where
-    parts_sound : IsSound (g.is.past ++ g.is.inside)
+  module _ (es : List Event) (w : Window S) (g : GoesTo Step olds es w) where
+    pub parts_sound : IsSound (g.is.past ++ g.is.inside)
     parts_sound = subst (λ (l : List Event). IsSound l) g.is.split g.whole
 
     explained_inside : IsExplained Step g.is.inside g.is.states
@@ -74,7 +67,7 @@ module _ {S : Type 0} (Step : S → ℕ → S → Type 0) (olds : List S) where
       fresh : (c : ℕ) → e ≡ Begin c → begins c es ≡ 0
       fresh = next_fresh es e g.numbered (next_of es e may)
 
-      fresh_inside : (c : ℕ) → e ≡ Begin c → begins c g.is.inside ≡ 0
+      pub fresh_inside : (c : ℕ) → e ≡ Begin c → begins c g.is.inside ≡ 0
       fresh_inside c is =
           omega (
             arith,
@@ -86,12 +79,12 @@ module _ {S : Type 0} (Step : S → ℕ → S → Type 0) (olds : List S) where
       whole_more : IsSound (es ++ e ∷ [])
       whole_more = sound_more es e g.whole fresh (ends_of es e may)
 
-      split_more : es ++ e ∷ [] ≡ g.is.past ++ (g.is.inside ++ e ∷ [])
+      pub split_more : es ++ e ∷ [] ≡ g.is.past ++ (g.is.inside ++ e ∷ [])
       split_more =
           ap (λ (l : List Event). l ++ e ∷ []) g.is.split
           ∙ append_assoc g.is.past g.is.inside (e ∷ [])
 
-      parts_more : IsSound (g.is.past ++ (g.is.inside ++ e ∷ []))
+      pub parts_more : IsSound (g.is.past ++ (g.is.inside ++ e ∷ []))
       parts_more = subst (λ (l : List Event). IsSound l) split_more whole_more
 
       ends_inside : (c : ℕ) → (e ≡ End c) ⊎ (e ≡ Crash c)
@@ -101,7 +94,7 @@ module _ {S : Type 0} (Step : S → ℕ → S → Type 0) (olds : List S) where
           (subst (λ (l : List Event). IsOpen l c) g.is.split
           (ends_of es e may c ends))
 
-      inside_more : IsSound (g.is.inside ++ e ∷ [])
+      pub inside_more : IsSound (g.is.inside ++ e ∷ [])
       inside_more = sound_more g.is.inside e g.second fresh_inside ends_inside
 
       -- an order explains no less where a call begins, or its caller crashes
@@ -133,7 +126,7 @@ module _ {S : Type 0} (Step : S → ℕ → S → Type 0) (olds : List S) where
       -- the event is in the window
       pub goes_done : (new : Front S)
           → AdvancesIn Step g.is.inside g.is.states e new advance.Done
-          → GoesTo (es ++ e ∷ []) (record { begin = w.begin; front = new })
+          → GoesTo Step olds (es ++ e ∷ []) (record { begin = w.begin; front = new })
       goes_done new done = record {
         is = record {
           past = g.is.past;
@@ -206,7 +199,7 @@ module _ {S : Type 0} (Step : S → ℕ → S → Type 0) (olds : List S) where
         → MayFollow (es ++ Begin c ∷ []) (End c)
         → IsFrontOf Step new ((g.is.inside ++ Begin c ∷ []) ++ End c ∷ []) g.is.states
         → 0 < length new.configs.items
-        → GoesTo ((es ++ Begin c ∷ []) ++ End c ∷ []) (record { begin = w.begin; front = new })
+        → GoesTo Step olds ((es ++ Begin c ∷ []) ++ End c ∷ []) (record { begin = w.begin; front = new })
     goes_alone new c may then f some =
         let inside : List Event = g.is.inside ++ Begin c ∷ [] in
         let more : List Event = es ++ Begin c ∷ [] in
@@ -234,7 +227,7 @@ module _ {S : Type 0} (Step : S → ℕ → S → Type 0) (olds : List S) where
 
     -- a window begins where no call is open
     pub goes_anew : (new : Front S) → BeginsAnew Step w.front new true
-        → GoesTo es (record { begin = length es; front = new })
+        → GoesTo Step olds es (record { begin = length es; front = new })
     goes_anew new anew =
         let a = anew g.is.inside g.is.states g.second g.is.front in
         let left : IsExplained Step [] a.1.0 =
@@ -306,7 +299,7 @@ goes_advance StepOf machine olds es w g e may new result advances =
     (fresh_inside (StepOf machine) olds es w g e may) g.is.front
 
 -- the events up to one that stands at a place
-take_stands : (es : List Event) (at : ℕ) (e : Event) → StandsAt es at e
+pub take_stands : (es : List Event) (at : ℕ) (e : Event) → StandsAt es at e
     → take (at + 1) es ≡ take at es ++ e ∷ []
 take_stands es at e stands =
     let h : at < length es = stands_within es at e stands in

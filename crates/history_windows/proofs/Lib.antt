@@ -5,3 +5,4 @@ pub mod Leaving
 pub mod Trying
 pub mod Starts
 pub mod Shrinking
+pub mod Goings

@@ -30,7 +30,7 @@ fn cut_at<M: Machine>(machine: &M, window: &mut Window<M::State>, count: usize, 
 }
 
 /// The call that the event at this index begins, if the next event is its end.
-fn call_alone(events: &[Event], at: usize) -> Option<usize>
+pub(super) fn call_alone(events: &[Event], at: usize) -> Option<usize>
     requires { at < length events.now }
     ensures { IfSome result (λ call. StandsAt events.now at (Begin call)
         × StandsAt events.now (at + 1) (End call)) }

@@ -3,12 +3,14 @@
 #![tactic(auto)]
 
 mod follow;
+mod going;
 mod judge;
 pub mod laws;
 mod needed;
 mod order;
 mod window;
 
+pub use going::go_on;
 pub use judge::judge_windows;
 pub use needed::{MAX_TRIED, calls_left_out, is_kept};
 pub use order::order_in;

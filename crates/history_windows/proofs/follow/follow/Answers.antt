@@ -1,5 +1,5 @@
 use Rattle.std.proofs.Common.{take}
-use Rattle.history_windows.proofs.Following.{FollowsTo, follow_advance, follow_closed, follow_many, follow_open, follow_refused, follows_alone, follows_begin, follows_done, follows_end, follows_same, goes_explained}
+use Rattle.history_windows.proofs.Following.{follow_advance, follow_closed, follow_many, follow_open, follow_refused, follows_alone, follows_begin, follows_done, follows_end, follows_same, goes_explained}
 use Rattle.history_windows.proofs.follow.follow.Goals as goal
 
 pub loop-at-init : goal.loop-at-init

@@ -1,0 +1,9 @@
+use Rattle.std.proofs.Common.{length, ◌-◌}
+use Rattle.history_windows.specs.Goings.{GoesOnTo}
+use Rattle.history_windows.proofs.going.go_on.Given as goal
+
+abbrev pub invariant-loop-at : goal.invariant-loop-at
+invariant-loop-at g l = GoesOnTo g.M.Machine.Step l.machine l.fn.front l.events l.at l.front
+
+abbrev pub decreases-loop-at : goal.decreases-loop-at
+decreases-loop-at g l = length l.events - l.at
