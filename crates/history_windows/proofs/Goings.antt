@@ -1,5 +1,6 @@
 -- Fronts that go on while replies are still to come.
-use Rattle.std.proofs.Common.{◌≡◌, ◌⊎◌, ℕ, suc, ◌+◌, ◌<◌, ◌≤◌, List, [], ◌∷◌, ◌++◌, Bool, true, false, length, take, drop, get_or, refl, sym, ◌∙◌, ap, subst, arith, inl, inr, append_assoc, append-nil, take_all}
+use Rattle.std.proofs.Common.{◌≡◌, ◌⊎◌, ℕ, suc, ◌+◌, ◌<◌, ◌≤◌, List, [], ◌∷◌, ◌++◌, Bool, true, false, length, take, drop, get_or, refl, sym, ◌∙◌, ap, subst, arith, inl, inr, append_assoc, append-nil, take_all, Result, Ok, Err}
+use Rattle.std.specs.Prelude.{IfOk}
 use Rattle.std.proofs.lemmas.Bool.{cases_lt}
 use Rattle.std.proofs.lemmas.List.{take-append-drop}
 use Rattle.std.proofs.lemmas.Option.{slice_get-get_or}
@@ -10,13 +11,17 @@ use Rattle.histories.specs.declared.front.Advance.TheVariants as advance
 use Rattle.histories.specs.declared.front.Front.{Front}
 use Rattle.histories.specs.Advances.{Agrees, IsAdvance, IsMadeAlone, IsSameFront}
 use Rattle.histories.specs.Histories.{begins, IsOpen, MayFollow, StandsAt}
+use Rattle.histories.specs.Frontier.{HasSlot, IsFrontOf, LeadTo, Runs, order_of}
+use Rattle.histories.specs.Histories.{Explains, Leads, times}
 use Rattle.histories.specs.Splitting.{BeginsAnew}
+use Rattle.histories.proofs.Counting.{times-cons, times_one}
 use Rattle.histories.proofs.Cutting.{begins-append}
+use Rattle.histories.proofs.Events.{begins_none}
 use Rattle.history_windows.specs.declared.window.Cut.TheVariants as cut
 use Rattle.history_windows.specs.declared.window.Window.{Window}
 use Rattle.history_windows.specs.Goings.{AgreesOn, GoesTo, IsFrontAfter, IsMadeNext, Precedes}
-use Rattle.history_windows.proofs.Following.{follows_same, fresh_inside, goes_alone, goes_anew, goes_done, parts_more, parts_sound, split_more, take_stands}
-use Rattle.history_windows.proofs.Joins.{ended_left, open_whole}
+use Rattle.history_windows.proofs.Following.{follows_same, fresh_inside, goes_alone, goes_anew, goes_begin, goes_done, parts_more, parts_sound, split_more, take_stands}
+use Rattle.history_windows.proofs.Joins.{ended_left, open_inside, open_whole}
 
 -- a call that is open after some of the events was open before them, or begins in them
 open_of : (past events : List Event) (at c : ℕ) → IsOpen (past ++ take at events) c
@@ -90,6 +95,98 @@ same_front Step olds es old new same f = (
       (record { begin = f.0; front = new }) refl same
       (record { goes = f.1; whole = λ never. absurd (cc) })).goes,
 )
+
+-- before any event the front is that of each machine
+no_order : (order : List ℕ) → ((c : ℕ) → 0 < times c order → 0 < begins c []) → order ≡ []
+no_order [] none = refl
+no_order (x ∷ order) none =
+    absurd (omega (arith, none x (omega (arith, times-cons x x order, times_one x)), begins_none x))
+
+module _ {S : Type 0} (Step Other : S → ℕ → S → Type 0) where
+  explains_other : (old : S) (order : List ℕ) (new : S) → Explains Step [] old order new
+      → Explains Other [] old order new
+  explains_other old order new x =
+      let is = no_order order x.begun in record {
+        once = x.once;
+        begun = x.begun;
+        answered = x.answered;
+        real_time = x.real_time;
+        leads = subst (λ (o : List ℕ). Leads Other old o new) (sym is)
+            (subst (λ (o : List ℕ). Leads Step old o new) is x.leads);
+      }
+
+  module _ (front : Front S) (none : (slot c : ℕ) → HasSlot front.slots.items slot c → ⊥) where
+    runs_other : (old : S) (waiting : ℕ) (calls : List ℕ) (new : S) (rest : ℕ)
+        → Runs Step front.slots.items old waiting calls new rest
+        → Runs Other front.slots.items old waiting calls new rest
+    runs_other old waiting [] new rest runs = runs
+    runs_other old waiting (c ∷ calls) new rest runs = absurd (none runs.0 c runs.1.0)
+
+    leads_other : (new : S) (rest : ℕ)
+        → LeadTo Step front.slots.items front.configs.items new rest
+        → LeadTo Other front.slots.items front.configs.items new rest
+    leads_other new rest l = (
+      l.0,
+      l.1,
+      (
+        l.2.0,
+        l.2.1,
+        runs_other l.0.state l.0.waiting l.2.0 new l.2.1 l.2.2,
+        λ slot c has. absurd (none slot c has),
+      ),
+    )
+
+front_other : {S : Type 0} (Step Other : S → ℕ → S → Type 0) (olds : List S) (front : Front S)
+    → IsFrontOf Step front [] olds → IsFrontOf Other front [] olds
+front_other {S} Step Other olds front f =
+    let none : (slot c : ℕ) → HasSlot front.slots.items slot c → ⊥ =
+    λ slot c has. absurd (omega (arith, (f.table.each slot c has).0, begins_none c)) in
+    record {
+      sound = λ config has.
+          let is = f.sound config has in record {
+            old = is.old;
+            from = is.from;
+            explains = explains_other Step Other is.old (order_of front.links.items config)
+                config.state is.explains;
+            leaves = is.leaves;
+            within = is.within;
+          };
+      complete = λ old order new has x.
+          let l = f.complete old order new has (explains_other Other Step old order new x) in
+          (l.0, l.1, leads_other Step Other front none new l.0 l.2);
+      once = f.once;
+      table = f.table;
+    }
+
+pub any_machine : {M S E : Type 0} (StepOf : M → S → ℕ → S → Type 0) (machine : M)
+    (olds : List S) → 0 < length olds → (result : Result (Front S) E)
+    → IfOk result (λ front. IsFrontOf (StepOf machine) front [] olds)
+    → IfOk result (λ front. (whole : M) → IsFrontAfter (StepOf whole) olds [] front)
+any_machine StepOf machine olds some (Ok front) f =
+    λ whole. (0, goes_begin (StepOf whole) olds front some (front_other (StepOf machine) (StepOf whole) olds front f))
+any_machine StepOf machine olds some (Err e) f = f
+
+-- no call has a slot then
+pub no_slot : {S : Type 0} (Step : S → ℕ → S → Type 0) (olds : List S) (front : Front S)
+    → IsFrontAfter Step olds [] front → (slot c : ℕ) → HasSlot front.slots.items slot c → ⊥
+no_slot Step olds front f slot c has =
+    let is = f.1.is in
+    absurd (omega (
+      arith,
+      (is.front.table.each slot c has).0,
+      begins_none c,
+      ap (begins c) is.split,
+      begins-append c is.past is.inside,
+    ))
+
+-- a call that has a slot is open after the events, and one that is open has one
+pub slot_open : {S : Type 0} (Step : S → ℕ → S → Type 0) (olds : List S) (es : List Event)
+    (front : Front S) → IsFrontAfter Step olds es front → (c : ℕ) → IsOpen es c
+    → (slot : ℕ) × HasSlot front.slots.items slot c
+slot_open Step olds es front f c is =
+    let w = f.1.is in
+    w.front.table.all c (open_inside w.past w.inside c w.cut.quiet
+    (subst (λ (l : List Event). IsOpen l c) w.split is))
 
 pub few_slots : {S : Type 0} (Step : S → ℕ → S → Type 0) (olds : List S) (es : List Event)
     (front : Front S) → IsFrontAfter Step olds es front → length front.slots.items ≤ 64

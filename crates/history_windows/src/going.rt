@@ -1,9 +1,9 @@
 //! Fronts that go on while replies are still to come.
-ghost use Rattle.std.specs.Prelude.{◌<◌, IfOk, length};
-ghost use Rattle.history_windows.specs.Goings.{GoesOn, HasPast, IsMadeNext};
+ghost use Rattle.std.specs.Prelude.{◌<◌, [], IfOk, length};
+ghost use Rattle.history_windows.specs.Goings.{GoesOn, HasPast, IsFrontAfter, IsMadeNext};
 
 use super::follow::call_alone;
-use histories::{Advance, Event, Front, Machine, advance, begin_anew, make_alone};
+use histories::{Advance, Event, Front, Machine, advance, begin_anew, make_alone, start};
 use std::alloc::{AllocError, Global};
 
 /// Goes on with the event at this index and the next one, if they are the begin and the end of a
@@ -21,6 +21,19 @@ fn make_next<M: Machine>(
         Some(call) => make_alone(machine, front, call),
         None => Ok(false),
     }
+}
+
+/// The front before any event, in these states. It is that of each machine: no call has begun.
+pub fn first_front<M: Machine>(
+    alloc: Global,
+    machine: &M,
+    states: &[M::State],
+) -> Result<Front<M::State>, AllocError>
+    requires { 0 < length states.now }
+    ensures { IfOk result (λ front. (whole : M)
+        → IsFrontAfter (M.Step whole) states.now [] front) }
+{
+    start(alloc, machine, states)
 }
 
 /// Goes on with more events of a history of which the front is. Returns whether orders explain all;

@@ -10,7 +10,7 @@ mod needed;
 mod order;
 mod window;
 
-pub use going::go_on;
+pub use going::{first_front, go_on};
 pub use judge::judge_windows;
 pub use needed::{MAX_TRIED, calls_left_out, is_kept};
 pub use order::order_in;
