@@ -1,16 +1,16 @@
 -- The lines above one.
-use Rattle.std.proofs.Common.{◌≡◌, ◌≢◌, ◌⊎◌, ℕ, ◌+◌, ◌<◌, ◌≤◌, List, [], ◌∷◌, ◌++◌, Option, Some, None, append_assoc, length, refl, sym, ◌∙◌, ap, subst, arith, inl, inr}
+use Rattle.std.proofs.Common.{◌≡◌, ◌≢◌, ℕ, ◌+◌, ◌<◌, ◌≤◌, List, [], ◌∷◌, ◌++◌, Option, Some, None, append_assoc, length, refl, sym, ◌∙◌, ap, subst, arith, inl, inr}
 use Rattle.std.specs.Prelude.{All, IsTrue, sum_by}
 use Rattle.std.proofs.lemmas.List.{length-append}
 use Rattle.std.proofs.lemmas.List.Elements.{All-head, All-tail}
 use Rattle.line_streams.specs.OneWay.{before_one}
 use Rattle.line_streams.specs.Spelling.{HasNo}
-use Rattle.log_lines.specs.Lines.{IsLine, Line, is_note, line_text}
+use Rattle.log_lines.specs.Lines.{is_note, line_text}
 use Rattle.history_logs.specs.declared.logs.verdict.Expected.{Expected}
 use Rattle.history_logs.specs.declared.logs.verdict.Expected.TheVariants as expected
-use Rattle.history_logs.specs.Good.{EndsSo, HasNoNext, IsAbove, IsKept, IsOrderly, IsReadTo, Takes}
-use Rattle.history_logs.specs.Logs.{EndsThere, HasGood, IsBad, IsMissing, calls_in}
-use Rattle.history_logs.specs.Reading.{GoesOn, HasRead, Log}
+use Rattle.history_logs.specs.Good.{EndsSo, HasNoNext, IsAbove, IsOrderly, IsReadTo, Takes}
+use Rattle.history_logs.specs.Logs.{EndsThere, IsMissing, calls_in}
+use Rattle.history_logs.specs.Reading.{GoesOn, Log}
 use Rattle.history_logs.specs.Reading.HasRead.{nothing, note, line}
 use Rattle.history_logs.specs.Seen.{Service}
 use Rattle.history_logs.proofs.Kept.{few_step, kept_new, kept_step}
@@ -137,10 +137,11 @@ pub read_bad : (bytes : List ℕ) (old new : Log) (rest : List ℕ) (k : ℕ) (t
     (e : Expected) → IsAbove bytes old rest k → HasNo 10 text → rest ≡ text ++ 10 ∷ after
     → Takes old k text (Some e) new → IsReadTo bytes new.services (Some (k, e))
 read_bad bytes old new rest k text after e a bars comes t =
-    read_to bytes old rest k new.services (Some (k, e)) a (sym t.3)
-    (ends_bad old a.count rest text after bars comes t.0
-    (subst (λ n. HasNoNext old n text) a.is t.1))
-    (inr (inr (text, after, bars, comes, t.0, t.2)), a.is)
+    let is = t a.kept in
+    read_to bytes old rest k new.services (Some (k, e)) a (sym is.3)
+    (ends_bad old a.count rest text after bars comes is.0
+    (subst (λ n. HasNoNext old n text) a.is is.1))
+    (inr (inr (text, after, bars, comes, is.0, is.2)), a.is)
 
 pub read_missing : (bytes : List ℕ) (log : Log) (rest : List ℕ) (k : ℕ) (e : Expected)
     → IsAbove bytes log rest k → rest ≡ [] → HasNo 10 rest → IsMissing log e

@@ -1,13 +1,14 @@
 -- Calls that are answered.
-use Rattle.std.proofs.Common.{◌≡◌, ℕ, zero, suc, List, [], ◌∷◌, Option, Some, None, ◌<◌, ◌≤◌, ◌++◌, get_or, length, set, slice_get, refl, sym, ◌∙◌, ap, arith}
-use Rattle.std.proofs.lemmas.List.{get_or_past}
+use Rattle.std.proofs.Common.{◌≡◌, ℕ, zero, suc, List, [], ◌∷◌, Option, Some, None, ◌+◌, ◌<◌, ◌≤◌, ◌-◌, ◌++◌, drop, replicate, get_or, length, set, slice_get, refl, sym, ◌∙◌, ap, arith}
+use Rattle.std.proofs.lemmas.List.{get_or_past, length-replicate}
+use Rattle.std.proofs.Math.Seq.{drop-append-add}
 use Rattle.histories.specs.declared.event.Event.{Event}
 use Rattle.histories.specs.declared.event.Event.TheVariants.{End}
 use Rattle.iox2_container.specs.declared.container.role.Role.{Role}
 use Rattle.iox2_container.specs.Handle.{Handle}
 use Rattle.service_conformance.specs.declared.conformance.seen_reply.SeenReply.{SeenReply}
 use Rattle.service_conformance.specs.Judged.{Judged, judged_answered, shown, stopped}
-use Rattle.history_logs.specs.Seen.{Service, calls_answered, calls_shown, changed, given_by, given_in, start_of, with_end}
+use Rattle.history_logs.specs.Seen.{Service, calls_answered, calls_shown, calls_shown_from, changed, forgetting, forgotten, given_by, given_in, start_of, with_end}
 
 pub changed_at : (f : Judged → Judged) (calls : List Judged) (number : ℕ) (c n : Judged)
     → c ≡ get_or calls number c → n ≡ f c → set calls number n ≡ changed f calls number
@@ -33,24 +34,37 @@ changed_past f (x ∷ calls) (suc number) h =
 
 -- what a reply shows to the weak listing that the call stops, if it stops one
 pub shown_none : (calls : List Judged) (number : ℕ) (c : Judged) (r : SeenReply)
-    → number < length calls → c ≡ get_or calls number c → stopped c ≡ None
-    → calls ≡ calls_shown calls (start_of calls number) r
-shown_none calls number c r h is none =
-    ap (λ (o : Option ℕ). calls_shown calls o r) (sym (start_at calls number c h is ∙ none))
+    → number < length calls → c ≡ get_or calls number c → stopped c ≡ None → (first : ℕ)
+    → calls ≡ calls_shown_from first calls (start_of calls number) r
+shown_none calls number c r h is none first =
+    ap (λ (o : Option ℕ). calls_shown_from first calls o r)
+    (sym (start_at calls number c h is ∙ none))
 
-module _ (calls : List Judged) (number start : ℕ) (c : Judged) (r : SeenReply)
+module _ (first : ℕ) (calls : List Judged) (number start : ℕ) (c : Judged) (r : SeenReply)
     (h : number < length calls) (is : c ≡ get_or calls number c) (some : stopped c ≡ Some start)
   where
-    shown_at : changed (λ x. shown x r) calls start ≡ calls_shown calls (start_of calls number) r
+    shown_at : changed (λ x. shown x r) calls (start - first)
+        ≡ calls_shown_from first calls (start_of calls number) r
     shown_at =
-        ap (λ (o : Option ℕ). calls_shown calls o r) (sym (start_at calls number c h is ∙ some))
+        ap (λ (o : Option ℕ). calls_shown_from first calls o r)
+        (sym (start_at calls number c h is ∙ some))
 
-    pub shown_past : length calls ≤ start → calls ≡ calls_shown calls (start_of calls number) r
-    shown_past past = sym (changed_past (λ x. shown x r) calls start past) ∙ shown_at
+    pub shown_past : (place : ℕ) → place ≡ start - first → length calls ≤ place
+        → calls ≡ calls_shown_from first calls (start_of calls number) r
+    shown_past place same past =
+        sym (changed_past (λ x. shown x r) calls place past)
+        ∙ (ap (λ n. changed (λ x. shown x r) calls n) same ∙ shown_at)
 
-    pub shown_set : (d n : Judged) → d ≡ get_or calls start d → n ≡ shown d r
-        → set calls start n ≡ calls_shown calls (start_of calls number) r
-    shown_set d n at new = changed_at (λ x. shown x r) calls start d n at new ∙ shown_at
+    pub shown_set : (place : ℕ) → place ≡ start - first → (d n : Judged)
+        → d ≡ get_or calls place d → n ≡ shown d r
+        → set calls place n ≡ calls_shown_from first calls (start_of calls number) r
+    shown_set place same d n at new =
+        changed_at (λ x. shown x r) calls place d n at new
+        ∙ (ap (λ n. changed (λ x. shown x r) calls n) same ∙ shown_at)
+
+    pub stops_kept : ((from : ℕ) → start_of calls number ≡ Some from → first ≤ from)
+        → first ≤ start
+    stops_kept kept = kept start (start_at calls number c h is ∙ some)
 
 -- a command whose call has no handle gave none
 pub given_past : (s : Service) (number call : ℕ) → slice_get s.commands number ≡ Some call
@@ -65,17 +79,76 @@ same_default [] at d e h is = absurd (omega (arith, h))
 same_default (x ∷ xs) zero d e h is = is
 same_default (x ∷ xs) (suc at) d e h is = same_default xs at d e (omega arith) is
 
-pub end_is : (s : Service) (number line : ℕ) (r : SeenReply) (told : List Judged) (c n : Judged)
+-- forgotten calls stand before those that are kept
+changed_over : (f : Judged → Judged) (first : ℕ) (d : Judged) (calls : List Judged) (number : ℕ)
+    → first ≤ number
+    → changed f (replicate first d ++ calls) number
+    ≡ replicate first d ++ changed f calls (number - first)
+changed_over f zero d calls number h =
+    let same : number - 0 ≡ number = omega arith in
+    ap (λ n. changed f calls n) (sym same)
+changed_over f (suc first) d calls zero h = absurd (omega (arith, h))
+changed_over f (suc first) d calls (suc number) h =
+    let same : suc number - suc first ≡ number - first = omega arith in
+    ap (λ (l : List Judged). d ∷ l)
+    (changed_over f first d calls number (omega (arith, h))
+    ∙ ap (λ n. replicate first d ++ changed f calls n) (sym same))
+
+pub start_over : (first : ℕ) (d : Judged) (calls : List Judged) (number : ℕ) → first ≤ number
+    → start_of (replicate first d ++ calls) number ≡ start_of calls (number - first)
+start_over zero d calls number h =
+    let same : number - 0 ≡ number = omega arith in
+    ap (λ n. start_of calls n) (sym same)
+start_over (suc first) d calls zero h = absurd (omega (arith, h))
+start_over (suc first) d calls (suc number) h =
+    let same : suc number - suc first ≡ number - first = omega arith in
+    start_over first d calls number (omega (arith, h)) ∙ ap (λ n. start_of calls n) (sym same)
+
+module _ (first : ℕ) (calls : List Judged) (number : ℕ) (r : SeenReply) (kept : first ≤ number)
+  where
+    abbrev all : List Judged
+    all = replicate first forgotten ++ calls
+
+    pub starts_kept : ((start : ℕ) → start_of all number ≡ Some start → first ≤ start)
+        → (start : ℕ) → start_of calls (number - first) ≡ Some start → first ≤ start
+    starts_kept starts start is = starts start (start_over first forgotten calls number kept ∙ is)
+
+    shown_over : (start : Option ℕ)
+        → ((from : ℕ) → start ≡ Some from → first ≤ from)
+        → calls_shown all start r
+        ≡ replicate first forgotten ++ calls_shown_from first calls start r
+    shown_over None starts = refl
+    shown_over (Some from) starts =
+        changed_over (λ x. shown x r) first forgotten calls from (starts from refl)
+
+    pub answered_over : ((start : ℕ) → start_of all number ≡ Some start → first ≤ start)
+        → (told : List Judged)
+        → told ≡ calls_shown_from first calls (start_of calls (number - first)) r
+        → (c n : Judged) → c ≡ get_or told (number - first) c → n ≡ judged_answered c r
+        → replicate first forgotten ++ set told (number - first) n ≡ calls_answered all number r
+    answered_over starts told tells c n is new =
+        let at = number - first in
+        let begun = start_over first forgotten calls number kept in
+        let answer : Judged → Judged = λ x. judged_answered x r in
+        ap (λ (l : List Judged). replicate first forgotten ++ l)
+        (changed_at answer told at c n is new)
+        ∙ (sym (changed_over answer first forgotten told number kept)
+        ∙ ap (λ (l : List Judged). changed answer l number)
+        (ap (λ (l : List Judged). replicate first forgotten ++ l) tells
+        ∙ (sym (shown_over (start_of calls at) (starts_kept starts))
+        ∙ ap (λ (o : Option ℕ). calls_shown all o r) (sym begun))))
+
+pub end_is : (s : Service) (number line : ℕ) (r : SeenReply) (calls : List Judged)
     (adds : Option Role)
     (given : Option Handle) (es : List Event) (ps : List ℕ) → number < length s.adds
-    → told ≡ calls_shown s.calls (start_of s.calls number) r → c ≡ get_or told number c
-    → n ≡ judged_answered c r
+    → calls ≡ calls_answered s.calls number r
     → adds ≡ get_or s.adds number adds → given ≡ given_in s adds r
     → es ≡ s.events ++ End number ∷ [] → ps ≡ s.places ++ line ∷ []
     → (made : Service) → made ≡ record {
       line = s.line;
       start = s.start;
-      calls = set told number n;
+      first = s.first;
+      calls = calls;
       adds = s.adds;
       given = set s.given number given;
       begins = s.begins;
@@ -83,13 +156,57 @@ pub end_is : (s : Service) (number line : ℕ) (r : SeenReply) (told : List Judg
       events = es;
       places = ps;
     } → made ≡ with_end s number r line
-end_is s number line r told c n adds given es ps within tells is new role gives e f made same =
-    let all = calls_shown s.calls (start_of s.calls number) r in
-    let a : set told number n ≡ calls_answered s.calls number r =
-    ap (λ (l : List Judged). set l number n) tells
-    ∙ changed_at (λ c. judged_answered c r) all number c n
-    (is ∙ ap (λ (l : List Judged). get_or l number c) tells) new in
+end_is s number line r calls adds given es ps within a role gives e f made same =
     let b : given ≡ given_in s (get_or s.adds number None) r =
     gives ∙ ap (λ (x : Option Role). given_in s x r)
     (same_default s.adds number adds None within role) in
     same ∙ rw (a, b, e, f) refl
+
+length_changed : (f : Judged → Judged) (calls : List Judged) (number : ℕ)
+    → length (changed f calls number) ≡ length calls
+length_changed f [] number = refl
+length_changed f (c ∷ calls) zero = refl
+length_changed f (c ∷ calls) (suc number) = ap suc (length_changed f calls number)
+
+pub length_shown_from : (first : ℕ) (calls : List Judged) (start : Option ℕ) (r : SeenReply)
+    → length (calls_shown_from first calls start r) ≡ length calls
+length_shown_from first calls None r = refl
+length_shown_from first calls (Some start) r =
+    length_changed (λ c. shown c r) calls (start - first)
+
+-- the calls that are kept, where more of them are forgotten
+pub forget_is : (old s : Service) (begun : ℕ) (calls : List Judged) (first followed : ℕ)
+    → s ≡ old → s.first ≡ begun → s.calls ≡ replicate begun forgotten ++ calls
+    → old.first ≤ first → (kept : List Judged) → kept ≡ drop (first - begun) calls
+    → (events : List Event) → events ≡ drop followed s.events
+    → (begins : List ℕ) → begins ≡ [] → (places : List ℕ) → places ≡ []
+    → (made : Service) → made ≡ record s {
+      first = first;
+      calls = replicate first forgotten ++ kept;
+      begins = begins;
+      events = events;
+      places = places;
+    } → made ≡ forgetting old first followed
+forget_is old s begun calls first followed same from is less kept rest events left begins b places p
+    made m =
+    let low : begun ≤ first = omega (arith, less, ap (λ (x : Service). x.first) same, from) in
+    let at : length (replicate begun forgotten) + (first - begun) ≡ first =
+    omega (arith, low, length-replicate begun forgotten) in
+    let c : kept ≡ drop first s.calls =
+    rest ∙ (sym (drop-append-add (replicate begun forgotten) calls (first - begun))
+    ∙ (ap (λ n. drop n (replicate begun forgotten ++ calls)) at
+    ∙ ap (λ (l : List Judged). drop first l) (sym is))) in
+    m ∙ (rw (c, left, b, p) refl ∙ ap (λ (x : Service). forgetting x first followed) same)
+
+pub start_under : (first : ℕ) (d : Judged) (calls : List Judged) (number : ℕ) → number < first
+    → (stopped d ≡ None → start_of (replicate first d ++ calls) number ≡ None)
+start_under zero d calls number h none = absurd (omega (arith, h))
+start_under (suc first) d calls zero h none = none
+start_under (suc first) d calls (suc number) h none =
+    start_under first d calls number (omega (arith, h)) none
+
+pub start_past : (calls : List Judged) (number : ℕ) → length calls ≤ number
+    → start_of calls number ≡ None
+start_past [] number h = refl
+start_past (x ∷ calls) zero h = absurd (omega (arith, h))
+start_past (x ∷ calls) (suc number) h = start_past calls number (omega (arith, h))

@@ -6,7 +6,6 @@ use Rattle.std.proofs.lemmas.List.Folds.{concat-append}
 use Rattle.std.specs.Io.KnownBytes.{Appends}
 use Rattle.std.specs.List.{concat}
 use Rattle.line_streams.proofs.Written.{appends_more}
-use Rattle.line_streams.specs.Numerals.{cons_same}
 use Rattle.line_streams.specs.Streams.{AppendsBeginning}
 use Rattle.history_logs.specs.Progress.{AddsCounts, IsCount, count_text}
 

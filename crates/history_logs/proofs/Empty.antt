@@ -1,5 +1,5 @@
 -- What is given of an empty service.
-use Rattle.std.proofs.Common.{◌≡◌, ℕ, Bool, false, List, Option, sym, ◌∙◌, ap, refl}
+use Rattle.std.proofs.Common.{◌≡◌, ℕ, Bool, false, List, sym, ◌∙◌, ap, refl}
 use Rattle.std.specs.List.{slice_set}
 use Rattle.iox2_container.specs.State.{RegistryState}
 use Rattle.iox2_dynamic.specs.declared.dynamic_config.port_details.PortDetails.{PortDetails}
@@ -10,7 +10,7 @@ use Rattle.service_conformance.specs.Given.{IsUnused, with_nodes, with_ports, wi
 use Rattle.service_conformance.specs.Sides.{ports_at}
 use Rattle.service_conformance.proofs.Given.{same_ports}
 use Rattle.history_logs.specs.Laws.{EmptyStatesChangeNothing, IsEmptyState}
-use Rattle.history_logs.specs.Reading.{Log, StartsAs}
+use Rattle.history_logs.specs.Reading.{StartsAs}
 use Rattle.history_logs.specs.Seen.{Service, started}
 use Rattle.history_logs.proofs.Named.{set_back}
 

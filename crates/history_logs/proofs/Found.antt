@@ -1,11 +1,11 @@
 -- What is found of services, in the first line in which something is.
-use Rattle.std.proofs.Common.{◌≡◌, ◌⊎◌, ℕ, zero, suc, ◌+◌, ◌-◌, ◌<◌, ◌≤◌, All, AllPairs, Bool, true, false, cond, Contains, List, [], ◌∷◌, ◌++◌, Option, Some, None, Result, Ok, Err, filter, get_or, if◌then◌else◌, length, ltb, slice_get, take, inl, inr, refl, sym, ◌∙◌, ap, subst, arith, take_all}
+use Rattle.std.proofs.Common.{◌≡◌, ℕ, zero, suc, ◌+◌, ◌-◌, ◌<◌, ◌≤◌, All, AllPairs, Bool, true, false, cond, List, [], ◌∷◌, ◌++◌, Option, Some, None, Result, Ok, Err, filter, get_or, if◌then◌else◌, length, ltb, slice_get, take, inl, inr, refl, sym, ◌∙◌, ap, subst, arith, take_all}
 use Rattle.std.proofs.lemmas.Bool.{cases_lt, ltb-false, ltb-true, le-ltb}
 use Rattle.std.proofs.lemmas.List.Elements.{All-nil, All-push, All-take, Contains-append_left, Contains-push}
 use Rattle.std.proofs.lemmas.List.{take_more}
 use Rattle.std.proofs.lemmas.Option.{get_or_from_slice_get, slice_get_within}
 use Rattle.histories.specs.declared.event.Event.{Event}
-use Rattle.histories.specs.Histories.{IsExplained, IsHistory}
+use Rattle.histories.specs.Histories.{IsExplained}
 use Rattle.histories.proofs.Verdicts.{explained_take}
 use Rattle.history_windows.specs.declared.window.Stop.{Stop}
 use Rattle.history_windows.specs.declared.window.Verdict.{Verdict as WindowVerdict}

@@ -1,26 +1,27 @@
 -- What holds of all that is read holds after one line more.
-use Rattle.std.proofs.Common.{◌≡◌, ◌≢◌, ◌⊎◌, ℕ, zero, suc, ◌+◌, ◌<◌, ◌≤◌, List, [], ◌∷◌, ◌++◌, All, Bool, bytes_eq, true, false, Option, Some, None, length, refl, sym, ◌∙◌, ap, subst, arith, inl, inr}
+use Rattle.std.proofs.Common.{◌≡◌, ◌≢◌, ◌⊎◌, ℕ, zero, suc, ◌+◌, ◌<◌, ◌≤◌, List, [], ◌∷◌, ◌++◌, All, Bool, bytes_eq, true, false, Option, Some, None, get_or, length, refl, sym, ◌∙◌, ap, subst, arith, inl, inr}
 use Rattle.std.specs.Prelude.{slice_get, sum_by}
 use Rattle.std.specs.List.{slice_set}
 use Rattle.std.proofs.lemmas.Bool.{cases_eq}
-use Rattle.std.proofs.lemmas.List.{length-append, length-set}
+use Rattle.std.proofs.lemmas.List.{length-append}
 use Rattle.std.proofs.lemmas.List.Elements.{All-head, All-nil, All-push, All-set, All-tail, All-weaker}
 use Rattle.std.proofs.lemmas.List.Sums.{sum_by-cons, sum_by_push}
-use Rattle.std.proofs.lemmas.Option.{slice_get_within}
+use Rattle.std.proofs.lemmas.Option.{slice_get-get_or, slice_get_within}
 use Rattle.histories.specs.declared.event.Event.{Event}
 use Rattle.histories.specs.Histories.{IsOpen}
 use Rattle.log_lines.specs.Commands.{Begun}
 use Rattle.log_lines.specs.Commands.Begun.{command, weak}
 use Rattle.log_lines.specs.Lines.{Line}
 use Rattle.log_lines.specs.Lines.Line.{service, call, reply, begin, end, crash, given}
+use Rattle.service_conformance.specs.Judged.{Judged, stopped}
 use Rattle.service_descriptions.specs.declared.replay.lines.service_line.ServiceLine.{ServiceLine}
 use Rattle.history_logs.specs.declared.logs.callers.CallerState.{CallerState}
 use Rattle.history_logs.specs.declared.logs.callers.CallerState.TheVariants as caller
 use Rattle.history_logs.specs.declared.logs.service.LogCall.{LogCall}
 use Rattle.history_logs.specs.Good.{Apart, IsKept, IsOpenOn, IsOrderly, number_of}
 use Rattle.history_logs.specs.Logs.{calls_in}
-use Rattle.history_logs.specs.Reading.{Dies, GoesOn, IsNew, IsSane, Log, Sets}
-use Rattle.history_logs.specs.Seen.{Begins, HasAll, Service, started, unseen, with_begin, with_crash, with_end}
+use Rattle.history_logs.specs.Reading.{Dies, GoesOn, IsNew, IsSane, Log, Sets, StopsKept}
+use Rattle.history_logs.specs.Seen.{Begins, HasHandles, IsKeptCall, Service, start_of, started, unseen, with_begin, with_crash, with_end}
 use Rattle.history_logs.proofs.Callers.{other_bytes, same_bytes}
 use Rattle.history_logs.proofs.Named.{numbers, numbers_new, numbers_set}
 use Rattle.history_logs.proofs.Orderly.{begun_of, open_alone, open_crashed, open_ended, orderly_alone, orderly_crash, orderly_end, orderly_new, orderly_started}
@@ -55,7 +56,7 @@ get_push [] y i x e = absurd (cc)
 get_push (z ∷ xs) y zero x e = e
 get_push (z ∷ xs) y (suc i) x e = get_push xs y i x e
 
-all_get : {X : Type 0} (P : X → Type 0) (xs : List X) (i : ℕ) (x : X) → All P xs
+pub all_get : {X : Type 0} (P : X → Type 0) (xs : List X) (i : ℕ) (x : X) → All P xs
     → slice_get xs i ≡ Some x → P x
 all_get P [] i x all e = absurd (cc)
 all_get P (y ∷ xs) zero x all e = subst P (same_some y x e) (All-head P y xs all)
@@ -436,13 +437,64 @@ kept_new log services callers waits = record {
   none = λ e name. callers name;
 }
 
+pub handles_of : (s : Service) → IsOrderly s → HasHandles s
+handles_of s o = record {
+  adds = o.all.adds;
+  given = o.all.given;
+  first = omega (arith, o.all.whole);
+}
+
+pub get_within : {X : Type 0} (xs : List X) (i : ℕ) → i < length xs
+    → (x : X) × (slice_get xs i ≡ Some x)
+get_within [] i h = absurd (omega (arith, h))
+get_within (x ∷ xs) zero h = (x, refl)
+get_within (x ∷ xs) (suc i) h = get_within xs i (omega (arith, h))
+
+-- a call that begins last is kept, where what it stops is
+start_last : (calls : List Judged) (c : Judged)
+    → start_of (calls ++ c ∷ []) (length calls) ≡ stopped c
+start_last [] c = refl
+start_last (x ∷ calls) c = start_last calls c
+
+pub kept_begun : (s : Service) (c : LogCall) (k : ℕ) → HasHandles s → StopsKept s c
+    → IsKeptCall (with_begin s c k) (length s.calls)
+kept_begun s c k h stops = record {
+  call = h.first;
+  start = λ start is. stops start (sym (start_last s.calls c.seen) ∙ is);
+}
+
+-- the same of the service that was found
+pub kept_found : (ss : List Service) (at : ℕ) (d new : Service) (c : LogCall) (k number : ℕ)
+    → All HasHandles ss → (s : Service) × (slice_get ss at ≡ Some s) × StopsKept s c
+    → d ≡ get_or ss at d → new ≡ with_begin d c k → number ≡ length d.calls
+    → IsKeptCall new number
+kept_found ss at d new c k number handles on is begun same =
+    let there : slice_get ss at ≡ Some d =
+    slice_get-get_or ss at d (slice_get_within ss at on.0 on.1)
+    ∙ ap (λ (s : Service). Some s) (sym is) in
+    let found : on.0 ≡ d = same_some on.0 d (sym on.1 ∙ there) in
+    subst (λ n. IsKeptCall new n) (sym same)
+    (subst (λ (s : Service). IsKeptCall s (length d.calls)) (sym begun)
+    (kept_begun d c k (all_get HasHandles ss at d handles there)
+    (subst (λ (s : Service). StopsKept s c) found on.2)))
+
 -- what holds of all that is read is what the parts need
 pub sane_of : (log : Log) → IsKept log → IsSane log
 sane_of log k = record {
-  all = All-weaker IsOrderly HasAll (λ s o. o.all) log.services k.orderly;
+  handles = All-weaker IsOrderly HasHandles handles_of log.services k.orderly;
   opened = λ name at number e.
       let o = k.opened name at number e in
-      let orderly = all_get IsOrderly log.services at o.0 k.orderly o.1 in
-      (o.0, o.1, omega (arith, orderly.numbered number o.2.0, orderly.counts));
-  waits = k.waits;
+      let orderly = all_get IsOrderly log.services at o.0 k.orderly o.1 in (
+        o.0,
+        o.1,
+        omega (arith, orderly.numbered number o.2.0, orderly.counts),
+        record {
+          call = omega (arith, orderly.all.whole);
+          start = λ start is. omega (arith, orderly.all.whole);
+        },
+      );
+  waits = λ at c e.
+      let there = get_within log.services at (k.waits at c e) in
+      let orderly = all_get IsOrderly log.services at there.0 k.orderly there.1 in
+      (there.0, there.1, λ start is. omega (arith, orderly.all.whole));
 }

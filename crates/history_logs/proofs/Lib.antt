@@ -20,3 +20,7 @@ pub mod Reports
 pub mod Streams
 pub mod Telling
 pub mod Needing
+pub mod Shortened
+pub mod Settled
+pub mod ShortLogs
+pub mod Least

@@ -1,5 +1,5 @@
 -- The lines of calls, in the order in which they took effect.
-use Rattle.std.proofs.Common.{◌≡◌, ℕ, ◌+◌, ◌<◌, ◌≤◌, All, Bool, true, false, IfNone, List, [], ◌∷◌, ◌++◌, Option, Some, None, get_or, length, ltb, slice_get, take, refl, sym, ◌∙◌, ap, subst, arith, take_all}
+use Rattle.std.proofs.Common.{◌≡◌, ℕ, ◌+◌, ◌<◌, ◌≤◌, All, Bool, true, false, IfNone, List, [], ◌∷◌, ◌++◌, Option, Some, None, get_or, length, ltb, take, refl, sym, ◌∙◌, ap, subst, arith, take_all}
 use Rattle.std.specs.List.{AllZip}
 use Rattle.std.proofs.lemmas.List.Elements.{All-cons, All-nil}
 use Rattle.std.proofs.lemmas.List.{take_more}

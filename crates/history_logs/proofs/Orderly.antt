@@ -42,7 +42,7 @@ history_push es e h may place event at =
 
 pub orderly_new : (line : ServiceLine) → IsOrderly (unseen line)
 orderly_new line = record {
-  all = record { adds = refl; given = refl; begins = refl; places = refl };
+  all = record { whole = refl; adds = refl; given = refl; begins = refl; places = refl };
   history = λ place event at. absurd (cc);
   counts = begun_none;
   sound = sound_none;
@@ -53,6 +53,7 @@ pub orderly_started : (s : Service) (start : dynamic.Service) → IsOrderly s
     → IsOrderly (started s start)
 orderly_started s start o = record {
   all = record {
+    whole = o.all.whole;
     adds = o.all.adds;
     given = o.all.given;
     begins = o.all.begins;
@@ -101,6 +102,7 @@ orderly_part s c k o =
     let more = counts_begin (begun s.events) n s.events refl in
     record {
       all = record {
+        whole = o.all.whole;
         adds = both s.adds s.calls c.adds c.seen o.all.adds;
         given = both s.given s.calls None c.seen o.all.given;
         begins = both s.begins s.calls k c.seen o.all.begins;
@@ -117,6 +119,7 @@ orderly_same : (s : Service) (commands : List ℕ) → IsOrderly s
     → IsOrderly (record s { commands = commands })
 orderly_same s commands o = record {
   all = record {
+    whole = o.all.whole;
     adds = o.all.adds;
     given = o.all.given;
     begins = o.all.begins;
@@ -137,6 +140,7 @@ pub orderly_over : (s : Service) (number k : ℕ) → IsOrderly s → IsOpen s.e
     → IsOrderly (with_over s number k)
 orderly_over s number k o live = record {
   all = record {
+    whole = o.all.whole;
     adds = o.all.adds;
     given = o.all.given;
     begins = o.all.begins;
@@ -155,6 +159,7 @@ orderly_end s number r k o live =
     let answers = sym (length_answered s.calls number r) in
     record {
       all = record {
+        whole = o.all.whole;
         adds = o.all.adds ∙ answers;
         given = length-set s.given number _ ∙ (o.all.given ∙ answers);
         begins = o.all.begins ∙ answers;
@@ -171,6 +176,7 @@ pub orderly_crash : (s : Service) (number k : ℕ) → IsOrderly s → IsOpen s.
     → IsOrderly (with_crash s number k)
 orderly_crash s number k o live = record {
   all = record {
+    whole = o.all.whole;
     adds = o.all.adds;
     given = o.all.given;
     begins = o.all.begins;

@@ -1,5 +1,5 @@
 -- Lines that may not come next.
-use Rattle.std.proofs.Common.{◌≡◌, ◌≢◌, ◌⊎◌, ℕ, List, [], ◌∷◌, All, true, false, Option, Some, None, Result, Ok, Err, IfOk, length, refl, sym, ◌∙◌, ap, subst, arith, inl, inr}
+use Rattle.std.proofs.Common.{◌≡◌, ◌≢◌, ◌⊎◌, ℕ, List, [], ◌∷◌, true, false, Option, Some, None, Result, Ok, Err, IfOk, length, refl, sym, ◌∙◌, ap, subst, arith, inl, inr}
 use Rattle.std.specs.Prelude.{IsTrue, slice_get}
 use Rattle.std.proofs.lemmas.List.Elements.{All-nil}
 use Rattle.log_lines.specs.Laws.{IsAlike}
@@ -16,19 +16,16 @@ use Rattle.history_logs.specs.declared.logs.verdict.Expected.{Expected}
 use Rattle.history_logs.specs.declared.logs.verdict.Expected.TheVariants as expected
 use Rattle.history_logs.specs.Good.{HasNoNext, IsBadLine, IsKept, Takes, TakesLine, TakesNext, TakesReply, is_service, waiting}
 use Rattle.history_logs.specs.Logs.{EndsInReturn, IsBadText, IsWrong}
-use Rattle.history_logs.specs.Reading.{Dies, Does, GoesOn, IsNamed, IsNew, IsRefused, Log, MayBegin, RefusesBegin, RefusesDeath, RefusesEnd, Says, StartsAs}
+use Rattle.history_logs.specs.Reading.{Dies, Does, GoesOn, IsNamed, IsNew, IsRefused, IsSane, Log, MayBegin, RefusesBegin, RefusesDeath, RefusesEnd, Says, StartsAs}
 use Rattle.history_logs.specs.Seen.{Service}
 use Rattle.history_logs.proofs.Named.{one_named}
 
 -- what was read, where no call waits any more
-pub kept_taken : (log : Log) → IsKept log → IsKept (record log { waits = None })
-kept_taken log k = record {
-  orderly = k.orderly;
-  numbers = k.numbers;
+pub sane_taken : (log : Log) → IsSane log → IsSane (record log { waits = None })
+sane_taken log k = record {
+  handles = k.handles;
   opened = k.opened;
-  apart = k.apart;
   waits = λ at c e. absurd (cc);
-  none = k.none;
 }
 
 -- a line below a call that waits
@@ -201,9 +198,9 @@ bad_not log k text e kept bad l new p is g =
 
 -- a line that may not come next
 pub bad_line : (old new : Log) (k : ℕ) (text : List ℕ) (e : Expected)
-    → (¬ (IsTrue (is_note text))) → IsKept old → (¬ (EndsInReturn text))
+    → (¬ (IsTrue (is_note text))) → (¬ (EndsInReturn text))
     → TakesLine old k text (Some e) new → Takes old k text (Some e) new
-bad_line old new k text e note kept bars t = (
+bad_line old new k text e note bars t kept = (
   note,
   bad_not old k text e kept t.0,
   elim t.0 as (λ _. IsBadText old text e) [
@@ -214,9 +211,9 @@ bad_line old new k text e note kept bars t = (
 )
 
 pub bad_return : (old new : Log) (k : ℕ) (text : List ℕ) (e : Expected)
-    → (¬ (IsTrue (is_note text))) → IsKept old → EndsInReturn text
+    → (¬ (IsTrue (is_note text))) → EndsInReturn text
     → TakesLine old k text (Some e) new → Takes old k text (Some expected.NoCarriageReturn) new
-bad_return old new k text e note kept ends t =
+bad_return old new k text e note ends t kept =
     (note, bad_not old k text e kept t.0, inl (ends, refl), t.1)
 
 -- a list without elements

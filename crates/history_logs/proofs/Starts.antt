@@ -1,6 +1,5 @@
 -- A weak listing can always start.
-use Rattle.std.proofs.Common.{◌≡◌, ◌≢◌, ◌⊎◌, inl, inr, ℕ, ◌+◌, ◌<◌, ◌≤◌, List, [], ◌∷◌, ◌++◌, Option, Some, None, get_or, length, slice_get, take, refl, sym, ◌∙◌, ap, subst, arith}
-use Rattle.std.specs.Prelude.{AllPairs}
+use Rattle.std.proofs.Common.{◌≡◌, inl, inr, ℕ, ◌+◌, ◌<◌, ◌≤◌, List, [], ◌∷◌, ◌++◌, Option, Some, None, get_or, slice_get, take, refl, sym, ◌∙◌, ap, subst, arith}
 use Rattle.std.specs.List.{Contains}
 use Rattle.std.proofs.lemmas.Bool.{cases_lt}
 use Rattle.std.proofs.lemmas.List.Quantifiers.{all_pairs_push}
@@ -17,7 +16,7 @@ use Rattle.history_windows.specs.declared.window.Stop.TheVariants as stop
 use Rattle.history_windows.specs.Windows.{IsStop}
 use Rattle.log_lines.specs.Lines.{IsLine, Line, line_text}
 use Rattle.service_conformance.specs.declared.conformance.possible.Part.{Part}
-use Rattle.service_conformance.specs.Judged.{Judged, JudgedStep, WindowStep, words_of}
+use Rattle.service_conformance.specs.Judged.{Judged, JudgedStep, words_of}
 use Rattle.service_conformance.specs.Judged.Judged.{call, starts, stops}
 use Rattle.service_conformance.specs.Looks.{Watched, look_of, looks_after}
 use Rattle.history_logs.specs.Good.{IsOrderly}

@@ -11,7 +11,7 @@ use Rattle.history_logs.specs.declared.logs.callers.CallerState.TheVariants as c
 use Rattle.history_logs.specs.declared.logs.service.LogCall.{LogCall}
 use Rattle.history_logs.specs.declared.logs.verdict.Expected.TheVariants as expected
 use Rattle.history_logs.specs.declared.logs.verdict.Expected.{Expected}
-use Rattle.history_logs.specs.Logs.{EndsInReturn, HasGood, IsBad, IsBadText, IsWrong, LacksReply, calls_in}
+use Rattle.history_logs.specs.Logs.{HasGood, IsBad, IsBadText, IsWrong, LacksReply, calls_in}
 use Rattle.history_logs.specs.Reading.{GoesOn, HasRead, Log, Says, StartsAs}
 use Rattle.history_logs.specs.Seen.{HasAll, Service, started}
 
@@ -99,13 +99,14 @@ TakesLine old k text (Some e) new = IsBadLine old text e × (new.services ≡ ol
 
 -- What a line of this number and text does to what was read.
 -- None: it is a note and changes nothing, or the line goes on.
--- Some: it may not come next, and what was seen of the services stays.
+-- Some: it may not come next, where nothing is forgotten, and what was seen of the services stays.
 abbrev pub Takes : Log → ℕ → List ℕ → Option Expected → Log → Type 0
 Takes old k text None new =
     (IsTrue (is_note text) × (new ≡ old))
     ⊎ ((l : Line) × IsLine l × (line_text l ≡ text) × GoesOn old k l new)
 Takes old k text (Some e) new =
-    (¬ (IsTrue (is_note text))) × HasNoNext old k text × IsBadText old text e
+    IsKept old
+    → (¬ (IsTrue (is_note text))) × HasNoNext old k text × IsBadText old text e
     × (new.services ≡ old.services)
 
 -- the lines above this one are this text, and this was read of them

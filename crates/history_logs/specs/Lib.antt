@@ -13,3 +13,5 @@ pub mod Progress
 pub mod ServiceFields
 pub mod Fields
 pub mod Judging
+pub mod Shortened
+pub mod Settling

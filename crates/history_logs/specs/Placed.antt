@@ -4,7 +4,7 @@ use Rattle.histories.specs.declared.event.Event.TheVariants.{End}
 use Rattle.histories.specs.Histories.{StandsAt}
 use Rattle.line_streams.specs.Spelling.{HasNo}
 use Rattle.log_lines.specs.Lines.{IsLine, Line, line_text}
-use Rattle.log_lines.specs.Lines.Line.{service, call, reply, begin, end, crash}
+use Rattle.log_lines.specs.Lines.Line.{reply, end}
 use Rattle.service_conformance.specs.Judged.{Judged, words_of}
 use Rattle.service_conformance.specs.Judged.Judged.{starts}
 use Rattle.history_logs.specs.Seen.{Service}

@@ -1,5 +1,5 @@
 -- What the lines of a log are.
-use Rattle.std.specs.Prelude.{◌≡◌, ◌≢◌, ◌⊎◌, ℕ, ◌+◌, ◌<◌, List, [], ◌∷◌, ◌++◌, All, Option, Some, None, IsTrue, length, slice_get}
+use Rattle.std.specs.Prelude.{◌≡◌, ◌≢◌, ◌⊎◌, ℕ, ◌+◌, ◌<◌, ◌≤◌, List, [], ◌∷◌, ◌++◌, All, Option, Some, None, IsTrue, length, slice_get}
 use Rattle.std.specs.List.{slice_set}
 use Rattle.iox2_dynamic.specs.Service as dynamic
 use Rattle.line_streams.specs.Spelling.{HasNo}
@@ -9,6 +9,7 @@ use Rattle.log_lines.specs.States.{State}
 use Rattle.log_lines.specs.States.State.{nodes, ports, entry}
 use Rattle.service_conformance.specs.declared.conformance.seen_reply.SeenReply.{SeenReply}
 use Rattle.service_conformance.specs.Given.{GivesNode, GivesNodes, GivesPort, GivesPorts}
+use Rattle.service_conformance.specs.Judged.{stopped}
 use Rattle.service_conformance.specs.Seen.{IsSeen, seen_text}
 use Rattle.service_descriptions.specs.declared.replay.machine.command.Command.TheVariants as command
 use Rattle.history_logs.specs.declared.logs.callers.CallerState.{CallerState}
@@ -16,7 +17,7 @@ use Rattle.history_logs.specs.declared.logs.callers.CallerState.TheVariants as c
 use Rattle.history_logs.specs.declared.logs.service.LogCall.{LogCall}
 use Rattle.history_logs.specs.declared.logs.verdict.Expected.{Expected}
 use Rattle.history_logs.specs.declared.logs.verdict.Expected.TheVariants as expected
-use Rattle.history_logs.specs.Seen.{Begins, HasAll, Service, called, started, unseen, with_begin, with_crash, with_end}
+use Rattle.history_logs.specs.Seen.{Begins, HasHandles, IsKeptCall, Service, called, started, unseen, with_begin, with_crash, with_end}
 
 -- What was read: the services, what each caller does (`None` where it has begun no call), and the
 -- call alone that waits for its reply, with the index of its service.
@@ -175,11 +176,17 @@ abbrev pub Does : Log → ℕ → Line → Option Expected → Log → Type 0
 Does old k l None new = GoesOn old k l new
 Does old k l (Some e) new = IsRefused old l e × (new.services ≡ old.services)
 
--- Each service has all of its calls and events, and a call that a caller has open, or that waits
--- for its reply, is on one of them.
+-- the weak listing that the call stops is not forgotten, if it stops one
+abbrev pub StopsKept : Service → LogCall → Type 0
+StopsKept s c = (start : ℕ) → stopped c.seen ≡ Some start → s.first ≤ start
+
+-- Each service has the handles of its calls, and a call that a caller has open, or that waits for
+-- its reply, is on one of them and not forgotten.
 pub record IsSane (log : Log) : Type 0 where
-  pub all : All HasAll log.services
+  pub handles : All HasHandles log.services
   pub opened : (name : List ℕ) (at number : ℕ)
       → log.callers name ≡ Some (caller.Calls at number)
       → (s : Service) × (slice_get log.services at ≡ Some s) × (number < length s.calls)
-  pub waits : (at : ℕ) (c : LogCall) → log.waits ≡ Some (at, c) → at < length log.services
+      × IsKeptCall s number
+  pub waits : (at : ℕ) (c : LogCall) → log.waits ≡ Some (at, c)
+      → (s : Service) × (slice_get log.services at ≡ Some s) × StopsKept s c

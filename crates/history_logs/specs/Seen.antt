@@ -1,5 +1,5 @@
 -- What was seen of a service.
-use Rattle.std.specs.Prelude.{◌≡◌, ◌⊎◌, ◌+◌, ℕ, zero, suc, List, [], ◌∷◌, ◌++◌, Option, Some, None, get_or, length, slice_get}
+use Rattle.std.specs.Prelude.{◌≡◌, ◌⊎◌, ◌+◌, ◌-◌, ◌≤◌, ℕ, drop, replicate, zero, suc, List, [], ◌∷◌, ◌++◌, Option, Some, None, get_or, length, slice_get}
 use Rattle.std.specs.List.{slice_set}
 use Rattle.histories.specs.declared.event.Event.{Event}
 use Rattle.histories.specs.declared.event.Event.TheVariants.{Begin, End, Crash}
@@ -14,6 +14,7 @@ use Rattle.log_lines.specs.Commands.NamedCommand.{numbered, deregister, release}
 use Rattle.service_conformance.specs.declared.conformance.seen_reply.SeenReply.{SeenReply}
 use Rattle.service_conformance.specs.declared.conformance.seen_reply.SeenReply.TheVariants as reply
 use Rattle.service_conformance.specs.declared.conformance.possible.Part.{Part}
+use Rattle.service_conformance.specs.declared.conformance.possible.Part.TheVariants as part
 use Rattle.service_conformance.specs.Calls.{call_of}
 use Rattle.service_conformance.specs.Judged.{Judged, judged_answered, shown, stopped}
 use Rattle.service_conformance.specs.Judged.Judged.{call, starts, stops}
@@ -28,10 +29,12 @@ use Rattle.service_descriptions.specs.declared.replay.machine.command.Command.Th
 -- begins, each with the role of the entry that its command adds, if it adds one, the handle that
 -- its reply gave, if it gave one, and the line in which it begins; the number of the call with
 -- which each command begins, since a weak listing is two of them; and the events, each with its
--- line.
+-- line. Of what is read as a whole no call is forgotten, and `first` is 0. Where a log is judged
+-- while it is read, so many of the first calls are forgotten: what stands for them says nothing.
 pub record Service : Type 0 where
   pub line : ServiceLine
   pub start : dynamic.Service
+  pub first : ℕ
   pub calls : List Judged
   pub adds : List (Option Role)
   pub given : List (Option Handle)
@@ -40,18 +43,30 @@ pub record Service : Type 0 where
   pub events : List Event
   pub places : List ℕ
 
--- each call has its role, its handle and its line, and each event its line
+-- each call has its role, its handle and its line, and each event its line; none is forgotten
 pub record HasAll (s : Service) : Type 0 where
+  pub whole : s.first ≡ 0
   pub adds : length s.adds ≡ length s.calls
   pub given : length s.given ≡ length s.calls
   pub begins : length s.begins ≡ length s.calls
   pub places : length s.places ≡ length s.events
+
+-- each call has its role and its handle, also one that is forgotten
+pub record HasHandles (s : Service) : Type 0 where
+  pub adds : length s.adds ≡ length s.calls
+  pub given : length s.given ≡ length s.calls
+  pub first : s.first ≤ length s.calls
+
+-- what stands for a call that is forgotten
+abbrev pub forgotten : Judged
+forgotten = starts part.Nodes None
 
 -- a service of which nothing was seen
 abbrev pub unseen : ServiceLine → Service
 unseen line = record {
   line = line;
   start = (first_state line).service;
+  first = 0;
   calls = [];
   adds = [];
   given = [];
@@ -110,6 +125,7 @@ abbrev pub with_part : Service → LogCall → ℕ → Service
 with_part s c line = record {
   line = s.line;
   start = s.start;
+  first = s.first;
   calls = s.calls ++ c.seen ∷ [];
   adds = s.adds ++ c.adds ∷ [];
   given = s.given ++ None ∷ [];
@@ -174,10 +190,20 @@ abbrev pub calls_shown : List Judged → Option ℕ → SeenReply → List Judge
 calls_shown calls None r = calls
 calls_shown calls (Some start) r = changed (λ c. shown c r) calls start
 
+-- the same of calls the first of which has this number, where the weak listing is one of them
+abbrev pub calls_shown_from : ℕ → List Judged → Option ℕ → SeenReply → List Judged
+calls_shown_from first calls None r = calls
+calls_shown_from first calls (Some start) r = changed (λ c. shown c r) calls (start - first)
+
 -- the calls, of which the one of this number was answered so
 abbrev pub calls_answered : List Judged → ℕ → SeenReply → List Judged
 calls_answered calls number r =
     changed (λ c. judged_answered c r) (calls_shown calls (start_of calls number) r) number
+
+-- the call of this number is kept, and the weak listing too that it stops, if it stops one
+pub record IsKeptCall (s : Service) (number : ℕ) : Type 0 where
+  pub call : s.first ≤ number
+  pub start : (start : ℕ) → start_of s.calls number ≡ Some start → s.first ≤ start
 
 -- the call of this number was answered so in this line
 abbrev pub with_end : Service → ℕ → SeenReply → ℕ → Service
@@ -193,6 +219,16 @@ abbrev pub with_crash : Service → ℕ → ℕ → Service
 with_crash s number line = record s {
   events = s.events ++ Crash number ∷ [];
   places = s.places ++ line ∷ [];
+}
+
+-- the service, where the calls below this number are forgotten, so many of the events, and all lines
+abbrev pub forgetting : Service → ℕ → ℕ → Service
+forgetting s first followed = record s {
+  first = first;
+  calls = replicate first forgotten ++ drop first s.calls;
+  begins = [];
+  events = drop followed s.events;
+  places = [];
 }
 
 -- the service, where this is what it is before its first call

@@ -1,13 +1,15 @@
 -- What the fields of a service of a log tell.
 use Rattle.history_logs.specs.declared.logs.service.LogService.TheInside as service
-use Rattle.history_logs.specs.Seen.{Service}
+use Rattle.std.specs.Prelude.{◌++◌, replicate}
+use Rattle.history_logs.specs.Seen.{Service, forgotten}
 
 -- the service that they tell
 abbrev pub service_of : service.Inside → Service
 service_of c = record {
   line = c.line;
   start = c.start;
-  calls = c.calls.items;
+  first = c.first;
+  calls = replicate c.first forgotten ++ c.calls.items;
   adds = c.adds.items;
   given = c.given.items;
   begins = c.begins.items;

@@ -15,6 +15,7 @@ mod progress;
 mod reading;
 mod report;
 mod service;
+mod settling;
 mod streams;
 mod verdict;
 

@@ -87,6 +87,7 @@ fn configuration(
     requires few { length slots.now ≤ 64 }
     requires below { AreBelow slots.now (length service.now.begins) }
     requires within { call < length service.now.calls }
+    requires whole { service.now.first ≡ 0 }
     ensures { IfOk result (λ told. (c : Judged) × (slice_get service.now.calls call ≡ Some c)
         × IsTold service.now c slots.now config.now told) }
 {
@@ -109,6 +110,7 @@ fn configurations(
     requires few { length slots.now ≤ 64 }
     requires below { AreBelow slots.now (length service.now.begins) }
     requires within { call < length service.now.calls }
+    requires whole { service.now.first ≡ 0 }
     ensures { IfOk result (λ told. (c : Judged) → slice_get service.now.calls call ≡ Some c
         → AllZip (IsTold service.now c slots.now) configs.now told.items) }
 {
@@ -187,6 +189,7 @@ fn refusal(
     requires within { call < length service.now.calls }
     requires place { place < length service.now.places }
     requires begin { window.now.begin < length service.now.places }
+    requires whole { service.now.first ≡ 0 }
     ensures given { IfOk result (λ told. (told.words ≡ words) × (told.needed ≡ needed)) }
     ensures told { IfOk result (λ told. (c : Judged) → slice_get service.now.calls call ≡ Some c
         → IsToldAt service.now place c window.now told) }

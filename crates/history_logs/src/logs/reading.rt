@@ -7,11 +7,11 @@ ghost use Rattle.log_lines.specs.Lines.Line.{given as given_line};
 ghost use Rattle.log_lines.specs.States.{state_seen};
 ghost use Rattle.history_logs.specs.Fields.{callers_of, log_of};
 ghost use Rattle.log_lines.specs.Lines.{IsLine, Line, line_seen, line_text};
-ghost use Rattle.history_logs.specs.Good.{IsKept, IsReadTo, SaysIn, Takes, TakesLine};
+ghost use Rattle.history_logs.specs.Good.{IsReadTo, SaysIn, Takes, TakesLine};
 ghost use Rattle.history_logs.specs.Good.{TakesNext, TakesReply, is_service};
 ghost use Rattle.history_logs.specs.Logs.{EndsInReturn, IsMissing, IsWrong, LacksReply};
 ghost use Rattle.history_logs.specs.Progress.{AddsCounts};
-ghost use Rattle.history_logs.specs.Reading.{Does, IsNameless, IsNew, IsNamed, IsSane};
+ghost use Rattle.history_logs.specs.Reading.{Does, IsNameless, IsNew, IsNamed, IsSane, StopsKept};
 ghost use Rattle.history_logs.specs.Seen.{Service};
 
 use super::callers::{CallerState, Callers, refuses_begin};
@@ -160,6 +160,7 @@ impl Reading {
         line: usize,
     ) -> Result<Option<Expected>, AllocError>
         requires waits { self.old.waits ≡ None }
+        requires sane { IsSane (log_of self.old) }
         requires text { HasBegun (begun_in begun) }
         ensures { IfOk result (λ found. Does (log_of self.old) line
             (begin_line number caller.now (begun_in begun)) found (log_of self.new)) }
@@ -242,8 +243,10 @@ impl Reading {
         line: usize,
     ) -> Result<Option<Expected>, AllocError>
         requires waits { self.old.waits ≡ None }
+        requires sane { IsSane (log_of self.old) }
         requires within { at < length self.old.services.items }
-        requires kept { IsKept (log_of self.old) }
+        requires on { (s : Service) × (slice_get self.old.services.items at ≡ Some s)
+            × StopsKept s call }
         ensures { IfOk result (λ found.
             TakesReply (log_of self.old) at call line text.now found (log_of self.new)) }
     {
@@ -258,7 +261,6 @@ impl Reading {
 
     /// A line of a log, where no call waits. Returns what is expected instead, if it may not
     /// come.
-    #[tactic(auto, using(crate::proofs::Kept::sane_of))]
     fn take(
         &mut self,
         alloc: Global,
@@ -306,7 +308,7 @@ impl Reading {
         line: usize,
     ) -> Result<Option<Expected>, AllocError>
         requires waits { self.old.waits ≡ None }
-        requires kept { IsKept (log_of self.old) }
+        requires sane { IsSane (log_of self.old) }
         ensures { IfOk result (λ found.
             TakesNext (log_of self.old) line text.now found (log_of self.new)) }
     {
@@ -321,14 +323,14 @@ impl Reading {
 
     /// Goes on with a line that is no note. Returns what is expected instead, but for its
     /// carriage return, if it may not come.
-    #[tactic(auto, using(crate::proofs::Refused::kept_taken))]
+    #[tactic(auto, using(crate::proofs::Refused::sane_taken))]
     fn go(
         &mut self,
         alloc: Global,
         text: &[u8],
         line: usize,
     ) -> Result<Option<Expected>, AllocError>
-        requires { IsKept (log_of self.old) }
+        requires { IsSane (log_of self.old) }
         ensures { IfOk result (λ found.
             TakesLine (log_of self.old) line text.now found (log_of self.new)) }
     {
@@ -349,7 +351,7 @@ impl Reading {
         text: &[u8],
         line: usize,
     ) -> Result<Option<Expected>, AllocError>
-        requires { IsKept (log_of self.old) }
+        requires { IsSane (log_of self.old) }
         ensures { IfOk result (λ found.
             Takes (log_of self.old) line text.now found (log_of self.new)) }
     {

@@ -1,5 +1,5 @@
 //! What was seen of a service.
-ghost use Rattle.std.specs.Prelude.{◌≡◌, ◌+◌, ◌<◌, OnOk, IfOk, Some, None, get_or, length};
+ghost use Rattle.std.specs.Prelude.{◌≡◌, ◌↔◌, ◌+◌, ◌++◌, ◌<◌, ◌≤◌, ℕ, IsTrue, replicate, OnOk, IfOk, Some, None, get_or, length};
 ghost use Rattle.log_lines.specs.Commands.{HasBegun, HasText, begun_in, named};
 ghost use Rattle.log_lines.specs.Commands.Begun.{weak};
 ghost use Rattle.log_lines.specs.States.{state_seen};
@@ -8,9 +8,9 @@ ghost use Rattle.service_descriptions.specs.Lines.{command_of};
 ghost use Rattle.service_descriptions.specs.Script.{first_state};
 ghost use Rattle.history_logs.specs.Good.{Starts};
 ghost use Rattle.history_logs.specs.Reading.{Gives};
-ghost use Rattle.history_logs.specs.Seen.{Begins, HasAll, calls_shown, called, given_by, given_in};
+ghost use Rattle.history_logs.specs.Seen.{Begins, HasHandles, IsKeptCall, calls_shown_from, called, given_by, given_in};
 ghost use Rattle.history_logs.specs.Seen.{handle_in, handle_named, role_added, start_of};
-ghost use Rattle.history_logs.specs.Seen.{unseen, with_begin, with_crash, with_end};
+ghost use Rattle.history_logs.specs.Seen.{forgetting, forgotten, unseen, with_begin, with_crash, with_end};
 ghost use Rattle.history_logs.specs.Seen.{with_look, with_over, with_part};
 
 use histories::Event;
@@ -37,6 +37,7 @@ pub(super) struct LogCall {
 pub(super) struct LogService {
     line: ServiceLine,
     start: ServiceCheck,
+    first: usize,
     calls: Vec<JudgedCall>,
     adds: Vec<Option<Role>>,
     given: Vec<Option<ContainerHandle>>,
@@ -74,22 +75,26 @@ fn new_service(alloc: Global, line: &ServiceLine) -> ServiceCheck
     ServiceCheck::new(alloc, &settings, line.max_nodes, line.number)
 }
 
-/// This is the reply to the weak listing that stops with the call of this number, if it is one.
+/// This is the reply to the weak listing that stops with the call at this index, if it is one. The
+/// first of the calls has the first number.
 fn show(
     alloc: Global,
     calls: &mut Vec<JudgedCall>,
-    number: usize,
+    first: usize,
+    at: usize,
     reply: &SeenReply,
 ) -> Result<(), AllocError>
-    requires { number < length calls.old.items }
+    requires within { at < length calls.old.items }
+    requires kept { (start : ℕ) → start_of calls.old.items at ≡ Some start → first ≤ start }
     ensures { OnOk result (calls.new.items
-        ≡ calls_shown calls.old.items (start_of calls.old.items number) reply.now) }
+        ≡ calls_shown_from first calls.old.items (start_of calls.old.items at) reply.now) }
 {
-    let Some(start) = calls[number].stopped() else {
+    let Some(start) = calls[at].stopped() else {
         return Ok(());
     };
-    if start < calls.len() {
-        calls[start].show(alloc, reply)?;
+    let place = start - first;
+    if place < calls.len() {
+        calls[place].show(alloc, reply)?;
     }
     Ok(())
 }
@@ -116,6 +121,7 @@ impl LogService {
         LogService {
             line,
             start,
+            first: 0,
             calls: Vec::new(alloc),
             adds: Vec::new(alloc),
             given: Vec::new(alloc),
@@ -152,7 +158,7 @@ impl LogService {
     pub(super) fn give(&mut self, given: LogState) -> Result<bool, AllocError>
         ensures { IfOk result (λ yes. Starts self.old (state_seen given) yes self.new) }
     {
-        if !self.calls.is_empty() {
+        if self.first > 0 || !self.calls.is_empty() {
             return Ok(false);
         }
         give(&mut self.start, given)
@@ -160,9 +166,45 @@ impl LogService {
 
     /// The calls, by their begins.
     pub(super) fn calls(&self) -> &[JudgedCall]
+        requires { self.now.first ≡ 0 }
         ensures { result.now ≡ self.now.calls }
     {
         &self.calls
+    }
+
+    /// Whether a call on it has begun.
+    pub(super) fn has_calls(&self) -> bool
+        ensures { IsTrue result ↔ (0 < length self.now.calls) }
+    {
+        self.first > 0 || !self.calls.is_empty()
+    }
+
+    /// How many of the first calls are forgotten.
+    pub(super) fn first(&self) -> usize
+        ensures { result ≡ self.now.first }
+    {
+        self.first
+    }
+
+    /// The calls behind those that are forgotten.
+    pub(super) fn kept(&self) -> &[JudgedCall]
+        ensures { self.now.calls ≡ replicate self.now.first forgotten ++ result.now }
+    {
+        &self.calls
+    }
+
+    /// The number with which the weak listing began that stops with the call of this number.
+    pub(super) fn start_of(&self, number: usize) -> Option<usize>
+        ensures { result ≡ start_of self.now.calls number }
+    {
+        if number < self.first {
+            return None;
+        }
+        let at = number - self.first;
+        if at >= self.calls.len() {
+            return None;
+        }
+        self.calls[at].stopped()
     }
 
     /// The line in which each of them begins.
@@ -253,10 +295,11 @@ impl LogService {
     /// A call begins in this line, and is no command of its own. Returns its number. Where memory
     /// was refused, the service is not to be used any more.
     fn begin_part(&mut self, call: LogCall, line: usize) -> Result<usize, AllocError>
+        requires { HasHandles self.old }
         ensures begun { OnOk result (self.new ≡ with_part self.old call line) }
         ensures number { IfOk result (λ number. number ≡ length self.old.calls) }
     {
-        let number = self.calls.len();
+        let number = self.given.len();
         let LogCall { seen, adds } = call;
         self.calls.push(seen)?;
         self.adds.push(adds)?;
@@ -270,10 +313,11 @@ impl LogService {
     /// A call begins in this line. Returns its number. Where memory was refused, the service is not
     /// to be used any more.
     pub(super) fn begin(&mut self, call: LogCall, line: usize) -> Result<usize, AllocError>
+        requires { HasHandles self.old }
         ensures begun { OnOk result (self.new ≡ with_begin self.old call line) }
         ensures number { IfOk result (λ number. number ≡ length self.old.calls) }
     {
-        self.commands.push(self.calls.len())?;
+        self.commands.push(self.given.len())?;
         self.begin_part(call, line)
     }
 
@@ -290,6 +334,7 @@ impl LogService {
     /// A weak listing of a part begins in this line. Returns the number of the call that is open.
     /// Where memory was refused, the service is not to be used any more.
     fn look(&mut self, part: Part, line: usize) -> Result<usize, AllocError>
+        requires { HasHandles self.old }
         ensures looks { OnOk result (self.new ≡ with_look self.old part line) }
         ensures number { IfOk result (λ number. number ≡ length self.old.calls + 1) }
     {
@@ -310,6 +355,7 @@ impl LogService {
     /// number of the call that is open. Where memory was refused, the service is not to be used any
     /// more.
     fn begin_weak(&mut self, role: Role, line: usize) -> Result<usize, AllocError>
+        requires { HasHandles self.old }
         ensures { IfOk result (λ current. Begins self.old (weak role) line self.new current) }
     {
         match self.start.part_of(role) {
@@ -324,7 +370,8 @@ impl LogService {
     /// What a caller begins in this line. Returns the number of the call that is open. Where memory
     /// was refused, the service is not to be used any more.
     pub(super) fn begin_call(&mut self, begun: BegunCall, line: usize) -> Result<usize, AllocError>
-        requires { HasBegun (begun_in begun) }
+        requires text { HasBegun (begun_in begun) }
+        requires handles { HasHandles self.old }
         ensures { IfOk result (λ current. Begins self.old (begun_in begun) line self.new current) }
     {
         match begun {
@@ -358,15 +405,32 @@ impl LogService {
         line: usize,
     ) -> Result<(), AllocError>
         requires within { number < length self.old.calls }
-        requires all { HasAll self.old }
+        requires handles { HasHandles self.old }
+        requires kept { IsKeptCall self.old number }
         ensures { OnOk result (self.new ≡ with_end self.old number reply line) }
     {
         let given = self.given_in(self.adds[number], &reply);
         self.given[number] = given;
-        show(alloc, &mut self.calls, number, &reply)?;
-        self.calls[number].answer(reply);
+        let at = number - self.first;
+        show(alloc, &mut self.calls, self.first, at, &reply)?;
+        self.calls[at].answer(reply);
         self.events.push(Event::End(number))?;
         self.places.push(line)?;
+        Ok(())
+    }
+
+    /// Forgets the calls below this number, so many of the events, and all lines.
+    pub(super) fn forget(&mut self, first: usize, followed: usize) -> Result<(), AllocError>
+        requires first { self.old.first ≤ first }
+        requires within { first ≤ length self.old.calls }
+        requires followed { followed ≤ length self.old.events }
+        ensures { OnOk result (self.new ≡ forgetting self.old first followed) }
+    {
+        self.calls = self.calls.split_off(first - self.first)?;
+        self.first = first;
+        self.events = self.events.split_off(followed)?;
+        self.begins.clear();
+        self.places.clear();
         Ok(())
     }
 

@@ -1,4 +1,4 @@
-use Rattle.std.proofs.Common.{None, Some, arith, subst, sym}
+use Rattle.std.proofs.Common.{None, arith, subst, sym}
 use Rattle.history_logs.specs.Good.{IsReadTo}
 use Rattle.history_logs.specs.Logs.{Judged}
 use Rattle.history_logs.specs.Orders.{HasOrders}

@@ -1,5 +1,3 @@
-use Rattle.std.proofs.Common.{ℕ, suc, ◌+◌, ◌≡◌, List}
-use Rattle.history_logs.specs.Placed.{IsLineAt}
 use Rattle.history_logs.proofs.LinesAt.{LeftIn}
 use Rattle.history_logs.proofs.logs.judging.after_lines.Given as goal
 

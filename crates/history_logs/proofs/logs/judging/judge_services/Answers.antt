@@ -1,4 +1,3 @@
-use Rattle.std.proofs.Common.{take}
 use Rattle.history_logs.specs.Good.{IsOrderly}
 use Rattle.history_logs.specs.Placed.{IsPlaced}
 use Rattle.history_logs.proofs.Found.{first_next, first_none, first_whole, item_of}

@@ -42,6 +42,7 @@ refusal-requires c =
           c.line_at-line.ensures;
       place = place_within s o c.args.place w within is;
       begin = window_within s o c.args.place w within is;
+      whole = o.all.whole;
     }
 
 pub returns : goal.returns

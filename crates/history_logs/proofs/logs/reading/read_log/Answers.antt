@@ -1,6 +1,7 @@
 use Rattle.std.proofs.Common.{rules}
 use Rattle.history_logs.specs.Fields.{log_of}
 use Rattle.history_logs.proofs.Above.{above_more, above_new, read_bad, read_newline}
+use Rattle.history_logs.proofs.Kept.{sane_of}
 use Rattle.history_logs.proofs.Counts.{counts_more, no_counts}
 use Rattle.history_logs.proofs.logs.reading.read_log.Goals as goal
 
@@ -31,3 +32,6 @@ pub returns-then-not-is_empty-clause-read : goal.returns-then-not-is_empty-claus
 returns-then-not-is_empty-clause-read g c =
     read_newline c.args.log.now (log_of c.loop-text.reading) c.loop-text.rest.now c.loop-text.line
     c.loop-text.invariant.0 (search rules) (search rules)
+
+pub read-requires : goal.read-requires
+read-requires g c = sane_of (log_of c.loop-text.reading) c.loop-text.invariant.0.kept

@@ -1,4 +1,4 @@
-use Rattle.std.proofs.Common.{refl, subst, sym, ◌++◌, ◌∷◌, [], List}
+use Rattle.std.proofs.Common.{refl, subst, sym, List}
 use Rattle.history_logs.specs.declared.logs.callers.Caller.{Caller}
 use Rattle.history_logs.specs.Fields.{state_in}
 use Rattle.history_logs.specs.Reading.{Sets}

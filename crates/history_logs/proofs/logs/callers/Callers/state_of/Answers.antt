@@ -1,6 +1,4 @@
-use Rattle.std.proofs.Common.{List, sym}
-use Rattle.history_logs.specs.declared.logs.callers.Caller.{Caller}
-use Rattle.history_logs.specs.Fields.{HasName, IsUnknown}
+use Rattle.std.proofs.Common.{sym}
 use Rattle.history_logs.proofs.Callers.{state_at, unknown_state}
 use Rattle.history_logs.proofs.logs.callers.Callers.state_of.Goals as goal
 

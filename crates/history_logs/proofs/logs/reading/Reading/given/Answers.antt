@@ -1,4 +1,4 @@
-use Rattle.std.proofs.Common.{◌≡◌, ◌∙◌, List, Some, true, false, ap, refl, subst, sym}
+use Rattle.std.proofs.Common.{◌∙◌, List, Some, true, false, ap, refl, subst, sym}
 use Rattle.std.proofs.lemmas.Option.{slice_get-get_or, slice_get_within}
 use Rattle.log_lines.specs.States.{state_seen}
 use Rattle.history_logs.specs.Fields.{log_of}

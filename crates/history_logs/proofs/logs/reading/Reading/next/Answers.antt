@@ -2,13 +2,9 @@ use Rattle.std.proofs.Common.{rules, ◌≡◌, length, true, false, refl}
 use Rattle.log_lines.specs.Lines.{IsLine, line_seen, line_text}
 use Rattle.history_logs.specs.Fields.{log_of}
 use Rattle.history_logs.specs.Good.{is_service}
-use Rattle.history_logs.proofs.Kept.{sane_of}
 use Rattle.history_logs.proofs.Refused.{nil_of, ok_taken, wrong_first}
 use Rattle.history_logs.proofs.logs.reading.Reading.next.Goals.{else-is_empty-via-then-is_empty+else-not-is_service, else-is_empty-via-else-is_empty}
 use Rattle.history_logs.proofs.logs.reading.Reading.next.Goals as goal
-
-pub take-requires-clause-sane : goal.take-requires-clause-sane
-take-requires-clause-sane c = sane_of (log_of c.args.self.now) c.requires.kept
 
 pub returns-then-not-is_service : goal.returns-then-not-is_service
 returns-then-not-is_service c =

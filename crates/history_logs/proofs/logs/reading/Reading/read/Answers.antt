@@ -6,11 +6,11 @@ use Rattle.history_logs.proofs.logs.reading.Reading.read.Goals as goal
 pub returns-then-ends_in_return : goal.returns-then-ends_in_return
 returns-then-ends_in_return c =
     bad_return (log_of c.args.self.now) (log_of c.go.new.self) c.args.line c.args.text.now
-    c.in-Some.expected (search rules) c.requires (search rules)
+    c.in-Some.expected (search rules) (search rules)
     (rw c.in-Some.is at c.in_ok-expected.ensures)
 
 pub returns : goal.returns
 returns c =
     bad_line (log_of c.args.self.now) (log_of c.go.new.self) c.args.line c.args.text.now
-    c.in-Some.expected (search rules) c.requires (search rules)
+    c.in-Some.expected (search rules) (search rules)
     (rw c.in-Some.is at c.in_ok-expected.ensures)

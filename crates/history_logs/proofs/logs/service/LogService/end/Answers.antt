@@ -1,34 +1,61 @@
-use Rattle.std.proofs.Common.{◌≡◌, ◌<◌, ◌∙◌, ap, length, refl, subst, sym, arith}
+use Rattle.std.proofs.Common.{◌≡◌, ◌<◌, ◌-◌, ◌∙◌, ap, length, replicate, refl, subst, sym, arith}
+use Rattle.std.proofs.lemmas.List.{length-append, length-replicate}
 use Rattle.history_logs.specs.ServiceFields.{service_of}
-use Rattle.history_logs.specs.Seen.{Service, given_in, start_of, with_end}
-use Rattle.history_logs.proofs.Answering.{end_is}
-use Rattle.history_logs.proofs.Orderly.{length_shown}
+use Rattle.history_logs.specs.Seen.{IsKeptCall, Service, forgotten, given_in, start_of, with_end}
+use Rattle.history_logs.proofs.Answering.{answered_over, end_is, length_shown_from, starts_kept}
 use Rattle.history_logs.proofs.logs.service.LogService.end.Goals as goal
+
+pub overflow_sub-at : goal.overflow_sub-at
+overflow_sub-at c =
+    let old : Service = service_of c.self.inside in
+    let kept = subst (λ (v : Service). IsKeptCall v c.args.number) (sym c.self.view_is)
+    c.requires.kept in
+    kept.call
+
+pub show-requires-clause-kept : goal.show-requires-clause-kept
+show-requires-clause-kept c =
+    let old : Service = service_of c.self.inside in
+    let kept = subst (λ (v : Service). IsKeptCall v c.args.number) (sym c.self.view_is)
+    c.requires.kept in
+    starts_kept c.self.inside.first c.self.inside.calls.items c.args.number c.args.reply kept.call
+    kept.start
 
 pub index_mut-requires-2 : goal.index_mut-requires-2
 index_mut-requires-2 c =
+    let first = c.self.inside.first in
+    let calls = c.self.inside.calls.items in
     let old : Service = service_of c.self.inside in
     let within : c.args.number < length old.calls =
     subst (λ (v : Service). c.args.number < length v.calls) (sym c.self.view_is)
     c.requires.within in
+    let kept = subst (λ (v : Service). IsKeptCall v c.args.number) (sym c.self.view_is)
+    c.requires.kept in
     omega (
       arith,
       within,
+      kept.call,
+      length-append (replicate first forgotten) calls,
+      length-replicate first forgotten,
       ap length c.in_ok-show.ensures,
-      length_shown old.calls (start_of old.calls c.args.number) c.args.reply,
+      length_shown_from first calls (start_of calls (c.args.number - first)) c.args.reply,
     )
 
 pub returns : goal.returns
 returns c =
+    let first = c.self.inside.first in
+    let calls = c.self.inside.calls.items in
     let old : Service = service_of c.self.inside in
     let view : old ≡ c.args.self.now = c.self.view_is in
+    let kept = subst (λ (v : Service). IsKeptCall v c.args.number) (sym view) c.requires.kept in
     let within = c.requires.within in
-    let adds = c.requires.all.adds in
-    end_is old c.args.number c.args.line c.args.reply c.show.new.calls.items
-    c.index_mut-2.result.now c.answer.new.self
+    let adds = c.requires.handles.adds in
+    end_is old c.args.number c.args.line c.args.reply _
     c.index.result.now c.given_in-given.result c.push.new.self.items c.push-2.new.self.items
     (subst (λ (v : Service). c.args.number < length v.adds) (sym view) (omega arith))
-    c.in_ok-show.ensures c.index_mut-2.ensures.value c.answer.ensures c.index.ensures
+    (answered_over first calls c.args.number c.args.reply kept.call kept.start
+    c.show.new.calls.items c.in_ok-show.ensures c.index_mut-2.result.now c.answer.new.self
+    c.index_mut-2.ensures.value c.answer.ensures)
+    c.index.ensures
     (subst (λ (v : Service). c.given_in-given.result ≡ given_in v c.index.result.now c.args.reply)
     (sym view) c.given_in-given.ensures)
     c.in_ok-push.ensures.items c.in_ok-push-2.ensures.items _ refl

@@ -1,4 +1,4 @@
-use Rattle.std.proofs.Common.{◌≡◌, length, refl, rules}
+use Rattle.std.proofs.Common.{◌≡◌, length, rules}
 use Rattle.log_lines.specs.States.{state_seen}
 use Rattle.history_logs.specs.ServiceFields.{service_of}
 use Rattle.history_logs.proofs.LinesAt.{if_ok}

@@ -1,0 +1,520 @@
+-- What settles while a log is read.
+use Rattle.std.proofs.Common.{◌≡◌, ◌⊎◌, ◌↔◌, ℕ, zero, suc, ◌+◌, ◌-◌, ◌<◌, ◌≤◌, List, [], ◌∷◌, ◌++◌, Some, None, append_assoc, drop, get_or, length, replicate, refl, sym, ◌∙◌, ap, subst, arith, inl, inr, slice_get, take, eqb, eq-eqb, true}
+use Rattle.std.proofs.lemmas.Bool.{cases_lt}
+use Rattle.std.proofs.lemmas.List.{length-append, length-replicate, length-take-le, take-append-drop, take-take}
+use Rattle.std.proofs.Math.Seq.{take-append_seam}
+use Rattle.std.proofs.lemmas.Option.{slice_get-get_or}
+use Rattle.histories.specs.declared.event.Event.{Event}
+use Rattle.histories.specs.declared.event.Event.TheVariants.{Begin, End, Crash}
+use Rattle.histories.specs.declared.front.Front.{Front}
+use Rattle.histories.specs.Frontier.{HasSlot, IsSound}
+use Rattle.histories.specs.Histories.{HasEnded, IsHistory, IsOpen, MayFollow, begins, begun}
+use Rattle.histories.proofs.Cutting.{begins-append}
+use Rattle.histories.proofs.Verdicts.{begun_none, counts_begin, counts_crash, counts_end, one_more}
+use Rattle.history_windows.specs.Goings.{AgreesOn, IsFrontAfter}
+use Rattle.history_windows.proofs.Following.{history_front}
+use Rattle.history_windows.proofs.Goings.{no_slot, slot_open}
+use Rattle.history_windows.proofs.Joins.{ended_left, ended_right, open_whole}
+use Rattle.iox2_dynamic.specs.Service as dynamic
+use Rattle.service_conformance.specs.Judged.{Judged, WindowStep}
+use Rattle.service_conformance.specs.Looks.{Watched, unwatched}
+use Rattle.history_logs.specs.Good.{IsOrderly}
+use Rattle.history_logs.specs.Logs.{StepOf, news}
+use Rattle.history_logs.specs.Seen.{Service, forgetting, forgotten, start_of}
+use Rattle.history_logs.specs.Settling.{AreOver, IsLastBegun, Stays}
+use Rattle.history_logs.specs.Shortened.{IsShort, Kept}
+use Rattle.history_logs.proofs.Shortened.{start_get}
+
+-- how many calls begin in two parts
+pub begun-append : (es fs : List Event) → begun (es ++ fs) ≡ begun es + begun fs
+unfolding begun
+begun-append [] fs = omega arith
+begun-append (Begin c ∷ es) fs = omega (arith, begun-append es fs)
+begun-append (End c ∷ es) fs = begun-append es fs
+begun-append (Crash c ∷ es) fs = begun-append es fs
+
+pub begins-one : (c : ℕ) → 0 < begins c (Begin c ∷ [])
+unfolding begins
+begins-one c = rw (eqb_true c) (omega arith)
+  where
+    eqb_true : (n : ℕ) → eqb n n ≡ true
+    eqb_true n = eq-eqb n n refl
+
+-- in the first events of a history each number below their count has begun
+all_begun : (es : List Event) → IsHistory es → (i : ℕ) → i ≤ length es → (n : ℕ)
+    → n < begun (take i es) → 0 < begins n (take i es)
+all_begun es history zero h n less = absurd (omega (arith, less, begun_none))
+all_begun es history (suc i) h n less =
+    let d : Event = Begin 0 in
+    let e = get_or es i d in
+    let within : i < length es = omega (arith, h) in
+    let is : take (suc i) es ≡ take i es ++ e ∷ [] =
+    let one : suc i ≡ i + 1 = omega arith in
+    ap (λ k. take k es) one ∙ one_more es i d within in
+    let may : MayFollow (take i es) e = history i e (slice_get-get_or es i d within) in
+    let before = all_begun es history i (omega (arith, h)) n in
+    subst (λ (l : List Event). 0 < begins n l) (sym is)
+    (step (take i es) e may (subst (λ (l : List Event). n < begun l) is less) before)
+  where
+    step : (fs : List Event) (e : Event) → MayFollow fs e → n < begun (fs ++ e ∷ [])
+        → (n < begun fs → 0 < begins n fs) → 0 < begins n (fs ++ e ∷ [])
+    step fs (Begin c) may less before =
+        elim (cases_lt n (begun fs)) as (λ _. 0 < begins n (fs ++ Begin c ∷ [])) [
+          | inl below ↦ omega (arith, before below, begins-append n fs (Begin c ∷ []))
+          | inr above ↦
+              let same : c ≡ n =
+              omega (arith, may, above, less, counts_begin (begun fs) c fs refl) in
+              omega (
+                arith,
+                subst (λ k. 0 < begins k (Begin c ∷ [])) same (begins-one c),
+                begins-append n fs (Begin c ∷ []),
+              )
+        ]
+    step fs (End c) may less before =
+        omega (
+          arith,
+          before (omega (arith, less, counts_end (begun fs) c fs refl)),
+          begins-append n fs (End c ∷ []),
+        )
+    step fs (Crash c) may less before =
+        omega (
+          arith,
+          before (omega (arith, less, counts_crash (begun fs) c fs refl)),
+          begins-append n fs (Crash c ∷ []),
+        )
+
+-- the first part of a history
+pub begun_first : (s : Service) → IsOrderly s → (past rest : List Event)
+    → s.events ≡ past ++ rest → (n : ℕ) → n < begun past → 0 < begins n past
+begun_first s o past rest is n less =
+    let long = length-append past rest in
+    let all = ap (λ (l : List Event). length l) is in
+    let front : take (length past) s.events ≡ past =
+    ap (λ (l : List Event). take (length past) l) is ∙ take-append_seam past rest in
+    subst (λ (l : List Event). 0 < begins n l) front
+    (all_begun s.events o.history (length past) (omega (arith, long, all)) n
+    (subst (λ (l : List Event). n < begun l) (sym front) less))
+
+-- a call that begins behind the first part has none of its numbers
+pub begun_behind : (s : Service) → IsOrderly s → (past rest : List Event)
+    → s.events ≡ past ++ rest → (n : ℕ) → 0 < begins n rest → begun past ≤ n
+begun_behind s o past rest is n some =
+    elim (cases_lt n (begun past)) as (λ _. begun past ≤ n) [
+      | inl less ↦ absurd (omega (
+        arith,
+        begun_first s o past rest is n less,
+        some,
+        o.sound.once n,
+        ap (begins n) is,
+        begins-append n past rest,
+      ))
+      | inr above ↦ above
+    ]
+
+-- calls of which the first ones are forgotten
+get_forgotten : {X : Type 0} (first : ℕ) (d : X) (xs : List X) (n : ℕ) → first ≤ n
+    → slice_get (replicate first d ++ drop first xs) n ≡ slice_get xs n
+get_forgotten zero d [] n h = refl
+get_forgotten zero d (x ∷ xs) n h = refl
+get_forgotten (suc first) d xs zero h = absurd (omega (arith, h))
+get_forgotten (suc first) d [] (suc n) h = none first n (omega (arith, h))
+  where
+    none : (k m : ℕ) → k ≤ m → slice_get (replicate k d ++ []) m ≡ None
+    none zero m h = refl
+    none (suc k) zero h = absurd (omega (arith, h))
+    none (suc k) (suc m) h = none k m (omega (arith, h))
+get_forgotten (suc first) d (x ∷ xs) (suc n) h = get_forgotten first d xs n (omega (arith, h))
+
+length_forgotten : {X : Type 0} (first : ℕ) (d : X) (xs : List X) → first ≤ length xs
+    → length (replicate first d ++ drop first xs) ≡ length xs
+length_forgotten first d xs h =
+    omega (
+      arith,
+      h,
+      length-append (replicate first d) (drop first xs),
+      length-replicate first d,
+      length-append (take first xs) (drop first xs),
+      ap (λ l. length l) (take-append-drop first xs),
+      length-take-le first xs h,
+    )
+
+-- calls that are kept agree with those of the service
+get_kept : (first : ℕ) (calls : List Judged) (n : ℕ) → first ≤ n
+    → slice_get (replicate first forgotten ++ calls) n ≡ slice_get calls (n - first)
+get_kept zero calls n h =
+    let same : n - 0 ≡ n = omega arith in
+    ap (slice_get calls) (sym same)
+get_kept (suc first) calls zero h = absurd (omega (arith, h))
+get_kept (suc first) calls (suc n) h =
+    let same : suc n - suc first ≡ n - first = omega arith in
+    get_kept first calls n (omega (arith, h)) ∙ ap (slice_get calls) (sym same)
+
+pub step_same : (first : ℕ) (calls final : List Judged) (n : ℕ) → first ≤ n
+    → slice_get (replicate first forgotten ++ calls) n ≡ slice_get final n
+    → (old new : Watched) → WindowStep first calls old n new ↔ WindowStep 0 final old n new
+step_same first calls final n h same old new =
+    let is = sym (get_kept first calls n h) ∙ same in (
+      λ w.
+          let at : w.1.0 ≡ n - first = omega (arith, w.1.1, h) in
+          let zero_at : n ≡ 0 + n = omega arith in (
+            w.0,
+            (n, zero_at, sym is ∙ (ap (slice_get calls) (sym at) ∙ w.1.2)),
+            w.2,
+          ),
+      λ w.
+          let at : w.1.0 ≡ n = omega (arith, w.1.1) in
+          let first_at : n ≡ first + (n - first) = omega (arith, h) in (
+            w.0,
+            (n - first, first_at, is ∙ (ap (slice_get final) (sym at) ∙ w.1.2)),
+            w.2,
+          ),
+    )
+
+-- calls of which the first ones agree
+get_take : {X : Type 0} (b : ℕ) (xs : List X) (n : ℕ) → n < b
+    → slice_get (take b xs) n ≡ slice_get xs n
+get_take zero xs n h = absurd (omega (arith, h))
+get_take (suc b) [] n h = refl
+get_take (suc b) (x ∷ xs) zero h = refl
+get_take (suc b) (x ∷ xs) (suc n) h = get_take b xs n (omega (arith, h))
+
+get_agreed : {X : Type 0} (b : ℕ) (xs ys : List X) (n : ℕ) → take b xs ≡ take b ys → n < b
+    → slice_get ys n ≡ slice_get xs n
+get_agreed {X} b xs ys n same h =
+    sym (get_take b ys n h) ∙ (ap (λ (l : List X). slice_get l n) (sym same) ∙ get_take b xs n h)
+
+take_agreed : {X : Type 0} (a b : ℕ) (xs ys : List X) → take b xs ≡ take b ys → a ≤ b
+    → take a xs ≡ take a ys
+take_agreed {X} a b xs ys same h =
+    sym (take-take a b xs h) ∙ (ap (λ (l : List X). take a l) same ∙ take-take a b ys h)
+
+-- what was seen goes on
+module _ (live s : Service) (front : Front Watched) (count : ℕ) (o : IsOrderly s)
+    (k : IsShort s live (Some front))
+  where
+    abbrev pub past : List Event
+    past = k.keeps.has.past
+
+    abbrev pub followed : List Event
+    followed = take count live.events
+
+    split : s.events ≡ past ++ live.events
+    split =
+        k.keeps.has.events
+        ∙ ap (λ (l : List Event). past ++ l) (sym (ap (λ (x : Service). x.events) k.is))
+
+    whole : s.events ≡ (past ++ followed) ++ drop count live.events
+    whole =
+        split ∙ (ap (λ (l : List Event). past ++ l) (sym (take-append-drop count live.events))
+        ∙ sym (append_assoc past followed (drop count live.events)))
+
+    history_to : IsHistory (past ++ followed)
+    history_to =
+        let at = length (past ++ followed) in
+        subst (λ (l : List Event). IsHistory l)
+        (ap (λ (l : List Event). take at l) whole
+        ∙ take-append_seam (past ++ followed) (drop count live.events))
+        (history_front s.events at o.history)
+
+    pub first_low : live.first ≡ k.kept.first
+    first_low = ap (λ (x : Service). x.first) k.is
+
+    pub own_front : IsFrontAfter (StepOf s) (news s) past front
+    own_front = k.keeps.has.front_of s.calls refl
+
+    low : (c : ℕ) → (IsOpen past c ⊎ (0 < begins c followed)) → live.first ≤ c
+    low c (inl is) =
+        let slot = slot_open (StepOf s) (news s) past front own_front c is in
+        omega (arith, k.keeps.has.slots slot.0 c slot.1, first_low)
+    low c (inr some) =
+        let more = begins-append c followed (drop count live.events) in
+        let all = ap (begins c) (take-append-drop count live.events) in
+        omega (
+          arith,
+          begun_behind s o past live.events split c (omega (arith, some, more, all)),
+          k.keeps.has.first,
+          first_low,
+        )
+
+    module _ (calls : List Judged)
+        (kept : live.calls ≡ replicate live.first forgotten ++ calls)
+      where
+        agrees_on : (final : List Judged)
+            → ((c : ℕ) → (IsOpen past c ⊎ (0 < begins c followed))
+            → slice_get s.calls c ≡ slice_get final c)
+            → AgreesOn (WindowStep live.first calls) (WindowStep 0 final) past followed
+        agrees_on final same c is old new =
+            let at = low c is in
+            let own : slice_get (replicate live.first forgotten ++ calls) c ≡ slice_get s.calls c =
+            ap (λ (l : List Judged). slice_get l c)
+            (sym kept ∙ ap (λ (x : Service). x.calls) k.is)
+            ∙ k.keeps.calls c (omega (arith, at, first_low)) in
+            step_same live.first calls final c at (own ∙ same c is) old new
+
+    -- the same, where these are its events
+    module _ (events : List Event) (is : events ≡ live.events) where
+      pub history_of : IsHistory (past ++ take count events)
+      history_of =
+          subst (λ (l : List Event). IsHistory (past ++ take count l)) (sym is) history_to
+
+      pub agrees_of : (first : ℕ) (calls : List Judged) → first ≡ live.first
+          → live.calls ≡ replicate live.first forgotten ++ calls → (final : List Judged)
+          → ((c : ℕ) → (IsOpen past c ⊎ (0 < begins c followed))
+          → slice_get s.calls c ≡ slice_get final c)
+          → AgreesOn (WindowStep first calls) (WindowStep 0 final) past (take count events)
+      agrees_of first calls same kept final own =
+          subst
+          (λ (l : List Event). AgreesOn (WindowStep first calls) (WindowStep 0 final) past (take count l))
+          (sym is)
+          (subst (λ n. AgreesOn (WindowStep n calls) (WindowStep 0 final) past followed) (sym same)
+          (agrees_on calls kept final own))
+
+      pub after_of : (final : List Judged) (new : Front Watched)
+          → IsFrontAfter (WindowStep 0 final) (news s) (past ++ take count events) new
+          → IsFrontAfter (WindowStep 0 final) (news s) (past ++ followed) new
+      after_of final new f =
+          subst (λ (l : List Event). IsFrontAfter (WindowStep 0 final) (news s)
+          (past ++ take count l) new) is f
+
+    -- where its own replies lead on, replies that come later do
+    module _ (new : Front Watched)
+        (own : IsFrontAfter (StepOf s) (news s) (past ++ followed) new) (final : List Judged)
+        (same : take (begun (past ++ followed)) final ≡ take (begun (past ++ followed)) s.calls)
+      where
+        pub final_calls : (c : ℕ) → (IsOpen past c ⊎ (0 < begins c followed))
+            → slice_get s.calls c ≡ slice_get final c
+        final_calls c (inl is) =
+            get_agreed (begun (past ++ followed)) final s.calls c same
+            (own.1.numbered c (omega (arith, is.0, begins-append c past followed)))
+        final_calls c (inr some) =
+            get_agreed (begun (past ++ followed)) final s.calls c same
+            (own.1.numbered c (omega (arith, some, begins-append c past followed)))
+
+        pub final_front : IsFrontAfter (WindowStep 0 final) (news s) past front
+        final_front =
+            k.keeps.has.front_of final
+            (take_agreed (begun past) (begun (past ++ followed)) final s.calls same
+            (omega (arith, begun-append past followed)))
+
+-- a call that is open after two parts was open before the second, or begins in it
+open_parts : (past events : List Event) (c : ℕ) → IsOpen (past ++ events) c
+    → IsOpen past c ⊎ (0 < begins c events)
+open_parts past events c is =
+    let now = begins-append c past events in
+    elim (cases_lt 0 (begins c past)) as (λ _. IsOpen past c ⊎ (0 < begins c events)) [
+      | inl some ↦ inl (some, λ ended. is.1 (ended_left past events c ended))
+      | inr none ↦ inr (omega (arith, is.0, none, now))
+    ]
+
+slot_is_open : {S : Type 0} (Step : S → ℕ → S → Type 0) (olds : List S) (es : List Event)
+    (front : Front S) → IsFrontAfter Step olds es front → (slot c : ℕ)
+    → HasSlot front.slots.items slot c → IsOpen es c
+slot_is_open {S} Step olds es front f slot c has =
+    let w = f.1.is in
+    subst (λ (l : List Event). IsOpen l c) (sym w.split)
+    (open_whole w.past w.inside c f.1.first
+    (subst (λ (l : List Event). IsSound l) w.split f.1.whole) (w.front.table.each slot c has))
+
+module _ (live s : Service) (front new : Front Watched) (count : ℕ) (o : IsOrderly s)
+    (k : IsShort s live (Some front))
+    (goes : (final : List Judged)
+    → take (begun (past live s front count o k ++ followed live s front count o k)) final
+    ≡ take (begun (past live s front count o k ++ followed live s front count o k)) s.calls
+    → IsFrontAfter (WindowStep 0 final) (news s)
+    (past live s front count o k ++ followed live s front count o k) new)
+    (known : AreOver live (followed live s front count o k))
+    (most first : ℕ) (last : IsLastBegun live.first (followed live s front count o k) most)
+    (less : first ≤ most)
+    (slots : (slot call : ℕ) → HasSlot new.slots.items slot call → first ≤ call)
+  where
+    abbrev before : List Event
+    before = past live s front count o k
+
+    abbrev now : List Event
+    now = followed live s front count o k
+
+    own : IsFrontAfter (StepOf s) (news s) (before ++ now) new
+    own = goes s.calls refl
+
+    numbered : (c : ℕ) → 0 < begins c (before ++ now) → c < begun (before ++ now)
+    numbered = own.1.numbered
+
+    first_upto : first ≤ begun (before ++ now)
+    first_upto =
+        let all = begun-append before now in
+        let at = first_low live s front count o k in
+        elim last as (λ _. first ≤ begun (before ++ now)) [
+          | inl same ↦ omega (arith, less, same, at, k.keeps.has.first, all)
+          | inr some ↦
+              omega (
+                arith,
+                less,
+                numbered most
+                    (omega (arith, some, begins-append most before now)),
+              )
+        ]
+
+    pub first_within : first ≤ length live.calls
+    first_within =
+        let rest = drop count live.events in
+        omega (
+          arith,
+          first_upto,
+          ap begun (whole live s front count o k),
+          begun-append (before ++ now) rest,
+          o.counts,
+          k.keeps.count,
+          ap (λ (x : Service). length x.calls) k.is,
+        )
+
+    -- a call that has a slot was kept
+    pub slot_low : (slot c : ℕ) → HasSlot new.slots.items slot c → live.first ≤ c
+    slot_low slot c has =
+        low live s front count o k c
+        (open_parts before now c
+        (slot_is_open (StepOf s) (news s) (before ++ now) new own slot c has))
+
+    pub last_low : live.first ≤ most
+    last_low =
+        elim last as (λ _. live.first ≤ most) [
+          | inl same ↦ omega (arith, same)
+          | inr some ↦ low live s front count o k most (inr some)
+        ]
+
+    pub first_low_of : ((first ≡ most) ⊎ ((slot : ℕ) × HasSlot new.slots.items slot first))
+        → live.first ≤ first
+    first_low_of is =
+        elim is as (λ _. live.first ≤ first) [
+          | inl same ↦ omega (arith, same, last_low)
+          | inr there ↦ slot_low there.0 first there.1
+        ]
+
+    -- a number of the new part
+    begins_now : (n : ℕ) → n < begun (before ++ now) → begun before ≤ n → 0 < begins n now
+    begins_now n inside past =
+        let some = begun_first s o (before ++ now) (drop count live.events)
+        (whole live s front count o k) n inside in
+        elim (cases_lt 0 (begins n before)) as (λ _. 0 < begins n now) [
+          | inl old ↦
+              absurd (omega (
+                arith,
+                (own_front live s front count o k).1.numbered n old,
+                past,
+              ))
+          | inr none ↦ omega (arith, some, none, begins-append n before now)
+        ]
+
+    ended_whole : (n : ℕ) → HasEnded live.events n → HasEnded s.events n
+    ended_whole n h =
+        subst (λ (l : List Event). HasEnded l n) (sym (split live s front count o k))
+        (ended_right before live.events n h)
+
+    over_now : (n : ℕ) → n < begun (before ++ now) → HasEnded s.events n
+    over_now n h =
+        elim (cases_lt n (begun before)) as (λ _. HasEnded s.events n) [
+          | inl old ↦ k.keeps.has.over n old
+          | inr late ↦ ended_whole n (known n (begins_now n h late)).0
+        ]
+
+    shows_now : (n start : ℕ) → start_of s.calls n ≡ Some start → start < begun (before ++ now)
+        → HasEnded s.events n
+    shows_now n start is h =
+        elim (cases_lt start (begun before)) as (λ _. HasEnded s.events n) [
+          | inl old ↦ k.keeps.has.shows n start is old
+          | inr late ↦
+              let next = k.keeps.stops n start is in
+              let from : k.kept.first ≤ n =
+              omega (arith, next, late, k.keeps.has.first) in
+              let kept : start_of live.calls n ≡ Some start =
+              ap (λ (x : Service). start_of x.calls n) k.is
+              ∙ (start_get k.kept.calls s.calls n (k.keeps.calls n from) ∙ is) in
+              subst (λ m. HasEnded s.events m) next
+              (ended_whole (start + 1) ((known start (begins_now start h late)).1
+              (subst (λ m. start_of live.calls m ≡ Some start) (sym next) kept)))
+        ]
+
+    abbrev left : Kept
+    left = record {
+      first = first;
+      calls = replicate first forgotten ++ drop first k.kept.calls;
+      begins = [];
+      events = drop count k.kept.events;
+      places = [];
+    }
+
+    pub short_now : live.first ≤ first → IsShort s (forgetting live first count) (Some new)
+    short_now lower =
+        let at = first_low live s front count o k in
+        let events : live.events ≡ k.kept.events = ap (λ (x : Service). x.events) k.is in
+        let calls : length live.calls ≡ length k.kept.calls =
+        ap (λ (x : Service). length x.calls) k.is in
+        record {
+          kept = left;
+          upto = begun (before ++ now);
+          within = omega (
+            arith,
+            ap begun (whole live s front count o k),
+            begun-append (before ++ now) (drop count live.events),
+            o.counts,
+          );
+          is = ap (λ (x : Service). forgetting x first count) k.is;
+          keeps = record {
+            count = length_forgotten first forgotten k.kept.calls
+                (omega (arith, first_within, calls)) ∙ k.keeps.count;
+            calls = λ n h.
+                get_forgotten first forgotten k.kept.calls n h
+                ∙ k.keeps.calls n (omega (arith, h, lower, at));
+            stops = k.keeps.stops;
+            has = record {
+              past = before ++ now;
+              most = omega arith;
+              events = whole live s front count o k
+                  ∙ ap (λ (l : List Event). (before ++ now) ++ drop count l) events;
+              over = over_now;
+              shows = shows_now;
+              first = first_upto;
+              slots = slots;
+              some = k.keeps.has.some;
+              front_of = goes;
+            };
+          };
+        }
+
+-- the front before any event
+pub began : (live : Service) (front : Front Watched) → 0 < length live.calls
+    → ((final : List Judged) → IsFrontAfter (WindowStep 0 final) (news live) [] front)
+    → Stays live None live (Some front)
+began live front some f s o k =
+    let first : k.kept.first ≡ 0 = k.keeps.has.0 in
+    let start : live.start ≡ s.start = ap (λ (x : Service). x.start) k.is in
+    let own : (final : List Judged) → IsFrontAfter (WindowStep 0 final) (news s) [] front =
+    λ final. subst (λ (x : dynamic.Service). IsFrontAfter (WindowStep 0 final)
+    (unwatched x ∷ []) [] front) start (f final) in
+    record {
+      kept = k.kept;
+      upto = k.upto;
+      within = k.within;
+      is = k.is;
+      keeps = record {
+        count = k.keeps.count;
+        calls = k.keeps.calls;
+        stops = k.keeps.stops;
+        has = record {
+          past = [];
+          most = omega (arith, begun_none);
+          events = sym k.keeps.has.1;
+          over = λ n h. absurd (omega (arith, h, begun_none));
+          shows = λ n from is h. absurd (omega (arith, h, begun_none));
+          first = omega (arith, first);
+          slots = λ slot c has.
+              absurd (no_slot (StepOf s) (news s) front (own s.calls) slot c has);
+          some = omega (
+            arith,
+            some,
+            k.keeps.count,
+            ap (λ (x : Service). length x.calls) k.is,
+          );
+          front_of = λ final same. own final;
+        };
+      };
+    }

@@ -1,0 +1,621 @@
+-- What is kept of a log after one line more.
+use Rattle.std.proofs.Common.{◌≡◌, ◌≢◌, ◌⊎◌, ℕ, zero, suc, ◌+◌, ◌≤◌, List, [], ◌∷◌, ◌++◌, All, Option, Some, None, length, refl, sym, ◌∙◌, ap, subst, arith, inl, inr, slice_get}
+use Rattle.std.specs.List.{slice_set}
+use Rattle.std.proofs.lemmas.Bool.{cases_eq}
+use Rattle.std.proofs.lemmas.List.{get_or_past, length-append, length-set}
+use Rattle.std.proofs.lemmas.List.Elements.{All-cons, All-nil}
+use Rattle.std.proofs.lemmas.Option.{slice_get_within}
+use Rattle.histories.specs.declared.event.Event.TheVariants.{Begin, End, Crash}
+use Rattle.histories.specs.declared.front.Front.{Front}
+use Rattle.histories.specs.Histories.{HasEnded, IsOpen}
+use Rattle.iox2_dynamic.specs.Service as dynamic
+use Rattle.log_lines.specs.Commands.{Begun, NamedCommand}
+use Rattle.log_lines.specs.Commands.Begun.{command as begun_command, weak}
+use Rattle.log_lines.specs.Commands.NamedCommand.{numbered}
+use Rattle.log_lines.specs.Lines.{Line}
+use Rattle.log_lines.specs.Lines.Line.{service, call, reply, begin, end, crash, given}
+use Rattle.log_lines.specs.States.{State}
+use Rattle.service_conformance.specs.declared.conformance.possible.Part.{Part}
+use Rattle.service_conformance.specs.declared.conformance.seen_reply.SeenReply.{SeenReply}
+use Rattle.service_conformance.specs.declared.conformance.seen_reply.SeenReply.TheVariants as seen_reply
+use Rattle.service_conformance.specs.Judged.{Judged, stopped}
+use Rattle.service_conformance.specs.Looks.{Watched}
+use Rattle.service_descriptions.specs.declared.replay.lines.service_line.ServiceLine.{ServiceLine}
+use Rattle.service_descriptions.specs.declared.replay.machine.command.Command.TheVariants as command
+use Rattle.history_logs.specs.declared.logs.callers.CallerState.{CallerState}
+use Rattle.history_logs.specs.declared.logs.callers.CallerState.TheVariants as caller
+use Rattle.history_logs.specs.declared.logs.service.LogCall.{LogCall}
+use Rattle.history_logs.specs.Good.{IsKept, IsOrderly}
+use Rattle.history_logs.specs.Reading.{Dies, GoesOn, IsNamed, IsSane, Log, MayBegin, Sets, StartsAs}
+use Rattle.history_logs.specs.Seen.{Begins, HasHandles, IsKeptCall, Service, called, started, starting, stopping, unseen, with_begin, with_crash, with_end, with_look, with_over}
+use Rattle.history_logs.specs.Shortened.{AreShort, HasFront, IsShort, IsShortLog, Keeps, Kept, front_at, shortened}
+use Rattle.history_logs.proofs.Kept.{all_get, get_within}
+use Rattle.history_logs.proofs.Named.{same_some}
+use Rattle.history_logs.proofs.Orderly.{open_new}
+use Rattle.history_logs.proofs.Refused.{nil_of}
+use Rattle.history_logs.proofs.Shortened.{begin_is, called_same, called_stops, end_is, ended, kept_call, kept_start, length_answered, keeps_begin, keeps_end, keeps_over, keeps_part, part, with_event}
+
+-- a service that is kept so
+module _ (s : Service) (kept : Kept) (upto : ℕ) (front : Option (Front Watched))
+    (k : Keeps s kept upto front) (within : upto ≤ length s.calls)
+  where
+    pub short_begin : (c : LogCall) (line : ℕ) → stopped c.seen ≡ None
+        → IsShort (with_begin s c line) (with_begin (shortened s kept) c line) front
+    short_begin c line none = record {
+      kept = part s kept upto front k c line (λ start is. absurd (cc)) within
+          (λ start is. absurd (cc));
+      upto = upto;
+      within = omega (arith, within, length-append s.calls (c.seen ∷ []));
+      is = begin_is s kept upto front k c line (λ start is. absurd (cc)) within
+          (λ start is. absurd (cc));
+      keeps = keeps_begin s kept upto front k c line (λ start is. absurd (cc)) within
+          (λ start is. absurd (cc));
+    }
+
+    pub short_end : (number : ℕ) (r : SeenReply) (line : ℕ) → (¬ (HasEnded s.events number))
+        → IsShort (with_end s number r line) (with_end (shortened s kept) number r line) front
+    short_end number r line now =
+        let e = keeps_end s kept upto front k number r line now in record {
+          kept = ended s kept upto front k number r line now;
+          upto = upto;
+          within = omega (arith, within, length_answered r s.calls number);
+          is = end_is s kept upto front k number r line now;
+          keeps = e;
+        }
+
+    pub short_crash : (number line : ℕ)
+        → IsShort (with_crash s number line) (with_crash (shortened s kept) number line) front
+    short_crash number line = record {
+      kept = with_event kept (Crash number) line;
+      upto = upto;
+      within = within;
+      is = refl;
+      keeps = keeps_over s (with_crash s number line) kept upto front k (Crash number) line refl
+          refl refl;
+    }
+
+    pub short_look : (p : Part) (line : ℕ)
+        → IsShort (with_look s p line) (with_look (shortened s kept) p line) front
+    unfolding short_begin
+    short_look p line =
+        let n = length s.calls in
+        let one = with_begin s (starting p) line in
+        let first = short_begin (starting p) line refl in
+        let two = with_over one n line in
+        let long : length two.calls ≡ n + 1 = length-append s.calls ((starting p).seen ∷ []) in
+        let over = with_event first.kept (End n) line in
+        let second : Keeps two over upto front =
+        keeps_over one two first.kept upto front first.keeps (End n) line refl refl refl in
+        let next : (start : ℕ) → stopped (stopping n).seen ≡ Some start
+        → start + 1 ≡ length two.calls =
+        λ start is. omega (arith, same_some n start is, long) in
+        let late : (start : ℕ) → stopped (stopping n).seen ≡ Some start → upto ≤ start =
+        λ start is. omega (arith, same_some n start is, within) in
+        let few : upto ≤ length two.calls = omega (arith, within, long) in
+        record {
+          kept = part two over upto front second (stopping n) line next few late;
+          upto = upto;
+          within = omega (
+            arith,
+            within,
+            long,
+            length-append two.calls ((stopping n).seen ∷ []),
+          );
+          is = look_is p line;
+          keeps = keeps_part two over upto front second (stopping n) line next few late;
+        }
+      where
+        look_is : (p : Part) (line : ℕ) → with_look (shortened s kept) p line
+            ≡ shortened (with_look s p line) (record {
+              first = kept.first;
+              calls = (kept.calls ++ (starting p).seen ∷ []) ++ (stopping (length s.calls)).seen
+                  ∷ [];
+              begins = (kept.begins ++ line ∷ []) ++ line ∷ [];
+              events = ((kept.events ++ Begin (length kept.calls) ∷ []) ++ End (length s.calls)
+                  ∷ []) ++ Begin (length (kept.calls ++ (starting p).seen ∷ [])) ∷ [];
+              places = ((kept.places ++ line ∷ []) ++ line ∷ []) ++ line ∷ [];
+            })
+        look_is p line = rw k.count refl
+
+    pub short_begins : (b : Begun) (line : ℕ) (t : Service) (current : ℕ)
+        → Begins (shortened s kept) b line t current
+        → (new : Service) × Begins s b line new current × IsShort new t front
+    short_begins (begun_command c) line t current is =
+        let same = called_same s kept c in (
+          with_begin s (called s c) line,
+          (refl, is.1 ∙ k.count),
+          subst (λ (x : Service). IsShort (with_begin s (called s c) line) x front)
+              (sym (is.0 ∙ ap (λ (x : LogCall). with_begin (shortened s kept) x line) same))
+              (short_begin (called s c) line (called_stops s c)),
+        )
+    short_begins (weak r) line t current (inl looks) = (
+      with_look s looks.0 line,
+      inl (looks.0, looks.1, refl, looks.3 ∙ ap (λ n. n + 1) k.count),
+      subst (λ (x : Service). IsShort (with_look s looks.0 line) x front) (sym looks.2)
+          (short_look looks.0 line),
+    )
+    short_begins (weak r) line t current (inr lists) =
+        let c = numbered (command.List r) in
+        let same = called_same s kept c in (
+          with_begin s (called s c) line,
+          inr (lists.0, refl, lists.2 ∙ k.count),
+          subst (λ (x : Service). IsShort (with_begin s (called s c) line) x front)
+              (sym (lists.1 ∙ ap (λ (x : LogCall). with_begin (shortened s kept) x line) same))
+              (short_begin (called s c) line (called_stops s c)),
+        )
+
+    pub short_started : (what : State) (start : dynamic.Service)
+        → StartsAs (shortened s kept) what start
+        → StartsAs s what start × IsShort (started s start) (started (shortened s kept) start) front
+    short_started what start is =
+        let none : length s.calls ≡ 0 =
+        sym k.count ∙ ap (λ (l : List Judged). length l) is.0 in (
+          (nil_of s.calls none, is.1),
+          record {
+            kept = kept;
+            upto = upto;
+            within = within;
+            is = refl;
+            keeps = record {
+              count = k.count;
+              calls = k.calls;
+              stops = k.stops;
+              has = start_front front k.has none;
+            };
+          },
+        )
+      where
+        start_front : (f : Option (Front Watched)) → HasFront s kept upto f
+            → length s.calls ≡ 0 → HasFront (started s start) kept upto f
+        start_front None is none = is
+        start_front (Some f) is none = absurd (omega (arith, is.some, none))
+
+pub short_unseen : (line : ServiceLine) → IsShort (unseen line) (unseen line) None
+short_unseen line = record {
+  kept = record { first = 0; calls = []; begins = []; events = []; places = [] };
+  upto = 0;
+  within = omega arith;
+  is = refl;
+  keeps = record {
+    count = refl;
+    calls = λ n h. refl;
+    stops = λ n start is. absurd (cc);
+    has = (refl, refl);
+  };
+}
+
+-- services at an index
+set_same : {X : Type 0} (xs : List X) (i : ℕ) (a b : X) → slice_get xs i ≡ Some b
+    → slice_get (slice_set xs i a) i ≡ Some a
+set_same [] i a b e = absurd (cc)
+set_same (x ∷ xs) zero a b e = refl
+set_same (x ∷ xs) (suc i) a b e = set_same xs i a b e
+
+set_other : {X : Type 0} (xs : List X) (i j : ℕ) (a : X) → j ≢ i
+    → slice_get (slice_set xs i a) j ≡ slice_get xs j
+set_other [] i j a n = refl
+set_other (x ∷ xs) zero zero a n = absurd (n refl)
+set_other (x ∷ xs) zero (suc j) a n = refl
+set_other (x ∷ xs) (suc i) zero a n = refl
+set_other (x ∷ xs) (suc i) (suc j) a n = set_other xs i j a (λ e. n (ap suc e))
+
+all_of : {X : Type 0} (P : X → Type 0) (xs : List X)
+    → ((i : ℕ) (x : X) → slice_get xs i ≡ Some x → P x) → All P xs
+all_of P [] each = All-nil P
+all_of P (x ∷ xs) each =
+    All-cons P x xs (each 0 x refl) (all_of P xs (λ i y e. each (suc i) y e))
+
+-- the service that is kept at an index
+found_at : (services live : List Service) (fronts : List (Option (Front Watched))) (at : ℕ)
+    (t : Service) → AreShort services live fronts → slice_get live at ≡ Some t
+    → (s : Service) × (slice_get services at ≡ Some s) × IsShort s t (front_at fronts at)
+found_at services live fronts at t a there =
+    let s = get_within services at
+    (omega (arith, a.0, slice_get_within live at t there)) in
+    (s.0, s.1, a.2 at s.0 t s.1 there)
+
+short_set : (services live : List Service) (fronts : List (Option (Front Watched))) (at : ℕ)
+    (old oldt s t : Service) → AreShort services live fronts → slice_get services at ≡ Some old
+    → slice_get live at ≡ Some oldt → IsShort s t (front_at fronts at)
+    → AreShort (slice_set services at s) (slice_set live at t) fronts
+short_set services live fronts at old oldt s t a there here short = (
+  length-set live at t ∙ (a.0 ∙ sym (length-set services at s)),
+  omega (arith, a.1, length-set services at s),
+  λ i x y ex ey. elim (cases_eq i at) as (λ _. IsShort x y (front_at fronts i)) [
+    | inl same ↦
+        let isx : s ≡ x =
+        same_some s x (sym (set_same services at s old there)
+        ∙ (ap (λ j. slice_get (slice_set services at s) j) (sym same) ∙ ex)) in
+        let isy : t ≡ y =
+        same_some t y (sym (set_same live at t oldt here)
+        ∙ (ap (λ j. slice_get (slice_set live at t) j) (sym same) ∙ ey)) in
+        subst (λ j. IsShort x y (front_at fronts j)) (sym same)
+        (subst (λ (v : Service). IsShort v y (front_at fronts at)) isx
+        (subst (λ (v : Service). IsShort s v (front_at fronts at)) isy short))
+    | inr other ↦
+        a.2 i x y (sym (set_other services at i s other) ∙ ex)
+        (sym (set_other live at i t other) ∙ ey)
+  ],
+)
+
+get_push_at : {X : Type 0} (xs : List X) (y : X) (i : ℕ) (x : X)
+    → slice_get (xs ++ y ∷ []) i ≡ Some x
+    → (slice_get xs i ≡ Some x) ⊎ ((i ≡ length xs) × (y ≡ x))
+get_push_at [] y zero x e = inr (refl, same_some y x e)
+get_push_at [] y (suc i) x e = absurd (cc)
+get_push_at (z ∷ xs) y zero x e = inl e
+get_push_at (z ∷ xs) y (suc i) x e =
+    elim (get_push_at xs y i x e) as (λ _. (slice_get (z ∷ xs) (suc i) ≡ Some x)
+    ⊎ ((suc i ≡ length (z ∷ xs)) × (y ≡ x))) [
+      | inl before ↦ inl before
+      | inr last ↦ inr (ap suc last.0, last.1)
+    ]
+
+short_push : (services live : List Service) (fronts : List (Option (Front Watched)))
+    (line : ServiceLine) → AreShort services live fronts
+    → AreShort (services ++ unseen line ∷ []) (live ++ unseen line ∷ []) fronts
+short_push services live fronts line a = (
+  omega (
+    arith,
+    a.0,
+    length-append services (unseen line ∷ []),
+    length-append live (unseen line ∷ []),
+  ),
+  omega (arith, a.1, length-append services (unseen line ∷ [])),
+  λ i x y ex ey. elim (get_push_at services (unseen line) i x ex)
+      as (λ _. IsShort x y (front_at fronts i)) [
+        | inl before ↦ elim (get_push_at live (unseen line) i y ey)
+            as (λ _. IsShort x y (front_at fronts i)) [
+              | inl beside ↦ a.2 i x y before beside
+              | inr last ↦
+                  absurd (omega (arith, slice_get_within services i x before, last.0, a.0))
+            ]
+        | inr last ↦ elim (get_push_at live (unseen line) i y ey)
+            as (λ _. IsShort x y (front_at fronts i)) [
+              | inl beside ↦ absurd (omega (arith, slice_get_within live i y beside, last.0, a.0))
+              | inr both ↦
+                  subst (λ (f : Option (Front Watched)). IsShort x y f)
+                  (sym (get_or_past fronts i None (omega (arith, a.1, last.0))))
+                  (subst (λ (v : Service). IsShort v y None) last.1
+                  (subst (λ (v : Service). IsShort (unseen line) v None) both.1
+                  (short_unseen line)))
+            ]
+      ],
+)
+
+-- the line of a service is kept
+line_same : (s t : Service) (front : Option (Front Watched)) → IsShort s t front
+    → t.line ≡ s.line
+line_same s t front h = ap (λ (x : Service). x.line) h.is
+
+named_same : (number : Option ℕ) (services live : List Service)
+    (fronts : List (Option (Front Watched))) (at : ℕ) (s t : Service)
+    → AreShort services live fronts → IsShort s t (front_at fronts at)
+    → slice_get services at ≡ Some s → IsNamed number live at t → IsNamed number services at s
+named_same number services live fronts at s t a short there n = record {
+  there = there;
+  named = elim n.named
+      as (λ _. (number ≡ Some s.line.number) ⊎ ((number ≡ None) × (length services ≡ 1))) [
+        | inl own ↦
+            inl (own ∙ ap (λ (l : ServiceLine). Some l.number)
+            (line_same s t (front_at fronts at) short))
+        | inr alone ↦ inr (alone.0, sym a.0 ∙ alone.1)
+      ];
+}
+
+-- one line more
+module _ (log live new : Log) (fronts : List (Option (Front Watched))) (k : ℕ)
+    (h : IsShortLog log live fronts) (kept : IsKept log)
+  where
+    abbrev Goes : Line → Type 0
+    Goes l = (more : Log) × GoesOn log k l more × IsShortLog more new fronts
+
+    no_waits : live.waits ≡ None → log.waits ≡ None
+    no_waits is = sym h.waits ∙ is
+
+    goes_service : (l : ServiceLine) → GoesOn live k (service l) new → Goes (service l)
+    goes_service l g = (
+      record log { services = log.services ++ unseen l ∷ [] },
+      (
+        no_waits g.0,
+        all_of (λ (s : Service). s.line.number ≢ l.number) log.services (λ i s there.
+            let t = get_within live.services i
+            (omega (arith, h.services.0, slice_get_within log.services i s there)) in
+            let other = all_get (λ (x : Service). x.line.number ≢ l.number) live.services i t.0 g.1
+            t.1 in
+            λ e. other (ap (λ (x : ServiceLine). x.number)
+            (line_same s t.0 (front_at fronts i) (h.services.2 i s t.0 there t.1)) ∙ e)),
+        refl,
+      ),
+      subst (λ (x : Log). IsShortLog (record log { services = log.services ++ unseen l ∷ [] }) x
+          fronts) (sym g.2) (record {
+            services = short_push log.services live.services fronts l h.services;
+            callers = h.callers;
+            waits = h.waits;
+            starts = h.starts;
+          }),
+    )
+
+    goes_call : (number : Option ℕ) (c : NamedCommand) → GoesOn live k (call number c) new
+        → Goes (call number c)
+    goes_call number c g =
+        let f = found_at log.services live.services fronts g.0 g.1 h.services g.3.there in
+        let s = f.0 in
+        let same : called g.1 c ≡ called s c =
+        ap (λ (x : Service). called x c) f.2.is ∙ called_same s f.2.kept c in
+        let more : Log = record log { waits = Some (g.0, called s c) } in (
+          more,
+          (
+            g.0,
+            s,
+            no_waits g.2,
+            named_same number log.services live.services fronts g.0 s g.1 h.services f.2 f.1 g.3,
+            refl,
+          ),
+          subst (λ (x : Log). IsShortLog more x fronts) (sym g.4) (record {
+            services = h.services;
+            callers = h.callers;
+            waits = ap (λ (x : LogCall). Some (g.0, x)) same;
+            starts = λ at d e.
+                let is : called s c ≡ d =
+                ap (λ (p : ℕ × LogCall). p.1) (same_some (g.0, called s c) (at, d) e) in
+                ap (λ (x : LogCall). stopped x.seen) (sym is) ∙ called_stops s c;
+          }),
+        )
+
+    goes_reply : (words : List ℕ) → GoesOn live k (reply words) new → Goes (reply words)
+    goes_reply words g =
+        let at = g.0 in
+        let c = g.1 in
+        let f = found_at log.services live.services fronts at g.2 h.services g.5 in
+        let s = f.0 in
+        let waits : log.waits ≡ Some (at, c) = sym h.waits ∙ g.4 in
+        let none = h.starts at c waits in
+        let b = short_begin s f.2.kept f.2.upto (front_at fronts at) f.2.keeps f.2.within c k none in
+        let orderly = all_get IsOrderly log.services at s kept.orderly f.1 in
+        let count : length (shortened s f.2.kept).calls ≡ length s.calls = f.2.keeps.count in
+        let e = short_end (with_begin s c k) b.kept b.upto (front_at fronts at) b.keeps b.within
+        (length s.calls) g.3 k (open_new s c k orderly).1 in
+        let both : IsShort (with_end (with_begin s c k) (length s.calls) g.3 k)
+        (with_end (with_begin g.2 c k) (length g.2.calls) g.3 k) (front_at fronts at) =
+        subst (λ (x : Service). IsShort (with_end (with_begin s c k) (length s.calls) g.3 k)
+        (with_end (with_begin x c k) (length x.calls) g.3 k) (front_at fronts at)) (sym f.2.is)
+        (subst (λ n. IsShort (with_end (with_begin s c k) (length s.calls) g.3 k)
+        (with_end (with_begin (shortened s f.2.kept) c k) n g.3 k) (front_at fronts at)) (sym count)
+        (subst (λ (x : Service). IsShort (with_end (with_begin s c k) (length s.calls) g.3 k)
+        (with_end x (length s.calls) g.3 k) (front_at fronts at)) (sym b.is) e)) in
+        let t = with_end (with_begin s c k) (length s.calls) g.3 k in
+        let more : Log = record log { services = slice_set log.services at t; waits = None } in (
+          more,
+          (at, c, s, g.3, waits, f.1, g.6, refl),
+          subst (λ (x : Log). IsShortLog more x fronts) (sym g.7) (record {
+            services = short_set log.services live.services fronts at s g.2 t
+                (with_end (with_begin g.2 c k) (length g.2.calls) g.3 k) h.services f.1 g.5 both;
+            callers = h.callers;
+            waits = refl;
+            starts = λ i d e. absurd (cc);
+          }),
+        )
+
+    -- the caller does something else, and its service changes
+    goes_sets : (at : ℕ) (s oldt s' t : Service) → slice_get log.services at ≡ Some s
+        → slice_get live.services at ≡ Some oldt → IsShort s' t (front_at fronts at)
+        → new.services ≡ slice_set live.services at t → new.waits ≡ None
+        → IsShortLog (record {
+          services = slice_set log.services at s';
+          callers = new.callers;
+          waits = None;
+        }) new fronts
+    goes_sets at s oldt s' t there here short services waits = record {
+      services = subst (λ (l : List Service). AreShort (slice_set log.services at s') l fronts)
+          (sym services)
+          (short_set log.services live.services fronts at s oldt s' t h.services there here short);
+      callers = refl;
+      waits = waits;
+      starts = λ i d e. absurd (cc);
+    }
+
+    does_same : (name : List ℕ) → live.callers name ≡ log.callers name
+    does_same name = ap (λ (f : List ℕ → Option CallerState). f name) h.callers
+
+    sets_same : (name : List ℕ) (state : CallerState) → Sets live.callers name state new.callers
+        → Sets log.callers name state new.callers
+    sets_same name state sets =
+        subst (λ (f : List ℕ → Option CallerState). Sets f name state new.callers) h.callers sets
+
+    goes_begin : (number : Option ℕ) (name : List ℕ) (b : Begun)
+        → GoesOn live k (begin number name b) new → Goes (begin number name b)
+    goes_begin number name b g =
+        let at = g.0 in
+        let f = found_at log.services live.services fronts at g.1 h.services g.3.there in
+        let s = f.0 in
+        let begun = short_begins s f.2.kept f.2.upto (front_at fronts at) f.2.keeps f.2.within b k
+        g.5.0 g.5.1
+        (subst (λ (x : Service). Begins x b k g.5.0 g.5.1) f.2.is g.5.2) in (
+          record {
+            services = slice_set log.services at begun.0;
+            callers = new.callers;
+            waits = None;
+          },
+          (
+            at,
+            s,
+            no_waits g.2,
+            named_same number log.services live.services fronts at s g.1 h.services f.2 f.1 g.3,
+            subst (λ (x : Option CallerState). MayBegin x) (does_same name) g.4,
+            (begun.0, g.5.1, begun.1, refl, sets_same name (caller.Calls at g.5.1) g.5.4, refl),
+          ),
+          goes_sets at s g.1 begun.0 g.5.0 f.1 g.3.there begun.2 g.5.3 g.5.5,
+        )
+
+    goes_end : (name words : List ℕ) → GoesOn live k (end name words) new → Goes (end name words)
+    goes_end name words g =
+        let at = g.0 in
+        let number = g.1 in
+        let f = found_at log.services live.services fronts at g.2 h.services g.6 in
+        let s = f.0 in
+        let does : log.callers name ≡ Some (caller.Calls at number) =
+        sym (does_same name) ∙ g.5 in
+        let o = kept.opened name at number does in
+        let same : o.0 ≡ s = same_some o.0 s (sym o.1 ∙ f.1) in
+        let now = subst (λ (x : Service). IsOpen x.events number) same o.2 in
+        let t = with_end s number g.3 k in
+        let e = short_end s f.2.kept f.2.upto (front_at fronts at) f.2.keeps f.2.within number g.3 k
+        now.1 in
+        let short : IsShort t (with_end g.2 number g.3 k) (front_at fronts at) =
+        subst (λ (x : Service). IsShort t (with_end x number g.3 k) (front_at fronts at))
+        (sym f.2.is) e in (
+          record {
+            services = slice_set log.services at t;
+            callers = new.callers;
+            waits = None;
+          },
+          (
+            at,
+            number,
+            s,
+            g.3,
+            no_waits g.4,
+            does,
+            f.1,
+            g.7,
+            refl,
+            sets_same name caller.Idle g.9,
+            refl,
+          ),
+          goes_sets at s g.2 t (with_end g.2 number g.3 k) f.1 g.6 short g.8 g.10,
+        )
+
+    goes_dies : (name : List ℕ) (state : Option CallerState) → log.callers name ≡ state
+        → live.waits ≡ None → Dies live.services k state new.services
+        → Sets live.callers name caller.Dead new.callers → new.waits ≡ None → Goes (crash name)
+    goes_dies name None does waits dies sets none = absurd dies
+    goes_dies name (Some caller.Dead) does waits dies sets none = absurd dies
+    goes_dies name (Some caller.Idle) does waits dies sets none = (
+      record { services = log.services; callers = new.callers; waits = None },
+      (
+        no_waits waits,
+        subst (λ (x : Option CallerState). Dies log.services k x log.services) (sym does) refl,
+        sets_same name caller.Dead sets,
+        refl,
+      ),
+      record {
+        services = subst (λ (l : List Service). AreShort log.services l fronts) (sym dies)
+            h.services;
+        callers = refl;
+        waits = none;
+        starts = λ i d e. absurd (cc);
+      },
+    )
+    goes_dies name (Some (caller.Calls at number)) does waits dies sets none =
+        let f = found_at log.services live.services fronts at dies.0 h.services dies.1 in
+        let s = f.0 in
+        let t = with_crash s number k in
+        let short : IsShort t (with_crash dies.0 number k) (front_at fronts at) =
+        subst (λ (x : Service). IsShort t (with_crash x number k) (front_at fronts at))
+        (sym f.2.is)
+        (short_crash s f.2.kept f.2.upto (front_at fronts at) f.2.keeps f.2.within number k) in
+        let services = slice_set log.services at t in
+        let own : Dies log.services k (Some (caller.Calls at number)) services =
+        (s, f.1, refl) in (
+          record { services = services; callers = new.callers; waits = None },
+          (
+            no_waits waits,
+            subst (λ (x : Option CallerState). Dies log.services k x services) (sym does) own,
+            sets_same name caller.Dead sets,
+            refl,
+          ),
+          goes_sets at s dies.0 t (with_crash dies.0 number k) f.1 dies.1 short dies.2 none,
+        )
+
+    goes_given : (number : Option ℕ) (what : State) → GoesOn live k (given number what) new
+        → Goes (given number what)
+    goes_given number what g =
+        let at = g.0 in
+        let f = found_at log.services live.services fronts at g.1 h.services g.4.there in
+        let s = f.0 in
+        let t = started s g.2 in
+        let is = short_started s f.2.kept f.2.upto (front_at fronts at) f.2.keeps f.2.within what g.2
+        (subst (λ (x : Service). StartsAs x what g.2) f.2.is g.5) in
+        let short : IsShort t (started g.1 g.2) (front_at fronts at) =
+        subst (λ (x : Service). IsShort t (started x g.2) (front_at fronts at)) (sym f.2.is) is.1 in
+        let more : Log = record log { services = slice_set log.services at t } in (
+          more,
+          (
+            at,
+            s,
+            g.2,
+            no_waits g.3,
+            named_same number log.services live.services fronts at s g.1 h.services f.2 f.1 g.4,
+            is.0,
+            refl,
+          ),
+          subst (λ (x : Log). IsShortLog more x fronts) (sym g.6) (record {
+            services = short_set log.services live.services fronts at s g.1 t (started g.1 g.2)
+                h.services f.1 g.4.there short;
+            callers = h.callers;
+            waits = h.waits;
+            starts = h.starts;
+          }),
+        )
+
+    pub goes_line : (l : Line) → GoesOn live k l new → Goes l
+    goes_line (service l) g = goes_service l g
+    goes_line (call number c) g = goes_call number c g
+    goes_line (reply words) g = goes_reply words g
+    goes_line (begin number name b) g = goes_begin number name b g
+    goes_line (end name words) g = goes_end name words g
+    goes_line (crash name) g =
+        goes_dies name (log.callers name) refl g.0
+        (subst (λ (x : Option CallerState). Dies live.services k x new.services) (does_same name)
+        g.1) g.2 g.3
+    goes_line (given number what) g = goes_given number what g
+
+-- what is kept has what the parts need
+pub short_sane : (log live : Log) (fronts : List (Option (Front Watched)))
+    → IsShortLog log live fronts → IsKept log → IsSane live
+short_sane log live fronts h kept = record {
+  handles = all_of HasHandles live.services (λ i t here.
+      let f = found_at log.services live.services fronts i t h.services here in
+      let o = all_get IsOrderly log.services i f.0 kept.orderly f.1 in
+      subst HasHandles (sym f.2.is) (record {
+        adds = o.all.adds ∙ sym f.2.keeps.count;
+        given = o.all.given ∙ sym f.2.keeps.count;
+        first = first_within f.0 f.2.kept f.2.upto (front_at fronts i) f.2.keeps f.2.within;
+      }));
+  opened = λ name at number e.
+      let does : log.callers name ≡ Some (caller.Calls at number) =
+      sym (ap (λ (f : List ℕ → Option CallerState). f name) h.callers) ∙ e in
+      let live_call = kept.opened name at number does in
+      let t = get_within live.services at
+      (omega (arith, h.services.0, slice_get_within log.services at live_call.0 live_call.1)) in
+      let is = h.services.2 at live_call.0 t.0 live_call.1 t.1 in
+      let o = all_get IsOrderly log.services at live_call.0 kept.orderly live_call.1 in (
+        t.0,
+        t.1,
+        omega (
+          arith,
+          o.numbered number live_call.2.0,
+          o.counts,
+          is.keeps.count,
+          ap (λ (x : Service). length x.calls) is.is,
+        ),
+        subst (λ (x : Service). IsKeptCall x number) (sym is.is) (record {
+          call = kept_call live_call.0 is.kept is.upto (front_at fronts at) is.keeps number
+              (seen_reply.Count 0) 0 live_call.2.1;
+          start = λ from s. kept_start live_call.0 is.kept is.upto (front_at fronts at) is.keeps number
+              (seen_reply.Count 0) 0 live_call.2.1 from s;
+        }),
+      );
+  waits = λ at c e.
+      let w : log.waits ≡ Some (at, c) = sym h.waits ∙ e in
+      let t = get_within live.services at (omega (arith, h.services.0, kept.waits at c w)) in
+      let none = h.starts at c w in
+      (t.0, t.1, λ from s. absurd (cc));
+}
+  where
+    first_within : (s : Service) (k : Kept) (upto : ℕ) (f : Option (Front Watched))
+        → Keeps s k upto f → upto ≤ length s.calls → k.first ≤ length k.calls
+    first_within s k upto None keeps within = omega (arith, keeps.has.0)
+    first_within s k upto (Some f) keeps within =
+        omega (arith, keeps.has.first, keeps.has.most, keeps.count, within)

@@ -1,0 +1,11 @@
+use Rattle.std.proofs.Common.{refl}
+use Rattle.history_logs.proofs.Answering.{forget_is}
+use Rattle.history_logs.specs.ServiceFields.{service_of}
+use Rattle.history_logs.proofs.logs.service.LogService.forget.Goals as goal
+
+pub returns : goal.returns
+returns c =
+    forget_is c.args.self.now (service_of c.self.inside) c.self.inside.first
+    c.self.inside.calls.items c.args.first c.args.followed c.self.view_is refl refl
+    c.requires.first _ c.in_ok-self-inside.ensures.tail _ c.in_ok-self-inside-2.ensures.tail
+    _ c.clear.ensures.items _ c.clear-2.ensures.items _ refl

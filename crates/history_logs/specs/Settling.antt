@@ -1,0 +1,50 @@
+-- What settles while a log is read.
+use Rattle.std.specs.Prelude.{◌≡◌, ◌+◌, ◌<◌, ◌⊎◌, ℕ, List, ◌++◌, Option, Some, take}
+use Rattle.histories.specs.declared.event.Event.{Event}
+use Rattle.histories.specs.declared.event.Event.TheVariants.{Begin}
+use Rattle.histories.specs.declared.front.Front.{Front}
+use Rattle.histories.specs.Histories.{HasEnded, StandsAt, begins, begun}
+use Rattle.history_windows.specs.Goings.{IsFrontAfter}
+use Rattle.service_conformance.specs.Judged.{Judged, WindowStep}
+use Rattle.service_conformance.specs.Looks.{Watched}
+use Rattle.history_logs.specs.Good.{IsOrderly}
+use Rattle.history_logs.specs.Logs.{news}
+use Rattle.history_logs.specs.Seen.{Service, start_of}
+use Rattle.history_logs.specs.Shortened.{IsShort}
+
+-- the call is over in the events, and the weak listing too that starts with it, if one does
+abbrev pub IsOverIn : Service → List Event → ℕ → Type 0
+IsOverIn s events call =
+    HasEnded events call
+    × (start_of s.calls (call + 1) ≡ Some call → HasEnded events (call + 1))
+
+-- so it is with the call that the event at this place begins, if it begins one
+abbrev pub MayFollowAt : Service → ℕ → Type 0
+MayFollowAt s at =
+    (call : ℕ) → StandsAt s.events at (Begin call) → IsOverIn s s.events call
+
+-- so it is with each call that begins in these
+abbrev pub AreOver : Service → List Event → Type 0
+AreOver s followed = (call : ℕ) → 0 < begins call followed → IsOverIn s s.events call
+
+-- something of a service is kept so
+abbrev pub HasShort : Service → Option (Front Watched) → Type 0
+HasShort live front = (s : Service) × IsOrderly s × IsShort s live front
+
+-- the number is the first one, or that of a call that begins in the events
+abbrev pub IsLastBegun : ℕ → List Event → ℕ → Type 0
+IsLastBegun first events number = (number ≡ first) ⊎ (0 < begins number events)
+
+-- Of each service that is kept so, the new front is that of so many events more, whatever replies
+-- come later to the calls that begin behind them.
+abbrev pub GoesShort : Service → Front Watched → ℕ → Front Watched → Type 0
+GoesShort live old count new =
+    (s : Service) → IsOrderly s → (k : IsShort s live (Some old)) → (final : List Judged)
+    → take (begun (k.keeps.has.past ++ take count live.events)) final
+    ≡ take (begun (k.keeps.has.past ++ take count live.events)) s.calls
+    → IsFrontAfter (WindowStep 0 final) (news s) (k.keeps.has.past ++ take count live.events) new
+
+-- each service that was kept so is kept so still
+abbrev pub Stays : Service → Option (Front Watched) → Service → Option (Front Watched) → Type 0
+Stays old front new next =
+    (s : Service) → IsOrderly s → IsShort s old front → IsShort s new next

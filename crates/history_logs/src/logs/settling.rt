@@ -1,0 +1,206 @@
+//! Judging what was seen of services while it is read.
+ghost use Rattle.std.specs.Prelude.{◌≡◌, ◌≤◌, ◌<◌, ◌⊎◌, ℕ, IfOk, IsTrue, None, Some, length, take};
+ghost use Rattle.histories.specs.declared.event.Event.TheVariants.{Begin};
+ghost use Rattle.histories.specs.Advances.{Ends};
+ghost use Rattle.histories.specs.Frontier.{HasSlot};
+ghost use Rattle.histories.specs.Histories.{HasEnded};
+ghost use Rattle.history_logs.specs.Settling.{AreOver, GoesShort, HasShort, IsLastBegun, IsOverIn};
+ghost use Rattle.history_logs.specs.Settling.{MayFollowAt, Stays};
+
+use super::needed::first_states;
+use super::service::LogService;
+use histories::{Event, Front};
+use history_windows::{first_front, go_on};
+use service_conformance::conformance::{Calls, WatchedService};
+use std::alloc::{AllocError, Global};
+
+/// Whether the call ends with the event.
+fn ends(event: Event, call: usize) -> bool
+    ensures { IsTrue result → Ends event call }
+{
+    match event {
+        Event::End(ended) => ended == call,
+        Event::Crash(ended) => ended == call,
+        Event::Begin(_) => false,
+    }
+}
+
+/// Whether the call is over in these events.
+fn is_over(events: &[Event], call: usize) -> bool
+    ensures { IsTrue result → HasEnded events.now call }
+{
+    for at in 0..events.len() {
+        if ends(events[at], call) {
+            return true;
+        }
+    }
+    false
+}
+
+/// Whether the call is over in these events, and the weak listing too that starts with it, if one
+/// does. Then its reply is known.
+fn is_known(service: &LogService, events: &[Event], call: usize) -> bool
+    ensures { IsTrue result → IsOverIn service.now events.now call }
+{
+    if !is_over(events, call) {
+        return false;
+    }
+    let Some(next) = call.checked_add(1) else {
+        return false;
+    };
+    match service.start_of(next) {
+        Some(start) if start == call => is_over(events, next),
+        _ => true,
+    }
+}
+
+/// Whether the event at this index may be followed: the reply is known of the call that it begins.
+fn may_follow(service: &LogService, at: usize) -> bool
+    requires { at < length service.now.events }
+    ensures { IsTrue result → MayFollowAt service.now at }
+{
+    let events = service.events();
+    match events[at] {
+        Event::Begin(call) => is_known(service, &events[at..], call),
+        Event::End(_) | Event::Crash(_) => true,
+    }
+}
+
+/// How many events may be followed.
+fn count_settled(service: &LogService) -> usize
+    ensures most { result ≤ length service.now.events }
+    ensures over { AreOver service.now (take result service.now.events) }
+{
+    let events = service.events();
+    for at in 0..events.len() {
+        if !may_follow(service, at) {
+            return at;
+        }
+    }
+    events.len()
+}
+
+/// The number, or that of the call in the slot, if it is less.
+fn lesser(most: usize, slot: Option<usize>) -> usize
+    ensures most { result ≤ most }
+    ensures slot { (call : ℕ) → slot ≡ Some call → result ≤ call }
+    ensures is { (result ≡ most) ⊎ (slot ≡ Some result) }
+{
+    match slot {
+        Some(call) if call < most => call,
+        _ => most,
+    }
+}
+
+/// The least number of a call that has a slot, or this one.
+fn first_open(slots: &[Option<usize>], most: usize) -> usize
+    ensures most { result ≤ most }
+    ensures each { (slot : ℕ) (call : ℕ) → HasSlot slots.now slot call → result ≤ call }
+    ensures is { (result ≡ most) ⊎ ((slot : ℕ) × HasSlot slots.now slot result) }
+{
+    let mut first = most;
+    for at in 0..slots.len() {
+        first = lesser(first, slots[at]);
+    }
+    first
+}
+
+/// The call that the event begins, or this one, where it begins none.
+fn begun_or(event: Event, call: usize) -> usize
+    ensures { (event ≡ Begin result) ⊎ (result ≡ call) }
+{
+    match event {
+        Event::Begin(begun) => begun,
+        Event::End(_) | Event::Crash(_) => call,
+    }
+}
+
+/// The number of the last call that begins in the events, or this one, where none does.
+fn last_begun(events: &[Event], first: usize) -> usize
+    ensures { IsLastBegun first events.now result }
+{
+    let mut last = first;
+    for at in 0..events.len() {
+        last = begun_or(events[at], last);
+    }
+    last
+}
+
+/// The front goes on with so many of the events that are kept. Returns whether orders explain them.
+fn go_short(
+    alloc: Global,
+    service: &LogService,
+    front: &mut Front<WatchedService>,
+    count: usize,
+) -> Result<bool, AllocError>
+    requires within { count ≤ length service.now.events }
+    requires short { HasShort service.now (Some front.old) }
+    ensures { IfOk result (λ yes. IsTrue yes
+        → GoesShort service.now front.old count front.new) }
+{
+    let machine = Calls {
+        alloc,
+        first: service.first(),
+        calls: service.kept(),
+    };
+    go_on(alloc, &machine, front, &service.events()[..count])
+}
+
+/// Follows the events of which the replies are known, and forgets them. Returns whether orders
+/// explain them.
+fn follow(
+    alloc: Global,
+    service: &mut LogService,
+    front: &mut Front<WatchedService>,
+) -> Result<bool, AllocError>
+    requires { HasShort service.old (Some front.old) }
+    ensures { IfOk result (λ yes. IsTrue yes
+        → Stays service.old (Some front.old) service.new (Some front.new)) }
+{
+    let count = count_settled(service);
+    let most = last_begun(&service.events()[..count], service.first());
+    if !go_short(alloc, service, front, count)? {
+        return Ok(false);
+    }
+    let first = first_open(&front.slots, most);
+    service.forget(first, count)?;
+    Ok(true)
+}
+
+/// The front before any call on the service.
+fn begin(alloc: Global, service: &LogService) -> Result<Front<WatchedService>, AllocError>
+    requires some { 0 < length service.now.calls }
+    ensures { IfOk result (λ front. Stays service.now None service.now (Some front)) }
+{
+    let machine = Calls {
+        alloc,
+        first: service.first(),
+        calls: service.kept(),
+    };
+    let states = first_states(alloc, service)?;
+    first_front(alloc, &machine, &states)
+}
+
+/// Settles what was seen of a service. Returns whether orders explain what is settled.
+pub(super) fn settle(
+    alloc: Global,
+    service: &mut LogService,
+    front: &mut Option<Front<WatchedService>>,
+) -> Result<bool, AllocError>
+    requires { HasShort service.old front.old }
+    ensures { IfOk result (λ yes. IsTrue yes
+        → Stays service.old front.old service.new front.new) }
+{
+    if !service.has_calls() {
+        return Ok(true);
+    }
+    let mut next = match front.take() {
+        Some(next) => next,
+        None => begin(alloc, service)?,
+    };
+    if !follow(alloc, service, &mut next)? {
+        return Ok(false);
+    }
+    *front = Some(next);
+    Ok(true)
+}
