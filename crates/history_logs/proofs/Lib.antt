@@ -24,3 +24,4 @@ pub mod Shortened
 pub mod Settled
 pub mod ShortLogs
 pub mod Least
+pub mod Conforming

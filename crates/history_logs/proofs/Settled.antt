@@ -188,6 +188,13 @@ take_agreed : {X : Type 0} (a b : ℕ) (xs ys : List X) → take b xs ≡ take b
 take_agreed {X} a b xs ys same h =
     sym (take-take a b xs h) ∙ (ap (λ (l : List X). take a l) same ∙ take-take a b ys h)
 
+-- what was seen is what the front has followed, and what is kept
+pub events_split : (live s : Service) (front : Front Watched) → (k : IsShort s live (Some front))
+    → s.events ≡ k.keeps.has.past ++ live.events
+events_split live s front k =
+    k.keeps.has.events
+    ∙ ap (λ (l : List Event). k.keeps.has.past ++ l) (sym (ap (λ (x : Service). x.events) k.is))
+
 -- what was seen goes on
 module _ (live s : Service) (front : Front Watched) (count : ℕ) (o : IsOrderly s)
     (k : IsShort s live (Some front))
@@ -199,9 +206,7 @@ module _ (live s : Service) (front : Front Watched) (count : ℕ) (o : IsOrderly
     followed = take count live.events
 
     split : s.events ≡ past ++ live.events
-    split =
-        k.keeps.has.events
-        ∙ ap (λ (l : List Event). past ++ l) (sym (ap (λ (x : Service). x.events) k.is))
+    split = events_split live s front k
 
     whole : s.events ≡ (past ++ followed) ++ drop count live.events
     whole =

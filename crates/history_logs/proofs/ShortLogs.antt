@@ -185,13 +185,13 @@ short_unseen line = record {
 }
 
 -- services at an index
-set_same : {X : Type 0} (xs : List X) (i : ℕ) (a b : X) → slice_get xs i ≡ Some b
+pub set_same : {X : Type 0} (xs : List X) (i : ℕ) (a b : X) → slice_get xs i ≡ Some b
     → slice_get (slice_set xs i a) i ≡ Some a
 set_same [] i a b e = absurd (cc)
 set_same (x ∷ xs) zero a b e = refl
 set_same (x ∷ xs) (suc i) a b e = set_same xs i a b e
 
-set_other : {X : Type 0} (xs : List X) (i j : ℕ) (a : X) → j ≢ i
+pub set_other : {X : Type 0} (xs : List X) (i j : ℕ) (a : X) → j ≢ i
     → slice_get (slice_set xs i a) j ≡ slice_get xs j
 set_other [] i j a n = refl
 set_other (x ∷ xs) zero zero a n = absurd (n refl)
@@ -199,14 +199,14 @@ set_other (x ∷ xs) zero (suc j) a n = refl
 set_other (x ∷ xs) (suc i) zero a n = refl
 set_other (x ∷ xs) (suc i) (suc j) a n = set_other xs i j a (λ e. n (ap suc e))
 
-all_of : {X : Type 0} (P : X → Type 0) (xs : List X)
+pub all_of : {X : Type 0} (P : X → Type 0) (xs : List X)
     → ((i : ℕ) (x : X) → slice_get xs i ≡ Some x → P x) → All P xs
 all_of P [] each = All-nil P
 all_of P (x ∷ xs) each =
     All-cons P x xs (each 0 x refl) (all_of P xs (λ i y e. each (suc i) y e))
 
 -- the service that is kept at an index
-found_at : (services live : List Service) (fronts : List (Option (Front Watched))) (at : ℕ)
+pub found_at : (services live : List Service) (fronts : List (Option (Front Watched))) (at : ℕ)
     (t : Service) → AreShort services live fronts → slice_get live at ≡ Some t
     → (s : Service) × (slice_get services at ≡ Some s) × IsShort s t (front_at fronts at)
 found_at services live fronts at t a there =

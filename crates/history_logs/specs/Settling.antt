@@ -1,5 +1,5 @@
 -- What settles while a log is read.
-use Rattle.std.specs.Prelude.{◌≡◌, ◌+◌, ◌<◌, ◌⊎◌, ℕ, List, ◌++◌, Option, Some, take}
+use Rattle.std.specs.Prelude.{◌≡◌, ◌+◌, ◌<◌, ◌⊎◌, ℕ, All, List, ◌++◌, Option, Some, take}
 use Rattle.histories.specs.declared.event.Event.{Event}
 use Rattle.histories.specs.declared.event.Event.TheVariants.{Begin}
 use Rattle.histories.specs.declared.front.Front.{Front}
@@ -7,10 +7,11 @@ use Rattle.histories.specs.Histories.{HasEnded, StandsAt, begins, begun}
 use Rattle.history_windows.specs.Goings.{IsFrontAfter}
 use Rattle.service_conformance.specs.Judged.{Judged, WindowStep}
 use Rattle.service_conformance.specs.Looks.{Watched}
-use Rattle.history_logs.specs.Good.{IsOrderly}
-use Rattle.history_logs.specs.Logs.{news}
+use Rattle.history_logs.specs.Good.{IsAbove, IsOrderly}
+use Rattle.history_logs.specs.Logs.{IsSeenRightly, news}
+use Rattle.history_logs.specs.Reading.{Log}
 use Rattle.history_logs.specs.Seen.{Service, start_of}
-use Rattle.history_logs.specs.Shortened.{IsShort}
+use Rattle.history_logs.specs.Shortened.{AreShort, IsShort, IsShortLog, front_at}
 
 -- the call is over in the events, and the weak listing too that starts with it, if one does
 abbrev pub IsOverIn : Service → List Event → ℕ → Type 0
@@ -48,3 +49,36 @@ GoesShort live old count new =
 abbrev pub Stays : Service → Option (Front Watched) → Service → Option (Front Watched) → Type 0
 Stays old front new next =
     (s : Service) → IsOrderly s → IsShort s old front → IsShort s new next
+
+-- all that was seen of each service that is kept so is explained
+abbrev pub IsRightShort : Service → Option (Front Watched) → Type 0
+IsRightShort live front = (s : Service) → IsOrderly s → IsShort s live front → IsSeenRightly s
+
+-- something of services is kept so
+abbrev pub HaveShort : List Service → List (Option (Front Watched)) → Type 0
+HaveShort live fronts =
+    (services : List Service) × All IsOrderly services × AreShort services live fronts
+
+-- all services that were kept so are kept so still
+abbrev pub StayAll : List Service → List (Option (Front Watched)) → List Service
+    → List (Option (Front Watched)) → Type 0
+StayAll old fronts new next =
+    (services : List Service) → All IsOrderly services → AreShort services old fronts
+    → AreShort services new next
+
+-- all that was seen of services that are kept so is explained
+abbrev pub AreRightShort : List Service → List (Option (Front Watched)) → Type 0
+AreRightShort live fronts =
+    (services : List Service) → All IsOrderly services → AreShort services live fronts
+    → All IsSeenRightly services
+
+-- each service has the front that it had, or none
+abbrev pub AreSameFronts : List (Option (Front Watched)) → List (Option (Front Watched)) → Type 0
+AreSameFronts old new = (at : ℕ) → front_at new at ≡ front_at old at
+
+-- this is kept of the lines above this one
+pub record IsShortAbove (bytes : List ℕ) (live : Log) (fronts : List (Option (Front Watched)))
+    (rest : List ℕ) (line : ℕ) : Type 0 where
+  pub log : Log
+  pub above : IsAbove bytes log rest line
+  pub short : IsShortLog log live fronts

@@ -4,10 +4,12 @@ ghost use Rattle.history_logs.specs.Good.{IsReadTo};
 ghost use Rattle.history_logs.specs.Judging.{end_verdict};
 ghost use Rattle.history_logs.specs.Logs.{Judged};
 ghost use Rattle.history_logs.specs.Orders.{HasOrders, IsWitness};
+ghost use Rattle.history_logs.specs.Progress.{AddsCounts};
 ghost use Rattle.history_logs.specs.Reports.{report_text};
 ghost use Rattle.history_logs.specs.Seen.{Service};
 
 mod callers;
+mod conforming;
 mod judging;
 mod needed;
 mod ordering;
@@ -19,6 +21,7 @@ mod settling;
 mod streams;
 mod verdict;
 
+use conforming::find_conforming;
 use judging::judge_services;
 use ordering::order_services;
 pub use progress::{Counts, NoProgress, Progress};
@@ -70,6 +73,22 @@ fn judge(
     }
 }
 
+/// Judges a log, as `check_log` does. Progress counts its lines.
+fn check_with<P: Progress>(
+    alloc: Global,
+    log: &[u8],
+    progress: &mut P,
+) -> Result<Verdict, AllocError>
+    ensures judged { IfOk result (Judged log.now) }
+    ensures progress { AddsCounts (P.contents progress.old) (P.contents progress.new) }
+{
+    if let Some(verdict) = find_conforming(alloc, log, progress)? {
+        return Ok(verdict);
+    }
+    let (reading, bad) = read_log(alloc, log, progress)?;
+    judge(alloc, log, &reading.services, bad)
+}
+
 /// Judges a log of services.
 ///
 /// A log has lines of services, as `service_before` reads them, each with a number of its own, and
@@ -87,25 +106,29 @@ fn judge(
 ///
 /// The calls on a service are numbered by their begins, from 0. A number stands for the handle that
 /// the call's reply gave, where that reply stands above the line of the begin, else for none.
+///
+/// A log that conforms is judged while it is read. Memory grows, beside the text, with the entries
+/// of the services, with the commands, the handles of which later ones may name, with the links
+/// since no call was open, and with what lies between the begin and the end of the longest call. A
+/// log that does not conform is read once more, as a whole.
 pub fn check_log(alloc: Global, log: &[u8]) -> Result<Verdict, AllocError>
     ensures { IfOk result (Judged log.now) }
 {
-    let (reading, bad) = read_log(alloc, log, &mut NoProgress)?;
-    judge(alloc, log, &reading.services, bad)
+    check_with(alloc, log, &mut NoProgress)
 }
 
-/// Judges what was read of a log: the verdict, and the text that reports it.
-fn report_read(
+/// Judges a log, as `check_log` does: the verdict, and the text that reports it. Progress counts
+/// its lines.
+fn report_with<P: Progress>(
     alloc: Global,
     log: &[u8],
-    services: &[LogService],
-    bad: Option<(usize, Expected)>,
+    progress: &mut P,
 ) -> Result<(Verdict, Vec<u8>), AllocError>
-    requires { IsReadTo log.now services.now bad }
     ensures judged { IfOk result (λ found. Judged log.now found.0) }
     ensures text { IfOk result (λ found. found.1.items ≡ report_text found.0) }
+    ensures progress { AddsCounts (P.contents progress.old) (P.contents progress.new) }
 {
-    let verdict = judge(alloc, log, services, bad)?;
+    let verdict = check_with(alloc, log, progress)?;
     let mut text = Vec::new(alloc);
     append_report(&verdict, &mut text)?;
     Ok((verdict, text))
@@ -116,8 +139,7 @@ pub fn report_log(alloc: Global, log: &[u8]) -> Result<(Verdict, Vec<u8>), Alloc
     ensures judged { IfOk result (λ found. Judged log.now found.0) }
     ensures text { IfOk result (λ found. found.1.items ≡ report_text found.0) }
 {
-    let (reading, bad) = read_log(alloc, log, &mut NoProgress)?;
-    report_read(alloc, log, &reading.services, bad)
+    report_with(alloc, log, &mut NoProgress)
 }
 
 /// Judges what was read of a log, with the orders where it conforms.
@@ -145,8 +167,8 @@ fn order_read(
 /// Judges a log, as `check_log` does. Where it conforms, there is an order for each service, by
 /// their lines: one of those that explain what was seen of it. Else there is none.
 ///
-/// Memory grows with the log, also where `check_log` keeps no more than the calls that are open:
-/// by one link for each call in each configuration in which it was made.
+/// What is read is kept whole, also of a log that conforms, and memory grows by one link for each
+/// call in each configuration in which it was made.
 pub fn order_log(alloc: Global, log: &[u8]) -> Result<(Verdict, Vec<Order>), AllocError>
     ensures judged { IfOk result (λ found. Judged log.now found.0) }
     ensures orders { IfOk result (λ found. HasOrders log.now found.0 found.1.items) }

@@ -30,6 +30,8 @@ mod scripts;
 #[cfg(test)]
 mod services;
 #[cfg(test)]
+mod settling;
+#[cfg(test)]
 mod states;
 #[cfg(test)]
 mod streams;

@@ -345,7 +345,7 @@ impl Reading {
     }
 
     /// Goes on with a line. Returns what is expected instead, if it may not come.
-    fn read(
+    pub(super) fn read(
         &mut self,
         alloc: Global,
         text: &[u8],
@@ -368,7 +368,7 @@ impl Reading {
     }
 
     /// What is expected where the log ends after good lines, if anything is.
-    fn at_end(&self) -> Option<Expected>
+    pub(super) fn at_end(&self) -> Option<Expected>
         ensures none { IfNone result
             ((self.now.waits ≡ None) × (0 < length self.now.services.items)) }
         ensures some { IfSome result (IsMissing (log_of self.now)) }

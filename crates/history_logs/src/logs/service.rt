@@ -29,10 +29,10 @@ pub(super) struct LogCall {
     pub(super) adds: Option<Role>,
 }
 
-/// A service of a log, what it is before its first call, and what was seen of it: its calls by
-/// their begins, the roles of the entries that they add, the handles that their replies gave, the
-/// line in which each begins, the call with which each command begins, what happened, and the line
-/// of each event.
+/// A service of a log, what it is before its first call, and what was seen of it: how many of its
+/// calls are forgotten, the calls behind those by their begins, the roles of the entries that they
+/// add, the handles that their replies gave, the line in which each begins, the call with which
+/// each command begins, what happened, and the line of each event.
 #[derive(Drop)]
 pub(super) struct LogService {
     line: ServiceLine,

@@ -5,7 +5,7 @@ ghost use Rattle.histories.specs.Advances.{Ends};
 ghost use Rattle.histories.specs.Frontier.{HasSlot};
 ghost use Rattle.histories.specs.Histories.{HasEnded};
 ghost use Rattle.history_logs.specs.Settling.{AreOver, GoesShort, HasShort, IsLastBegun, IsOverIn};
-ghost use Rattle.history_logs.specs.Settling.{MayFollowAt, Stays};
+ghost use Rattle.history_logs.specs.Settling.{IsRightShort, MayFollowAt, Stays};
 
 use super::needed::first_states;
 use super::service::LogService;
@@ -203,4 +203,35 @@ pub(super) fn settle(
     }
     *front = Some(next);
     Ok(true)
+}
+
+/// The front of a service, or that before any call on it, where there is none yet.
+fn front_or_begin(
+    alloc: Global,
+    service: &LogService,
+    front: Option<Front<WatchedService>>,
+) -> Result<Front<WatchedService>, AllocError>
+    requires some { 0 < length service.now.calls }
+    ensures { IfOk result (λ last. Stays service.now front service.now (Some last)) }
+{
+    match front {
+        Some(last) => Ok(last),
+        None => begin(alloc, service),
+    }
+}
+
+/// Whether orders explain all that was seen of a service, where no more comes.
+pub(super) fn is_explained(
+    alloc: Global,
+    service: &LogService,
+    front: Option<Front<WatchedService>>,
+) -> Result<bool, AllocError>
+    requires { HasShort service.now front }
+    ensures { IfOk result (λ yes. IsTrue yes → IsRightShort service.now front) }
+{
+    if !service.has_calls() {
+        return Ok(true);
+    }
+    let mut last = front_or_begin(alloc, service, front)?;
+    go_short(alloc, service, &mut last, service.events().len())
 }

@@ -10,7 +10,7 @@ ghost use Rattle.history_logs.specs.Reports.{Reported, on_errors, on_output, sta
 use super::progress::Progress;
 use super::reading::read_log;
 use super::verdict::Verdict;
-use super::{report_read, witness_read};
+use super::{report_with, witness_read};
 use line_streams::{
     Outcome, Sink, Source, Status, read_all, report_failure, write_outcome, write_whole,
 };
@@ -71,12 +71,12 @@ fn verdict_on<P: Progress>(
         IsTextOf with_orders log.now found.verdict found.text.items) }
     ensures progress { AddsCounts (P.contents progress.old) (P.contents progress.new) }
 {
-    let (reading, bad) = read_log(alloc, log, progress)?;
-    let (verdict, text) = if with_orders {
-        witness_read(alloc, log, &reading.services, bad)?
-    } else {
-        report_read(alloc, log, &reading.services, bad)?
-    };
+    if with_orders {
+        let (reading, bad) = read_log(alloc, log, progress)?;
+        let (verdict, text) = witness_read(alloc, log, &reading.services, bad)?;
+        return Ok(Judgement { verdict, text });
+    }
+    let (verdict, text) = report_with(alloc, log, progress)?;
     Ok(Judgement { verdict, text })
 }
 
@@ -158,7 +158,8 @@ fn answer<R: Source, W: Sink, E: Sink, P: Progress>(
 /// - 3: memory was refused, and `no memory` was written to `errors`; or a read, a write or a flush
 ///   failed, for any cause, and it was tried to write `a stream failed` to `errors`.
 ///
-/// Progress counts the lines as they are read, and ends before the first of this is written.
+/// Progress counts the lines as they are read, from the first one again where a log that does not
+/// conform is read once more, and ends before the first of this is written.
 pub fn check_streams<R: Source, W: Sink, E: Sink, P: Progress>(
     alloc: Global,
     input: &mut R,

@@ -1,0 +1,105 @@
+use Rattle.std.proofs.Common.{rules, ap, ℕ, ◌≡◌, ◌+◌, ◌<◌, ◌^◌, List, Option, None, arith, length, refl, subst, sum_by, sym}
+use Rattle.histories.specs.declared.front.Front.{Front}
+use Rattle.histories.proofs.Places.{put_back}
+use Rattle.service_conformance.specs.Looks.{Watched}
+use Rattle.history_logs.specs.Fields.{callers_of, log_of}
+use Rattle.history_logs.specs.Judging.{end_verdict}
+use Rattle.history_logs.specs.Logs.{Judged}
+use Rattle.history_logs.specs.Reading.{Log}
+use Rattle.history_logs.specs.Seen.{Service}
+use Rattle.history_logs.specs.Settling.{AreRightShort, HaveShort, IsShortAbove, StayAll}
+use Rattle.history_logs.proofs.Above.{above_new}
+use Rattle.history_logs.proofs.Conforming.{above_sane, above_short, few_short, judged_short, no_more, short_more, short_none, short_stays}
+use Rattle.history_logs.proofs.Counts.{counts_more, no_counts}
+use Rattle.history_logs.proofs.logs.conforming.find_conforming.Goals as goal
+
+pub loop-text-init : goal.loop-text-init
+loop-text-init g c =
+    let log = log_of c.new-reading.result in
+    let bytes = c.args.log.now in
+    let read = c.new-reading.ensures in (
+      subst (λ (fs : List (Option (Front Watched))). IsShortAbove bytes log fs bytes 1)
+          (sym c.new-fronts.ensures.items)
+          (short_none bytes log read.services read.waits
+          (above_new bytes log read.services read.callers read.waits)),
+      no_counts (g.P.Progress.contents c.args.progress.now),
+    )
+
+pub read-requires : goal.read-requires
+read-requires g c =
+    above_sane c.args.log.now (log_of c.loop-text.reading) c.loop-text.fronts.items
+    c.loop-text.rest.now c.loop-text.line c.loop-text.invariant.0
+
+pub settle_at-requires : goal.settle_at-requires
+settle_at-requires g c =
+    let new = log_of c.read.new.self in
+    let fronts = c.loop-text.fronts.items in
+    let more = short_more c.args.log.now (log_of c.loop-text.reading) fronts
+    c.loop-text.rest.now c.loop-text.line c.loop-text.invariant.0 new c.in-Some.text.now
+    c.in-Some.after.now (search rules) (search rules)
+    (rw c.in-None.is at c.in_ok-read.ensures) in
+    subst (λ (l : List Service). HaveShort l fronts) (sym c.deref_mut.ensures.value)
+    (above_short c.args.log.now new fronts c.in-Some.after.now (c.loop-text.line + 1) more)
+
+pub returns-in_err-settle_at-clause-progress : goal.returns-in_err-settle_at-clause-progress
+returns-in_err-settle_at-clause-progress g c =
+    counts_more _ _ _ c.loop-text.invariant.1 c.count.ensures
+
+pub returns-then-not-branch-clause-progress : goal.returns-then-not-branch-clause-progress
+returns-then-not-branch-clause-progress g c =
+    counts_more _ _ _ c.loop-text.invariant.1 c.count.ensures
+
+pub loop-text-preserved : goal.loop-text-preserved
+loop-text-preserved g c =
+    let read = log_of c.read.new.self in
+    let fronts = c.loop-text.fronts.items in
+    let next = c.settle_at.new.fronts.items in
+    let more = short_more c.args.log.now (log_of c.loop-text.reading) fronts
+    c.loop-text.rest.now c.loop-text.line c.loop-text.invariant.0 read c.in-Some.text.now
+    c.in-Some.after.now (search rules) (search rules)
+    (rw c.in-None.is at c.in_ok-read.ensures) in
+    let new : Log =
+    record {
+      services = c.settle_at.new.services;
+      callers = callers_of c.read.new.self.callers;
+      waits = c.read.new.self.waits;
+    } in
+    let stay : StayAll read.services fronts new.services next =
+    subst (λ (l : List Service). StayAll l fronts c.settle_at.new.services next)
+    c.deref_mut.ensures.value (c.in_ok-settle_at.ensures (search rules)) in
+    let old = c.read.new.self.services in
+    let long : length c.settle_at.new.services ≡ length old.items =
+    omega (
+      arith,
+      c.settle_at.auto.services,
+      ap (λ (l : List Service). length l) c.deref_mut.ensures.value,
+    ) in (
+      subst (λ (l : List Service). IsShortAbove c.args.log.now (record new { services = l }) next
+          c.in-Some.after.now (c.loop-text.line + 1))
+          (sym (put_back c.settle_at.new.services old.items old.len long old.ok.0))
+          (short_stays c.args.log.now read fronts c.in-Some.after.now (c.loop-text.line + 1) more
+          new next refl refl stay),
+      counts_more _ _ _ c.loop-text.invariant.1 c.count.ensures,
+    )
+
+pub end_verdict-requires : goal.end_verdict-requires
+end_verdict-requires g c =
+    let few = few_short c.args.log.now (log_of c.loop-text.reading) c.loop-text.fronts.items
+    c.loop-text.rest.now c.loop-text.line c.loop-text.invariant.0 in
+    subst (λ (l : List Service). sum_by (λ (s : Service). length s.commands) l < 2 ^ 64)
+    (sym c.deref-2.ensures.value) (omega (arith, few, c.loop-text.auto.line-fits))
+
+pub returns-clause-judged : goal.returns-clause-judged
+returns-clause-judged g c =
+    let live = log_of c.loop-text.reading in
+    let fronts = c.loop-text.fronts.items in
+    let right : AreRightShort live.services fronts =
+    subst (λ (l : List Service). AreRightShort l fronts) c.deref.ensures.value
+    (c.in_ok-are_explained.ensures (search rules)) in
+    subst (λ v. Judged c.args.log.now v) (sym c.end_verdict.ensures)
+    (subst (λ (l : List Service). Judged c.args.log.now (end_verdict l None))
+    (sym c.deref-2.ensures.value)
+    (judged_short c.args.log.now live fronts c.loop-text.rest.now c.loop-text.line
+    c.loop-text.invariant.0
+    (no_more c.loop-text.rest.now c.if-not-is_empty.ensures)
+    (search rules) (search rules) right))
