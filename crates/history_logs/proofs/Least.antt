@@ -17,7 +17,8 @@ use Rattle.history_logs.proofs.Settled.{begins-one}
 
 -- what an event alone begins
 begins_same : (c call : ℕ) → 0 < begins call (Begin c ∷ []) → c ≡ call
-begins_same c call h = times_same call c (omega (arith, h, begins_none call, begins_begin call c []))
+begins_same c call h =
+    times_same call c (omega (arith, h, begins_none call, begins_begin call c []))
 
 begins_ends_one : (call c : ℕ) → begins call (End c ∷ []) ≡ 0
 unfolding begins

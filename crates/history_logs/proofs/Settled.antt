@@ -269,7 +269,8 @@ module _ (live s : Service) (front : Front Watched) (count : ℕ) (o : IsOrderly
           → AgreesOn (WindowStep first calls) (WindowStep 0 final) past (take count events)
       agrees_of first calls same kept final own =
           subst
-          (λ (l : List Event). AgreesOn (WindowStep first calls) (WindowStep 0 final) past (take count l))
+          (λ (l : List Event).
+          AgreesOn (WindowStep first calls) (WindowStep 0 final) past (take count l))
           (sym is)
           (subst (λ n. AgreesOn (WindowStep n calls) (WindowStep 0 final) past followed) (sym same)
           (agrees_on calls kept final own))

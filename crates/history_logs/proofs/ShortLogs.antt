@@ -371,7 +371,8 @@ module _ (log live new : Log) (fronts : List (Option (Front Watched))) (k : ℕ)
         let s = f.0 in
         let waits : log.waits ≡ Some (at, c) = sym h.waits ∙ g.4 in
         let none = h.starts at c waits in
-        let b = short_begin s f.2.kept f.2.upto (front_at fronts at) f.2.keeps f.2.within c k none in
+        let b = short_begin s f.2.kept f.2.upto (front_at fronts at) f.2.keeps f.2.within c k none
+        in
         let orderly = all_get IsOrderly log.services at s kept.orderly f.1 in
         let count : length (shortened s f.2.kept).calls ≡ length s.calls = f.2.keeps.count in
         let e = short_end (with_begin s c k) b.kept b.upto (front_at fronts at) b.keeps b.within
@@ -535,7 +536,8 @@ module _ (log live new : Log) (fronts : List (Option (Front Watched))) (k : ℕ)
         let f = found_at log.services live.services fronts at g.1 h.services g.4.there in
         let s = f.0 in
         let t = started s g.2 in
-        let is = short_started s f.2.kept f.2.upto (front_at fronts at) f.2.keeps f.2.within what g.2
+        let is = short_started s f.2.kept f.2.upto (front_at fronts at) f.2.keeps f.2.within what
+        g.2
         (subst (λ (x : Service). StartsAs x what g.2) f.2.is g.5) in
         let short : IsShort t (started g.1 g.2) (front_at fronts at) =
         subst (λ (x : Service). IsShort t (started x g.2) (front_at fronts at)) (sym f.2.is) is.1 in
@@ -603,7 +605,8 @@ short_sane log live fronts h kept = record {
         subst (λ (x : Service). IsKeptCall x number) (sym is.is) (record {
           call = kept_call live_call.0 is.kept is.upto (front_at fronts at) is.keeps number
               (seen_reply.Count 0) 0 live_call.2.1;
-          start = λ from s. kept_start live_call.0 is.kept is.upto (front_at fronts at) is.keeps number
+          start = λ from s.
+              kept_start live_call.0 is.kept is.upto (front_at fronts at) is.keeps number
               (seen_reply.Count 0) 0 live_call.2.1 from s;
         }),
       );

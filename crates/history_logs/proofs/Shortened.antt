@@ -45,7 +45,8 @@ pub get_pushed : {X : Type 0} (xs ys : List X) (x : X) (n : ℕ) → length xs �
 get_pushed xs ys x n same is =
     let more = length-append xs (x ∷ []) in
     let others = length-append ys (x ∷ []) in
-    elim (cases_lt n (length xs)) as (λ _. slice_get (xs ++ x ∷ []) n ≡ slice_get (ys ++ x ∷ []) n) [
+    elim (cases_lt n (length xs))
+    as (λ _. slice_get (xs ++ x ∷ []) n ≡ slice_get (ys ++ x ∷ []) n) [
       | inl within ↦
           get_left xs (x ∷ []) n within
           ∙ (is ∙ sym (get_left ys (x ∷ []) n (omega (arith, within, same))))
@@ -282,7 +283,8 @@ settled_still s t kept more upto front e k events left first start long same bef
         subst (λ (l : List Event). HasEnded l n) (sym events) (ended_still s.events e n h)
 
 -- a call begins
-module _ (s : Service) (kept : Kept) (upto : ℕ) (front : Option (Front Watched)) (k : Keeps s kept upto front)
+module _ (s : Service) (kept : Kept) (upto : ℕ) (front : Option (Front Watched))
+    (k : Keeps s kept upto front)
     (c : LogCall) (line : ℕ)
     (next : (start : ℕ) → stopped c.seen ≡ Some start → start + 1 ≡ length s.calls)
     (few : upto ≤ length s.calls)
@@ -370,7 +372,8 @@ module _ (s : Service) (kept : Kept) (upto : ℕ) (front : Option (Front Watched
     part_is = refl
 
 -- a call ends, or its caller dies, and its reply is not seen
-module _ (s t : Service) (kept : Kept) (upto : ℕ) (front : Option (Front Watched)) (k : Keeps s kept upto front)
+module _ (s t : Service) (kept : Kept) (upto : ℕ) (front : Option (Front Watched))
+    (k : Keeps s kept upto front)
     (e : Event) (line : ℕ) (events : t.events ≡ s.events ++ e ∷ []) (calls : t.calls ≡ s.calls)
     (start : t.start ≡ s.start)
   where
@@ -394,7 +397,8 @@ module _ (s t : Service) (kept : Kept) (upto : ℕ) (front : Option (Front Watch
             (λ n from at below. ap (λ (l : List Judged). start_of l n) (sym calls) ∙ at)
 
 -- an open call is answered
-module _ (s : Service) (kept : Kept) (upto : ℕ) (front : Option (Front Watched)) (k : Keeps s kept upto front)
+module _ (s : Service) (kept : Kept) (upto : ℕ) (front : Option (Front Watched))
+    (k : Keeps s kept upto front)
     (number : ℕ) (r : SeenReply) (line : ℕ) (now : ¬ (HasEnded s.events number))
   where
     abbrev pub ended : Kept
@@ -451,7 +455,8 @@ module _ (s : Service) (kept : Kept) (upto : ℕ) (front : Option (Front Watched
             → HasFront (with_end s number r line) ended upto f
         end_front None is = (is.0, ap (λ (l : List Event). l ++ End number ∷ []) is.1)
         end_front (Some f) is =
-            settled_still s (with_end s number r line) kept ended upto f (End number) is refl refl refl
+            settled_still s (with_end s number r line) kept ended upto f (End number) is refl refl
+            refl
             refl (omega (arith, length_answered r s.calls number))
             (take_answered r s.calls (begun is.past) number (late f is) (late_start f is))
             (λ n from at below. sym (start_answered r s.calls number n) ∙ at)

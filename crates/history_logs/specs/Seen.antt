@@ -221,7 +221,8 @@ with_crash s number line = record s {
   places = s.places ++ line ∷ [];
 }
 
--- the service, where the calls below this number are forgotten, so many of the events, and all lines
+-- the service, where the calls below this number are forgotten, so many of the events, and all
+-- lines
 abbrev pub forgetting : Service → ℕ → ℕ → Service
 forgetting s first followed = record s {
   first = first;

@@ -52,7 +52,8 @@ HasFront s kept upto None = (kept.first ≡ 0) × (kept.events ≡ s.events)
 HasFront s kept upto (Some front) = IsSettled s kept upto front
 
 -- what is kept of the service: all calls from the first one on, and all events that the front lacks
-pub record Keeps (s : Service) (kept : Kept) (upto : ℕ) (front : Option (Front Watched)) : Type 0 where
+pub record Keeps (s : Service) (kept : Kept) (upto : ℕ) (front : Option (Front Watched))
+    : Type 0 where
   pub count : length kept.calls ≡ length s.calls
   pub calls : (number : ℕ) → kept.first ≤ number
       → slice_get kept.calls number ≡ slice_get s.calls number

@@ -199,7 +199,8 @@ module _ {S : Type 0} (Step : S → ℕ → S → Type 0) (olds : List S) where
         → MayFollow (es ++ Begin c ∷ []) (End c)
         → IsFrontOf Step new ((g.is.inside ++ Begin c ∷ []) ++ End c ∷ []) g.is.states
         → 0 < length new.configs.items
-        → GoesTo Step olds ((es ++ Begin c ∷ []) ++ End c ∷ []) (record { begin = w.begin; front = new })
+        → GoesTo Step olds ((es ++ Begin c ∷ []) ++ End c ∷ [])
+        (record { begin = w.begin; front = new })
     goes_alone new c may then f some =
         let inside : List Event = g.is.inside ++ Begin c ∷ [] in
         let more : List Event = es ++ Begin c ∷ [] in

@@ -163,7 +163,11 @@ pub any_machine : {M S E : Type 0} (StepOf : M → S → ℕ → S → Type 0) (
     → IfOk result (λ front. IsFrontOf (StepOf machine) front [] olds)
     → IfOk result (λ front. (whole : M) → IsFrontAfter (StepOf whole) olds [] front)
 any_machine StepOf machine olds some (Ok front) f =
-    λ whole. (0, goes_begin (StepOf whole) olds front some (front_other (StepOf machine) (StepOf whole) olds front f))
+    λ whole. (
+      0,
+      goes_begin (StepOf whole) olds front some
+          (front_other (StepOf machine) (StepOf whole) olds front f),
+    )
 any_machine StepOf machine olds some (Err e) f = f
 
 -- no call has a slot then

@@ -8,7 +8,8 @@ loop-at-init c = least_none c.args.slots.now c.args.most
 pub loop-at-preserved : goal.loop-at-preserved
 loop-at-preserved c =
     least_more c.args.slots.now c.args.most c.loop-at.at c.loop-at.first c.lesser-first.result
-    c.loop-at.invariant c.lesser-first.ensures.most c.lesser-first.ensures.slot c.lesser-first.ensures.is
+    c.loop-at.invariant c.lesser-first.ensures.most c.lesser-first.ensures.slot
+    c.lesser-first.ensures.is
 
 pub returns-clause-most : goal.returns-clause-most
 returns-clause-most c = c.loop-at.invariant.most
