@@ -31,8 +31,8 @@ shortened s kept = record s {
 }
 
 -- The front is that of the first events, whatever replies come later. The calls that begin in them
--- are over, and the weak listings among them were answered too. The calls that are open in the front
--- are kept. Those are some of the first calls, at most so many.
+-- are over, and the weak listings among them were answered too. The calls that are open in the
+-- front are kept. Those are some of the first calls, at most so many.
 pub record IsSettled (s : Service) (kept : Kept) (upto : ℕ) (front : Front Watched) : Type 0 where
   pub past : List Event
   pub most : begun past ≤ upto
