@@ -1,5 +1,6 @@
 -- The first pair or key that is wrong, and a set or requirements where none is.
-use Rattle.std.proofs.Common.{arith, ℕ, ◌+◌, ◌<◌, ◌≤◌, List, [], map, take, length, get_or}
+use Rattle.std.proofs.Common.{ℕ, ◌+◌, ◌<◌, ◌≤◌, List, [], map, take, length, get_or}
+use Rattle.std.proofs.Common.{refl}
 use Rattle.std.specs.Prelude.{All, Result, Ok, Err}
 use Rattle.std.specs.Result.{result_map_both}
 use Rattle.std.proofs.lemmas.Option.{slice_get-get_or}
@@ -19,14 +20,16 @@ use Rattle.iox2sd_values.proofs.Legal.{made, refused}
 pub fails : (Fault : Attribute → Type 0) (pairs : List Attribute) (i : ℕ) (d : Attribute)
     → i < length pairs
     → i ≤ 16 → All IsLegal (take i pairs) → Fault (get_or pairs i d) → FailsAt Fault pairs i
-fails Fault pairs i d inside few legal bad = grind (arith, slice_get-get_or)
+fails Fault pairs i d inside few legal bad =
+    (get_or pairs i d, slice_get-get_or pairs i d inside, few, legal, bad)
 
 -- the key at the place has the fault
 pub key_fails : (Fault : Key → Type 0) (pairs : List Pair) (keys : List Key) (i : ℕ) (d : Key)
     → i < length keys
     → length pairs + i ≤ 16 → All HasText (take i keys) → Fault (get_or keys i d)
     → KeyFailsAt Fault pairs keys i
-key_fails Fault pairs keys i d inside few legal bad = grind (arith, slice_get-get_or)
+key_fails Fault pairs keys i d inside few legal bad =
+    (get_or keys i d, slice_get-get_or keys i d inside, few, legal, bad)
 
 -- the key is legal, and the value is not
 pub bad_value : (a : Attribute) → IsName 64 a.key.now → ¬ (IsName 256 a.value.now) → BadValue a
@@ -52,7 +55,8 @@ pub requires : (pairs : List Attribute) (before after : ℕ) (r : Result (Unit {
     → ChecksPairs pairs before r after → IsListing (map pair_of pairs) listing
     → RequiresPairs pairs before
     (result_map_both (λ _. record { pairs = listing; keys = [] }) required_fault r) after
-requires pairs before after (Ok _) listing checked listed = grind arith
+requires pairs before after (Ok _) listing checked listed =
+    (checked.0, checked.1, listed, refl, checked.2)
 requires pairs before after (Err fault.Key) listing checked listed = checked
 requires pairs before after (Err fault.Value) listing checked listed = checked
 requires pairs before after (Err fault.Number) listing checked listed = checked

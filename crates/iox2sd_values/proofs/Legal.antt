@@ -1,6 +1,6 @@
 -- Texts that are legal, by a test of each byte.
-use Rattle.std.proofs.Common.{◌≡◌, ℕ, ◌≤◌, Bool, List, length, take, inl}
-use Rattle.std.proofs.Common.{inr, arith}
+use Rattle.std.proofs.Common.{◌≡◌, ◌∙◌, ℕ, ◌≤◌, Bool, List, length, take, ap, sym, inl}
+use Rattle.std.proofs.Common.{inr, arith, true≢false}
 use Rattle.std.specs.Prelude.{IsTrue, ◌↔◌, ◌&&◌, Ok, Err}
 use Rattle.std.specs.Bool.{Decides}
 use Rattle.std.specs.List.{list_all}
@@ -20,7 +20,15 @@ abbrev pub is_legal : ℕ → Bool
 is_legal b = leb 1 b && leb b 127
 
 leb-Decides : (a b : ℕ) → Decides (leb a b) (a ≤ b)
-leb-Decides a b = grind (arith, leb_tells)
+leb-Decides a b =
+    elim (leb_tells a b) [
+      | inl h ↦ (λ _. h.1, λ _. h.0)
+      | inr h ↦ (
+        λ holds. absurd (true≢false (sym holds ∙ h.0)),
+        λ low. absurd
+            (omega (arith, low, h.1)),
+      )
+    ]
 
 legal-Decides : (b : ℕ) → Decides (is_legal b) (IsTextByte b)
 legal-Decides b = Decides-and (leb 1 b) (leb b 127) (leb-Decides 1 b) (leb-Decides b 127)
@@ -29,7 +37,13 @@ legal-Decides b = Decides-and (leb 1 b) (leb b 127) (leb-Decides 1 b) (leb-Decid
 pub tells_text : (legal : Bool) (bytes : List ℕ) (i : ℕ) → length bytes ≤ i
     → legal ≡ list_all is_legal (take i bytes) → IsTrue legal ↔ IsText bytes
 tells_text legal bytes i past is =
-    grind (arith, take_all, legal-Decides, AllPass-from_list_all, list_all-from_AllPass)
+    let all : legal ≡ list_all is_legal bytes = is ∙ ap (list_all is_legal) (take_all i bytes past)
+    in (
+      λ holds k d inside.
+          (legal-Decides _).0 (AllPass-from_list_all is_legal bytes (sym all ∙ holds) k d inside),
+      λ text. all ∙ list_all-from_AllPass is_legal bytes
+          (λ k d inside. (legal-Decides _).1 (text k d inside)),
+    )
 
 -- a name is made
 pub made : (n : ℕ) (bytes : List ℕ) → IsName n bytes → (text : List ℕ) × MakesName n bytes (Ok text)

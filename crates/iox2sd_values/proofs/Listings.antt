@@ -1,6 +1,6 @@
 -- Each list of pairs has a listing.
 use Rattle.std.proofs.Common.{◌≡◌, ℕ, ◌+◌, Bool, true, false, List, [], ◌∷◌}
-use Rattle.std.proofs.Common.{get_or, refl, subst, suc, arith, zero}
+use Rattle.std.proofs.Common.{get_or, refl, sym, subst, suc, arith, zero}
 use Rattle.std.specs.Prelude.{All, IsPermutation, IsSorted}
 use Rattle.std.specs.Ordering.{is_lt}
 use Rattle.std.proofs.lemmas.List.Elements.{All-cons}
@@ -30,8 +30,10 @@ NoneLess x xs = All (λ y. is_less y x ≡ false) xs
 -- a rising list with a pair before it that none is less than
 cons_rises : (x : Pair) (xs : List Pair) → NoneLess x xs → IsSorted pair_cmp xs
     → IsSorted pair_cmp (x ∷ xs)
-cons_rises x xs least rises zero d low high = grind arith
-cons_rises x xs least rises (suc k) d low high = grind (arith, suc_add)
+cons_rises x xs least rises zero d low high = least 0 d (omega (arith, high))
+cons_rises x xs least rises (suc k) d low high =
+    subst (λ j. is_less (get_or (x ∷ xs) j d) (get_or xs k d) ≡ false) (sym (suc_add k))
+    (rises k d (omega arith) (omega (arith, high)))
 
 -- none is less than the first of a rising list
 first_least : (x : Pair) (xs : List Pair) → IsSorted pair_cmp (x ∷ xs) → NoneLess x xs

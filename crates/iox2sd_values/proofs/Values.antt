@@ -32,7 +32,9 @@ counted key pairs =
 pub as_in_listing : (key : List ℕ) (pairs set : List Pair) → IsListing pairs set
     → length (values_of set key) ≡ length (values_of pairs key)
 as_in_listing key pairs set listing =
-    grind (arith, length-map, length-filter, sum_by-IsPermutation, cond)
+    length-map _ _ ∙ length-filter (has_key key) set
+    ∙ sum_by-IsPermutation (λ p. cond (has_key key p) 1 0) pairs set listing.0
+    ∙ sym (length-map _ _ ∙ length-filter (has_key key) pairs)
 
 -- pairs that rise are a listing of them
 pub rise : (xs : List Attribute) → IsSorted (λ a b. pair_cmp (pair_of a) (pair_of b)) xs

@@ -1,5 +1,5 @@
 -- The answer on what a set lacks, told of its listing.
-use Rattle.std.proofs.Common.{rules, ◌≡◌, ◌∙◌, ℕ, ◌<◌, Option, None, Some, List, [], ◌∷◌, map, length, get_or, refl, sym, ap, subst, arith}
+use Rattle.std.proofs.Common.{◌≡◌, ◌∙◌, ℕ, ◌<◌, Option, None, Some, List, [], ◌∷◌, map, length, get_or, refl, sym, ap, subst, arith}
 use Rattle.std.specs.Prelude.{◌↔◌, Any, Contains, IsPermutation, Ok, Err}
 use Rattle.std.proofs.Math.ListN.{get_or-map}
 use Rattle.std.proofs.lemmas.List.{get_or_default, length-map}
@@ -92,11 +92,14 @@ module _ (set required wanted : List Attribute) (keys : List Key) (listing : Lis
 
   pairs_missed : (r : Option ℕ) → Misses (λ w. Any (λ a. pair_of a ≡ pair_of w) set) wanted r
       → Misses (Contains listing) (map pair_of wanted) r
-  pairs_missed r misses = search (rules, Misses-map, Misses-same, has_pair)
+  pairs_missed r misses =
+      Misses-map pair_of (Contains listing) wanted r (Misses-same _ _ wanted r has_pair misses)
 
   keys_missed : (r : Option ℕ) → Misses (λ k. Any (λ a. a.key.now ≡ text_of k) set) keys r
       → Misses (ContainsKey listing) (map text_of keys) r
-  keys_missed r misses = search (rules, Misses-map, Misses-same, in_listing)
+  keys_missed r misses =
+      Misses-map text_of (ContainsKey listing) keys r
+      (Misses-same _ _ keys r (λ k. in_listing (λ p. p.key ≡ text_of k)) misses)
 
   -- the answer where nothing more is known of it than that it tells what is required
   abbrev Tells : PlaceAnswer → Type 0

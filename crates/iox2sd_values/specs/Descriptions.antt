@@ -155,12 +155,6 @@ MakesOf (Ok p) name id (Err (refusal.Cause status.IllegalHash)) =
 MakesOf (Err field) name id (Err (refusal.Invalid f)) = f ≡ field
 MakesOf _ name id _ = ⊥
 
--- the same where there is a name, which is looked at first
-abbrev pub MakesNamed : Result MessagingPattern Field → Result (List ℕ) Status → ℕ
-    → Result Description Refusal → Type 0
-MakesNamed pattern (Ok name) id made = MakesOf pattern name id made
-MakesNamed pattern (Err cause) id made = made ≡ Err (refusal.Cause cause)
-
 -- the pattern of settings that are read so, or the field that is invalid
 abbrev pub ReadsAs : {A : Type 0} → (Result A Field → Type 0) → (A → MessagingPattern)
     → Result MessagingPattern Field → Type 0
@@ -168,25 +162,43 @@ ReadsAs {A} Reads pattern_of (Ok p) =
     (settings : A) × Reads (Ok settings) × (p ≡ pattern_of settings)
 ReadsAs Reads pattern_of (Err f) = Reads (Err f)
 
+-- the description of a service whose settings are read so: they are looked at first, and then the
+-- hash text
+abbrev pub MakesBy : {A : Type 0} → (Result A Field → Type 0) → (A → MessagingPattern) → List ℕ → ℕ
+    → Result Description Refusal → Type 0
+MakesBy Reads pattern_of name id made =
+    (read : Result MessagingPattern Field) × ReadsAs Reads pattern_of read
+    × MakesOf read name id made
+
+-- the same where there is a name
+abbrev pub MakesNamed : (List ℕ → Result Description Refusal → Type 0) → Result (List ℕ) Status
+    → Result Description Refusal → Type 0
+MakesNamed Makes (Ok name) made = Makes name made
+MakesNamed Makes (Err cause) made = made ≡ Err (refusal.Cause cause)
+
 -- of a publish-subscribe service
-abbrev pub ReadsPublishSubscribePattern : PublishSubscribeSettings
-    → Result MessagingPattern Field → Type 0
-ReadsPublishSubscribePattern s =
-    ReadsAs (ReadsPublishSubscribe s) (λ s. pattern.PublishSubscribe (publish_subscribe_of s))
+abbrev pub MakesPublishSubscribe : Result (List ℕ) Status → PublishSubscribeSettings → ℕ
+    → Result Description Refusal → Type 0
+MakesPublishSubscribe name s id made = MakesNamed (λ n m. MakesBy (ReadsPublishSubscribe s)
+    (λ settings. pattern.PublishSubscribe (publish_subscribe_of settings)) n id m) name made
 
 -- of an event service
-abbrev pub ReadsEventPattern : EventSettings → Result MessagingPattern Field → Type 0
-ReadsEventPattern s = ReadsAs (ReadsEvent s) (λ s. pattern.Event (event_of s))
+abbrev pub MakesEvent : Result (List ℕ) Status → EventSettings → ℕ
+    → Result Description Refusal → Type 0
+MakesEvent name s id made = MakesNamed (λ n m. MakesBy (ReadsEvent s)
+    (λ settings. pattern.Event (event_of settings)) n id m) name made
 
 -- of a request-response service
-abbrev pub ReadsRequestResponsePattern : RequestResponseSettings
-    → Result MessagingPattern Field → Type 0
-ReadsRequestResponsePattern s =
-    ReadsAs (ReadsRequestResponse s) (λ s. pattern.RequestResponse (request_response_of s))
+abbrev pub MakesRequestResponse : Result (List ℕ) Status → RequestResponseSettings → ℕ
+    → Result Description Refusal → Type 0
+MakesRequestResponse name s id made = MakesNamed (λ n m. MakesBy (ReadsRequestResponse s)
+    (λ settings. pattern.RequestResponse (request_response_of settings)) n id m) name made
 
 -- of a blackboard service
-abbrev pub ReadsBlackboardPattern : BlackboardSettings → Result MessagingPattern Field → Type 0
-ReadsBlackboardPattern s = ReadsAs (ReadsBlackboard s) (λ s. pattern.Blackboard (blackboard_of s))
+abbrev pub MakesBlackboard : Result (List ℕ) Status → BlackboardSettings → ℕ
+    → Result Description Refusal → Type 0
+MakesBlackboard name s id made = MakesNamed (λ n m. MakesBy (ReadsBlackboard s)
+    (λ settings. pattern.Blackboard (blackboard_of settings)) n id m) name made
 
 -- what the description that is made says of the service that has this id
 abbrev pub DescribesAs : (Result Description Refusal → Type 0) → Id
@@ -194,28 +206,22 @@ abbrev pub DescribesAs : (Result Description Refusal → Type 0) → Id
 DescribesAs Makes id (Ok told) = (d : Description) × Makes (Ok d) × (told ≡ told_description d id)
 DescribesAs Makes id (Err r) = Makes (Err r)
 
--- the first struct holds what was made, or is as it was
+-- the first place holds what was made, or is as it was
 abbrev pub Fills : List ServiceDescription → Result ServiceDescription Refusal → FieldAnswer
     → List ServiceDescription → Type 0
 Fills [] made answer new = (answer ≡ no_field status.Null) × (new ≡ [])
-Fills (first ∷ rest) (Ok told) answer new =
+Fills (place ∷ rest) (Ok told) answer new =
     (answer ≡ no_field status.Done) × (new ≡ told ∷ rest)
-Fills (first ∷ rest) (Err r) answer new = (answer ≡ refusal_answer r) × (new ≡ first ∷ rest)
+Fills (place ∷ rest) (Err r) answer new = (answer ≡ refusal_answer r) × (new ≡ place ∷ rest)
 
--- the same of a service of this pattern, whose name may be one of the system's own where the flag
--- says so
-abbrev pub FillsBy : Result MessagingPattern Field → Bool → List ℕ → Id → List ServiceDescription
-    → FieldAnswer → List ServiceDescription → Type 0
-FillsBy pattern internal bytes id old answer new =
-    (name : Result (List ℕ) Status) × ReadsAnyName internal bytes name
-    × (told : Result ServiceDescription Refusal)
-    × DescribesAs (MakesNamed pattern name (number_of id)) id told × Fills old told answer new
-
--- the same, where there are settings, whose pattern is read so
-abbrev pub FillsNamed : {S : Type 0} → (S → Result MessagingPattern Field → Type 0) → List S → Bool
+-- the same, where there are settings: the name is read first, which may be one of the system's own
+-- where the flag says so
+abbrev pub FillsNamed : {S : Type 0}
+    → (Result (List ℕ) Status → S → ℕ → Result Description Refusal → Type 0) → List S → Bool
     → List ℕ → Id → List ServiceDescription → FieldAnswer → List ServiceDescription → Type 0
-FillsNamed Reads [] internal bytes id old answer new =
+FillsNamed Makes [] internal bytes id old answer new =
     (answer ≡ no_field status.Null) × (new ≡ old)
-FillsNamed Reads (s ∷ others) internal bytes id old answer new =
-    (pattern : Result MessagingPattern Field) × Reads s pattern
-    × FillsBy pattern internal bytes id old answer new
+FillsNamed Makes (s ∷ others) internal bytes id old answer new =
+    (name : Result (List ℕ) Status) × ReadsAnyName internal bytes name
+    × (told : Result ServiceDescription Refusal) × DescribesAs (Makes name s (number_of id)) id told
+    × Fills old told answer new

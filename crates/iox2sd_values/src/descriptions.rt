@@ -2,15 +2,22 @@
 //! settings.
 ghost use Rattle.std.specs.Prelude.{◌≡◌, [], Ok};
 ghost use Rattle.iox2_config.specs.Hashing.{pattern_number};
+ghost use Rattle.iox2_static.specs.PublishSubscribe.{publish_subscribe_of};
+ghost use Rattle.iox2_static.specs.RequestResponse.{request_response_of};
+ghost use Rattle.iox2_static.specs.Event.{event_of};
+ghost use Rattle.iox2_static.specs.Blackboard.{blackboard_of};
+ghost use Rattle.iox2_static.specs.declared.static_config.messaging_pattern.MessagingPattern.TheVariants as pattern;
 ghost use Rattle.iox2sd_common.specs.Ids.{number_of};
+ghost use Rattle.iox2sd_common.specs.ReadSettings.{ReadsPublishSubscribe, ReadsEvent};
+ghost use Rattle.iox2sd_common.specs.ReadSettings.{ReadsRequestResponse, ReadsBlackboard};
 ghost use Rattle.iox2sd_values.specs.Causes.{FieldBut, NameCause};
 ghost use Rattle.iox2sd_values.specs.Descriptions.{told_description, ComparesPatterns};
 ghost use Rattle.iox2sd_values.specs.Descriptions.{publish_subscribe_config, event_config};
 ghost use Rattle.iox2sd_values.specs.Descriptions.{request_response_config, blackboard_config};
-ghost use Rattle.iox2sd_values.specs.Descriptions.{DescribesAs, Fills, FillsBy, FillsNamed};
-ghost use Rattle.iox2sd_values.specs.Descriptions.{MakesNamed, ReadsPublishSubscribePattern};
-ghost use Rattle.iox2sd_values.specs.Descriptions.{ReadsEventPattern, ReadsBlackboardPattern};
-ghost use Rattle.iox2sd_values.specs.Descriptions.{ReadsRequestResponsePattern};
+ghost use Rattle.iox2sd_values.specs.Descriptions.{DescribesAs, Fills, FillsNamed};
+ghost use Rattle.iox2sd_values.specs.Descriptions.{MakesNamed, MakesOf, ReadsAs};
+ghost use Rattle.iox2sd_values.specs.Descriptions.{MakesPublishSubscribe, MakesEvent};
+ghost use Rattle.iox2sd_values.specs.Descriptions.{MakesRequestResponse, MakesBlackboard};
 
 use super::causes::name_cause;
 use super::names::any_service_name;
@@ -254,7 +261,7 @@ fn describe(
     pattern: Result<MessagingPattern, Field>,
     id: Id,
 ) -> Result<ServiceDescription, Refusal>
-    ensures { DescribesAs (MakesNamed pattern name (number_of id)) id result }
+    ensures { DescribesAs (MakesNamed (λ n m. MakesOf pattern n (number_of id) m) name) id result }
 {
     let name = name?;
     let pattern = pattern?;
@@ -301,33 +308,33 @@ fn fill(made: Result<ServiceDescription, Refusal>, out: &mut [ServiceDescription
     }
 }
 
-/// Describes the service of a pattern, of which the name is read first, or reports why not.
-fn describe_named(
-    pattern: Result<MessagingPattern, Field>,
-    name: &[u8],
-    internal: bool,
-    id: Id,
-    out: &mut [ServiceDescription],
-) -> FieldAnswer
-    ensures tells { FieldBut (λ told. FillsBy pattern internal name.now id out.old told out.new)
-        result }
-    ensures cause { NameCause internal name.now result.status result.cause }
-{
-    let told = fill(describe(any_service_name(name, internal), pattern, id), out);
-    FieldAnswer {
-        cause: name_cause(told.status, name, internal),
-        ..told
-    }
-}
-
 /// The pattern of a publish-subscribe service with these settings, or the first invalid field.
 fn publish_subscribe_pattern(settings: &PublishSubscribeSettings) -> Result<MessagingPattern, Field>
-    ensures { ReadsPublishSubscribePattern settings.now result }
+    ensures { ReadsAs (ReadsPublishSubscribe settings.now)
+        (λ s. pattern.PublishSubscribe (publish_subscribe_of s)) result }
 {
     let settings = read_publish_subscribe(settings)?;
     Ok(MessagingPattern::PublishSubscribe(publish_subscribe::StaticConfig::with_settings(
         &settings,
     )))
+}
+
+/// Describes the service, or reports why not.
+fn describe_publish_subscribe(
+    settings: &[PublishSubscribeSettings],
+    name: &[u8],
+    internal: bool,
+    id: Id,
+    out: &mut [ServiceDescription],
+) -> FieldAnswer
+    ensures { FillsNamed MakesPublishSubscribe settings.now internal name.now id
+        out.old result out.new }
+{
+    let [settings, ..] = settings else {
+        return no_field(Status::Null);
+    };
+    let name = any_service_name(name, internal);
+    fill(describe(name, publish_subscribe_pattern(settings), id), out)
 }
 
 /// Describes a publish-subscribe service. Its name may be one of the system's own where `internal`
@@ -346,22 +353,42 @@ pub extern "C" fn iox2sd_describe_publish_subscribe_at(
     id: Id,
     out: &mut [ServiceDescription],
 ) -> FieldAnswer
-    ensures tells { FieldBut (λ told. FillsNamed ReadsPublishSubscribePattern settings.now internal
+    ensures tells { FieldBut (λ told. FillsNamed MakesPublishSubscribe settings.now internal
         name.now id out.old told out.new) result }
     ensures cause { NameCause internal name.now result.status result.cause }
 {
-    let [settings, ..] = settings else {
-        return no_field(Status::Null);
-    };
-    describe_named(publish_subscribe_pattern(settings), name, internal, id, out)
+    let told = describe_publish_subscribe(settings, name, internal, id, out);
+    FieldAnswer {
+        cause: name_cause(told.status, name, internal),
+        ..told
+    }
 }
 
 /// The pattern of an event service with these settings, or the first invalid field.
 fn event_pattern(settings: &EventSettings) -> Result<MessagingPattern, Field>
-    ensures { ReadsEventPattern settings.now result }
+    ensures { ReadsAs (ReadsEvent settings.now)
+        (λ s. pattern.Event (event_of s)) result }
 {
     let settings = read_event(settings)?;
     Ok(MessagingPattern::Event(event::StaticConfig::with_settings(&settings)))
+}
+
+/// Describes the service, or reports why not.
+fn describe_event(
+    settings: &[EventSettings],
+    name: &[u8],
+    internal: bool,
+    id: Id,
+    out: &mut [ServiceDescription],
+) -> FieldAnswer
+    ensures { FillsNamed MakesEvent settings.now internal name.now id
+        out.old result out.new }
+{
+    let [settings, ..] = settings else {
+        return no_field(Status::Null);
+    };
+    let name = any_service_name(name, internal);
+    fill(describe(name, event_pattern(settings), id), out)
 }
 
 /// Describes an event service. Names are read, and calls refused, as of a publish-subscribe
@@ -374,22 +401,42 @@ pub extern "C" fn iox2sd_describe_event_at(
     id: Id,
     out: &mut [ServiceDescription],
 ) -> FieldAnswer
-    ensures tells { FieldBut (λ told. FillsNamed ReadsEventPattern settings.now internal name.now
+    ensures tells { FieldBut (λ told. FillsNamed MakesEvent settings.now internal name.now
         id out.old told out.new) result }
     ensures cause { NameCause internal name.now result.status result.cause }
 {
-    let [settings, ..] = settings else {
-        return no_field(Status::Null);
-    };
-    describe_named(event_pattern(settings), name, internal, id, out)
+    let told = describe_event(settings, name, internal, id, out);
+    FieldAnswer {
+        cause: name_cause(told.status, name, internal),
+        ..told
+    }
 }
 
 /// The pattern of a request-response service with these settings, or the first invalid field.
 fn request_response_pattern(settings: &RequestResponseSettings) -> Result<MessagingPattern, Field>
-    ensures { ReadsRequestResponsePattern settings.now result }
+    ensures { ReadsAs (ReadsRequestResponse settings.now)
+        (λ s. pattern.RequestResponse (request_response_of s)) result }
 {
     let settings = read_request_response(settings)?;
     Ok(MessagingPattern::RequestResponse(request_response::StaticConfig::with_settings(&settings)))
+}
+
+/// Describes the service, or reports why not.
+fn describe_request_response(
+    settings: &[RequestResponseSettings],
+    name: &[u8],
+    internal: bool,
+    id: Id,
+    out: &mut [ServiceDescription],
+) -> FieldAnswer
+    ensures { FillsNamed MakesRequestResponse settings.now internal name.now id
+        out.old result out.new }
+{
+    let [settings, ..] = settings else {
+        return no_field(Status::Null);
+    };
+    let name = any_service_name(name, internal);
+    fill(describe(name, request_response_pattern(settings), id), out)
 }
 
 /// Describes a request-response service. Names are read, and calls refused, as of a
@@ -402,22 +449,42 @@ pub extern "C" fn iox2sd_describe_request_response_at(
     id: Id,
     out: &mut [ServiceDescription],
 ) -> FieldAnswer
-    ensures tells { FieldBut (λ told. FillsNamed ReadsRequestResponsePattern settings.now internal
-        name.now id out.old told out.new) result }
+    ensures tells { FieldBut (λ told. FillsNamed MakesRequestResponse settings.now internal name.now
+        id out.old told out.new) result }
     ensures cause { NameCause internal name.now result.status result.cause }
 {
-    let [settings, ..] = settings else {
-        return no_field(Status::Null);
-    };
-    describe_named(request_response_pattern(settings), name, internal, id, out)
+    let told = describe_request_response(settings, name, internal, id, out);
+    FieldAnswer {
+        cause: name_cause(told.status, name, internal),
+        ..told
+    }
 }
 
 /// The pattern of a blackboard service with these settings, which are always valid.
 fn blackboard_pattern(settings: &BlackboardSettings) -> Result<MessagingPattern, Field>
-    ensures { ReadsBlackboardPattern settings.now result }
+    ensures { ReadsAs (ReadsBlackboard settings.now)
+        (λ s. pattern.Blackboard (blackboard_of s)) result }
 {
     let settings = read_blackboard(settings);
     Ok(MessagingPattern::Blackboard(blackboard::StaticConfig::with_settings(&settings)))
+}
+
+/// Describes the service, or reports why not.
+fn describe_blackboard(
+    settings: &[BlackboardSettings],
+    name: &[u8],
+    internal: bool,
+    id: Id,
+    out: &mut [ServiceDescription],
+) -> FieldAnswer
+    ensures { FillsNamed MakesBlackboard settings.now internal name.now id
+        out.old result out.new }
+{
+    let [settings, ..] = settings else {
+        return no_field(Status::Null);
+    };
+    let name = any_service_name(name, internal);
+    fill(describe(name, blackboard_pattern(settings), id), out)
 }
 
 /// Describes a blackboard service. Names are read, and calls refused, as of a publish-subscribe
@@ -430,14 +497,15 @@ pub extern "C" fn iox2sd_describe_blackboard_at(
     id: Id,
     out: &mut [ServiceDescription],
 ) -> FieldAnswer
-    ensures tells { FieldBut (λ told. FillsNamed ReadsBlackboardPattern settings.now internal
-        name.now id out.old told out.new) result }
+    ensures tells { FieldBut (λ told. FillsNamed MakesBlackboard settings.now internal name.now
+        id out.old told out.new) result }
     ensures cause { NameCause internal name.now result.status result.cause }
 {
-    let [settings, ..] = settings else {
-        return no_field(Status::Null);
-    };
-    describe_named(blackboard_pattern(settings), name, internal, id, out)
+    let told = describe_blackboard(settings, name, internal, id, out);
+    FieldAnswer {
+        cause: name_cause(told.status, name, internal),
+        ..told
+    }
 }
 
 /// Whether two numbers are those of one pattern. Refused is a number that is not that of a pattern

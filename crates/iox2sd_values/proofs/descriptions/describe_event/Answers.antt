@@ -1,0 +1,13 @@
+use Rattle.iox2_static.specs.Event.{event_of}
+use Rattle.iox2_static.specs.declared.static_config.messaging_pattern.MessagingPattern.TheVariants as pattern
+use Rattle.iox2sd_common.specs.ReadSettings.{ReadsEvent}
+use Rattle.iox2sd_values.proofs.Describing.{filled}
+use Rattle.iox2sd_values.proofs.descriptions.describe_event.Goals as goal
+
+pub returns : goal.returns
+returns c =
+    let settings = c.args.settings.now in
+    filled ReadsEvent (λ s. pattern.Event (event_of s)) settings _
+    c.in-len1-up.len_at_least _ c.event_pattern.ensures c.args.internal
+    c.args.name.now _ c.any_service_name-name.ensures c.args.id _ c.describe.ensures _ _ _
+    c.fill.ensures
