@@ -230,39 +230,39 @@ module _ {S : Type 0} where
   are_laid_none links = record {
     grows = grows_none links;
     as_many = refl;
-    each = λ place d h. absurd (omega (arith, h));
+    each = λ index d h. absurd (omega (arith, h));
   }
 
   -- one configuration more, at its place
   pub are_laid_more : (links mid more : List Link) (configs now new : List (Config S)) (at : ℕ)
       (config laid : Config S) → at < length now → length now ≡ length configs
-      → ((place : ℕ) (d : Config S) → place < at
-      → IsLaid links mid (get_or configs place d) (get_or now place d))
-      → ((place : ℕ) (d : Config S) → at ≤ place → get_or now place d ≡ get_or configs place d)
+      → ((index : ℕ) (d : Config S) → index < at
+      → IsLaid links mid (get_or configs index d) (get_or now index d))
+      → ((index : ℕ) (d : Config S) → at ≤ index → get_or now index d ≡ get_or configs index d)
       → Grows links mid → config ≡ get_or now at config → new ≡ set now at laid
-      → IsLaid mid more config laid → (place : ℕ) (d : Config S) → place < at + 1
-      → IsLaid links more (get_or configs place d) (get_or new place d)
-  are_laid_more links mid more configs now new at config laid h many done rest g is e l place d
+      → IsLaid mid more config laid → (index : ℕ) (d : Config S) → index < at + 1
+      → IsLaid links more (get_or configs index d) (get_or new index d)
+  are_laid_more links mid more configs now new at config laid h many done rest g is e l index d
       less =
-      elim (cases_eq place at)
-      as (λ _. IsLaid links more (get_or configs place d) (get_or new place d)) [
+      elim (cases_eq index at)
+      as (λ _. IsLaid links more (get_or configs index d) (get_or new index d)) [
         | inl here ↦
-            let there : get_or configs place d ≡ config =
+            let there : get_or configs index d ≡ config =
             ap (λ n. get_or configs n d) here
             ∙ (sym (rest at d (omega arith)) ∙ sym (is ∙ get_or_default now at config d h)) in
-            let now_is : get_or new place d ≡ laid =
-            ap (λ (k : List (Config S)). get_or k place d) e
+            let now_is : get_or new index d ≡ laid =
+            ap (λ (k : List (Config S)). get_or k index d) e
             ∙ (ap (λ n. get_or (set now at laid) n d) here ∙ get_or-set_same now at laid d h) in
-            subst (λ (k : Config S). IsLaid links more (get_or configs place d) k) (sym now_is)
+            subst (λ (k : Config S). IsLaid links more (get_or configs index d) k) (sym now_is)
             (subst (λ (k : Config S). IsLaid links more k laid) (sym there)
             (laid_before links mid more config laid g l))
         | inr ne ↦
-            let below : place < at = less_of place at less ne in
-            subst (λ (k : Config S). IsLaid links more (get_or configs place d) k)
-            (sym (ap (λ (k : List (Config S)). get_or k place d) e
-            ∙ get_or-set_other now at place laid d ne))
-            (laid_grows links mid more (get_or configs place d) (get_or now place d) l.2
-            (done place d below))
+            let below : index < at = less_of index at less ne in
+            subst (λ (k : Config S). IsLaid links more (get_or configs index d) k)
+            (sym (ap (λ (k : List (Config S)). get_or k index d) e
+            ∙ get_or-set_other now at index laid d ne))
+            (laid_grows links mid more (get_or configs index d) (get_or now index d) l.2
+            (done index d below))
       ]
     where
       less_of : (i n : ℕ) → i < n + 1 → i ≢ n → i < n

@@ -31,7 +31,7 @@ stands_left (y ∷ es) fs zero x at = at
 stands_left (y ∷ es) fs (suc k) x at = stands_left es fs k x at
 
 stands_right : (es fs : List Event) (k : ℕ) (x : Event) → StandsAt fs k x
-    → (place : ℕ) × (place ≡ length es + k) × StandsAt (es ++ fs) place x
+    → (index : ℕ) × (index ≡ length es + k) × StandsAt (es ++ fs) index x
 stands_right [] fs k x at = (k, omega arith, at)
 stands_right (y ∷ es) fs k x at =
     let r = stands_right es fs k x at in (suc r.0, omega (arith, r.1), r.2)
@@ -83,9 +83,9 @@ ends_left es fs k c at =
     ]
 
 ends_right : (es fs : List Event) (k c : ℕ) → EndsAt fs k c
-    → (place : ℕ) × (place ≡ length es + k) × EndsAt (es ++ fs) place c
+    → (index : ℕ) × (index ≡ length es + k) × EndsAt (es ++ fs) index c
 ends_right es fs k c at =
-    elim at as (λ _. (place : ℕ) × (place ≡ length es + k) × EndsAt (es ++ fs) place c) [
+    elim at as (λ _. (index : ℕ) × (index ≡ length es + k) × EndsAt (es ++ fs) index c) [
       | inl x ↦ let r = stands_right es fs k (End c) x in (r.0, r.1, inl r.2)
       | inr x ↦ let r = stands_right es fs k (Crash c) x in (r.0, r.1, inr r.2)
     ]

@@ -14,28 +14,28 @@ use Rattle.histories.proofs.Places.{less_of}
 pub linked_none : (chain : ℕ → ℕ) (heads before : List ℕ) → length before ≡ 0
     → ((number : ℕ) → get_or heads number 0 ≡ 0) → AreLinked chain heads before
 linked_none chain heads before none empty = record {
-  reached = λ place h. absurd (omega (arith, h, none));
-  head = λ number place e. absurd (omega (arith, e, empty number));
-  kept = λ place at h below e. absurd (omega (arith, below, none));
-  link = λ at place below e. absurd (omega (arith, below, none));
+  reached = λ index h. absurd (omega (arith, h, none));
+  head = λ number index e. absurd (omega (arith, e, empty number));
+  kept = λ index at h below e. absurd (omega (arith, below, none));
+  link = λ at index below e. absurd (omega (arith, below, none));
 }
 
 -- the same chains by other words
 pub linked_as : (one other : ℕ → ℕ) (heads before : List ℕ)
-    → ((place : ℕ) → place < length before → other place ≡ one place)
+    → ((index : ℕ) → index < length before → other index ≡ one index)
     → AreLinked one heads before → AreLinked other heads before
 linked_as one other heads before same l = record {
-  reached = λ place h. subst (λ c. place < get_or heads c 0) (sym (same place h))
-      (l.reached place h);
-  head = λ number place e.
-      let is = l.head number place e in (is.0, same place is.0 ∙ is.1);
-  kept = λ place at h below e.
-      l.kept place at h below
-      (sym (same place (omega (arith, h, below))) ∙ (e ∙ same at below));
-  link = λ at place below e.
-      let is = l.link at place below e in (
+  reached = λ index h. subst (λ c. index < get_or heads c 0) (sym (same index h))
+      (l.reached index h);
+  head = λ number index e.
+      let is = l.head number index e in (is.0, same index is.0 ∙ is.1);
+  kept = λ index at h below e.
+      l.kept index at h below
+      (sym (same index (omega (arith, h, below))) ∙ (e ∙ same at below));
+  link = λ at index below e.
+      let is = l.link at index below e in (
         is.0,
-        same place (omega (arith, is.0, below)) ∙ (is.1 ∙ sym (same at below)),
+        same index (omega (arith, is.0, below)) ∙ (is.1 ∙ sym (same at below)),
       );
 }
 
@@ -58,60 +58,60 @@ linked_more chain heads before number is within l =
     get_or-append before (head ∷ []) 0 at below in
     let end : get_or more last 0 ≡ head = get_or-append_seam before head [] 0 in
     record {
-      reached = λ place h.
-          elim (cases_eq (chain place) number) as (λ _. place < get_or now (chain place) 0) [
-            | inl e ↦ subst (λ c. place < get_or now c 0) (sym e) (omega (arith, here, h, many))
+      reached = λ index h.
+          elim (cases_eq (chain index) number) as (λ _. index < get_or now (chain index) 0) [
+            | inl e ↦ subst (λ c. index < get_or now c 0) (sym e) (omega (arith, here, h, many))
             | inr ne ↦
-                let below : place < last =
-                less_of place last (omega (arith, h, many)) (λ e. ne (ap chain e ∙ sym is)) in
-                omega (arith, there (chain place) ne, l.reached place below)
+                let below : index < last =
+                less_of index last (omega (arith, h, many)) (λ e. ne (ap chain e ∙ sym is)) in
+                omega (arith, there (chain index) ne, l.reached index below)
           ];
-      head = λ other place e.
+      head = λ other index e.
           elim (cases_eq other number)
-          as (λ _. (place < length more) × (chain place ≡ other)) [
+          as (λ _. (index < length more) × (chain index ≡ other)) [
             | inl same ↦
-                let at : place ≡ last =
+                let at : index ≡ last =
                 omega (arith, here, e, ap (λ c. get_or now c 0) same) in
                 (omega (arith, at, many), ap chain at ∙ (sym is ∙ sym same))
             | inr ne ↦
-                let before_ = l.head other place (sym (there other ne) ∙ e) in
+                let before_ = l.head other index (sym (there other ne) ∙ e) in
                 (omega (arith, before_.0, many), before_.1)
           ];
-      kept = λ place at h below e.
-          elim (cases_eq at last) as (λ _. place < get_or more at 0) [
+      kept = λ index at h below e.
+          elim (cases_eq at last) as (λ _. index < get_or more at 0) [
             | inl same ↦
-                let chained : chain place ≡ number = e ∙ (ap chain same ∙ sym is) in
+                let chained : chain index ≡ number = e ∙ (ap chain same ∙ sym is) in
                 omega (
                   arith,
                   ap (λ i. get_or more i 0) same,
                   end,
                   ap (λ c. get_or heads c 0) chained,
-                  l.reached place (omega (arith, h, same)),
+                  l.reached index (omega (arith, h, same)),
                 )
             | inr ne ↦
                 let less : at < last = less_of at last (omega (arith, below, many)) ne in
-                omega (arith, was at less, l.kept place at h less e)
+                omega (arith, was at less, l.kept index at h less e)
           ];
-      link = λ at place below e.
-          elim (cases_eq at last) as (λ _. (place < at) × (chain place ≡ chain at)) [
+      link = λ at index below e.
+          elim (cases_eq at last) as (λ _. (index < at) × (chain index ≡ chain at)) [
             | inl same ↦
-                let before_ = l.head number place
+                let before_ = l.head number index
                 (sym end ∙ (ap (λ i. get_or more i 0) (sym same) ∙ e)) in
                 (omega (arith, before_.0, same), before_.1 ∙ (is ∙ ap chain (sym same)))
             | inr ne ↦
                 let less : at < last = less_of at last (omega (arith, below, many)) ne in
-                l.link at place less (sym (was at less) ∙ e)
+                l.link at index less (sym (was at less) ∙ e)
           ];
     }
 
 -- each of many copies of a number is that
-pub copies : (count place number : ℕ) → get_or (replicate count number) place number ≡ number
-copies count place number =
-    elim (cases_lt place count)
-    as (λ _. get_or (replicate count number) place number ≡ number) [
-      | inl within ↦ get_or-replicate count place number number within
+pub copies : (count index number : ℕ) → get_or (replicate count number) index number ≡ number
+copies count index number =
+    elim (cases_lt index count)
+    as (λ _. get_or (replicate count number) index number ≡ number) [
+      | inl within ↦ get_or-replicate count index number number within
       | inr past ↦
-          get_or_past (replicate count number) place number
+          get_or_past (replicate count number) index number
           (omega (arith, length-replicate count number, past))
     ]
 
@@ -122,9 +122,9 @@ module _ {S : Type 0} where
   chained_push configs config heads before c = (
     omega (arith, c.0, length_push configs config),
     λ d. linked_as (chain_at configs d) (chain_at (configs ++ config ∷ []) d) heads before
-        (λ place h.
+        (λ index h.
         ap (λ (k : Config S). chain_of k.waiting)
-        (get_or-append configs (config ∷ []) d place (omega (arith, h, c.0))))
+        (get_or-append configs (config ∷ []) d index (omega (arith, h, c.0))))
         (c.1 d),
   )
 
@@ -155,8 +155,8 @@ module _ {S : Type 0} where
   pub record IsFollowing (configs : List (Config S)) (before : List ℕ) (config : Config S)
       (left : ℕ) : Type 0 where
     pub within : left ≤ length before
-    pub here : (place : ℕ) (d : Config S) → left ≡ place + 1
-        → chain_at configs d place ≡ chain_of config.waiting
+    pub here : (index : ℕ) (d : Config S) → left ≡ index + 1
+        → chain_at configs d index ≡ chain_of config.waiting
     pub others : AreOther configs left (length before) config
 
   pub following_head : (configs : List (Config S)) (heads before : List ℕ) (config : Config S)
@@ -170,17 +170,17 @@ module _ {S : Type 0} where
               let at = linked.head (chain_of config.waiting) (left - 1) (omega (arith, is, some)) in
               omega (arith, at.0, some)
         ];
-        here = λ place d e.
-            ((c.1 d).head (chain_of config.waiting) place (sym is ∙ e)).1;
-        others = λ place d from below same.
-            let chained : chain_at configs d place ≡ chain_of config.waiting =
+        here = λ index d e.
+            ((c.1 d).head (chain_of config.waiting) index (sym is ∙ e)).1;
+        others = λ index d from below same.
+            let chained : chain_at configs d index ≡ chain_of config.waiting =
             ap chain_of same.1 in
             absurd (omega (
               arith,
               from,
               is,
               ap (λ n. get_or heads n 0) chained,
-              (c.1 d).reached place below,
+              (c.1 d).reached index below,
             ));
       }
 
@@ -200,26 +200,26 @@ module _ {S : Type 0} where
       ] in (
         record {
           within = omega (arith, less, f.within);
-          here = λ place d e.
-              ((c.1 d).link at place below (sym is ∙ e)).1 ∙ f.here at d one;
-          others = λ place d from end same.
-              elim (cases_order place at) as (λ _. ⊥) [
+          here = λ index d e.
+              ((c.1 d).link at index below (sym is ∙ e)).1 ∙ f.here at d one;
+          others = λ index d from end same.
+              elim (cases_order index at) as (λ _. ⊥) [
                 | inl e ↦ other
                     (subst (λ (k : Config S). IsSame k config)
                     (ap (λ i. get_or configs i d) e
                     ∙ (get_or_default configs at d known (omega (arith, below, c.0)) ∙ sym item))
                     same)
                 | inr (inl before_) ↦
-                    let chained : chain_at configs d place ≡ chain_at configs d at =
+                    let chained : chain_at configs d index ≡ chain_at configs d at =
                     ap chain_of same.1 ∙ sym (f.here at d one) in
                     absurd (omega (
                       arith,
                       from,
                       is,
-                      (c.1 d).kept place at before_ below chained,
+                      (c.1 d).kept index at before_ below chained,
                     ))
                 | inr (inr behind) ↦
-                    f.others place d (omega (arith, behind, one)) end same
+                    f.others index d (omega (arith, behind, one)) end same
               ];
         },
         less,
@@ -230,15 +230,15 @@ module _ {S : Type 0} where
       → AreOther configs 0 from config
       → All (λ known. ¬ (IsSame known config)) (drop from configs)
       → All (λ known. ¬ (IsSame known config)) configs
-  all_other configs config from first rest place d below =
-      elim (cases_lt place from) as (λ _. ¬ (IsSame (get_or configs place d) config)) [
-        | inl less ↦ first place d (omega arith) less
+  all_other configs config from first rest index d below =
+      elim (cases_lt index from) as (λ _. ¬ (IsSame (get_or configs index d) config)) [
+        | inl less ↦ first index d (omega arith) less
         | inr past ↦
-            let at : from + (place - from) ≡ place = omega (arith, past) in
+            let at : from + (index - from) ≡ index = omega (arith, past) in
             subst (λ i. ¬ (IsSame (get_or configs i d) config)) at
             (subst (λ (k : Config S). ¬ (IsSame k config))
-            (get_or-drop from configs (place - from) d)
-            (rest (place - from) d
+            (get_or-drop from configs (index - from) d)
+            (rest (index - from) d
             (omega (arith, length-drop from configs, below, past))))
       ]
 

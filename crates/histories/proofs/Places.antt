@@ -6,8 +6,8 @@ use Rattle.std.proofs.lemmas.List.{drop_all, get_or-set_other, get_or-set_same, 
 -- up to a place each value is related to the one that was there, and from there on it is that one
 pub record AreDone {X : Type 0} (R : X → X → Type 0) (olds now : List X) (at : ℕ) : Type 0 where
   pub many : length now ≡ length olds
-  pub done : (place : ℕ) (d : X) → place < at → R (get_or olds place d) (get_or now place d)
-  pub rest : (place : ℕ) (d : X) → at ≤ place → get_or now place d ≡ get_or olds place d
+  pub done : (index : ℕ) (d : X) → index < at → R (get_or olds index d) (get_or now index d)
+  pub rest : (index : ℕ) (d : X) → at ≤ index → get_or now index d ≡ get_or olds index d
 
 pub less_of : (i n : ℕ) → i < n + 1 → i ≢ n → i < n
 less_of i n h ne =
@@ -20,8 +20,8 @@ less_of i n h ne =
 pub done_none : {X : Type 0} (R : X → X → Type 0) (olds : List X) → AreDone R olds olds 0
 done_none R olds = record {
   many = refl;
-  done = λ place d h. absurd (omega (arith, h));
-  rest = λ place d h. refl;
+  done = λ index d h. absurd (omega (arith, h));
+  rest = λ index d h. refl;
 }
 
 -- one place more
@@ -30,22 +30,22 @@ pub done_more : {X : Type 0} (R : X → X → Type 0) (olds now : List X) (at : 
     → AreDone R olds (set now at one) (at + 1)
 done_more {X} R olds now at item one h is r a = record {
   many = length-set now at one ∙ a.many;
-  done = λ place d less.
-      elim (cases_eq place at)
-      as (λ _. R (get_or olds place d) (get_or (set now at one) place d)) [
+  done = λ index d less.
+      elim (cases_eq index at)
+      as (λ _. R (get_or olds index d) (get_or (set now at one) index d)) [
         | inl e ↦
             subst (λ i. R (get_or olds i d) (get_or (set now at one) i d)) (sym e)
             (subst (λ (y : X). R (get_or olds at d) y) (sym (get_or-set_same now at one d h))
             (subst (λ (x : X). R x one)
             (is ∙ (get_or_default now at item d h ∙ a.rest at d (omega arith))) r))
         | inr ne ↦
-            subst (λ (y : X). R (get_or olds place d) y)
-            (sym (get_or-set_other now at place one d ne))
-            (a.done place d (less_of place at less ne))
+            subst (λ (y : X). R (get_or olds index d) y)
+            (sym (get_or-set_other now at index one d ne))
+            (a.done index d (less_of index at less ne))
       ];
-  rest = λ place d past.
-      get_or-set_other now at place one d (λ e. absurd (omega (arith, past, e)))
-      ∙ a.rest place d (omega (arith, past));
+  rest = λ index d past.
+      get_or-set_other now at index one d (λ e. absurd (omega (arith, past, e)))
+      ∙ a.rest index d (omega (arith, past));
 }
 
 -- an element is put where it stood

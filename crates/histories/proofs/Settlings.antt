@@ -67,23 +67,23 @@ module _ {S : Type 0} (Step : S → ℕ → S → Type 0) (slots : List (Option 
       → AreSettledEach Step slots configs settled → Contains settled one
       → (config : Config S) × Contains configs config × IsSettled Step slots config (spot_of one)
   settled_from configs settled one each has =
-      let place = has.0 in (
-        get_or configs place one,
-        Contains-get_or configs place one (omega (arith, has.1, each.0)),
-        subst (λ (k : Config S). IsSettled Step slots (get_or configs place one) (spot_of k)) has.2
-            (each.1 place one has.1),
+      let index = has.0 in (
+        get_or configs index one,
+        Contains-get_or configs index one (omega (arith, has.1, each.0)),
+        subst (λ (k : Config S). IsSettled Step slots (get_or configs index one) (spot_of k)) has.2
+            (each.1 index one has.1),
       )
 
   settled_to : (configs settled : List (Config S)) (config : Config S)
       → AreSettledEach Step slots configs settled → Contains configs config
       → (one : Config S) × Contains settled one × IsSettled Step slots config (spot_of one)
   settled_to configs settled config each has =
-      let place = has.0 in
-      let within : place < length settled = omega (arith, has.1, each.0) in (
-        get_or settled place config,
-        Contains-get_or settled place config within,
-        subst (λ (k : Config S). IsSettled Step slots k (spot_of (get_or settled place config)))
-            has.2 (each.1 place config within),
+      let index = has.0 in
+      let within : index < length settled = omega (arith, has.1, each.0) in (
+        get_or settled index config,
+        Contains-get_or settled index config within,
+        subst (λ (k : Config S). IsSettled Step slots k (spot_of (get_or settled index config)))
+            has.2 (each.1 index config within),
       )
 
   -- each was settled, and none has become the same as another

@@ -240,8 +240,8 @@ module _ {S : Type 0} (Step : S → ℕ → S → Type 0) where
 -- each event before a place may follow those before it
 abbrev pub IsHistoryTo : List Event → ℕ → Type 0
 IsHistoryTo es i =
-    (place : ℕ) (event : Event) → place < i → StandsAt es place event
-    → MayFollow (take place es) event
+    (index : ℕ) (event : Event) → index < i → StandsAt es index event
+    → MayFollow (take index es) event
 
 -- the event at a place
 stands_get : (es : List Event) (i : ℕ) (d e : Event) → i < length es → StandsAt es i e
@@ -251,19 +251,19 @@ stands_get es i d e h at =
 
 pub history_more : (es : List Event) (i : ℕ) (d : Event) → i < length es
     → MayFollow (take i es) (get_or es i d) → IsHistoryTo es i → IsHistoryTo es (i + 1)
-history_more es i d h may all place event less at =
-    elim (cases_order place i) as (λ _. MayFollow (take place es) event) [
+history_more es i d h may all index event less at =
+    elim (cases_order index i) as (λ _. MayFollow (take index es) event) [
       | inl e ↦ subst (λ k. MayFollow (take k es) event) (sym e)
           (subst (λ (x : Event). MayFollow (take i es) x)
           (sym (stands_get es i d event h (subst (λ k. StandsAt es k event) e at))) may)
-      | inr (inl below) ↦ all place event below at
+      | inr (inl below) ↦ all index event below at
       | inr (inr above) ↦ absurd (omega arith)
     ]
 
 pub history_whole : (es : List Event) (i : ℕ) → length es ≤ i → IsHistoryTo es i → IsHistory es
-history_whole es i h all = λ place event at.
-    let within : place < length es = stands_within es place event at in
-    all place event (omega arith) at
+history_whole es i h all = λ index event at.
+    let within : index < length es = stands_within es index event at in
+    all index event (omega arith) at
 
 module _ {S : Type 0} (Step : S → ℕ → S → Type 0) where
   -- the front is that of the events before a place, all of which may follow
@@ -286,7 +286,7 @@ module _ {S : Type 0} (Step : S → ℕ → S → Type 0) where
     numbered = numbered_none;
     counts = sym begun_none;
     most = omega arith;
-    to = λ place event less at. absurd (omega (arith, less));
+    to = λ index event less at. absurd (omega (arith, less));
   }
 
   pub agrees_same : (events : List Event) → Agrees Step Step events

@@ -9,19 +9,19 @@ chain_of set = set % 1021
 
 -- the chain of the configuration at a place
 abbrev pub chain_at : {S : Type 0} → List (Config S) → Config S → ℕ → ℕ
-chain_at configs d place = chain_of (get_or configs place d).waiting
+chain_at configs d index = chain_of (get_or configs index d).waiting
 
 -- Places below the length of `before` are in chains. The head of a chain is above each of its
 -- places, and one above the last of them. The number of a place is above each earlier place of its
 -- chain, and one above the last of these.
 pub record AreLinked (chain : ℕ → ℕ) (heads before : List ℕ) : Type 0 where
-  pub reached : (place : ℕ) → place < length before → place < get_or heads (chain place) 0
-  pub head : (number place : ℕ) → get_or heads number 0 ≡ place + 1
-      → (place < length before) × (chain place ≡ number)
-  pub kept : (place at : ℕ) → place < at → at < length before → chain place ≡ chain at
-      → place < get_or before at 0
-  pub link : (at place : ℕ) → at < length before → get_or before at 0 ≡ place + 1
-      → (place < at) × (chain place ≡ chain at)
+  pub reached : (index : ℕ) → index < length before → index < get_or heads (chain index) 0
+  pub head : (number index : ℕ) → get_or heads number 0 ≡ index + 1
+      → (index < length before) × (chain index ≡ number)
+  pub kept : (index at : ℕ) → index < at → at < length before → chain index ≡ chain at
+      → index < get_or before at 0
+  pub link : (at index : ℕ) → at < length before → get_or before at 0 ≡ index + 1
+      → (index < at) × (chain index ≡ chain at)
 
 -- the first configurations are in chains
 abbrev pub AreChained : {S : Type 0} → List (Config S) → List ℕ → List ℕ → Type 0
@@ -32,5 +32,5 @@ AreChained {S} configs heads before =
 -- the configurations between two places are others than this one
 abbrev pub AreOther : {S : Type 0} → List (Config S) → ℕ → ℕ → Config S → Type 0
 AreOther {S} configs from end config =
-    (place : ℕ) (d : Config S) → from ≤ place → place < end
-    → ¬ (IsSame (get_or configs place d) config)
+    (index : ℕ) (d : Config S) → from ≤ index → index < end
+    → ¬ (IsSame (get_or configs index d) config)

@@ -75,18 +75,18 @@ IsOpened slot config opened =
 abbrev pub AreOpened : {S : Type 0} → ℕ → List (Config S) → List (Config S) → Type 0
 AreOpened {S} slot configs opened =
     (length opened ≡ length configs)
-    × ((place : ℕ) (d : Config S) → place < length opened
-    → IsOpened slot (get_or configs place d) (get_or opened place d))
+    × ((index : ℕ) (d : Config S) → index < length opened
+    → IsOpened slot (get_or configs index d) (get_or opened index d))
 
 -- the call in this slot waits in none of the configurations
 abbrev pub WaitsInNone : {S : Type 0} → ℕ → List (Config S) → Type 0
 WaitsInNone {S} slot configs =
-    (place : ℕ) (d : Config S) → place < length configs
-    → bit_at (get_or configs place d).waiting slot ≡ 0
+    (index : ℕ) (d : Config S) → index < length configs
+    → bit_at (get_or configs index d).waiting slot ≡ 0
 
 -- the same value at each place
 abbrev pub AreSame : {S : Type 0} → List (Config S) → List (Config S) → Type 0
-AreSame {S} configs same = (place : ℕ) (d : Config S) → get_or same place d ≡ get_or configs place d
+AreSame {S} configs same = (index : ℕ) (d : Config S) → get_or same index d ≡ get_or configs index d
 
 -- calls that can be made and change nothing were made
 pub record IsSettled {S : Type 0} (Step : S → ℕ → S → Type 0) (slots : List (Option ℕ))
@@ -102,8 +102,8 @@ abbrev pub AreSettledEach : {S : Type 0} → (S → ℕ → S → Type 0) → Li
     → List (Config S) → List (Config S) → Type 0
 AreSettledEach {S} Step slots configs settled =
     (length settled ≡ length configs)
-    × ((place : ℕ) (d : Config S) → place < length settled
-    → IsSettled Step slots (get_or configs place d) (spot_of (get_or settled place d)))
+    × ((index : ℕ) (d : Config S) → index < length settled
+    → IsSettled Step slots (get_or configs index d) (spot_of (get_or settled index d)))
 
 -- each is settled from a configuration, each configuration has one, and each is there once
 pub record AreSettled {S : Type 0} (Step : S → ℕ → S → Type 0) (slots : List (Option ℕ))
@@ -278,17 +278,17 @@ pub record AreLaid {S : Type 0} (links more : List Link) (configs laid : List (C
   where
     pub grows : Grows links more
     pub as_many : length laid ≡ length configs
-    pub each : (place : ℕ) (d : Config S) → place < length laid
-        → IsLaid links more (get_or configs place d) (get_or laid place d)
+    pub each : (index : ℕ) (d : Config S) → index < length laid
+        → IsLaid links more (get_or configs index d) (get_or laid index d)
 
 -- the same configurations, each at its place, with orders of no calls
 abbrev pub AreUnlinked : {S : Type 0} → List (Config S) → List (Config S) → Type 0
 AreUnlinked {S} configs unlinked =
     (length unlinked ≡ length configs)
-    × ((place : ℕ) (d : Config S) → place < length unlinked
-    → ((get_or unlinked place d).state ≡ (get_or configs place d).state)
-    × ((get_or unlinked place d).waiting ≡ (get_or configs place d).waiting)
-    × (path_of (get_or unlinked place d) ≡ no_path))
+    × ((index : ℕ) (d : Config S) → index < length unlinked
+    → ((get_or unlinked index d).state ≡ (get_or configs index d).state)
+    × ((get_or unlinked index d).waiting ≡ (get_or configs index d).waiting)
+    × (path_of (get_or unlinked index d) ≡ no_path))
 
 -- more configurations than are followed, each there once, to which calls that waited lead
 abbrev pub HasMany : {S : Type 0} → (S → ℕ → S → Type 0) → List (Option ℕ) → List (Config S) →

@@ -29,19 +29,19 @@ begun (Crash call ∷ events) = begun events
 
 -- the event stands at this place
 abbrev pub StandsAt : List Event → ℕ → Event → Type 0
-StandsAt events place event = slice_get events place ≡ Some event
+StandsAt events index event = slice_get events index ≡ Some event
 
 -- the call was answered
 abbrev pub IsAnswered : List Event → ℕ → Type 0
-IsAnswered events call = (place : ℕ) × StandsAt events place (End call)
+IsAnswered events call = (index : ℕ) × StandsAt events index (End call)
 
 -- the call is over from this place on: it was answered, or its caller crashed
 abbrev pub EndsAt : List Event → ℕ → ℕ → Type 0
-EndsAt events place call =
-    StandsAt events place (End call) ⊎ StandsAt events place (Crash call)
+EndsAt events index call =
+    StandsAt events index (End call) ⊎ StandsAt events index (Crash call)
 
 abbrev pub HasEnded : List Event → ℕ → Type 0
-HasEnded events call = (place : ℕ) × EndsAt events place call
+HasEnded events call = (index : ℕ) × EndsAt events index call
 
 -- the call is open: it has begun, and has not ended
 abbrev pub IsOpen : List Event → ℕ → Type 0
@@ -89,5 +89,5 @@ IsNext events event = (call : ℕ) → event ≡ Begin call → call ≡ begun e
 -- each event may follow those before it
 abbrev pub IsHistory : List Event → Type 0
 IsHistory events =
-    (place : ℕ) (event : Event) → StandsAt events place event
-    → MayFollow (take place events) event
+    (index : ℕ) (event : Event) → StandsAt events index event
+    → MayFollow (take index events) event

@@ -10,11 +10,11 @@ use Rattle.histories.specs.Verdicts.{IsVerdict}
 -- A history that is explained is not refused, and it is refused at one place.
 abbrev pub VerdictsExclude : {S : Type 0} → (S → ℕ → S → Type 0) → Type 0
 VerdictsExclude {S} Step =
-    (olds : List S) (events : List Event) (front : Front S) (place other : ℕ) → IsHistory events
+    (olds : List S) (events : List Event) (front : Front S) (index other : ℕ) → IsHistory events
     → (IsVerdict Step olds events (verdict.Explained front)
-    → IsVerdict Step olds events (verdict.Refused place) → ⊥)
-    × (IsVerdict Step olds events (verdict.Refused place)
-    → IsVerdict Step olds events (verdict.Refused other) → place ≡ other)
+    → IsVerdict Step olds events (verdict.Refused index) → ⊥)
+    × (IsVerdict Step olds events (verdict.Refused index)
+    → IsVerdict Step olds events (verdict.Refused other) → index ≡ other)
 
 -- so many calls, each of which ends before the next one begins
 unfoldable pub calls_alone : ℕ → List Event

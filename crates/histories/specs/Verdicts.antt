@@ -16,15 +16,15 @@ abbrev pub IsVerdict : {S : Type 0} → (S → ℕ → S → Type 0) → List S 
     → Type 0
 IsVerdict Step olds events (verdict.Explained front) =
     IsFrontOf Step front events olds × (0 < length front.configs.items) × IsHistory events
-IsVerdict Step olds events (verdict.Refused place) =
-    (place < length events) × IsExplained Step (take place events) olds
-    × (¬ (IsExplained Step (take (place + 1) events) olds))
+IsVerdict Step olds events (verdict.Refused index) =
+    (index < length events) × IsExplained Step (take index events) olds
+    × (¬ (IsExplained Step (take (index + 1) events) olds))
     × (IsHistory events → ¬ (IsExplained Step events olds))
-IsVerdict Step olds events (verdict.ManyConfigs place) =
-    (place < length events)
-    × (HasManyOrders Step (take place events) olds
-    ⊎ HasManyOrders Step (take (place + 1) events) olds)
-IsVerdict Step olds events (verdict.ManyOpen place) =
-    (place < length events) × HasManyOpen (take (place + 1) events)
-IsVerdict Step olds events (verdict.NoHistory place) =
-    (event : Event) × StandsAt events place event × (¬ (MayFollow (take place events) event))
+IsVerdict Step olds events (verdict.ManyConfigs index) =
+    (index < length events)
+    × (HasManyOrders Step (take index events) olds
+    ⊎ HasManyOrders Step (take (index + 1) events) olds)
+IsVerdict Step olds events (verdict.ManyOpen index) =
+    (index < length events) × HasManyOpen (take (index + 1) events)
+IsVerdict Step olds events (verdict.NoHistory index) =
+    (event : Event) × StandsAt events index event × (¬ (MayFollow (take index events) event))

@@ -72,10 +72,10 @@ fn link<S>(
     ensures all { length heads.new ≡ 1021 }
     ensures one { OnOk result (length before.new.items ≡ length before.old.items + 1) }
 {
-    let place = before.len();
-    let chain = chain_of(configs[place].waiting);
+    let index = before.len();
+    let chain = chain_of(configs[index].waiting);
     before.push(heads[chain])?;
-    heads[chain] = place + 1;
+    heads[chain] = index + 1;
     Ok(())
 }
 

@@ -25,21 +25,21 @@ has_both status (Some p) (Ok d) some none = some
 has_both status None (Ok d) some none = none
 has_both status p (Err e) some none = tt
 
-pub window_drawn : (log report : List ℕ) (told : Refusal) (p : Option (String Global))
-    (r : Result Drawing AllocError) → report ≡ report_text (Refused told)
-    → IfSome p (λ p. ShowsWindow log report told (string_bytes p))
-    → IfNone p (HasManyIn (IsWindow log told)) → IfOk r (Has Faulty p)
-    → IfOk r (Draws log (Refused told))
-window_drawn log report told (Some p) (Ok d) e shows many has =
-    let by_report : ShowsWindow log (report_text (Refused told)) told (string_bytes p) =
-    subst (λ (l : List ℕ). ShowsWindow log l told (string_bytes p)) e shows in
+pub window_drawn : (log report : List ℕ) (reported : Refusal) (p : Option (String Global))
+    (r : Result Drawing AllocError) → report ≡ report_text (Refused reported)
+    → IfSome p (λ p. ShowsWindow log report reported (string_bytes p))
+    → IfNone p (HasManyIn (IsWindow log reported)) → IfOk r (Has Faulty p)
+    → IfOk r (Draws log (Refused reported))
+window_drawn log report reported (Some p) (Ok d) e shows many has =
+    let by_report : ShowsWindow log (report_text (Refused reported)) reported (string_bytes p) =
+    subst (λ (l : List ℕ). ShowsWindow log l reported (string_bytes p)) e shows in
     inr (
       has.0,
-      subst (λ (l : List ℕ). ShowsWindow log (report_text (Refused told)) told l)
+      subst (λ (l : List ℕ). ShowsWindow log (report_text (Refused reported)) reported l)
           (sym has.1) by_report,
     )
-window_drawn log report told None (Ok d) e shows many has = inl (has, many)
-window_drawn log report told p (Err x) e shows many has = tt
+window_drawn log report reported None (Ok d) e shows many has = inl (has, many)
+window_drawn log report reported p (Err x) e shows many has = tt
 
 pub whole_drawn : (log report : List ℕ) (n m : ℕ) (p : Option (String Global))
     (r : Result Drawing AllocError) → report ≡ report_text (Conforms n m)
@@ -87,7 +87,7 @@ drawn_where_written (Some log) (Err why) (Ok status) a b e f draws is out err =
 drawn_where_written (Some log) (Ok d) (Ok status) a b e f draws is out err = λ small. record {
   d = d;
   is = draws d refl;
-  told = is;
+  reported = is;
   output = out;
   errors = err;
 }

@@ -12,7 +12,7 @@ use Rattle.history_logs.proofs.Answered.{placed_of}
 use Rattle.history_logs.proofs.Kept.{few_step, kept_new, kept_step}
 use Rattle.history_logs.specs.Good.{IsKept}
 use Rattle.history_logs.specs.Logs.{HasGood, Judged, calls_in}
-use Rattle.history_logs.specs.Placed.{IsLineAt, IsPlaced, IsSaidIn}
+use Rattle.history_logs.specs.EventLines.{IsLineAt, HasEventLines, IsSaidIn}
 use Rattle.history_logs.specs.Reading.{HasRead, Log}
 use Rattle.history_logs.specs.Reading.HasRead.{nothing as none_read, note as note_read, line as line_read}
 use Rattle.history_logs.specs.Seen.{Service}
@@ -79,12 +79,12 @@ alone text count log read = record {
 
 -- so the events of the services stand in lines of them
 placed_in : (text : List ℕ) (count : ℕ) (log : Log) → HasRead text count log
-    → {s : Service} → Contains log.services s → All (IsPlaced text) log.services
+    → {s : Service} → Contains log.services s → All (HasEventLines text) log.services
 placed_in text count log read has =
     let r = read_on text count log read in
     let few : calls_in log ≤ length text = omega (arith, r.few, r.short) in
     let some : 0 < length log.services = omega (arith, has.1) in
-    elim (none_or_some log.waits) as (λ _. All (IsPlaced text) log.services) [
+    elim (none_or_some log.waits) as (λ _. All (HasEventLines text) log.services) [
       | inl none ↦
           placed_of text log.services None (record {
             count = count;
@@ -131,39 +131,40 @@ take_few (suc n) [] = omega arith
 take_few (suc n) (x ∷ xs) = omega (arith, take_few n xs)
 
 -- the window of a refused reply begins no later than with its line, which is one of the log
-pub window_in : (bytes : List ℕ) (told : Refusal) → Judged bytes (Refused told)
-    → (told.window ≤ told.line) × (told.line ≤ length bytes)
+pub window_in : (bytes : List ℕ) (reported : Refusal) → Judged bytes (Refused reported)
+    → (reported.window ≤ reported.line) × (reported.line ≤ length bytes)
 unfolding Judged
-window_in bytes told (count, log, rest, good, refusal) =
+window_in bytes reported (count, log, rest, good, refusal) =
     let s = refusal.s in
-    let places = s.places in
-    let place = refusal.place in
+    let event_lines = s.event_lines in
+    let index = refusal.index in
     let w = refusal.is_window in
-    let placed : IsPlaced good.text s =
-    All-contains (IsPlaced good.text) log.services s
+    let placed : HasEventLines good.text s =
+    All-contains (HasEventLines good.text) log.services s
     (placed_in good.text count log good.read refusal.stops.is) refusal.stops.is in
-    let answer = placed.answers place refusal.number told.line refusal.ended refusal.stops.there in
-    let words : words_of answer.0 ≡ Some told.words.items =
+    let answer = placed.answers index refusal.number reported.line refusal.ended
+    refusal.stops.there in
+    let words : words_of answer.0 ≡ Some reported.words.items =
     ap words_of (same_Some _ _ (sym answer.1 ∙ refusal.called)) ∙ refusal.words in
-    let upto : told.line ≤ length good.text =
-    said_in good.text answer.0 told.words.items told.line words answer.2 in
-    let there : get_or places place 0 ≡ told.line =
-    get_or_from_slice_get places place told.line 0 refusal.stops.there in
-    let within : place < length places =
-    slice_get_within places place told.line refusal.stops.there in
-    let size : length (take place s.events) ≡ length w.past + length w.inside =
+    let upto : reported.line ≤ length good.text =
+    said_in good.text answer.0 reported.words.items reported.line words answer.2 in
+    let there : get_or event_lines index 0 ≡ reported.line =
+    get_or_from_slice_get event_lines index reported.line 0 refusal.stops.there in
+    let within : index < length event_lines =
+    slice_get_within event_lines index reported.line refusal.stops.there in
+    let size : length (take index s.events) ≡ length w.past + length w.inside =
     ap (length {A = Event}) w.split ∙ length-append w.past w.inside in
-    let early : refusal.window.begin ≤ place =
-    omega (arith, w.begins, size, take_few place s.events) in
-    let opens : get_or places refusal.window.begin 0 ≡ told.window =
-    get_or_from_slice_get places refusal.window.begin told.window 0 refusal.begins in
-    let rises : get_or places refusal.window.begin 0 ≤ get_or places place 0 =
-    elim (cases_lt refusal.window.begin place)
-    as (λ _. get_or places refusal.window.begin 0 ≤ get_or places place 0) [
-      | inl before ↦ placed.rising refusal.window.begin place 0 before within
+    let early : refusal.window.begin ≤ index =
+    omega (arith, w.begins, size, take_few index s.events) in
+    let opens : get_or event_lines refusal.window.begin 0 ≡ reported.window =
+    get_or_from_slice_get event_lines refusal.window.begin reported.window 0 refusal.begins in
+    let rises : get_or event_lines refusal.window.begin 0 ≤ get_or event_lines index 0 =
+    elim (cases_lt refusal.window.begin index)
+    as (λ _. get_or event_lines refusal.window.begin 0 ≤ get_or event_lines index 0) [
+      | inl before ↦ placed.rising refusal.window.begin index 0 before within
       | inr late ↦
-          let same : refusal.window.begin ≡ place = omega (arith, early, late) in
-          subst (λ (k : ℕ). get_or places refusal.window.begin 0 ≤ get_or places k 0) same
+          let same : refusal.window.begin ≡ index = omega (arith, early, late) in
+          subst (λ (k : ℕ). get_or event_lines refusal.window.begin 0 ≤ get_or event_lines k 0) same
           (omega arith)
     ] in
     let long : length bytes ≡ length good.text + length rest =

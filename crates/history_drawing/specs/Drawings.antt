@@ -41,13 +41,13 @@ IsPicture report t picture =
     × (picture ≡ svg_text t (text_at notes 1) (drop 2 notes))
 
 -- of the lines of the log, this is the window of a refused reply, with the calls on its service
-pub record IsWindow (log : List ℕ) (told : Refusal) (lines : List (Bor (List ℕ))) (w : Window)
+pub record IsWindow (log : List ℕ) (reported : Refusal) (lines : List (Bor (List ℕ))) (w : Window)
     : Type 0 where
   pub are : AreLines log lines
-  pub first : w.first ≡ told.window
-  pub last : w.last ≡ told.line + 1
+  pub first : w.first ≡ reported.window
+  pub last : w.last ≡ reported.line + 1
   pub service : IsFirstService lines w.service
-  pub wanted : IsServiceOf lines w.first w.last told.line w.service w.wanted
+  pub wanted : IsServiceOf lines w.first w.last reported.line w.service w.wanted
 
 -- of the lines of the log, these are all, with the calls on all services
 pub record IsWhole (log : List ℕ) (lines : List (Bor (List ℕ))) (w : Window) : Type 0 where
@@ -63,14 +63,14 @@ HasManyIn Is =
 
 -- The picture of the window of a refused reply: the wanted calls that begin in its lines, and no
 -- points. The reply is marked.
-pub record ShowsWindow (log report : List ℕ) (told : Refusal) (picture : List ℕ) : Type 0 where
+pub record ShowsWindow (log report : List ℕ) (reported : Refusal) (picture : List ℕ) : Type 0 where
   pub lines : List (Bor (List ℕ))
   pub w : Window
-  pub window : IsWindow log told lines w
+  pub window : IsWindow log reported lines w
   pub t : Timeline
   pub bars : AreBars lines w w.last t.rows.items t.bars.items
   pub points : t.points.items ≡ []
-  pub refused : t.refused ≡ Some told.line
+  pub refused : t.refused ≡ Some reported.line
   pub is : IsPicture report t picture
 
 -- The picture of a log that conforms: the calls on all services that begin in its lines, with the
@@ -93,22 +93,22 @@ pub record ShowsAll (log report picture : List ℕ) : Type 0 where
 pub record IsUndrawn (message : List ℕ) (d : Drawing) : Type 0 where
   pub status : d.status ≡ Unusable
   pub picture : string_bytes d.picture ≡ []
-  pub told : d.message.items ≡ message
+  pub reported : d.message.items ≡ message
 
 -- a picture is drawn, and nothing is reported
 pub record IsDrawn (status : Status) (d : Drawing) : Type 0 where
   pub ended : d.status ≡ status
-  pub told : d.message.items ≡ []
+  pub reported : d.message.items ≡ []
 
 -- what is drawn of a log that is judged so
 abbrev pub Draws : List ℕ → Verdict → Drawing → Type 0
 Draws log (verdict.Conforms n m) d =
     (IsUndrawn MANY_CALLS.now d × HasManyIn (IsWhole log))
     ⊎ (IsDrawn Good d × ShowsAll log (report_text (verdict.Conforms n m)) (string_bytes d.picture))
-Draws log (verdict.Refused told) d =
-    (IsUndrawn MANY_CALLS.now d × HasManyIn (IsWindow log told))
+Draws log (verdict.Refused reported) d =
+    (IsUndrawn MANY_CALLS.now d × HasManyIn (IsWindow log reported))
     ⊎ (IsDrawn Faulty d
-    × ShowsWindow log (report_text (verdict.Refused told)) told (string_bytes d.picture))
+    × ShowsWindow log (report_text (verdict.Refused reported)) reported (string_bytes d.picture))
 Draws log v d = IsUndrawn (report_text v) d
 
 -- the log is judged in one way, and this is drawn of it
@@ -122,6 +122,6 @@ pub record DrawnWith (log : List ℕ) (status : ℕ) (out_old out_new err_old er
     : Type 0 where
   pub d : Drawing
   pub is : IsDrawingOf log d
-  pub told : status ≡ status_number d.status
+  pub reported : status ≡ status_number d.status
   pub output : Appends out_old out_new (string_bytes d.picture)
   pub errors : Appends err_old err_new d.message.items

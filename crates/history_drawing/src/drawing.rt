@@ -117,18 +117,18 @@ fn service_of(
 fn window_of(
     alloc: Global,
     lines: &[&[u8]],
-    told: &Refusal,
+    reported: &Refusal,
     last: usize,
 ) -> Result<Window, AllocError>
-    ensures lines { IfOk result (λ w. (w.first ≡ told.now.window) × (w.last ≡ last)) }
+    ensures lines { IfOk result (λ w. (w.first ≡ reported.now.window) × (w.last ≡ last)) }
     ensures service { IfOk result (λ w. IsFirstService lines.now w.service) }
     ensures wanted { IfOk result (λ w.
-        IsServiceOf lines.now w.first w.last told.now.line w.service w.wanted) }
+        IsServiceOf lines.now w.first w.last reported.now.line w.service w.wanted) }
 {
     let service = first_service(alloc, lines)?;
-    let wanted = service_of(alloc, lines, told.window, last, told.line, service)?;
+    let wanted = service_of(alloc, lines, reported.window, last, reported.line, service)?;
     Ok(Window {
-        first: told.window,
+        first: reported.window,
         last,
         wanted,
         service,
@@ -139,20 +139,20 @@ fn window_of(
 fn draw_refused(
     alloc: Global,
     log: &[u8],
-    told: &Refusal,
+    reported: &Refusal,
     report: &[u8],
 ) -> Result<Option<String>, AllocError>
-    requires order { told.now.window ≤ told.now.line }
-    requires within { told.now.line ≤ length log.now }
+    requires order { reported.now.window ≤ reported.now.line }
+    requires within { reported.now.line ≤ length log.now }
     ensures some { IfOk result (λ found. IfSome found (λ picture.
-        ShowsWindow log.now report.now told.now (string_bytes picture))) }
-    ensures none { IfOk result (λ found. IfNone found (HasManyIn (IsWindow log.now told.now))) }
+        ShowsWindow log.now report.now reported.now (string_bytes picture))) }
+    ensures none { IfOk result (λ found. IfNone found (HasManyIn (IsWindow log.now reported.now))) }
 {
     // For the proof: a line has a number below the greatest one.
     let _fits = log.len();
     let lines = lines_of(alloc, log)?;
-    let window = window_of(alloc, &lines, told, told.line + 1)?;
-    let Some(timeline) = timeline_of(alloc, &lines, &window, Some(told.line))? else {
+    let window = window_of(alloc, &lines, reported, reported.line + 1)?;
+    let Some(timeline) = timeline_of(alloc, &lines, &window, Some(reported.line))? else {
         return Ok(None);
     };
     let picture = picture_of(alloc, &timeline, report)?;
@@ -205,10 +205,10 @@ fn draw(alloc: Global, log: &[u8], verdict: &Verdict, report: &[u8]) -> Result<D
     ensures { IfOk result (Draws log.now verdict.now) }
 {
     match verdict {
-        Verdict::Refused(told) => drawn(
+        Verdict::Refused(reported) => drawn(
             alloc,
             Status::Faulty,
-            draw_refused(alloc, log, told, report)?,
+            draw_refused(alloc, log, reported, report)?,
         ),
         Verdict::Conforms(_, _) => drawn(alloc, Status::Good, draw_whole(alloc, log, report)?),
         Verdict::ManyConfigs(_) => undrawn(alloc, report),

@@ -22,7 +22,7 @@ use Rattle.service_descriptions.specs.declared.replay.lines.service_line.Service
 use Rattle.history_logs.specs.declared.logs.service.LogCall.{LogCall}
 use Rattle.history_logs.specs.declared.logs.verdict.Expected.{Expected}
 use Rattle.history_logs.specs.Good.{IsKept, IsOrderly, IsReadTo}
-use Rattle.history_logs.specs.Placed.{Answers, IsAnsweredIn, IsLineAt, IsPlaced, IsSaidIn}
+use Rattle.history_logs.specs.EventLines.{Answers, IsAnsweredIn, IsLineAt, HasEventLines, IsSaidIn}
 use Rattle.history_logs.specs.Reading.{Dies, GoesOn, HasRead, Log, Says}
 use Rattle.history_logs.specs.Reading.HasRead.{nothing as none_read, note as note_read, line as line_read}
 use Rattle.history_logs.specs.declared.logs.callers.CallerState.{CallerState}
@@ -33,12 +33,12 @@ use Rattle.history_logs.specs.Seen.{Begins, Service, called, calls_answered, cal
 
 -- so it is above a line: the events stand in these lines, and replies where their calls end,
 -- whatever follows
-pub record PlacedTo (text : List ℕ) (count : ℕ) (s : Service) : Type 0 where
-  pub long : length s.places ≡ length s.events
-  pub rising : AllPairs (λ (one other : ℕ). one ≤ other) s.places
-  pub upto : All (λ p. p ≤ count) s.places
-  pub answers : (place number k : ℕ) → StandsAt s.events place (End number)
-      → slice_get s.places place ≡ Some k → (rest : List ℕ)
+pub record HasEventLinesTo (text : List ℕ) (count : ℕ) (s : Service) : Type 0 where
+  pub long : length s.event_lines ≡ length s.events
+  pub rising : AllPairs (λ (one other : ℕ). one ≤ other) s.event_lines
+  pub upto : All (λ p. p ≤ count) s.event_lines
+  pub answers : (index number k : ℕ) → StandsAt s.events index (End number)
+      → slice_get s.event_lines index ≡ Some k → (rest : List ℕ)
       → IsAnsweredIn (text ++ rest) s number k
 
 get_back : {X : Type 0} (xs : List X) (y : X) (i : ℕ) (x : X) → i < length xs
@@ -141,65 +141,66 @@ both_long (p ∷ ps) k [] e h = absurd (omega (arith, h))
 both_long (p ∷ ps) k (x ∷ es) e h = ap suc (both_long ps k es e (omega (arith, h)))
 
 pub placed_new : (text : List ℕ) (count : ℕ) (line : ServiceLine)
-    → PlacedTo text count (unseen line)
+    → HasEventLinesTo text count (unseen line)
 placed_new text count line = record {
   long = refl;
   rising = λ i j d h lt. absurd (omega (arith, lt));
   upto = All-nil (λ p. p ≤ count);
-  answers = λ place number k at is rest. absurd (cc);
+  answers = λ index number k at is rest. absurd (cc);
 }
 
-module _ (text : List ℕ) (count : ℕ) (s : Service) (p : PlacedTo text count s) where
+module _ (text : List ℕ) (count : ℕ) (s : Service) (p : HasEventLinesTo text count s) where
   -- more lines follow
-  pub placed_on : (more : List ℕ) (k : ℕ) → count ≤ k → PlacedTo (text ++ more) k s
+  pub placed_on : (more : List ℕ) (k : ℕ) → count ≤ k → HasEventLinesTo (text ++ more) k s
   placed_on more k h = record {
     long = p.long;
     rising = p.rising;
     upto = λ i d lt. omega (arith, h, p.upto i d lt);
-    answers = λ place number line at is rest.
+    answers = λ index number line at is rest.
         subst (λ (l : List ℕ). IsAnsweredIn l s number line) (sym (append_assoc text more rest))
-        (p.answers place number line at is (more ++ rest));
+        (p.answers index number line at is (more ++ rest));
   }
 
   module _ (k : ℕ) (h : count ≤ k) where
     -- a call begins in this line
-    placed_part : (c : LogCall) → PlacedTo text k (with_part s c k)
+    placed_part : (c : LogCall) → HasEventLinesTo text k (with_part s c k)
     placed_part c = record {
-      long = both_long s.places k s.events (Begin (length s.calls)) p.long;
-      rising = push_rising s.places count k p.rising p.upto h;
-      upto = push_upto s.places count k p.upto h;
-      answers = λ place number line at is rest.
-          elim (stands_cases s.events (Begin (length s.calls)) place (End number) at)
+      long = both_long s.event_lines k s.events (Begin (length s.calls)) p.long;
+      rising = push_rising s.event_lines count k p.rising p.upto h;
+      upto = push_upto s.event_lines count k p.upto h;
+      answers = λ index number line at is rest.
+          elim (stands_cases s.events (Begin (length s.calls)) index (End number) at)
           as (λ _. IsAnsweredIn (text ++ rest) (with_part s c k) number line) [
             | inl before ↦
-                let lt : place < length s.places =
-                omega (arith, p.long, stands_within s.events place (End number) before) in
-                let a = p.answers place number line before
-                (get_back s.places k place line lt is) rest in
+                let lt : index < length s.event_lines =
+                omega (arith, p.long, stands_within s.events index (End number) before) in
+                let a = p.answers index number line before
+                (get_back s.event_lines k index line lt is) rest in
                 (a.0, get_on s.calls c.seen number a.0 a.1, a.2)
             | inr last ↦ let no_end = last.1 in absurd (cc)
           ];
     }
 
-    pub placed_begin : (c : LogCall) → PlacedTo text k (with_begin s c k)
+    pub placed_begin : (c : LogCall) → HasEventLinesTo text k (with_begin s c k)
     placed_begin c =
         let p = placed_part c in
         record { long = p.long; rising = p.rising; upto = p.upto; answers = p.answers }
 
     -- what starts to look is over
     placed_over : (over : ℕ) (part : Part) (ids : Option (List ℕ))
-        → slice_get s.calls over ≡ Some (starts part ids) → PlacedTo text k (with_over s over k)
+        → slice_get s.calls over ≡ Some (starts part ids) → HasEventLinesTo text k (with_over s
+        over k)
     placed_over over part ids called = record {
-      long = both_long s.places k s.events (End over) p.long;
-      rising = push_rising s.places count k p.rising p.upto h;
-      upto = push_upto s.places count k p.upto h;
-      answers = λ place number line at is rest.
-          elim (stands_cases s.events (End over) place (End number) at)
+      long = both_long s.event_lines k s.events (End over) p.long;
+      rising = push_rising s.event_lines count k p.rising p.upto h;
+      upto = push_upto s.event_lines count k p.upto h;
+      answers = λ index number line at is rest.
+          elim (stands_cases s.events (End over) index (End number) at)
           as (λ _. IsAnsweredIn (text ++ rest) (with_over s over k) number line) [
             | inl before ↦
-                let lt : place < length s.places =
-                omega (arith, p.long, stands_within s.events place (End number) before) in
-                p.answers place number line before (get_back s.places k place line lt is) rest
+                let lt : index < length s.event_lines =
+                omega (arith, p.long, stands_within s.events index (End number) before) in
+                p.answers index number line before (get_back s.event_lines k index line lt is) rest
             | inr last ↦
                 let same : over ≡ number = over_is over number last.1 in (
                   starts part ids,
@@ -213,18 +214,18 @@ module _ (text : List ℕ) (count : ℕ) (s : Service) (p : PlacedTo text count 
         over_is a b e = cc
 
     -- the caller of a call died
-    pub placed_crash : (dead : ℕ) → PlacedTo text k (with_crash s dead k)
+    pub placed_crash : (dead : ℕ) → HasEventLinesTo text k (with_crash s dead k)
     placed_crash dead = record {
-      long = both_long s.places k s.events (Crash dead) p.long;
-      rising = push_rising s.places count k p.rising p.upto h;
-      upto = push_upto s.places count k p.upto h;
-      answers = λ place number line at is rest.
-          elim (stands_cases s.events (Crash dead) place (End number) at)
+      long = both_long s.event_lines k s.events (Crash dead) p.long;
+      rising = push_rising s.event_lines count k p.rising p.upto h;
+      upto = push_upto s.event_lines count k p.upto h;
+      answers = λ index number line at is rest.
+          elim (stands_cases s.events (Crash dead) index (End number) at)
           as (λ _. IsAnsweredIn (text ++ rest) (with_crash s dead k) number line) [
             | inl before ↦
-                let lt : place < length s.places =
-                omega (arith, p.long, stands_within s.events place (End number) before) in
-                p.answers place number line before (get_back s.places k place line lt is) rest
+                let lt : index < length s.event_lines =
+                omega (arith, p.long, stands_within s.events index (End number) before) in
+                p.answers index number line before (get_back s.event_lines k index line lt is) rest
             | inr last ↦ let no_end = last.1 in absurd (cc)
           ];
     }
@@ -233,22 +234,22 @@ module _ (text : List ℕ) (count : ℕ) (s : Service) (p : PlacedTo text count 
     pub placed_end : (ended : ℕ) (r : SeenReply) (c : Judged) (l : Line) (words : List ℕ)
         → IsOpen s.events ended → slice_get s.calls ended ≡ Some c → Says words r → IsLine l
         → Answers l words → ((rest : List ℕ) → IsLineAt (text ++ rest) k (line_text l))
-        → PlacedTo text k (with_end s ended r k)
+        → HasEventLinesTo text k (with_end s ended r k)
     placed_end ended r c l words live called says is_line answer there = record {
-      long = both_long s.places k s.events (End ended) p.long;
-      rising = push_rising s.places count k p.rising p.upto h;
-      upto = push_upto s.places count k p.upto h;
-      answers = λ place number line at is rest.
-          elim (stands_cases s.events (End ended) place (End number) at)
+      long = both_long s.event_lines k s.events (End ended) p.long;
+      rising = push_rising s.event_lines count k p.rising p.upto h;
+      upto = push_upto s.event_lines count k p.upto h;
+      answers = λ index number line at is rest.
+          elim (stands_cases s.events (End ended) index (End number) at)
           as (λ _. IsAnsweredIn (text ++ rest) (with_end s ended r k) number line) [
             | inl before ↦
-                let lt : place < length s.places =
-                omega (arith, p.long, stands_within s.events place (End number) before) in
+                let lt : index < length s.event_lines =
+                omega (arith, p.long, stands_within s.events index (End number) before) in
                 let other : number ≢ ended =
                 λ same. live.1
-                (place, inl (subst (λ n. StandsAt s.events place (End n)) same before)) in
-                let a = p.answers place number line before
-                (get_back s.places k place line lt is) rest in
+                (index, inl (subst (λ n. StandsAt s.events index (End n)) same before)) in
+                let a = p.answers index number line before
+                (get_back s.event_lines k index line lt is) rest in
                 let sh = stands_shown s.calls (start_of s.calls ended) number a.0 r a.1 in (
                   sh.now,
                   get_unchanged (λ x. judged_answered x r)
@@ -259,7 +260,7 @@ module _ (text : List ℕ) (count : ℕ) (s : Service) (p : PlacedTo text count 
             | inr last ↦
                 let same : ended ≡ number = end_is ended number last.1 in
                 let here : k ≡ line =
-                get_last s.places k place line (last.0 ∙ sym p.long) is in
+                get_last s.event_lines k index line (last.0 ∙ sym p.long) is in
                 let sh = stands_shown s.calls (start_of s.calls ended) ended c r called in (
                   judged_answered sh.now r,
                   subst
@@ -322,10 +323,10 @@ line_there text count first none cut rest =
 
 module _ (text : List ℕ) (count : ℕ) where
   abbrev Now : Service → Type 0
-  Now = PlacedTo text count
+  Now = HasEventLinesTo text count
 
   abbrev Next : Service → Type 0
-  Next = PlacedTo text (count + 1)
+  Next = HasEventLinesTo text (count + 1)
 
   later : (s : Service) → Now s → Next s
   later s p = record {
@@ -394,9 +395,9 @@ module _ (text : List ℕ) (count : ℕ) where
       let s = g.2 in
       let k = count + 1 in
       let orderly = all_at IsOrderly old.services g.0 s kept.orderly g.5 in
-      let begun : PlacedTo text k (with_begin s g.1 k) =
+      let begun : HasEventLinesTo text k (with_begin s g.1 k) =
       placed_begin text count s (all_at Now old.services g.0 s all g.5) k (omega arith) g.1 in
-      let ended : PlacedTo text k (with_end (with_begin s g.1 k) (length s.calls) g.3 k) =
+      let ended : HasEventLinesTo text k (with_end (with_begin s g.1 k) (length s.calls) g.3 k) =
       placed_end text k (with_begin s g.1 k) begun k (omega arith) (length s.calls) g.3 g.1.seen
       (reply words) words (open_new s g.1 k orderly) (get_end s.calls g.1.seen) g.6 tt refl there in
       set_next old.services new.services g.0 _ all ended
@@ -434,7 +435,7 @@ module _ (text : List ℕ) (count : ℕ) where
 record ReadOn (text : List ℕ) (count : ℕ) (log : Log) : Type 0 where
   kept : IsKept log
   cut : FollowsOn text count
-  placed : All (PlacedTo text count) log.services
+  placed : All (HasEventLinesTo text count) log.services
 
 read_on : (text : List ℕ) (count : ℕ) (log : Log) → HasRead text count log → ReadOn text count log
 read_on text count log (none_read l services callers waits) = record {
@@ -442,15 +443,16 @@ read_on text count log (none_read l services callers waits) = record {
   cut = λ rest line k at.
       let same : suc k ≡ 0 + suc k = omega arith in
       subst (λ n. IsLineAt rest n line) same at;
-  placed = subst (λ (ss : List Service). All (PlacedTo [] 0) ss) (sym services)
-      (All-nil (PlacedTo [] 0));
+  placed = subst (λ (ss : List Service). All (HasEventLinesTo [] 0) ss) (sym services)
+      (All-nil (HasEventLinesTo [] 0));
 }
 read_on text count log (note_read before n l read first none is) =
     let r = read_on before n l read in
     record {
       kept = r.kept;
       cut = follows_on before n first none r.cut;
-      placed = All-weaker (PlacedTo before n) (PlacedTo (before ++ (first ++ 10 ∷ [])) (n + 1))
+      placed = All-weaker (HasEventLinesTo before n) (HasEventLinesTo (before ++ (first ++ 10 ∷
+          [])) (n + 1))
           (λ s p. placed_on before n s p (first ++ 10 ∷ []) (n + 1) (omega arith)) log.services
           r.placed;
     }
@@ -461,21 +463,21 @@ read_on text count log (line_read before n old read l is none new g) =
       kept = kept_step old log (n + 1) l r.kept g;
       cut = follows_on before n (line_text l) none r.cut;
       placed = placed_step (before ++ more) n old log l r.kept
-          (All-weaker (PlacedTo before n) (PlacedTo (before ++ more) n)
+          (All-weaker (HasEventLinesTo before n) (HasEventLinesTo (before ++ more) n)
           (λ s p. placed_on before n s p more n (omega arith)) old.services r.placed)
           g is (line_there before n (line_text l) none r.cut);
     }
 
 pub placed_of : (bytes : List ℕ) (services : List Service) (bad : Option (ℕ × Expected))
-    → IsReadTo bytes services bad → All (IsPlaced bytes) services
+    → IsReadTo bytes services bad → All (HasEventLines bytes) services
 placed_of bytes services bad r =
     let g = r.good in
     let on = read_on g.text r.count r.log g.read in
-    subst (λ (ss : List Service). All (IsPlaced bytes) ss) r.same
-    (All-weaker (PlacedTo g.text r.count) (IsPlaced bytes)
+    subst (λ (ss : List Service). All (HasEventLines bytes) ss) r.same
+    (All-weaker (HasEventLinesTo g.text r.count) (HasEventLines bytes)
     (λ s p. record {
       rising = p.rising;
-      answers = λ place number k at is.
+      answers = λ index number k at is.
           subst (λ (b : List ℕ). IsAnsweredIn b s number k) (sym g.spelled)
-          (p.answers place number k at is r.rest);
+          (p.answers index number k at is r.rest);
     }) r.log.services on.placed)

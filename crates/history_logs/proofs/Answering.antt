@@ -49,17 +49,17 @@ module _ (first : ℕ) (calls : List Judged) (number start : ℕ) (c : Judged) (
         ap (λ (o : Option ℕ). calls_shown_from first calls o r)
         (sym (start_at calls number c h is ∙ some))
 
-    pub shown_past : (place : ℕ) → place ≡ start - first → length calls ≤ place
+    pub shown_past : (index : ℕ) → index ≡ start - first → length calls ≤ index
         → calls ≡ calls_shown_from first calls (start_of calls number) r
-    shown_past place same past =
-        sym (changed_past (λ x. shown x r) calls place past)
+    shown_past index same past =
+        sym (changed_past (λ x. shown x r) calls index past)
         ∙ (ap (λ n. changed (λ x. shown x r) calls n) same ∙ shown_at)
 
-    pub shown_set : (place : ℕ) → place ≡ start - first → (d n : Judged)
-        → d ≡ get_or calls place d → n ≡ shown d r
-        → set calls place n ≡ calls_shown_from first calls (start_of calls number) r
-    shown_set place same d n at new =
-        changed_at (λ x. shown x r) calls place d n at new
+    pub shown_set : (index : ℕ) → index ≡ start - first → (d n : Judged)
+        → d ≡ get_or calls index d → n ≡ shown d r
+        → set calls index n ≡ calls_shown_from first calls (start_of calls number) r
+    shown_set index same d n at new =
+        changed_at (λ x. shown x r) calls index d n at new
         ∙ (ap (λ n. changed (λ x. shown x r) calls n) same ∙ shown_at)
 
     pub stops_kept : ((from : ℕ) → start_of calls number ≡ Some from → first ≤ from)
@@ -122,17 +122,17 @@ module _ (first : ℕ) (calls : List Judged) (number : ℕ) (r : SeenReply) (kep
         changed_over (λ x. shown x r) first forgotten calls from (starts from refl)
 
     pub answered_over : ((start : ℕ) → start_of all number ≡ Some start → first ≤ start)
-        → (told : List Judged)
-        → told ≡ calls_shown_from first calls (start_of calls (number - first)) r
-        → (c n : Judged) → c ≡ get_or told (number - first) c → n ≡ judged_answered c r
-        → replicate first forgotten ++ set told (number - first) n ≡ calls_answered all number r
-    answered_over starts told tells c n is new =
+        → (reported : List Judged)
+        → reported ≡ calls_shown_from first calls (start_of calls (number - first)) r
+        → (c n : Judged) → c ≡ get_or reported (number - first) c → n ≡ judged_answered c r
+        → replicate first forgotten ++ set reported (number - first) n ≡ calls_answered all number r
+    answered_over starts reported tells c n is new =
         let at = number - first in
         let begun = start_over first forgotten calls number kept in
         let answer : Judged → Judged = λ x. judged_answered x r in
         ap (λ (l : List Judged). replicate first forgotten ++ l)
-        (changed_at answer told at c n is new)
-        ∙ (sym (changed_over answer first forgotten told number kept)
+        (changed_at answer reported at c n is new)
+        ∙ (sym (changed_over answer first forgotten reported number kept)
         ∙ ap (λ (l : List Judged). changed answer l number)
         (ap (λ (l : List Judged). replicate first forgotten ++ l) tells
         ∙ (sym (shown_over (start_of calls at) (starts_kept starts))
@@ -143,7 +143,7 @@ pub end_is : (s : Service) (number line : ℕ) (r : SeenReply) (calls : List Jud
     (given : Option Handle) (es : List Event) (ps : List ℕ) → number < length s.adds
     → calls ≡ calls_answered s.calls number r
     → adds ≡ get_or s.adds number adds → given ≡ given_in s adds r
-    → es ≡ s.events ++ End number ∷ [] → ps ≡ s.places ++ line ∷ []
+    → es ≡ s.events ++ End number ∷ [] → ps ≡ s.event_lines ++ line ∷ []
     → (made : Service) → made ≡ record {
       line = s.line;
       start = s.start;
@@ -154,7 +154,7 @@ pub end_is : (s : Service) (number line : ℕ) (r : SeenReply) (calls : List Jud
       begins = s.begins;
       commands = s.commands;
       events = es;
-      places = ps;
+      event_lines = ps;
     } → made ≡ with_end s number r line
 end_is s number line r calls adds given es ps within a role gives e f made same =
     let b : given ≡ given_in s (get_or s.adds number None) r =
@@ -179,15 +179,16 @@ pub forget_is : (old s : Service) (begun : ℕ) (calls : List Judged) (first fol
     → s ≡ old → s.first ≡ begun → s.calls ≡ replicate begun forgotten ++ calls
     → old.first ≤ first → (kept : List Judged) → kept ≡ drop (first - begun) calls
     → (events : List Event) → events ≡ drop followed s.events
-    → (begins : List ℕ) → begins ≡ [] → (places : List ℕ) → places ≡ []
+    → (begins : List ℕ) → begins ≡ [] → (event_lines : List ℕ) → event_lines ≡ []
     → (made : Service) → made ≡ record s {
       first = first;
       calls = replicate first forgotten ++ kept;
       begins = begins;
       events = events;
-      places = places;
+      event_lines = event_lines;
     } → made ≡ forgetting old first followed
-forget_is old s begun calls first followed same from is less kept rest events left begins b places p
+forget_is old s begun calls first followed same from is less kept rest events left begins b
+    event_lines p
     made m =
     let low : begun ≤ first = omega (arith, less, ap (λ (x : Service). x.first) same, from) in
     let at : length (replicate begun forgotten) + (first - begun) ≡ first =

@@ -18,8 +18,8 @@ use Rattle.service_conformance.specs.Looks.{Watched}
 use Rattle.history_logs.specs.declared.logs.verdict.Verdict.{Verdict}
 use Rattle.history_logs.specs.declared.logs.verdict.Verdict.TheVariants.{Conforms, Refused, ManyConfigs, ManyOpen, BadLine}
 use Rattle.history_logs.specs.Good.{IsOrderly}
-use Rattle.history_logs.specs.Placed.{IsPlaced}
-use Rattle.history_logs.specs.Judging.{Explores, IsFirstFound, IsFound, IsFoundOf, IsToldOf, StopsIn, earlier}
+use Rattle.history_logs.specs.EventLines.{HasEventLines}
+use Rattle.history_logs.specs.Judging.{Explores, IsFirstFound, IsFound, IsFoundOf, IsReportOf, StopsIn, earlier}
 use Rattle.history_logs.specs.Logs.{IsRightAbove, IsSeenRightly, StepOf, count_above, news}
 use Rattle.history_logs.specs.Seen.{Service}
 
@@ -32,17 +32,17 @@ kept true p ps = omega arith
 kept false p ps = omega arith
 
 -- where none from a place on is below, no more are below than stand before it
-below_place : (k : ℕ) (ps : List ℕ) (place : ℕ)
-    → ((i v : ℕ) → place ≤ i → slice_get ps i ≡ Some v → k ≤ v) → below k ps ≤ place
-below_place k [] place none = omega arith
-below_place k (p ∷ ps) zero none =
+below_index : (k : ℕ) (ps : List ℕ) (index : ℕ)
+    → ((i v : ℕ) → index ≤ i → slice_get ps i ≡ Some v → k ≤ v) → below k ps ≤ index
+below_index k [] index none = omega arith
+below_index k (p ∷ ps) zero none =
     let not : ltb p k ≡ false = le-ltb p k (none 0 p (omega arith) refl) in
-    rw not (below_place k ps zero (λ i v h at. none (suc i) v (omega arith) at))
-below_place k (p ∷ ps) (suc place) none =
+    rw not (below_index k ps zero (λ i v h at. none (suc i) v (omega arith) at))
+below_index k (p ∷ ps) (suc index) none =
     omega (
       arith,
       kept (ltb p k) p (filter (λ x. ltb x k) ps),
-      below_place k ps place (λ i v h at. none (suc i) v (omega (arith, h)) at),
+      below_index k ps index (λ i v h at. none (suc i) v (omega (arith, h)) at),
     )
 
 below_length : (k : ℕ) (ps : List ℕ) → below k ps ≤ length ps
@@ -64,20 +64,20 @@ below_less j k (p ∷ ps) h =
     cases rest false false e f = rw (e, f) rest
 
 -- of numbers that rise, those from a place on are no less
-no_less : (ps : List ℕ) (place i at v : ℕ) → AllPairs (λ (one other : ℕ). one ≤ other) ps
-    → slice_get ps place ≡ Some at → place ≤ i → slice_get ps i ≡ Some v → at ≤ v
-no_less ps place i at v rising is h there =
-    let a : get_or ps place 0 ≡ at = get_or_from_slice_get ps place at 0 is in
+no_less : (ps : List ℕ) (index i at v : ℕ) → AllPairs (λ (one other : ℕ). one ≤ other) ps
+    → slice_get ps index ≡ Some at → index ≤ i → slice_get ps i ≡ Some v → at ≤ v
+no_less ps index i at v rising is h there =
+    let a : get_or ps index 0 ≡ at = get_or_from_slice_get ps index at 0 is in
     let b : get_or ps i 0 ≡ v = get_or_from_slice_get ps i v 0 there in
-    elim (cases_lt place i) as (λ _. at ≤ v) [
+    elim (cases_lt index i) as (λ _. at ≤ v) [
       | inl before ↦
-          omega (arith, a, b, rising place i 0 before (slice_get_within ps i v there))
+          omega (arith, a, b, rising index i 0 before (slice_get_within ps i v there))
       | inr late ↦
-          let same : place ≡ i = omega (arith, h, late) in
+          let same : index ≡ i = omega (arith, h, late) in
           omega (arith, a, b, ap (λ x. get_or ps x 0) same)
     ]
 
-module _ (bytes : List ℕ) (s : Service) (o : IsOrderly s) (p : IsPlaced bytes s) where
+module _ (bytes : List ℕ) (s : Service) (o : IsOrderly s) (p : HasEventLines bytes s) where
   -- an order explains fewer events, where one explains more
   explained_to : (i j : ℕ) → i ≤ j → j ≤ length s.events
       → IsExplained (StepOf s) (take j s.events) (news s)
@@ -90,7 +90,7 @@ module _ (bytes : List ℕ) (s : Service) (o : IsOrderly s) (p : IsPlaced bytes 
       back i j h = omega (arith, h)
 
   few_above : (k : ℕ) → count_above k s ≤ length s.events
-  few_above k = omega (arith, below_length k s.places, o.all.places)
+  few_above k = omega (arith, below_length k s.event_lines, o.all.event_lines)
 
   right_all : (k : ℕ) → IsSeenRightly s → IsRightAbove k s
   right_all k x =
@@ -100,79 +100,81 @@ module _ (bytes : List ℕ) (s : Service) (o : IsOrderly s) (p : IsPlaced bytes 
 
   right_less : (j k : ℕ) → j ≤ k → IsRightAbove k s → IsRightAbove j s
   right_less j k h x =
-      explained_to (count_above j s) (count_above k s) (below_less j k s.places h) (few_above k) x
+      explained_to (count_above j s) (count_above k s) (below_less j k s.event_lines h) (few_above
+      k) x
 
-  right_stop : (j k place : ℕ) (why : Stop) → j ≤ k → StopsIn s k place why → IsRightAbove j s
-  right_stop j k place why h x =
-      explained_to (count_above j s) place
-      (below_place j s.places place
+  right_stop : (j k index : ℕ) (why : Stop) → j ≤ k → StopsIn s k index why → IsRightAbove j s
+  right_stop j k index why h x =
+      explained_to (count_above j s) index
+      (below_index j s.event_lines index
       (λ i v late there.
-      omega (arith, h, no_less s.places place i k v p.rising x.there late there)))
+      omega (arith, h, no_less s.event_lines index i k v p.rising x.there late there)))
       (omega (arith, x.stops.within)) x.stops.before
 
   right_found : (j k : ℕ) (v : Verdict) → j ≤ k → IsFound s k v → IsRightAbove j s
   right_found j k (Conforms n m) h x = absurd x
-  right_found j k (Refused told) h x = right_stop j k x.place _ h x.stops
+  right_found j k (Refused reported) h x = right_stop j k x.index _ h x.stops
   right_found j k (ManyConfigs line) h x = right_stop j k x.1.0 _ h x.1.1
   right_found j k (ManyOpen line) h x = right_stop j k x.1.0 _ h x.1.1
   right_found j k (BadLine line e) h x = absurd x
 
 module _ (bytes : List ℕ) (ss : List Service) (os : All IsOrderly ss)
-    (ps : All (IsPlaced bytes) ss) (s : Service) (o : IsOrderly s) (p : IsPlaced bytes s) where
-  abbrev pub both : List Service
-  both = ss ++ s ∷ []
+    (ps : All (HasEventLines bytes) ss) (s : Service) (o : IsOrderly s) (p : HasEventLines bytes s)
+  where
+    abbrev pub both : List Service
+    both = ss ++ s ∷ []
 
-  other_first : (first : Option (ℕ × Verdict)) (other : ℕ × Verdict) → IsFirstFound ss first
-      → ((one : ℕ × Verdict) → first ≡ Some one → other.0 < one.0)
-      → IsFound s other.0 other.1 → IsFirstFound both (Some other)
-  other_first None other f h x = (
-    s,
-    Contains-push ss s,
-    x,
-    All-push (IsRightAbove other.0) ss s
-        (λ i d lt. right_all bytes (get_or ss i d) (os i d lt) (ps i d lt) other.0 (f i d lt))
-        (right_found bytes s o p other.0 other.0 other.1 (omega arith) x),
-  )
-  other_first (Some one) other f h x = (
-    s,
-    Contains-push ss s,
-    x,
-    All-push (IsRightAbove other.0) ss s
-        (λ i d lt. right_less bytes (get_or ss i d) (os i d lt) (ps i d lt) other.0 one.0
-        (omega (arith, h one refl)) (f.3 i d lt))
-        (right_found bytes s o p other.0 other.0 other.1 (omega arith) x),
-  )
+    other_first : (first : Option (ℕ × Verdict)) (other : ℕ × Verdict) → IsFirstFound ss first
+        → ((one : ℕ × Verdict) → first ≡ Some one → other.0 < one.0)
+        → IsFound s other.0 other.1 → IsFirstFound both (Some other)
+    other_first None other f h x = (
+      s,
+      Contains-push ss s,
+      x,
+      All-push (IsRightAbove other.0) ss s
+          (λ i d lt. right_all bytes (get_or ss i d) (os i d lt) (ps i d lt) other.0 (f i d lt))
+          (right_found bytes s o p other.0 other.0 other.1 (omega arith) x),
+    )
+    other_first (Some one) other f h x = (
+      s,
+      Contains-push ss s,
+      x,
+      All-push (IsRightAbove other.0) ss s
+          (λ i d lt. right_less bytes (get_or ss i d) (os i d lt) (ps i d lt) other.0 one.0
+          (omega (arith, h one refl)) (f.3 i d lt))
+          (right_found bytes s o p other.0 other.0 other.1 (omega arith) x),
+    )
 
-  one_first : (one : ℕ × Verdict) → IsFirstFound ss (Some one) → IsRightAbove one.0 s
-      → IsFirstFound both (Some one)
-  one_first one f right = (
-    f.0,
-    Contains-append_left ss (s ∷ []) f.0 f.1,
-    f.2,
-    All-push (IsRightAbove one.0) ss s f.3 right,
-  )
+    one_first : (one : ℕ × Verdict) → IsFirstFound ss (Some one) → IsRightAbove one.0 s
+        → IsFirstFound both (Some one)
+    one_first one f right = (
+      f.0,
+      Contains-append_left ss (s ∷ []) f.0 f.1,
+      f.2,
+      All-push (IsRightAbove one.0) ss s f.3 right,
+    )
 
-  pub first_more : (first found : Option (ℕ × Verdict)) → IsFirstFound ss first
-      → IsFoundOf s found → IsFirstFound both (earlier first found)
-  first_more None None f x = All-push IsSeenRightly ss s f x
-  first_more None (Some other) f x = other_first None other f (λ one e. absurd (cc)) x
-  first_more (Some one) None f x = one_first one f (right_all bytes s o p one.0 x)
-  first_more (Some one) (Some other) f x = cases (ltb other.0 one.0) refl
-    where
-      same_one : (a b : ℕ × Verdict) → Some a ≡ Some b → a.0 ≡ b.0
-      same_one a b e = ap (λ p. p.0) (some_is a b e)
-        where
-          some_is : (a b : ℕ × Verdict) → Some a ≡ Some b → a ≡ b
-          some_is a b e = cc
+    pub first_more : (first found : Option (ℕ × Verdict)) → IsFirstFound ss first
+        → IsFoundOf s found → IsFirstFound both (earlier first found)
+    first_more None None f x = All-push IsSeenRightly ss s f x
+    first_more None (Some other) f x = other_first None other f (λ one e. absurd (cc)) x
+    first_more (Some one) None f x = one_first one f (right_all bytes s o p one.0 x)
+    first_more (Some one) (Some other) f x = cases (ltb other.0 one.0) refl
+      where
+        same_one : (a b : ℕ × Verdict) → Some a ≡ Some b → a.0 ≡ b.0
+        same_one a b e = ap (λ p. p.0) (some_is a b e)
+          where
+            some_is : (a b : ℕ × Verdict) → Some a ≡ Some b → a ≡ b
+            some_is a b e = cc
 
-      cases : (t : Bool) → ltb other.0 one.0 ≡ t
-          → IsFirstFound both (if ltb other.0 one.0 then Some other else Some one)
-      cases true e =
-          rw e (other_first (Some one) other f
-          (λ a is. omega (arith, ltb-true other.0 one.0 e, same_one one a is)) x)
-      cases false e =
-          rw e (one_first one f
-          (right_found bytes s o p one.0 other.0 other.1 (ltb-false other.0 one.0 e) x))
+        cases : (t : Bool) → ltb other.0 one.0 ≡ t
+            → IsFirstFound both (if ltb other.0 one.0 then Some other else Some one)
+        cases true e =
+            rw e (other_first (Some one) other f
+            (λ a is. omega (arith, ltb-true other.0 one.0 e, same_one one a is)) x)
+        cases false e =
+            rw e (one_first one f
+            (right_found bytes s o p one.0 other.0 other.1 (ltb-false other.0 one.0 e) x))
 
 -- what holds of all items holds of one
 pub item_of : {X : Type 0} (P : X → Type 0) (xs : List X) (i : ℕ) (d : X) → All P xs
@@ -182,7 +184,7 @@ item_of P xs i d all h is = subst P (sym is) (all i d h)
 -- one service more
 pub first_next : (bytes : List ℕ) (services : List Service) (i : ℕ) (d : Service)
     (first found result : Option (ℕ × Verdict)) → All IsOrderly services
-    → All (IsPlaced bytes) services → i < length services
+    → All (HasEventLines bytes) services → i < length services
     → d ≡ get_or services i d → IsFirstFound (take i services) first → IsFoundOf d found
     → result ≡ earlier first found → IsFirstFound (take (i + 1) services) result
 first_next bytes services i d first found result os ps h is f x same =
@@ -191,8 +193,8 @@ first_next bytes services i d first found result os ps h is f x same =
     subst (λ (l : List Service). IsFirstFound l result) (sym more)
     (subst (λ r. IsFirstFound (take i services ++ d ∷ []) r) (sym same)
     (first_more bytes (take i services) (All-take IsOrderly i services os)
-    (All-take (IsPlaced bytes) i services ps) d (item_of IsOrderly services i d os h is)
-    (item_of (IsPlaced bytes) services i d ps h is) first found f x))
+    (All-take (HasEventLines bytes) i services ps) d (item_of IsOrderly services i d os h is)
+    (item_of (HasEventLines bytes) services i d ps h is) first found f x))
 
 -- all services
 pub first_whole : (services : List Service) (i : ℕ) (first result : Option (ℕ × Verdict))
@@ -227,11 +229,11 @@ whole_of s calls states events v a b e x =
 
 -- what is told by what was found
 pub explored : (s : Service) (c : Cut) (found : WindowVerdict Watched)
-    (told : Result (Window Watched) (ℕ × Verdict))
+    (reported : Result (Window Watched) (ℕ × Verdict))
     → IsVerdict (StepOf s) (news s) s.events found
-    → (c ≡ cut.Never → IsWhole (StepOf s) (news s) s.events found) → IsToldOf s found told
-    → Explores s c told
-explored s c found (Err told) is whole f = f
+    → (c ≡ cut.Never → IsWhole (StepOf s) (news s) s.events found) → IsReportOf s found reported
+    → Explores s c reported
+explored s c found (Err reported) is whole f = f
 explored s c found (Ok window) is whole same =
     let all = subst (λ v. IsVerdict (StepOf s) (news s) s.events v) same is in (
       all.0,
@@ -240,6 +242,6 @@ explored s c found (Ok window) is whole same =
     )
 
 -- a place of an event is one of a line
-pub line_within : (s : Service) (place : ℕ) (why : Stop) → IsOrderly s
-    → IsStop (StepOf s) (news s) s.events place why → place < length s.places
-line_within s place why o x = omega (arith, x.within, o.all.places)
+pub line_within : (s : Service) (index : ℕ) (why : Stop) → IsOrderly s
+    → IsStop (StepOf s) (news s) s.events index why → index < length s.event_lines
+line_within s index why o x = omega (arith, x.within, o.all.event_lines)

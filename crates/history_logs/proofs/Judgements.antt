@@ -15,24 +15,24 @@ use Rattle.history_logs.specs.Seen.{Service}
 some_is : (a b : ℕ) → Some a ≡ Some b → a ≡ b
 some_is a b e = cc
 
-stops_at : (services : List Service) (k line : ℕ) (s : Service) (place : ℕ) (why : Stop)
-    → Contains services s → StopsIn s k place why → line ≡ k → All (IsRightAbove k) services
-    → StopsAt services line s place why
-stops_at services k line s place why has stops same above = record {
+stops_at : (services : List Service) (k line : ℕ) (s : Service) (index : ℕ) (why : Stop)
+    → Contains services s → StopsIn s k index why → line ≡ k → All (IsRightAbove k) services
+    → StopsAt services line s index why
+stops_at services k line s index why has stops same above = record {
   is = has;
   stops = stops.stops;
   there = stops.there ∙ ap Some (sym same);
   above = subst (λ n. All (IsRightAbove n) services) (sym same) above;
 }
 
-refusal_of : (services : List Service) (k : ℕ) (s : Service) (told : Refusal)
-    → Contains services s → IsRefusedIn s k told → All (IsRightAbove k) services
-    → IsRefusal services told
-refusal_of services k s told has r above = record {
+refusal_of : (services : List Service) (k : ℕ) (s : Service) (reported : Refusal)
+    → Contains services s → IsRefusedIn s k reported → All (IsRightAbove k) services
+    → IsRefusal services reported
+refusal_of services k s reported has r above = record {
   s = s;
-  place = r.place;
-  stops = stops_at services k told.line s r.place stop.Refused has r.stops
-      (some_is told.line k (sym r.is_told.ended ∙ r.stops.there)) above;
+  index = r.index;
+  stops = stops_at services k reported.line s r.index stop.Refused has r.stops
+      (some_is reported.line k (sym r.is_reported.ended ∙ r.stops.there)) above;
   number = r.number;
   ended = r.ended;
   call = r.call;
@@ -40,9 +40,9 @@ refusal_of services k s told has r above = record {
   words = r.words;
   window = r.window;
   is_window = r.is_window;
-  begins = r.is_told.opened;
+  begins = r.is_reported.opened;
   needed = r.needed;
-  configurations = r.is_told.configurations;
+  configurations = r.is_reported.configurations;
 }
 
 -- something was found
@@ -50,13 +50,13 @@ pub judged_found : (bytes : List ℕ) (services : List Service) (bad : Option (�
     (v : Verdict) → IsReadTo bytes services bad → AreJudged services (Some v) → Judged bytes v
 unfolding Judged
 judged_found bytes services bad (Conforms n m) r f = absurd f.1.2
-judged_found bytes services bad (Refused told) r f = (
+judged_found bytes services bad (Refused reported) r f = (
   r.count,
   r.log,
   r.rest,
   r.good,
-  subst (λ (ss : List Service). IsRefusal ss told) (sym r.same)
-      (refusal_of services f.0 f.1.0 told f.1.1 f.1.2 f.1.3),
+  subst (λ (ss : List Service). IsRefusal ss reported) (sym r.same)
+      (refusal_of services f.0 f.1.0 reported f.1.1 f.1.2 f.1.3),
 )
 judged_found bytes services bad (ManyConfigs line) r f = (
   r.count,

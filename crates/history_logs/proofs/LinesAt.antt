@@ -7,7 +7,7 @@ use Rattle.log_lines.specs.Laws.{IsAlike}
 use Rattle.log_lines.specs.Lines.{IsLine, Line, line_text}
 use Rattle.log_lines.specs.Lines.Line.{service, call, reply, begin, end, crash, given}
 use Rattle.log_lines.proofs.OneReading.{one_way}
-use Rattle.history_logs.specs.Placed.{Answers, IsLineAt}
+use Rattle.history_logs.specs.EventLines.{Answers, IsLineAt}
 
 -- the line at a number, once the first line is cut
 pub line_after : (bytes text after : List ℕ) (k : ℕ) (line : List ℕ) → HasNo 10 text

@@ -161,12 +161,12 @@ module _ {S : Type 0} (Step : S → ℕ → S → Type 0) (olds : List S) (past 
             (explained_of kept Step n.rest.others window n.states inside)))
       ]
 
-module _ (s : Service) (o : IsOrderly s) (begin place : ℕ) (within : begin ≤ place) where
+module _ (s : Service) (o : IsOrderly s) (begin index : ℕ) (within : begin ≤ index) where
   abbrev upto : List Event
-  upto = take (place + 1) s.events
+  upto = take (index + 1) s.events
 
   pub past_is : take begin upto ≡ take begin s.events
-  past_is = take-take begin (place + 1) s.events (omega (arith, within))
+  past_is = take-take begin (index + 1) s.events (omega (arith, within))
 
   pub parts : take begin upto ++ drop begin upto ≡ upto
   parts = take-append-drop begin upto
@@ -174,12 +174,12 @@ module _ (s : Service) (o : IsOrderly s) (begin place : ℕ) (within : begin ≤
   pub parts_history : IsHistory (take begin upto ++ drop begin upto)
   parts_history =
       subst (λ (l : List Event). IsHistory l) (sym parts)
-      (history_front s.events (place + 1) o.history)
+      (history_front s.events (index + 1) o.history)
 
   pub begin_below : BeginBelow (drop begin upto) (length s.begins)
   begin_below p call at =
       let there = stands_dropped upto begin p (Begin call) at in
-      let whole = stands_taken s.events (place + 1) there.0 (Begin call) there.1 in
+      let whole = stands_taken s.events (index + 1) there.0 (Begin call) there.1 in
       omega (
         arith,
         o.numbered call (begin_counts call s.events there.0 whole),
@@ -187,54 +187,54 @@ module _ (s : Service) (o : IsOrderly s) (begin place : ℕ) (within : begin ≤
         o.all.begins,
       )
 
-  module _ (stops : IsStop (StepOf s) (news s) s.events place stop.Refused) (refused : ℕ)
-      (ended : StandsAt s.events place (End refused)) where
+  module _ (stops : IsStop (StepOf s) (news s) s.events index stop.Refused) (refused : ℕ)
+      (ended : StandsAt s.events index (End refused)) where
     pub parts_refused : ¬ (IsExplained (StepOf s) (take begin upto ++ drop begin upto) (news s))
     parts_refused =
         subst (λ (l : List Event). ¬ (IsExplained (StepOf s) l (news s))) (sym parts) stops.at.1
 
-    window_last : events_from s begin place ≡ drop begin (take place s.events) ++ End refused ∷ []
+    window_last : events_from s begin index ≡ drop begin (take index s.events) ++ End refused ∷ []
     window_last =
-        let there : get_or s.events place (End refused) ≡ End refused =
-        some_event _ _ (sym (slice_get-get_or s.events place (End refused) stops.within) ∙ ended) in
-        let more : upto ≡ take place s.events ++ End refused ∷ [] =
-        one_more s.events place (End refused) stops.within
-        ∙ ap (λ (e : Event). take place s.events ++ e ∷ []) there in
-        let long : length (take place s.events) ≡ place =
-        length-take-le place s.events (omega (arith, stops.within)) in
+        let there : get_or s.events index (End refused) ≡ End refused =
+        some_event _ _ (sym (slice_get-get_or s.events index (End refused) stops.within) ∙ ended) in
+        let more : upto ≡ take index s.events ++ End refused ∷ [] =
+        one_more s.events index (End refused) stops.within
+        ∙ ap (λ (e : Event). take index s.events ++ e ∷ []) there in
+        let long : length (take index s.events) ≡ index =
+        length-take-le index s.events (omega (arith, stops.within)) in
         ap (drop begin) more
-        ∙ drop-append-le begin (take place s.events) (End refused ∷ [])
+        ∙ drop-append-le begin (take index s.events) (End refused ∷ [])
         (omega (arith, within, long))
       where
         some_event : (a b : Event) → Some a ≡ Some b → a ≡ b
         some_event a b e = cc
 
-    before : take begin s.events ++ drop begin (take place s.events) ≡ take place s.events
+    before : take begin s.events ++ drop begin (take index s.events) ≡ take index s.events
     before =
-        ap (λ (l : List Event). l ++ drop begin (take place s.events))
-        (sym (take-take begin place s.events within))
-        ∙ take-append-drop begin (take place s.events)
+        ap (λ (l : List Event). l ++ drop begin (take index s.events))
+        (sym (take-take begin index s.events within))
+        ∙ take-append-drop begin (take index s.events)
 
     -- what is told of the calls that are left
     pub needed_lines : (kept : ℕ → Bool) (past window : List Event) (begins lines : List ℕ)
         → past ≡ take begin upto → window ≡ drop begin upto → begins ≡ s.begins
         → AreNeeded (StepOf s) (news s) past window kept
         → lines ≡ lines_begun begins (events_of kept window)
-        → AreNeededLines s begin place refused lines
+        → AreNeededLines s begin index refused lines
     needed_lines kept past window begins lines p w b needed is =
-        let n : AreNeeded (StepOf s) (news s) (take begin s.events) (events_from s begin place)
+        let n : AreNeeded (StepOf s) (news s) (take begin s.events) (events_from s begin index)
         kept =
-        subst (λ (l : List Event). AreNeeded (StepOf s) (news s) l (events_from s begin place) kept)
+        subst (λ (l : List Event). AreNeeded (StepOf s) (news s) l (events_from s begin index) kept)
         (p ∙ past_is)
         (subst (λ (l : List Event). AreNeeded (StepOf s) (news s) past l kept) w needed) in
-        let history : IsHistory (take begin s.events ++ drop begin (take place s.events)) =
+        let history : IsHistory (take begin s.events ++ drop begin (take index s.events)) =
         subst (λ (l : List Event). IsHistory l) (sym before)
-        (history_front s.events place o.history) in
+        (history_front s.events index o.history) in
         record {
           kept = kept;
           needed = n;
           is_kept = keeps_last (StepOf s) (news s) (take begin s.events)
-              (drop begin (take place s.events)) history refused kept
+              (drop begin (take index s.events)) history refused kept
               (subst (λ (l : List Event). IsExplained (StepOf s) l (news s)) (sym before)
               stops.before)
               (subst (λ (l : List Event).
@@ -247,11 +247,11 @@ module _ (s : Service) (o : IsOrderly s) (begin place : ℕ) (within : begin ≤
   -- the same of what is said to be that
   abbrev window_of : List Event → List Event
   window_of evs =
-      take (length (take (place + 1) evs) - begin) (drop begin (take (place + 1) evs))
+      take (length (take (index + 1) evs) - begin) (drop begin (take (index + 1) evs))
 
-  window_is : (evs : List Event) → window_of evs ≡ drop begin (take (place + 1) evs)
+  window_is : (evs : List Event) → window_of evs ≡ drop begin (take (index + 1) evs)
   window_is evs =
-      let all : List Event = take (place + 1) evs in
+      let all : List Event = take (index + 1) evs in
       take_all (length all - begin) (drop begin all) (omega (arith, length-drop begin all))
 
   pub given_below : (evs : List Event) (begins : List ℕ) → evs ≡ s.events → begins ≡ s.begins
@@ -262,53 +262,53 @@ module _ (s : Service) (o : IsOrderly s) (begin place : ℕ) (within : begin ≤
       (subst (λ (l : List ℕ). BeginBelow (drop begin upto) (length l)) (sym b) begin_below))
 
   pub given_history : (evs : List Event) → evs ≡ s.events
-      → IsHistory (take begin (take (place + 1) evs) ++ window_of evs)
+      → IsHistory (take begin (take (index + 1) evs) ++ window_of evs)
   given_history evs e =
-      subst (λ (l : List Event). IsHistory (take begin (take (place + 1) l) ++ window_of l)) (sym e)
+      subst (λ (l : List Event). IsHistory (take begin (take (index + 1) l) ++ window_of l)) (sym e)
       (subst (λ (l : List Event). IsHistory (take begin upto ++ l)) (sym (window_is s.events))
       parts_history)
 
   module _ (calls : List Judged) (states : List Watched) (evs : List Event)
       (c : calls ≡ s.calls) (n : states ≡ news s) (e : evs ≡ s.events) where
     pub given_cut : HasCut (StepOf s) (news s) (take begin s.events)
-        → HasCut (WindowStep 0 calls) states (take begin (take (place + 1) evs))
+        → HasCut (WindowStep 0 calls) states (take begin (take (index + 1) evs))
     given_cut cut =
         subst
-        (λ (l : List Judged). HasCut (WindowStep 0 l) states (take begin (take (place + 1) evs)))
+        (λ (l : List Judged). HasCut (WindowStep 0 l) states (take begin (take (index + 1) evs)))
         (sym c)
         (subst
-        (λ (l : List Watched). HasCut (StepOf s) l (take begin (take (place + 1) evs)))
+        (λ (l : List Watched). HasCut (StepOf s) l (take begin (take (index + 1) evs)))
         (sym n)
-        (subst (λ (l : List Event). HasCut (StepOf s) (news s) (take begin (take (place + 1) l)))
+        (subst (λ (l : List Event). HasCut (StepOf s) (news s) (take begin (take (index + 1) l)))
         (sym e) (subst (λ (l : List Event). HasCut (StepOf s) (news s) l) (sym past_is) cut)))
 
-    module _ (stops : IsStop (StepOf s) (news s) s.events place stop.Refused) (refused : ℕ)
-        (ended : StandsAt s.events place (End refused)) where
+    module _ (stops : IsStop (StepOf s) (news s) s.events index stop.Refused) (refused : ℕ)
+        (ended : StandsAt s.events index (End refused)) where
       pub given_refused : ¬ (IsExplained (WindowStep 0 calls)
-          (take begin (take (place + 1) evs) ++ window_of evs) states)
+          (take begin (take (index + 1) evs) ++ window_of evs) states)
       given_refused =
           subst (λ (l : List Judged). ¬ (IsExplained (WindowStep 0 l)
-          (take begin (take (place + 1) evs) ++ window_of evs) states)) (sym c)
+          (take begin (take (index + 1) evs) ++ window_of evs) states)) (sym c)
           (subst (λ (l : List Watched). ¬ (IsExplained (StepOf s)
-          (take begin (take (place + 1) evs) ++ window_of evs) l)) (sym n)
+          (take begin (take (index + 1) evs) ++ window_of evs) l)) (sym n)
           (subst (λ (l : List Event). ¬ (IsExplained (StepOf s)
-          (take begin (take (place + 1) l) ++ window_of l) (news s))) (sym e)
+          (take begin (take (index + 1) l) ++ window_of l) (news s))) (sym e)
           (subst (λ (l : List Event). ¬ (IsExplained (StepOf s) (take begin upto ++ l) (news s)))
           (sym (window_is s.events)) (parts_refused stops refused ended))))
 
       pub given_lines : (left_out others : List Bool) (begins lines : List ℕ) → begins ≡ s.begins
           → others ≡ left_out
-          → AreNeeded (WindowStep 0 calls) states (take begin (take (place + 1) evs))
+          → AreNeeded (WindowStep 0 calls) states (take begin (take (index + 1) evs))
           (window_of evs) (is_kept left_out)
           → lines ≡ lines_begun begins (events_of (is_kept others) (window_of evs))
-          → AreNeededLines s begin place refused lines
+          → AreNeededLines s begin index refused lines
       given_lines left_out others begins lines b o needed is =
-          let past : List Event = take begin (take (place + 1) evs) in
+          let past : List Event = take begin (take (index + 1) evs) in
           let window : List Event = window_of evs in
           let kept = is_kept left_out in
           needed_lines stops refused ended kept past window begins lines
-          (ap (λ (l : List Event). take begin (take (place + 1) l)) e)
-          (window_is evs ∙ ap (λ (l : List Event). drop begin (take (place + 1) l)) e) b
+          (ap (λ (l : List Event). take begin (take (index + 1) l)) e)
+          (window_is evs ∙ ap (λ (l : List Event). drop begin (take (index + 1) l)) e) b
           (subst (λ (l : List Watched). AreNeeded (StepOf s) l past window kept) n
           (subst (λ (l : List Judged). AreNeeded (WindowStep 0 l) states past window kept) c
           needed))
@@ -316,16 +316,16 @@ module _ (s : Service) (o : IsOrderly s) (begin place : ℕ) (within : begin ≤
           ∙ ap (λ (l : List Bool). lines_begun begins (events_of (is_kept l) window)) o)
 
 -- the window of a reply that is refused
-module _ (s : Service) (place : ℕ) (w : Window Watched) (within : place < length s.events)
-    (is : IsWindowOf (StepOf s) (news s) (take place s.events) w) where
-  pub begin_within : w.begin ≤ place
+module _ (s : Service) (index : ℕ) (w : Window Watched) (within : index < length s.events)
+    (is : IsWindowOf (StepOf s) (news s) (take index s.events) w) where
+  pub begin_within : w.begin ≤ index
   begin_within =
       omega (
         arith,
         is.begins,
         ap length is.split,
         length-append is.past is.inside,
-        length-take-le place s.events (omega (arith, within)),
+        length-take-le index s.events (omega (arith, within)),
       )
 
   pub begin_cut : HasCut (StepOf s) (news s) (take w.begin s.events)
@@ -333,6 +333,6 @@ module _ (s : Service) (place : ℕ) (w : Window Watched) (within : place < leng
       let past : is.past ≡ take w.begin s.events =
       sym (take-append_seam is.past is.inside)
       ∙ (ap (take (length is.past)) (sym is.split)
-      ∙ (ap (λ n. take n (take place s.events)) (sym is.begins)
-      ∙ take-take w.begin place s.events begin_within)) in
+      ∙ (ap (λ n. take n (take index s.events)) (sym is.begins)
+      ∙ take-take w.begin index s.events begin_within)) in
       (is.states, subst (λ (l : List Event). IsCut (StepOf s) (news s) l is.states) past is.cut)

@@ -17,7 +17,7 @@ use Rattle.history_logs.specs.Good.{IsOrderly, IsReadTo}
 use Rattle.history_logs.specs.Judging.{AreJudged, AreOrdered, IsFirstFound, IsFoundOf, earlier, end_verdict}
 use Rattle.history_logs.specs.Logs.{BeginsAt, HasGood, IsSeenRightly, StepOf, news}
 use Rattle.history_logs.specs.Orders.{HasOrders, IsOrderOf}
-use Rattle.history_logs.specs.Placed.{IsPlaced}
+use Rattle.history_logs.specs.EventLines.{HasEventLines}
 use Rattle.history_logs.specs.Seen.{Service}
 use Rattle.history_logs.proofs.Found.{first_next, first_none}
 use Rattle.history_logs.proofs.Telling.{zip_push}
@@ -52,10 +52,10 @@ module _ (s : Service) (o : IsOrderly s) (window : Window Watched) (calls : List
         o.all.begins,
       )
 
-  pub order_told : (number : ℕ) (lines : List ℕ) (told : Order) → number ≡ s.line.number
-      → AllZip (BeginsAt s.begins) calls lines → told.service ≡ number
-      → told.lines.items ≡ lines → IsOrderOf s told
-  order_told number lines told a begins b same = record {
+  pub order_reported : (number : ℕ) (lines : List ℕ) (reported : Order) → number ≡ s.line.number
+      → AllZip (BeginsAt s.begins) calls lines → reported.service ≡ number
+      → reported.lines.items ≡ lines → IsOrderOf s reported
+  order_reported number lines reported a begins b same = record {
     number = b ∙ a;
     order = calls;
     explains = explains;
@@ -120,7 +120,7 @@ none_of (Some x) P h is = absurd (cc)
 
 pub orders_next : (bytes : List ℕ) (services : List Service) (i : ℕ) (d : Service)
     (first found result : Option (ℕ × Verdict)) (orders more : List Order)
-    → All IsOrderly services → All (IsPlaced bytes) services → i < length services
+    → All IsOrderly services → All (HasEventLines bytes) services → i < length services
     → d ≡ get_or services i d → OrdersTo services i first orders → IsFoundOf d found
     → IfNone found ((order : Order) × IsOrderOf d order × (more ≡ orders ++ order ∷ []))
     → result ≡ earlier first found → OrdersTo services (i + 1) result more
@@ -137,7 +137,7 @@ orders_next bytes services i d first found result orders more os ps h is to f ad
 pub no_orders : (bytes : List ℕ) (services : List Service) (v : Verdict) (orders : List Order)
     → AreJudged services (Some v) → orders ≡ [] → HasOrders bytes v orders
 no_orders bytes services (Conforms n m) orders f none = absurd f.1.2
-no_orders bytes services (Refused told) orders f none = none
+no_orders bytes services (Refused reported) orders f none = none
 no_orders bytes services (ManyConfigs line) orders f none = none
 no_orders bytes services (ManyOpen line) orders f none = none
 no_orders bytes services (BadLine line e) orders f none = none

@@ -28,12 +28,12 @@ both xs ys x y same =
 -- an event that may follow a history makes it one
 pub history_push : (es : List Event) (e : Event) → IsHistory es → MayFollow es e
     → IsHistory (es ++ e ∷ [])
-history_push es e h may place event at =
-    elim (stands_cases es e place event at) as (λ _. MayFollow (take place (es ++ e ∷ [])) event) [
+history_push es e h may index event at =
+    elim (stands_cases es e index event at) as (λ _. MayFollow (take index (es ++ e ∷ [])) event) [
       | inl before ↦
-          let within : place < length es = stands_within es place event before in
+          let within : index < length es = stands_within es index event before in
           subst (λ (l : List Event). MayFollow l event)
-          (sym (take-append-le place es (e ∷ []) (omega (arith, within)))) (h place event before)
+          (sym (take-append-le index es (e ∷ []) (omega (arith, within)))) (h index event before)
       | inr last ↦
           subst (λ k. MayFollow (take k (es ++ e ∷ [])) event) (sym last.0)
           (subst (λ (l : List Event). MayFollow l event) (sym (take-append_seam es (e ∷ [])))
@@ -42,8 +42,8 @@ history_push es e h may place event at =
 
 pub orderly_new : (line : ServiceLine) → IsOrderly (unseen line)
 orderly_new line = record {
-  all = record { whole = refl; adds = refl; given = refl; begins = refl; places = refl };
-  history = λ place event at. absurd (cc);
+  all = record { whole = refl; adds = refl; given = refl; begins = refl; event_lines = refl };
+  history = λ index event at. absurd (cc);
   counts = begun_none;
   sound = sound_none;
   numbered = numbered_none;
@@ -57,7 +57,7 @@ orderly_started s start o = record {
     adds = o.all.adds;
     given = o.all.given;
     begins = o.all.begins;
-    places = o.all.places;
+    event_lines = o.all.event_lines;
   };
   history = o.history;
   counts = o.counts;
@@ -106,7 +106,7 @@ orderly_part s c k o =
         adds = both s.adds s.calls c.adds c.seen o.all.adds;
         given = both s.given s.calls None c.seen o.all.given;
         begins = both s.begins s.calls k c.seen o.all.begins;
-        places = both s.places s.events k (Begin n) o.all.places;
+        event_lines = both s.event_lines s.events k (Begin n) o.all.event_lines;
       };
       history = history_push s.events (Begin n) o.history may;
       counts = omega (arith, more, o.counts, length-append s.calls (c.seen ∷ []));
@@ -123,7 +123,7 @@ orderly_same s commands o = record {
     adds = o.all.adds;
     given = o.all.given;
     begins = o.all.begins;
-    places = o.all.places;
+    event_lines = o.all.event_lines;
   };
   history = o.history;
   counts = o.counts;
@@ -144,7 +144,7 @@ orderly_over s number k o live = record {
     adds = o.all.adds;
     given = o.all.given;
     begins = o.all.begins;
-    places = both s.places s.events k (End number) o.all.places;
+    event_lines = both s.event_lines s.events k (End number) o.all.event_lines;
   };
   history = history_push s.events (End number) o.history live;
   counts = sym (counts_end (begun s.events) number s.events refl) ∙ o.counts;
@@ -163,7 +163,7 @@ orderly_end s number r k o live =
         adds = o.all.adds ∙ answers;
         given = length-set s.given number _ ∙ (o.all.given ∙ answers);
         begins = o.all.begins ∙ answers;
-        places = both s.places s.events k (End number) o.all.places;
+        event_lines = both s.event_lines s.events k (End number) o.all.event_lines;
       };
       history = history_push s.events (End number) o.history live;
       counts = sym (counts_end (begun s.events) number s.events refl) ∙ (o.counts ∙ answers);
@@ -180,7 +180,7 @@ orderly_crash s number k o live = record {
     adds = o.all.adds;
     given = o.all.given;
     begins = o.all.begins;
-    places = both s.places s.events k (Crash number) o.all.places;
+    event_lines = both s.event_lines s.events k (Crash number) o.all.event_lines;
   };
   history = history_push s.events (Crash number) o.history live;
   counts = sym (counts_crash (begun s.events) number s.events refl) ∙ o.counts;

@@ -14,8 +14,8 @@ use Rattle.service_conformance.specs.Judged.{Judged}
 use Rattle.service_conformance.specs.Looks.{Watched}
 use Rattle.history_logs.specs.declared.logs.verdict.Refusal.{Refusal}
 use Rattle.history_logs.specs.Good.{IsOrderly}
-use Rattle.history_logs.specs.Placed.{Answers, HasAnswers, IsLineAt}
-use Rattle.history_logs.specs.Judging.{AreBelow, IsRefusedIn, IsToldAt}
+use Rattle.history_logs.specs.EventLines.{Answers, HasAnswers, IsLineAt}
+use Rattle.history_logs.specs.Judging.{AreBelow, IsRefusedIn, IsReportedAt}
 use Rattle.history_logs.specs.Logs.{AreNeededLines, StepOf, news}
 use Rattle.history_logs.specs.Seen.{Service}
 use Rattle.history_logs.proofs.Starts.{says_of}
@@ -25,15 +25,15 @@ module _ (s : Service) (o : IsOrderly s) where
   begin_within : (number : ℕ) → 0 < begins number s.events → number < length s.calls
   begin_within number h = omega (arith, o.numbered number h, o.counts)
 
-  module _ (place : ℕ) (w : Window Watched) (within : place < length s.events)
-      (is : IsWindowOf (StepOf s) (news s) (take place s.events) w) where
+  module _ (index : ℕ) (w : Window Watched) (within : index < length s.events)
+      (is : IsWindowOf (StepOf s) (news s) (take index s.events) w) where
     pub window_below : AreBelow w.front.slots.items (length s.begins)
     window_below slot number has =
         let live : 0 < begins number is.inside = (is.front.table.each slot number has).0 in
         let whole = begins-append number is.past is.inside in
         let split = ap (begins number) is.split in
-        let all = begins-append number (take place s.events) (drop place s.events) in
-        let same = ap (begins number) (take-append-drop place s.events) in
+        let all = begins-append number (take index s.events) (drop index s.events) in
+        let same = ap (begins number) (take-append-drop index s.events) in
         omega (
           arith,
           begin_within number (omega (arith, live, whole, split, all, same)),
@@ -43,43 +43,44 @@ module _ (s : Service) (o : IsOrderly s) where
     pub window_few : length w.front.slots.items ≤ 64
     window_few = is.front.table.few
 
-    pub place_within : place < length s.places
-    place_within = omega (arith, within, o.all.places)
+    pub index_within : index < length s.event_lines
+    index_within = omega (arith, within, o.all.event_lines)
 
-    pub window_within : w.begin < length s.places
+    pub window_within : w.begin < length s.event_lines
     window_within =
         omega (
           arith,
           is.begins,
           length-append is.past is.inside,
           ap length is.split,
-          length-take-le place s.events (omega (arith, within)),
+          length-take-le index s.events (omega (arith, within)),
           within,
-          o.all.places,
+          o.all.event_lines,
         )
 
     module _ (bytes : List ℕ) (answers : HasAnswers bytes s) (call line : ℕ)
-        (ended : StandsAt s.events place (End call)) (at : slice_get s.places place ≡ Some line)
+        (ended : StandsAt s.events index (End call)) (at : slice_get s.event_lines index ≡ Some
+        line)
       where
         pub call_within : call < length s.calls
         call_within =
-            let a = answers place call line ended at in
+            let a = answers index call line ended at in
             slice_get_within s.calls call a.0 a.1
 
         pub refused_in : (words : List ℕ)
             → ((seen : Line) (said : List ℕ) → IsLine seen → Answers seen said
             → IsLineAt bytes line (line_text seen) → words ≡ said)
-            → IsStop (StepOf s) (news s) s.events place stop.Refused
-            → (lines : List ℕ) → AreNeededLines s w.begin place call lines
-            → (told : Refusal) → told.words.items ≡ words → told.needed.items ≡ lines
-            → ((c : Judged) → slice_get s.calls call ≡ Some c → IsToldAt s place c w told)
-            → IsRefusedIn s told.line told
-        refused_in words said stops lines needed told its them tells =
-            let a = answers place call line ended at in
+            → IsStop (StepOf s) (news s) s.events index stop.Refused
+            → (lines : List ℕ) → AreNeededLines s w.begin index call lines
+            → (reported : Refusal) → reported.words.items ≡ words → reported.needed.items ≡ lines
+            → ((c : Judged) → slice_get s.calls call ≡ Some c → IsReportedAt s index c w reported)
+            → IsRefusedIn s reported.line reported
+        refused_in words said stops lines needed reported its them tells =
+            let a = answers index call line ended at in
             let t = tells a.0 a.1 in
-            let b = says_of bytes s place call line a.0 o stops ended a.1 a.2 in
+            let b = says_of bytes s index call line a.0 o stops ended a.1 a.2 in
             record {
-              place = place;
+              index = index;
               stops = record { stops = stops; there = t.ended };
               number = call;
               ended = ended;
@@ -88,19 +89,19 @@ module _ (s : Service) (o : IsOrderly s) where
               words = b.1 ∙ ap Some (sym (its ∙ said b.2.0 b.0 b.2.1 b.2.2 b.2.3));
               window = w;
               is_window = is;
-              is_told = t;
-              needed = subst (λ (l : List ℕ). AreNeededLines s w.begin place call l) (sym them)
+              is_reported = t;
+              needed = subst (λ (l : List ℕ). AreNeededLines s w.begin index call l) (sym them)
                   needed;
             }
 
 -- an event that ends a call is no other
-pub no_other : (es events : List Event) (place : ℕ) (d : Event) → es ≡ events
-    → (call : ℕ) × StandsAt events place (End call)
-    → ((x : ℕ) × (get_or es place d ≡ Begin x)) ⊎ ((x : ℕ) × (get_or es place d ≡ Crash x)) → ⊥
-no_other es events place d same ended other =
-    let is : get_or es place d ≡ End ended.0 =
-    ap (λ (l : List Event). get_or l place d) same
-    ∙ get_or_from_slice_get events place (End ended.0) d ended.1 in
+pub no_other : (es events : List Event) (index : ℕ) (d : Event) → es ≡ events
+    → (call : ℕ) × StandsAt events index (End call)
+    → ((x : ℕ) × (get_or es index d ≡ Begin x)) ⊎ ((x : ℕ) × (get_or es index d ≡ Crash x)) → ⊥
+no_other es events index d same ended other =
+    let is : get_or es index d ≡ End ended.0 =
+    ap (λ (l : List Event). get_or l index d) same
+    ∙ get_or_from_slice_get events index (End ended.0) d ended.1 in
     elim other as (λ _. ⊥) [
       | inl b ↦ begin_not b.0 ended.0 (sym b.1 ∙ is)
       | inr b ↦ crash_not b.0 ended.0 (sym b.1 ∙ is)
@@ -113,7 +114,7 @@ no_other es events place d same ended other =
     crash_not x y e = absurd (cc)
 
 -- what stands at a place
-pub read_place : (ps qs : List ℕ) (i : ℕ) → qs ≡ ps → i < length ps
+pub read_index : (ps qs : List ℕ) (i : ℕ) → qs ≡ ps → i < length ps
     → slice_get ps i ≡ Some (get_or qs i 0)
-read_place ps qs i same h =
+read_index ps qs i same h =
     slice_get-get_or ps i 0 h ∙ ap (λ (l : List ℕ). Some (get_or l i 0)) (sym same)

@@ -445,7 +445,7 @@ module _ (live s : Service) (front new : Front Watched) (count : ℕ) (o : IsOrd
       calls = replicate first forgotten ++ drop first k.kept.calls;
       begins = [];
       events = drop count k.kept.events;
-      places = [];
+      event_lines = [];
     }
 
     pub short_now : live.first ≤ first → IsShort s (forgetting live first count) (Some new)

@@ -113,7 +113,7 @@ module _ (s : Service) (kept : Kept) (upto : ℕ) (front : Option (Front Watched
               begins = (kept.begins ++ line ∷ []) ++ line ∷ [];
               events = ((kept.events ++ Begin (length kept.calls) ∷ []) ++ End (length s.calls)
                   ∷ []) ++ Begin (length (kept.calls ++ (starting p).seen ∷ [])) ∷ [];
-              places = ((kept.places ++ line ∷ []) ++ line ∷ []) ++ line ∷ [];
+              event_lines = ((kept.event_lines ++ line ∷ []) ++ line ∷ []) ++ line ∷ [];
             })
         look_is p line = rw k.count refl
 
@@ -172,7 +172,7 @@ module _ (s : Service) (kept : Kept) (upto : ℕ) (front : Option (Front Watched
 
 pub short_unseen : (line : ServiceLine) → IsShort (unseen line) (unseen line) None
 short_unseen line = record {
-  kept = record { first = 0; calls = []; begins = []; events = []; places = [] };
+  kept = record { first = 0; calls = []; begins = []; events = []; event_lines = [] };
   upto = 0;
   within = omega arith;
   is = refl;

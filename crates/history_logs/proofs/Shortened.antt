@@ -250,7 +250,7 @@ called_stops s (release r slot ticket) = refl
 abbrev pub with_event : Kept → Event → ℕ → Kept
 with_event kept e line = record kept {
   events = kept.events ++ e ∷ [];
-  places = kept.places ++ line ∷ [];
+  event_lines = kept.event_lines ++ line ∷ [];
 }
 
 -- where calls change that are not settled, the front stays
@@ -296,7 +296,7 @@ module _ (s : Service) (kept : Kept) (upto : ℕ) (front : Option (Front Watched
       calls = kept.calls ++ c.seen ∷ [];
       begins = kept.begins ++ line ∷ [];
       events = kept.events ++ Begin (length kept.calls) ∷ [];
-      places = kept.places ++ line ∷ [];
+      event_lines = kept.event_lines ++ line ∷ [];
     }
 
     part_events : (with_part s c line).events ≡ s.events ++ Begin (length kept.calls) ∷ []
@@ -405,7 +405,7 @@ module _ (s : Service) (kept : Kept) (upto : ℕ) (front : Option (Front Watched
     ended = record kept {
       calls = calls_answered kept.calls number r;
       events = kept.events ++ End number ∷ [];
-      places = kept.places ++ line ∷ [];
+      event_lines = kept.event_lines ++ line ∷ [];
     }
 
     late : (f : Front Watched) (is : IsSettled s kept upto f) → begun is.past ≤ number

@@ -21,7 +21,7 @@ use Rattle.service_conformance.specs.Judged.Judged.{call, starts, stops}
 use Rattle.service_conformance.specs.Looks.{Watched, look_of, looks_after}
 use Rattle.history_logs.specs.Good.{IsOrderly}
 use Rattle.history_logs.specs.Logs.{StepOf, news}
-use Rattle.history_logs.specs.Placed.{Answers, IsLineAt, IsSaidIn}
+use Rattle.history_logs.specs.EventLines.{Answers, IsLineAt, IsSaidIn}
 use Rattle.history_logs.specs.Seen.{Service}
 
 module _ {S : Type 0} (Step : S → ℕ → S → Type 0) (es : List Event) (olds : List S)
@@ -88,21 +88,21 @@ start_leads number p (Some ids) w = (
 )
 
 -- no order is refused where one starts
-never : (s : Service) (place number : ℕ) (p : Part) (reply : Option (List ℕ)) → IsOrderly s
-    → IsStop (StepOf s) (news s) s.events place stop.Refused
-    → StandsAt s.events place (End number)
+never : (s : Service) (index number : ℕ) (p : Part) (reply : Option (List ℕ)) → IsOrderly s
+    → IsStop (StepOf s) (news s) s.events index stop.Refused
+    → StandsAt s.events index (End number)
     → slice_get s.calls number ≡ Some (starts p reply) → ⊥
-never s place number p reply o refused ended called =
-    let es = take place s.events in
+never s index number p reply o refused ended called =
+    let es = take index s.events in
     let x = refused.before in
     let start = start_leads number p reply x.2 in
     let step : StepOf s x.2 number start.0 =
     (starts p reply, (number, omega arith, called), start.1) in
-    let live : IsOpen es number = o.history place (End number) ended in
-    let there : get_or s.events place (End number) ≡ End number =
-    some_event _ _ (sym (slice_get-get_or s.events place (End number) refused.within) ∙ ended) in
-    let more : take (place + 1) s.events ≡ es ++ End number ∷ [] =
-    one_more s.events place (End number) refused.within
+    let live : IsOpen es number = o.history index (End number) ended in
+    let there : get_or s.events index (End number) ≡ End number =
+    some_event _ _ (sym (slice_get-get_or s.events index (End number) refused.within) ∙ ended) in
+    let more : take (index + 1) s.events ≡ es ++ End number ∷ [] =
+    one_more s.events index (End number) refused.within
     ∙ ap (λ (e : Event). es ++ e ∷ []) there in
     refused.at.1
     (subst (λ (l : List Event). IsExplained (StepOf s) l (news s)) (sym more)
@@ -112,13 +112,13 @@ never s place number p reply o refused ended called =
     some_event a b e = cc
 
 -- where a reply is refused, its call has words, and they stand in the line
-pub says_of : (bytes : List ℕ) (s : Service) (place number k : ℕ) (c : Judged) → IsOrderly s
-    → IsStop (StepOf s) (news s) s.events place stop.Refused
-    → StandsAt s.events place (End number) → slice_get s.calls number ≡ Some c
+pub says_of : (bytes : List ℕ) (s : Service) (index number k : ℕ) (c : Judged) → IsOrderly s
+    → IsStop (StepOf s) (news s) s.events index stop.Refused
+    → StandsAt s.events index (End number) → slice_get s.calls number ≡ Some c
     → IsSaidIn bytes c k
     → (words : List ℕ) × (words_of c ≡ Some words)
     × ((l : Line) × IsLine l × Answers l words × IsLineAt bytes k (line_text l))
-says_of bytes s place number k (call c) o refused ended called said = said
-says_of bytes s place number k (starts p reply) o refused ended called said =
-    absurd (never s place number p reply o refused ended called)
-says_of bytes s place number k (stops start reply) o refused ended called said = said
+says_of bytes s index number k (call c) o refused ended called said = said
+says_of bytes s index number k (starts p reply) o refused ended called said =
+    absurd (never s index number p reply o refused ended called)
+says_of bytes s index number k (stops start reply) o refused ended called said = said

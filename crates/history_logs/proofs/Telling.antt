@@ -9,7 +9,7 @@ use Rattle.service_conformance.specs.Judged.{AreJudgedReplies, Judged}
 use Rattle.service_conformance.specs.Looks.{Watched}
 use Rattle.history_logs.specs.declared.logs.verdict.Configuration.{Configuration}
 use Rattle.history_logs.specs.Judging.{AreLines}
-use Rattle.history_logs.specs.Logs.{IsTold}
+use Rattle.history_logs.specs.Logs.{IsReported}
 use Rattle.history_logs.specs.Seen.{Service}
 
 pub zip_push : {A B : Type 0} (R : A → B → Type 0) (xs : List A) (ys : List B) (x : A) (y : B)
@@ -23,18 +23,18 @@ pub zip_none : {A B : Type 0} (R : A → B → Type 0) → AllZip R [] []
 zip_none R = tt
 
 -- what is told of a configuration
-pub told_of : (s : Service) (call : ℕ) (x : Judged) (slots : List (Option ℕ))
-    (config : Config Watched) (told : Configuration) (begins : List ℕ) (calls : List Judged)
+pub reported_of : (s : Service) (call : ℕ) (x : Judged) (slots : List (Option ℕ))
+    (config : Config Watched) (reported : Configuration) (begins : List ℕ) (calls : List Judged)
     → begins ≡ s.begins → calls ≡ s.calls → call < length s.calls → x ≡ get_or calls call x
-    → AreLines begins slots config.waiting told.made.items
-    → AreJudgedReplies config.state x told.possible
-    → told.nodes.items ≡ listed config.state.service.nodes.registry
-    → told.ports.items
+    → AreLines begins slots config.waiting reported.made.items
+    → AreJudgedReplies config.state x reported.possible
+    → reported.nodes.items ≡ listed config.state.service.nodes.registry
+    → reported.ports.items
     ≡ listed config.state.service.ports.first.registry
     ++ listed config.state.service.ports.second.registry
-    → (c : Judged) × (slice_get s.calls call ≡ Some c) × IsTold s c slots config told
-told_of s call x slots config told begins calls b k h is made possible nodes ports =
-    let lines = subst (λ l. AreLines l slots config.waiting told.made.items) b made in (
+    → (c : Judged) × (slice_get s.calls call ≡ Some c) × IsReported s c slots config reported
+reported_of s call x slots config reported begins calls b k h is made possible nodes ports =
+    let lines = subst (λ l. AreLines l slots config.waiting reported.made.items) b made in (
       x,
       slice_get_read s.calls (length s.calls) call x refl h
           (is ∙ ap (λ l. get_or l call x) k),
@@ -48,24 +48,25 @@ told_of s call x slots config told begins calls b k h is made possible nodes por
     )
 
 -- one configuration more
-pub told_more : (s : Service) (call : ℕ) (x : Judged) (slots : List (Option ℕ))
+pub reported_more : (s : Service) (call : ℕ) (x : Judged) (slots : List (Option ℕ))
     (configs : List (Config Watched)) (i : ℕ) (d : Config Watched)
-    (told news : List Configuration) (one : Configuration)
-    → AllZip (IsTold s x slots) (take i configs) told → i < length configs
+    (reported news : List Configuration) (one : Configuration)
+    → AllZip (IsReported s x slots) (take i configs) reported → i < length configs
     → d ≡ get_or configs i d
-    → (c : Judged) × (slice_get s.calls call ≡ Some c) × IsTold s c slots d one
-    → slice_get s.calls call ≡ Some x → news ≡ told ++ one ∷ []
-    → AllZip (IsTold s x slots) (take (i + 1) configs) news
-told_more s call x slots configs i d told news one all h is t at new =
+    → (c : Judged) × (slice_get s.calls call ≡ Some c) × IsReported s c slots d one
+    → slice_get s.calls call ≡ Some x → news ≡ reported ++ one ∷ []
+    → AllZip (IsReported s x slots) (take (i + 1) configs) news
+reported_more s call x slots configs i d reported news one all h is t at new =
     let same : t.0 ≡ x = same_call t.0 x t.1 at in
-    let here : IsTold s x slots d one = subst (λ c. IsTold s c slots d one) same t.2 in
+    let here : IsReported s x slots d one = subst (λ c. IsReported s c slots d one) same t.2 in
     let more : take (i + 1) configs ≡ take i configs ++ d ∷ [] =
     take_more configs i d h
     ∙ ap (λ (e : Config Watched). take i configs ++ e ∷ []) (sym is) in
-    subst (λ (l : List Configuration). AllZip (IsTold s x slots) (take (i + 1) configs) l) (sym new)
+    subst (λ (l : List Configuration). AllZip (IsReported s x slots) (take (i + 1) configs) l) (sym
+    new)
     (subst
-    (λ (l : List (Config Watched)). AllZip (IsTold s x slots) l (told ++ one ∷ []))
-    (sym more) (zip_push (IsTold s x slots) (take i configs) told d one all here))
+    (λ (l : List (Config Watched)). AllZip (IsReported s x slots) l (reported ++ one ∷ []))
+    (sym more) (zip_push (IsReported s x slots) (take i configs) reported d one all here))
   where
     same_call : (a b : Judged) → slice_get s.calls call ≡ Some a → slice_get s.calls call ≡ Some b
         → a ≡ b
@@ -76,8 +77,9 @@ told_more s call x slots configs i d told news one all h is t at new =
 
 -- the same configurations
 pub zip_as : (s : Service) (x : Judged) (slots others : List (Option ℕ))
-    (configs same : List (Config Watched)) (told : List Configuration) → others ≡ slots
-    → same ≡ configs → AllZip (IsTold s x others) same told → AllZip (IsTold s x slots) configs told
-zip_as s x slots others configs same told e f all =
-    subst (λ (l : List (Option ℕ)). AllZip (IsTold s x l) configs told) e
-    (subst (λ (l : List (Config Watched)). AllZip (IsTold s x others) l told) f all)
+    (configs same : List (Config Watched)) (reported : List Configuration) → others ≡ slots
+    → same ≡ configs → AllZip (IsReported s x others) same reported → AllZip (IsReported s x slots)
+    configs reported
+zip_as s x slots others configs same reported e f all =
+    subst (λ (l : List (Option ℕ)). AllZip (IsReported s x l) configs reported) e
+    (subst (λ (l : List (Config Watched)). AllZip (IsReported s x others) l reported) f all)

@@ -21,7 +21,7 @@ use Rattle.history_logs.specs.declared.logs.verdict.Order.{Order}
 use Rattle.history_logs.specs.declared.logs.verdict.Refusal.{Refusal}
 use Rattle.history_logs.specs.declared.logs.verdict.Verdict.{Verdict}
 use Rattle.history_logs.specs.declared.logs.verdict.Verdict.TheVariants as verdict
-use Rattle.history_logs.specs.Logs.{AreNeededLines, IsRightAbove, IsSeenRightly, IsTold, StepOf, news}
+use Rattle.history_logs.specs.Logs.{AreNeededLines, IsRightAbove, IsSeenRightly, IsReported, StepOf, news}
 use Rattle.history_logs.specs.Orders.{IsOrderOf}
 use Rattle.history_logs.specs.Seen.{Service}
 
@@ -56,42 +56,42 @@ pub record AreLines (begins : List ℕ) (slots : List (Option ℕ)) (waiting : �
 -- the calls that begin in the events are some of the first ones, so many
 abbrev pub BeginBelow : List Event → ℕ → Type 0
 BeginBelow events count =
-    (place call : ℕ) → StandsAt events place (Begin call) → call < count
+    (index call : ℕ) → StandsAt events index (Begin call) → call < count
 
 -- what is told of the reply in the event of this place, but for its words and the needed calls
-pub record IsToldAt (s : Service) (place : ℕ) (call : Judged) (window : Window Watched)
-    (told : Refusal) : Type 0 where
-  pub ended : slice_get s.places place ≡ Some told.line
-  pub opened : slice_get s.places window.begin ≡ Some told.window
-  pub configurations : AllZip (IsTold s call window.front.slots.items)
-      window.front.configs.items told.configurations.items
+pub record IsReportedAt (s : Service) (index : ℕ) (call : Judged) (window : Window Watched)
+    (reported : Refusal) : Type 0 where
+  pub ended : slice_get s.event_lines index ≡ Some reported.line
+  pub opened : slice_get s.event_lines window.begin ≡ Some reported.window
+  pub configurations : AllZip (IsReported s call window.front.slots.items)
+      window.front.configs.items reported.configurations.items
 
 -- what is seen of the service stops in this line
-pub record StopsIn (s : Service) (k place : ℕ) (why : Stop) : Type 0 where
-  pub stops : IsStop (StepOf s) (news s) s.events place why
-  pub there : slice_get s.places place ≡ Some k
+pub record StopsIn (s : Service) (k index : ℕ) (why : Stop) : Type 0 where
+  pub stops : IsStop (StepOf s) (news s) s.events index why
+  pub there : slice_get s.event_lines index ≡ Some k
 
 -- a reply in this line is refused, and this is told of it
-pub record IsRefusedIn (s : Service) (k : ℕ) (told : Refusal) : Type 0 where
-  pub place : ℕ
-  pub stops : StopsIn s k place stop.Refused
+pub record IsRefusedIn (s : Service) (k : ℕ) (reported : Refusal) : Type 0 where
+  pub index : ℕ
+  pub stops : StopsIn s k index stop.Refused
   pub number : ℕ
-  pub ended : StandsAt s.events place (End number)
+  pub ended : StandsAt s.events index (End number)
   pub call : Judged
   pub called : slice_get s.calls number ≡ Some call
-  pub words : words_of call ≡ Some told.words.items
+  pub words : words_of call ≡ Some reported.words.items
   pub window : Window Watched
-  pub is_window : IsWindowOf (StepOf s) (news s) (take place s.events) window
-  pub is_told : IsToldAt s place call window told
-  pub needed : AreNeededLines s window.begin place number told.needed.items
+  pub is_window : IsWindowOf (StepOf s) (news s) (take index s.events) window
+  pub is_reported : IsReportedAt s index call window reported
+  pub needed : AreNeededLines s window.begin index number reported.needed.items
 
 -- this is found of the service in this line
 abbrev pub IsFound : Service → ℕ → Verdict → Type 0
-IsFound s k (verdict.Refused told) = IsRefusedIn s k told
+IsFound s k (verdict.Refused reported) = IsRefusedIn s k reported
 IsFound s k (verdict.ManyConfigs line) =
-    (line ≡ k) × ((place : ℕ) × StopsIn s k place stop.ManyConfigs)
+    (line ≡ k) × ((index : ℕ) × StopsIn s k index stop.ManyConfigs)
 IsFound s k (verdict.ManyOpen line) =
-    (line ≡ k) × ((place : ℕ) × StopsIn s k place stop.ManyOpen)
+    (line ≡ k) × ((index : ℕ) × StopsIn s k index stop.ManyOpen)
 IsFound s k _ = ⊥
 
 -- what is found of the service, and its line; none where an order explains all
@@ -101,10 +101,10 @@ IsFoundOf s (Some found) = IsFound s found.0 found.1
 
 -- what is told by what was found of the service: the window that it ends in, where orders explain
 -- all
-abbrev pub IsToldOf : Service → FoundOf Watched → Result (Window Watched)
+abbrev pub IsReportOf : Service → FoundOf Watched → Result (Window Watched)
     (ℕ × Verdict) → Type 0
-IsToldOf s what (Ok window) = what ≡ found.Explained window
-IsToldOf s what (Err told) = IsFound s told.0 told.1
+IsReportOf s what (Ok window) = what ≡ found.Explained window
+IsReportOf s what (Err reported) = IsFound s reported.0 reported.1
 
 -- What was seen of the service is explained, and ends in the window. Where it was never cut, the
 -- configurations of the window are those of all orders that explain it. Else this is found of it.
@@ -112,7 +112,7 @@ abbrev pub Explores : Service → Cut → Result (Window Watched) (ℕ × Verdic
 Explores s where_cut (Ok window) =
     IsSeenRightly s × (0 < length window.front.configs.items)
     × (where_cut ≡ cut.Never → IsFrontOf (StepOf s) window.front s.events (news s))
-Explores s where_cut (Err told) = IsFound s told.0 told.1
+Explores s where_cut (Err reported) = IsFound s reported.0 reported.1
 
 -- what is found of one of the services in the first line; none where orders explain all
 abbrev pub IsFirstFound : List Service → Option (ℕ × Verdict) → Type 0

@@ -5,7 +5,7 @@ pub mod Reading
 pub mod Logs
 pub mod Laws
 pub mod Good
-pub mod Placed
+pub mod EventLines
 pub mod Reports
 pub mod Orders
 pub mod Progress

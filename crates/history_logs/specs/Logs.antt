@@ -59,18 +59,18 @@ IsSeenRightly s = IsExplained (StepOf s) s.events (news s)
 
 -- how many of its events stand above a line
 abbrev pub count_above : ℕ → Service → ℕ
-count_above k s = length (filter (λ place. ltb place k) s.places)
+count_above k s = length (filter (λ index. ltb index k) s.event_lines)
 
 -- the same of what was seen of it above a line
 abbrev pub IsRightAbove : ℕ → Service → Type 0
 IsRightAbove k s = IsExplained (StepOf s) (take (count_above k s) s.events) (news s)
 
 -- what is seen of one of the services stops at this line, and that of each is explained above it
-pub record StopsAt (services : List Service) (k : ℕ) (s : Service) (place : ℕ) (why : Stop)
+pub record StopsAt (services : List Service) (k : ℕ) (s : Service) (index : ℕ) (why : Stop)
     : Type 0 where
   pub is : Contains services s
-  pub stops : IsStop (StepOf s) (news s) s.events place why
-  pub there : slice_get s.places place ≡ Some k
+  pub stops : IsStop (StepOf s) (news s) s.events index why
+  pub there : slice_get s.event_lines index ≡ Some k
   pub above : All (IsRightAbove k) services
 
 -- by the lines in which calls begin, the one of this number begins in this line
@@ -88,15 +88,15 @@ IsMade slots config number =
 
 -- What is told of a configuration in which the call was refused: the lines in which the open calls
 -- begin that were made, the replies that it could have had, and who is there.
-pub record IsTold (s : Service) (call : Call) (slots : List (Option ℕ))
-    (config : Config Watched) (told : Configuration) : Type 0 where
+pub record IsReported (s : Service) (call : Call) (slots : List (Option ℕ))
+    (config : Config Watched) (reported : Configuration) : Type 0 where
   pub made : All (λ k. (number : ℕ) × IsMade slots config number × BeginsIn s number k)
-      told.made.items
+      reported.made.items
   pub each : (number k : ℕ) → IsMade slots config number → BeginsIn s number k
-      → Contains told.made.items k
-  pub possible : AreJudgedReplies config.state call told.possible
-  pub nodes : told.nodes.items ≡ listed config.state.service.nodes.registry
-  pub ports : told.ports.items
+      → Contains reported.made.items k
+  pub possible : AreJudgedReplies config.state call reported.possible
+  pub nodes : reported.nodes.items ≡ listed config.state.service.nodes.registry
+  pub ports : reported.ports.items
       ≡ listed config.state.service.ports.first.registry
       ++ listed config.state.service.ports.second.registry
 
@@ -113,35 +113,35 @@ lines_begun begins events = dedup eqb (flat_map (line_begun begins) events)
 
 -- the events of the service from one place up to another
 abbrev pub events_from : Service → ℕ → ℕ → List Event
-events_from s begin place = drop begin (take (place + 1) s.events)
+events_from s begin index = drop begin (take (index + 1) s.events)
 
 -- The calls that begin in these lines are needed: from the states with which the window begins, no
 -- order explains their events up to the reply of the refused call, which is among them. Each other
 -- call changes nothing, in whatever state it is made.
-pub record AreNeededLines (s : Service) (begin place refused : ℕ) (lines : List ℕ) : Type 0 where
+pub record AreNeededLines (s : Service) (begin index refused : ℕ) (lines : List ℕ) : Type 0 where
   pub kept : ℕ → Bool
-  pub needed : AreNeeded (StepOf s) (news s) (take begin s.events) (events_from s begin place) kept
+  pub needed : AreNeeded (StepOf s) (news s) (take begin s.events) (events_from s begin index) kept
   pub is_kept : kept refused ≡ true
-  pub begin_in : lines ≡ lines_begun s.begins (events_of kept (events_from s begin place))
+  pub begin_in : lines ≡ lines_begun s.begins (events_of kept (events_from s begin index))
 
 -- What is told of a reply that no order explains: its line and its words, the line in which the
 -- window begins, the lines of the calls that are needed, and each configuration that what is above
 -- it leads to.
-pub record IsRefusal (services : List Service) (told : Refusal) : Type 0 where
+pub record IsRefusal (services : List Service) (reported : Refusal) : Type 0 where
   pub s : Service
-  pub place : ℕ
-  pub stops : StopsAt services told.line s place stop.Refused
+  pub index : ℕ
+  pub stops : StopsAt services reported.line s index stop.Refused
   pub number : ℕ
-  pub ended : StandsAt s.events place (End number)
+  pub ended : StandsAt s.events index (End number)
   pub call : Call
   pub called : slice_get s.calls number ≡ Some call
-  pub words : words_of call ≡ Some told.words.items
+  pub words : words_of call ≡ Some reported.words.items
   pub window : Window Watched
-  pub is_window : IsWindowOf (StepOf s) (news s) (take place s.events) window
-  pub begins : slice_get s.places window.begin ≡ Some told.window
-  pub needed : AreNeededLines s window.begin place number told.needed.items
-  pub configurations : AllZip (IsTold s call window.front.slots.items)
-      window.front.configs.items told.configurations.items
+  pub is_window : IsWindowOf (StepOf s) (news s) (take index s.events) window
+  pub begins : slice_get s.event_lines window.begin ≡ Some reported.window
+  pub needed : AreNeededLines s window.begin index number reported.needed.items
+  pub configurations : AllZip (IsReported s call window.front.slots.items)
+      window.front.configs.items reported.configurations.items
 
 -- where the log ends after its good lines, something is missing
 abbrev pub IsMissing : Log → Expected → Type 0
@@ -200,15 +200,15 @@ unfoldable pub Judged : List ℕ → Verdict → Type 0
 Judged bytes (verdict.Conforms n m) =
     (count : ℕ) × (log : Log) × HasGood bytes count log [] × (log.waits ≡ None)
     × All IsSeenRightly log.services × (n ≡ calls_in log) × (m ≡ length log.services) × (0 < m)
-Judged bytes (verdict.Refused told) =
+Judged bytes (verdict.Refused reported) =
     (count : ℕ) × (log : Log) × (rest : List ℕ) × HasGood bytes count log rest
-    × IsRefusal log.services told
+    × IsRefusal log.services reported
 Judged bytes (verdict.ManyConfigs k) =
     (count : ℕ) × (log : Log) × (rest : List ℕ) × HasGood bytes count log rest
-    × ((s : Service) × (place : ℕ) × StopsAt log.services k s place stop.ManyConfigs)
+    × ((s : Service) × (index : ℕ) × StopsAt log.services k s index stop.ManyConfigs)
 Judged bytes (verdict.ManyOpen k) =
     (count : ℕ) × (log : Log) × (rest : List ℕ) × HasGood bytes count log rest
-    × ((s : Service) × (place : ℕ) × StopsAt log.services k s place stop.ManyOpen)
+    × ((s : Service) × (index : ℕ) × StopsAt log.services k s index stop.ManyOpen)
 Judged bytes (verdict.BadLine k e) =
     (count : ℕ) × (log : Log) × (rest : List ℕ) × HasGood bytes count log rest
     × All IsSeenRightly log.services × IsBad log rest e × (k ≡ count + 1)

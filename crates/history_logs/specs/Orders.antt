@@ -13,11 +13,11 @@ use Rattle.history_logs.specs.Seen.{Service}
 
 -- This is told of an order of the calls on the service that explains all that was seen of it: its
 -- number, and the lines in which the calls begin, one after the other.
-pub record IsOrderOf (s : Service) (told : Order) : Type 0 where
-  pub number : told.service ≡ s.line.number
+pub record IsOrderOf (s : Service) (reported : Order) : Type 0 where
+  pub number : reported.service ≡ s.line.number
   pub order : List ℕ
   pub explains : IsOrder (StepOf s) s.events (news s) order
-  pub begins : AllZip (BeginsIn s) order told.lines.items
+  pub begins : AllZip (BeginsIn s) order reported.lines.items
 
 -- where the log conforms, there is an order for each service, by their lines, and else none
 abbrev pub HasOrders : List ℕ → Verdict → List Order → Type 0
@@ -42,7 +42,7 @@ pub record ReportedWith (with_orders : Bool) (log : List ℕ) (status : ℕ)
     (out_old out_new err_old err_new : Option (List ℕ)) : Type 0 where
   pub end : Verdict
   pub judged : Judged log end
-  pub told : status ≡ status_of end
+  pub reported : status ≡ status_of end
   pub text : List ℕ
   pub is : IsTextOf with_orders log end text
   pub output : Appends out_old out_new (on_output end text)

@@ -60,8 +60,9 @@ attached_text nodes ports =
 
 -- the lines of a configuration
 abbrev pub config_text : Configuration → List ℕ
-config_text told =
-    choice_text told.made.items told.possible ++ attached_text told.nodes.items told.ports.items
+config_text reported =
+    choice_text reported.made.items reported.possible ++ attached_text reported.nodes.items
+    reported.ports.items
 
 -- the line from which a window is open, and the lines of the calls in it that are needed
 unfoldable pub window_text : ℕ → List ℕ → List ℕ
@@ -72,12 +73,12 @@ window_text window needed =
 -- the lines of a reply that no order explains, of the calls that are needed, and of what the calls
 -- before it can have led to
 abbrev pub refusal_text : Refusal → List ℕ
-refusal_text told =
-    (codes "line " ++ decimal told.line)
+refusal_text reported =
+    (codes "line " ++ decimal reported.line)
     ++ (codes ": no order of the calls explains this reply" ++ 10 ∷ codes "seen: ")
-    ++ told.words.items
-    ++ window_text told.window told.needed.items
-    ++ (10 ∷ flat_map config_text told.configurations.items)
+    ++ reported.words.items
+    ++ window_text reported.window reported.needed.items
+    ++ (10 ∷ flat_map config_text reported.configurations.items)
 
 -- what a line should have been
 abbrev pub expected_text : Expected → List ℕ
@@ -108,18 +109,18 @@ conforms_text n m =
     ++ ((codes " calls on " ++ decimal m) ++ (services_text m ++ 10 ∷ []))
 
 -- a line with what is told of it
-abbrev pub line_told : ℕ → List ℕ → List ℕ
-line_told line text = (codes "line " ++ decimal line) ++ text
+abbrev pub line_reported : ℕ → List ℕ → List ℕ
+line_reported line text = (codes "line " ++ decimal line) ++ text
 
 -- the text of a verdict
 abbrev pub report_text : Verdict → List ℕ
 report_text (verdict.Conforms n m) = conforms_text n m
-report_text (verdict.Refused told) = refusal_text told
+report_text (verdict.Refused reported) = refusal_text reported
 report_text (verdict.ManyConfigs k) =
-    line_told k (codes ": orders of the calls lead to more than 4096 configurations" ++ 10 ∷ [])
+    line_reported k (codes ": orders of the calls lead to more than 4096 configurations" ++ 10 ∷ [])
 report_text (verdict.ManyOpen k) =
-    line_told k (codes ": more than 64 calls are open" ++ 10 ∷ [])
-report_text (verdict.BadLine k e) = line_told k (expected_text e)
+    line_reported k (codes ": more than 64 calls are open" ++ 10 ∷ [])
+report_text (verdict.BadLine k e) = line_reported k (expected_text e)
 
 -- a number, in a line
 abbrev pub line_of : ℕ → List ℕ
@@ -127,37 +128,37 @@ line_of number = decimal number ++ 10 ∷ []
 
 -- the lines of an order of the calls on a service
 abbrev pub order_text : Order → List ℕ
-order_text told =
-    (codes "service " ++ decimal told.service) ++ (10 ∷ flat_map line_of told.lines.items)
+order_text reported =
+    (codes "service " ++ decimal reported.service) ++ (10 ∷ flat_map line_of reported.lines.items)
 
 -- what the output gets of the text that reports a verdict: all of it, where it is on the replies
 abbrev pub on_output : Verdict → List ℕ → List ℕ
 on_output (verdict.Conforms n m) text = text
-on_output (verdict.Refused told) text = text
+on_output (verdict.Refused reported) text = text
 on_output _ text = []
 
 -- what the errors get of it: all of it, where it is on what cannot be judged
 abbrev pub on_errors : Verdict → List ℕ → List ℕ
 on_errors (verdict.Conforms n m) text = []
-on_errors (verdict.Refused told) text = []
+on_errors (verdict.Refused reported) text = []
 on_errors _ text = text
 
 -- what the output gets: the report on the replies
 abbrev pub output_text : Verdict → List ℕ
 output_text (verdict.Conforms n m) = conforms_text n m
-output_text (verdict.Refused told) = refusal_text told
+output_text (verdict.Refused reported) = refusal_text reported
 output_text _ = []
 
 -- what the errors get: the report on what cannot be judged
 abbrev pub errors_text : Verdict → List ℕ
 errors_text (verdict.Conforms n m) = []
-errors_text (verdict.Refused told) = []
+errors_text (verdict.Refused reported) = []
 errors_text v = report_text v
 
 -- the status of the program
 abbrev pub status_of : Verdict → ℕ
 status_of (verdict.Conforms n m) = 0
-status_of (verdict.Refused told) = 1
+status_of (verdict.Refused reported) = 1
 status_of (verdict.ManyConfigs k) = 2
 status_of (verdict.ManyOpen k) = 2
 status_of (verdict.BadLine k e) = 2
@@ -167,6 +168,6 @@ pub record Reported (log : List ℕ) (status : ℕ)
     (out_old out_new err_old err_new : Option (List ℕ)) : Type 0 where
   pub end : Verdict
   pub judged : Judged log end
-  pub told : status ≡ status_of end
+  pub reported : status ≡ status_of end
   pub output : Appends out_old out_new (output_text end)
   pub errors : Appends err_old err_new (errors_text end)

@@ -41,7 +41,7 @@ pub record Service : Type 0 where
   pub begins : List ℕ
   pub commands : List ℕ
   pub events : List Event
-  pub places : List ℕ
+  pub event_lines : List ℕ
 
 -- each call has its role, its handle and its line, and each event its line; none is forgotten
 pub record HasAll (s : Service) : Type 0 where
@@ -49,7 +49,7 @@ pub record HasAll (s : Service) : Type 0 where
   pub adds : length s.adds ≡ length s.calls
   pub given : length s.given ≡ length s.calls
   pub begins : length s.begins ≡ length s.calls
-  pub places : length s.places ≡ length s.events
+  pub event_lines : length s.event_lines ≡ length s.events
 
 -- each call has its role and its handle, also one that is forgotten
 pub record HasHandles (s : Service) : Type 0 where
@@ -73,7 +73,7 @@ unseen line = record {
   begins = [];
   commands = [];
   events = [];
-  places = [];
+  event_lines = [];
 }
 
 -- the role of the entry that a command adds
@@ -132,7 +132,7 @@ with_part s c line = record {
   begins = s.begins ++ line ∷ [];
   commands = s.commands;
   events = s.events ++ Begin (length s.calls) ∷ [];
-  places = s.places ++ line ∷ [];
+  event_lines = s.event_lines ++ line ∷ [];
 }
 
 -- a call begins in this line
@@ -144,7 +144,7 @@ with_begin s c line =
 abbrev pub with_over : Service → ℕ → ℕ → Service
 with_over s number line = record s {
   events = s.events ++ End number ∷ [];
-  places = s.places ++ line ∷ [];
+  event_lines = s.event_lines ++ line ∷ [];
 }
 
 -- a weak listing of a part that starts to look, and one that stops, whose replies were not seen
@@ -211,14 +211,14 @@ with_end s number r line = record s {
   calls = calls_answered s.calls number r;
   given = slice_set s.given number (given_in s (get_or s.adds number None) r);
   events = s.events ++ End number ∷ [];
-  places = s.places ++ line ∷ [];
+  event_lines = s.event_lines ++ line ∷ [];
 }
 
 -- the caller of the call of this number died above this line
 abbrev pub with_crash : Service → ℕ → ℕ → Service
 with_crash s number line = record s {
   events = s.events ++ Crash number ∷ [];
-  places = s.places ++ line ∷ [];
+  event_lines = s.event_lines ++ line ∷ [];
 }
 
 -- the service, where the calls below this number are forgotten, so many of the events, and all
@@ -229,7 +229,7 @@ forgetting s first followed = record s {
   calls = replicate first forgotten ++ drop first s.calls;
   begins = [];
   events = drop followed s.events;
-  places = [];
+  event_lines = [];
 }
 
 -- the service, where this is what it is before its first call

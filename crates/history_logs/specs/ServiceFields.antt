@@ -15,5 +15,5 @@ service_of c = record {
   begins = c.begins.items;
   commands = c.commands.items;
   events = c.events.items;
-  places = c.places.items;
+  event_lines = c.event_lines.items;
 }

@@ -18,7 +18,7 @@ pub record Kept : Type 0 where
   pub calls : List Judged
   pub begins : List ℕ
   pub events : List Event
-  pub places : List ℕ
+  pub event_lines : List ℕ
 
 -- the service, of which this is kept
 abbrev pub shortened : Service → Kept → Service
@@ -27,7 +27,7 @@ shortened s kept = record s {
   calls = kept.calls;
   begins = kept.begins;
   events = kept.events;
-  places = kept.places;
+  event_lines = kept.event_lines;
 }
 
 -- The front is that of the first events, whatever replies come later. The calls that begin in them

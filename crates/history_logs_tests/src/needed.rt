@@ -9,7 +9,7 @@ use std::test::Fail;
 /// The lines of the calls that the refusal of the log needs, if it is refused.
 fn needed_in(alloc: Global, log: &str) -> Result<Vec<usize>, AllocError> {
     match check_log(alloc, log.as_bytes())? {
-        Verdict::Refused(told) => Vec::from_slice(alloc, &told.needed),
+        Verdict::Refused(reported) => Vec::from_slice(alloc, &reported.needed),
         _ => Ok(Vec::new(alloc)),
     }
 }

@@ -25,8 +25,12 @@ pub(super) type Row = (&'static str, Said);
 pub(super) fn verdict_on(alloc: Global, log: &[u8]) -> Result<Said, AllocError> {
     Ok(match check_log(alloc, log)? {
         Verdict::Conforms(calls, services) => Said::Conforms(calls, services),
-        Verdict::Refused(told) => {
-            Said::Refused(told.line, told.window, told.configurations.len())
+        Verdict::Refused(reported) => {
+            Said::Refused(
+                reported.line,
+                reported.window,
+                reported.configurations.len(),
+            )
         }
         Verdict::ManyConfigs(line) => Said::ManyConfigs(line),
         Verdict::ManyOpen(line) => Said::ManyOpen(line),

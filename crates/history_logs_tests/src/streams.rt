@@ -165,19 +165,19 @@ fn verdicts(rt: HostRuntime) {
 
 #[test]
 fn streams_that_fail(rt: HostRuntime) {
-    let told = "a stream failed\n";
+    let reported = "a stream failed\n";
     // The log is read in two pieces, and the last read finds its end.
     for call in 0..3 {
-        ends(&rt, GOOD, [Some(call), None, None], (3, "", told));
+        ends(&rt, GOOD, [Some(call), None, None], (3, "", reported));
     }
-    ends(&rt, GOOD, [None, Some(0), None], (3, "", told));
+    ends(&rt, GOOD, [None, Some(0), None], (3, "", reported));
     ends(
         &rt,
         GOOD,
         [None, Some(1), None],
-        (3, "conforms, 1 calls on", told),
+        (3, "conforms, 1 calls on", reported),
     );
-    ends(&rt, GOOD, [None, Some(2), None], (3, CONFORMS, told));
-    ends(&rt, GOOD, [None, None, Some(0)], (3, CONFORMS, told));
-    ends(&rt, "", [None, None, Some(0)], (3, "", told));
+    ends(&rt, GOOD, [None, Some(2), None], (3, CONFORMS, reported));
+    ends(&rt, GOOD, [None, None, Some(0)], (3, CONFORMS, reported));
+    ends(&rt, "", [None, None, Some(0)], (3, "", reported));
 }

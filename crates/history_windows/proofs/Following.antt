@@ -424,11 +424,11 @@ stands_take (x ∷ es) (suc k) (suc p) e at =
 
 -- the first events of a history are one
 pub history_front : (es : List Event) (k : ℕ) → IsHistory es → IsHistory (take k es)
-history_front es k history place event at =
-    let there = stands_take es k place event at in
+history_front es k history index event at =
+    let there = stands_take es k index event at in
     subst (λ (l : List Event). MayFollow l event)
-    (sym (take-take place k es (omega (arith, there.1))))
-    (history place event there.0)
+    (sym (take-take index k es (omega (arith, there.1))))
+    (history index event there.0)
 
 module _ {S : Type 0} (Step : S → ℕ → S → Type 0) (olds : List S) (es : List Event) (k : ℕ) where
   -- where an order explains the first events, none of them is refused

@@ -15,7 +15,7 @@ stands_left (y ∷ es) fs zero x at = at
 stands_left (y ∷ es) fs (suc k) x at = stands_left es fs k x at
 
 stands_right : (es fs : List Event) (k : ℕ) (x : Event) → StandsAt fs k x
-    → (place : ℕ) × StandsAt (es ++ fs) place x
+    → (index : ℕ) × StandsAt (es ++ fs) index x
 stands_right [] fs k x at = (k, at)
 stands_right (y ∷ es) fs k x at = let r = stands_right es fs k x at in (suc r.0, r.1)
 

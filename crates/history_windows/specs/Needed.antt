@@ -70,6 +70,6 @@ AreIdle Step calls = (call : ℕ) → get_or calls call false ≡ true → IsIdl
 -- each call begins once, and one that is open ends
 abbrev pub IsWellFormed : List Event → Type 0
 IsWellFormed events =
-    (place : ℕ) (event : Event) → StandsAt events place event
-    → ((call : ℕ) → event ≡ Begin call → begins call (take place events) ≡ 0)
-    × EndsOpen (take place events) event
+    (index : ℕ) (event : Event) → StandsAt events index event
+    → ((call : ℕ) → event ≡ Begin call → begins call (take index events) ≡ 0)
+    × EndsOpen (take index events) event

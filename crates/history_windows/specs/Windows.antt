@@ -55,18 +55,18 @@ pub record LeadsTooFar {S : Type 0} (Step : S → ℕ → S → Type 0) (olds : 
 -- ManyConfigs: orders that explain the events before it, or those up to it, lead too far.
 -- ManyOpen: more than 64 calls are open.
 abbrev pub IsStopAt : {S : Type 0} → (S → ℕ → S → Type 0) → List S → List Event → ℕ → Stop → Type 0
-IsStopAt Step olds events place stop.Refused =
-    ((call : ℕ) × StandsAt events place (End call))
-    × (¬ (IsExplained Step (take (place + 1) events) olds))
-IsStopAt Step olds events place stop.ManyConfigs =
-    LeadsTooFar Step olds (take place events) ⊎ LeadsTooFar Step olds (take (place + 1) events)
-IsStopAt Step olds events place stop.ManyOpen = HasManyOpen (take (place + 1) events)
+IsStopAt Step olds events index stop.Refused =
+    ((call : ℕ) × StandsAt events index (End call))
+    × (¬ (IsExplained Step (take (index + 1) events) olds))
+IsStopAt Step olds events index stop.ManyConfigs =
+    LeadsTooFar Step olds (take index events) ⊎ LeadsTooFar Step olds (take (index + 1) events)
+IsStopAt Step olds events index stop.ManyOpen = HasManyOpen (take (index + 1) events)
 
 pub record IsStop {S : Type 0} (Step : S → ℕ → S → Type 0) (olds : List S) (events : List Event)
-    (place : ℕ) (why : Stop) : Type 0 where
-  pub within : place < length events
-  pub before : IsExplained Step (take place events) olds
-  pub at : IsStopAt Step olds events place why
+    (index : ℕ) (why : Stop) : Type 0 where
+  pub within : index < length events
+  pub before : IsExplained Step (take index events) olds
+  pub at : IsStopAt Step olds events index why
 
 -- Explained: some order explains the history; with the window that it ends in.
 -- Refused, ManyConfigs, ManyOpen: an order explains the events before this place, and it is refused
@@ -75,12 +75,12 @@ abbrev pub IsVerdict : {S : Type 0} → (S → ℕ → S → Type 0) → List S 
     → Type 0
 IsVerdict Step olds events (verdict.Explained window) =
     IsExplained Step events olds × IsWindowOf Step olds events window
-IsVerdict Step olds events (verdict.Refused place window) =
-    IsStop Step olds events place stop.Refused × IsWindowOf Step olds (take place events) window
-IsVerdict Step olds events (verdict.ManyConfigs place) =
-    IsStop Step olds events place stop.ManyConfigs
-IsVerdict Step olds events (verdict.ManyOpen place) =
-    IsStop Step olds events place stop.ManyOpen
+IsVerdict Step olds events (verdict.Refused index window) =
+    IsStop Step olds events index stop.Refused × IsWindowOf Step olds (take index events) window
+IsVerdict Step olds events (verdict.ManyConfigs index) =
+    IsStop Step olds events index stop.ManyConfigs
+IsVerdict Step olds events (verdict.ManyOpen index) =
+    IsStop Step olds events index stop.ManyOpen
 
 -- where orders explain the history, the configurations of the window are those of all that do: no
 -- call is before the window

@@ -14,16 +14,16 @@ fn refused<M: Machine>(
     machine: &M,
     states: &[M::State],
     events: &[Event],
-    place: usize,
+    index: usize,
 ) -> Result<Verdict<M::State>, AllocError>
     requires some { 0 < length states.now }
     requires history { IsHistory events.now }
-    requires stop { IsStop (M.Step machine.now) states.now events.now place Stop.Refused }
+    requires stop { IsStop (M.Step machine.now) states.now events.now index Stop.Refused }
     ensures verdict { IfOk result (IsVerdict (M.Step machine.now) states.now events.now) }
     ensures whole { IfOk result (IsWhole (M.Step machine.now) states.now events.now) }
 {
-    match follow(alloc, machine, states, &events[..place], Cut::WhereQuiet)? {
-        Ok(window) => Ok(Verdict::Refused(place, window)),
+    match follow(alloc, machine, states, &events[..index], Cut::WhereQuiet)? {
+        Ok(window) => Ok(Verdict::Refused(index, window)),
         Err((_, Stop::Refused)) => unreachable!(),
         Err((at, Stop::ManyConfigs)) => Ok(Verdict::ManyConfigs(at)),
         Err((at, Stop::ManyOpen)) => Ok(Verdict::ManyOpen(at)),

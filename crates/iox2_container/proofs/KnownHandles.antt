@@ -62,9 +62,9 @@ record Goes {T : Type 0} (old new : RegistryState T) (reply : RegistryReply T) :
   pub knows : KnowsGiven new (given_by reply)
 
 module _ {T : Type 0} (old new : ContainerState T) (reply : RegistryReply T) where
-  goes_still : (told : RegistryReply T) → reply ≡ told → new ≡ old
-      → KnowsGiven new.registry (given_by told) → Goes old.registry new.registry reply
-  goes_still told e same k = record {
+  goes_still : (reported : RegistryReply T) → reply ≡ reported → new ≡ old
+      → KnowsGiven new.registry (given_by reported) → Goes old.registry new.registry reply
+  goes_still reported e same k = record {
     grows = grows_same old.registry new.registry (ap (λ c. c.registry) same);
     knows = rw e k;
   }

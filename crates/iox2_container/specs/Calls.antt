@@ -51,11 +51,11 @@ reply_of_remove (Ok state) = Reply.State state
 reply_of_remove (Err e) = Reply.NotOwned
 
 -- a step was taken, and the reply is its result
-pub record Tells {T R : Type 0} (Step : R → Type 0) (told : R → RegistryReply T)
+pub record Tells {T R : Type 0} (Step : R → Type 0) (reported : R → RegistryReply T)
     (reply : RegistryReply T) : Type 0 where
   pub result : R
   pub step : Step result
-  pub reply_is : reply ≡ told result
+  pub reply_is : reply ≡ reported result
 
 -- a removal by the handle that an earlier call gave, if it gave one
 abbrev pub RemoveGiven : {T : Type 0} → ContainerState T → Option Handle → ReleaseMode

@@ -125,13 +125,13 @@ fn tells_its_pattern(
     tests: [bool; 4],
 ) -> Result<(), AllocError> {
     let service = service(alloc, pattern, (1, 1, 1))?;
-    let told = [
+    let reported = [
         service.is_publish_subscribe(),
         service.is_event(),
         service.is_request_response(),
         service.is_blackboard(),
     ];
-    assert_eq!(rt; (service.kind(), told), (pattern, tests));
+    assert_eq!(rt; (service.kind(), reported), (pattern, tests));
     Ok(())
 }
 

@@ -95,10 +95,10 @@ fn lists(rt: &impl Abort, service: &DynamicConfig, at: usize, role: Role, wanted
         let _ = listed.try_push(counter_of(details.port_id().value()));
         CallbackProgression::Continue
     };
-    let told = service.list_ports(role, &mut note);
+    let reported = service.list_ports(role, &mut note);
     let is_there = wanted.is_some();
     assert_eq!(rt;
-        (at, listed.as_slice(), told),
+        (at, listed.as_slice(), reported),
         (at, wanted.unwrap_or(&[]), is_there)
     );
     assert_eq!(rt;

@@ -28,11 +28,11 @@ flipped false e = search rules
 -- the answer is whether nothing was found
 module _ (requirements : List Requirement) (found : Option Setting) (answer : Bool)
     (found_is : found ≡ first_unmet requirements) (answer_is : is_some found ≡ not answer) where
-  told : is_some (first_unmet requirements) ≡ not answer
-  told = ap is_some (sym found_is) ∙ answer_is
+  reported : is_some (first_unmet requirements) ≡ not answer
+  reported = ap is_some (sym found_is) ∙ answer_is
 
   pub met_where_none : IsTrue answer ↔ AreMet requirements
   met_where_none = (
-    λ none. (none_unmet requirements).0 (told ∙ ap not none),
-    λ all. flipped answer (sym told ∙ (none_unmet requirements).1 all),
+    λ none. (none_unmet requirements).0 (reported ∙ ap not none),
+    λ all. flipped answer (sym reported ∙ (none_unmet requirements).1 all),
   )

@@ -63,7 +63,7 @@ fn of_event(rt: HostRuntime) {
         [16, 16, 36, 255]
     );
     assert_eq!(rt;
-        (config.deadline(), told_events(&config)),
+        (config.deadline(), reported_events(&config)),
         (None, [None; 3])
     );
 }
@@ -86,7 +86,7 @@ fn deadline_and_events_are_those_of_the_configuration(rt: HostRuntime) {
         (Some(deadline), Some(value))
     );
     assert_eq!(rt;
-        told_events(&config),
+        reported_events(&config),
         [
             Some(EventId::new(1)),
             Some(EventId::new(2)),
@@ -126,7 +126,7 @@ fn copies_are_equal(rt: HostRuntime) {
 }
 
 /// The events that report a new notifier, one that went, and one whose node died.
-fn told_events(config: &event::StaticConfig) -> [Option<EventId>; 3] {
+fn reported_events(config: &event::StaticConfig) -> [Option<EventId>; 3] {
     [
         config.notifier_created_event(),
         config.notifier_dropped_event(),

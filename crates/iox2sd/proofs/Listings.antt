@@ -8,7 +8,7 @@ use Rattle.iox2_dynamic.specs.PortsState.{side_of}
 use Rattle.iox2_dynamic.specs.Service.{LacksRole, role_at}
 use Rattle.std.proofs.lemmas.List.{append-nil, append_assoc, length-append, length-map}
 use Rattle.std.proofs.Math.Seq.{set-append_seam}
-use Rattle.iox2sd.proofs.Names.{Visits, CallbackProgression, Continue, Stop, ContainerState, Entry, Role, Visit, listed, PortDetails, CountsIn, Service, first_role, second_role, id_of, Puts, PutsAll, ListsAll, NeedsMore, ports_in, ports_of_kind, nodes_in, PortsOf, Id, told_port, Port}
+use Rattle.iox2sd.proofs.Names.{Visits, CallbackProgression, Continue, Stop, ContainerState, Entry, Role, Visit, listed, PortDetails, CountsIn, Service, first_role, second_role, id_of, Puts, PutsAll, ListsAll, NeedsMore, ports_in, ports_of_kind, nodes_in, PortsOf, Id, c_port, Port}
 use Rattle.iox2_container.specs.Mapped.{entry_as, container_as}
 use Rattle.iox2_dynamic.proofs.Rooms.{roles_differ}
 
@@ -47,26 +47,26 @@ module _ {F T A : Type 0} (calls : F → T → CallbackProgression → F → Typ
       (v.0, puts_all (k f) (map item items) (k h) v.1)
 
 shown_as : {T : Type 0} (details : T → PortDetails) (es : List (Entry T))
-    → map (λ x. told_port (details x)) (map (λ e. e.details) es)
-    ≡ map told_port (map (λ e. e.details) (map (entry_as details) es))
+    → map (λ x. c_port (details x)) (map (λ e. e.details) es)
+    ≡ map c_port (map (λ e. e.details) (map (entry_as details) es))
 shown_as details [] = refl
-shown_as details (e ∷ es) = ap (λ l. told_port (details e.details) ∷ l) (shown_as details es)
+shown_as details (e ∷ es) = ap (λ l. c_port (details e.details) ∷ l) (shown_as details es)
 
 -- a listing of the ports of one kind, with the details of their own
 pub kind_put : {F T : Type 0} (details : T → PortDetails)
     (calls : F → T → CallbackProgression → F → Type 0) (k : F → List Port × ℕ) (I : F → Type 0)
     → ((f : F) (x : T) (r : CallbackProgression) (h : F) → I f → calls f x r h → I h
-    × Puts (k f) (told_port (details x)) r (k h))
+    × Puts (k f) (c_port (details x)) r (k h))
     → (ports : ContainerState T) (f h : F) → I f → Visit calls f (listed ports.registry) h
     → I h × PutsAll (ports_in (container_as details ports)) (k f) (k h)
 kind_put details calls k I step ports f h i visit =
     let all =
-    all_put calls k (λ x. told_port (details x)) I step f (listed ports.registry) h i visit in
+    all_put calls k (λ x. c_port (details x)) I step f (listed ports.registry) h i visit in
     (all.0, subst (λ l. PutsAll l (k f) (k h)) (shown_as details ports.registry.entries) all.1)
 
 length_ports : (ports : ContainerState PortDetails)
     → length (ports_in ports) ≡ length ports.registry.entries
-length_ports ports = length-map (listed ports.registry) told_port
+length_ports ports = length-map (listed ports.registry) c_port
     ∙ length-map ports.registry.entries (λ e. e.details)
 
 -- the ports of a role, as many as were counted

@@ -11,4 +11,4 @@ pub use Rattle.iox2sd.specs.Deaths.{Keeps, Went}
 pub use Rattle.iox2sd.specs.Kept.{AreSorted, is_at_most, is_kept, order_at}
 pub use Rattle.iox2sd.specs.declared.values.PortId.{PortId}
 pub use Rattle.iox2sd.specs.Listings.{ListsAll, NeedsMore, PortsOf, Puts, PutsAll, nodes_in, ports_in, ports_of_kind}
-pub use Rattle.iox2sd.specs.Ports.{told_port}
+pub use Rattle.iox2sd.specs.Ports.{c_port}

@@ -4,7 +4,7 @@ use Rattle.std.specs.Prelude.{◌^◌, drop, filter, if◌then◌else◌}
 use Rattle.std.proofs.lemmas.List.{append-nil, append_assoc, length-append, length-map, length-set, map-append}
 use Rattle.std.proofs.lemmas.List.Sums.{count_by-le-length, length-filter}
 use Rattle.std.proofs.Math.Seq.{drop-cons, set-append_seam}
-use Rattle.iox2sd.proofs.Names.{Visits, CallbackProgression, Continue, Stop, ContainerState, asked_about, is_of, listed, Role, node_of, ListsIn, Ports, ports_of_node, Service, first_role, second_role, PortDetails, ListsAll, told_port, Port}
+use Rattle.iox2sd.proofs.Names.{Visits, CallbackProgression, Continue, Stop, ContainerState, asked_about, is_of, listed, Role, node_of, ListsIn, Ports, ports_of_node, Service, first_role, second_role, PortDetails, ListsAll, c_port, Port}
 use Rattle.iox2_container.proofs.ListEdits.{filter-map}
 use Rattle.iox2_dynamic.proofs.Rooms.{roles_differ}
 use Rattle.iox2sd.specs.NodeListings.{Counts, PutsAt, Stand, Notes, NotesAll, NotesOfRole}
@@ -93,7 +93,7 @@ pub ports_noted : {F N M : Type 0} (calls : F → PortDetails → CallbackProgre
     (array : F → N) (counter : F → M) (k : F → List Port × Option ℕ) (node : ℕ) (I : F → Type 0)
     → ((f : F) (x : PortDetails) (r : CallbackProgression) (h : F) → I f → calls f x r h
     → (array h ≡ array f) × (counter h ≡ counter f) × (r ≡ Continue) × I h
-    × Notes (is_of node_of node x) (k f) (told_port x) (k h))
+    × Notes (is_of node_of node x) (k f) (c_port x) (k h))
     → (s : Service) (role : Role) (f : F) (found : Bool) (h : F) → I f
     → ListsIn calls (first_role s.pattern) (second_role s.pattern) s.ports role f found h
     → (array h ≡ array f) × (counter h ≡ counter f) × NotesOfRole s role node (k f) (k h)
@@ -101,30 +101,30 @@ ports_noted calls array counter k node I step s role f false h i shown =
     (ap array shown.1, ap counter shown.1, (λ e. absurd (shown.0.0 e), λ e. absurd (shown.0.1 e)))
 ports_noted calls array counter k node I step s role f true h i (inl shown) =
     let all =
-    visits_note calls array counter k (is_of node_of node) told_port I step f
+    visits_note calls array counter k (is_of node_of node) c_port I step f
     (listed s.ports.first.registry) h i shown.1.visits in
     let its =
-    subst (λ (l : List PortDetails). NotesAll (map told_port l) (k f) (k h))
+    subst (λ (l : List PortDetails). NotesAll (map c_port l) (k f) (k h))
     (filter-map (is_of node_of node) (λ e. e.details) s.ports.first.registry.entries) all.2 in
     (all.0, all.1, (λ e. its, λ e. absurd (roles_differ s.pattern (sym shown.0 ∙ e))))
 ports_noted calls array counter k node I step s role f true h i (inr shown) =
     let all =
-    visits_note calls array counter k (is_of node_of node) told_port I step f
+    visits_note calls array counter k (is_of node_of node) c_port I step f
     (listed s.ports.second.registry) h i shown.1.visits in
     let its =
-    subst (λ (l : List PortDetails). NotesAll (map told_port l) (k f) (k h))
+    subst (λ (l : List PortDetails). NotesAll (map c_port l) (k f) (k h))
     (filter-map (is_of node_of node) (λ e. e.details) s.ports.second.registry.entries) all.2 in
     (all.0, all.1, (λ e. absurd (roles_differ s.pattern (sym e ∙ shown.0)), λ e. its))
 
 -- the ports of both kinds
 pub both_noted : (xs ys : List PortDetails) (before : List Port)
     (between after : List Port × Option ℕ)
-    → NotesAll (map told_port xs) (before, Some 0) between
-    → NotesAll (map told_port ys) between after
-    → Stand before (map told_port (xs ++ ys)) after.0 after.1
+    → NotesAll (map c_port xs) (before, Some 0) between
+    → NotesAll (map c_port ys) between after
+    → Stand before (map c_port (xs ++ ys)) after.0 after.1
 both_noted xs ys before between after first second =
-    subst (λ (l : List Port). Stand before l after.0 after.1) (sym (map-append told_port xs ys))
-    (second before (map told_port xs) (first before [] (refl, refl, λ fits. refl)))
+    subst (λ (l : List Port). Stand before l after.0 after.1) (sym (map-append c_port xs ys))
+    (second before (map c_port xs) (first before [] (refl, refl, λ fits. refl)))
 
 few_of_one : (node : ℕ) (ports : ContainerState PortDetails)
     → length (asked_about (is_of node_of node) ports.registry) ≤ length ports.registry.entries
@@ -139,12 +139,12 @@ few_of_one node ports =
 
 -- a node has no more ports than there are
 pub few_of_node : (node : ℕ) (ports : Ports)
-    → length (map told_port (ports_of_node node ports))
+    → length (map c_port (ports_of_node node ports))
     ≤ length ports.first.registry.entries + length ports.second.registry.entries
 few_of_node node ports =
     omega (
       arith,
-      length-map (ports_of_node node ports) told_port,
+      length-map (ports_of_node node ports) c_port,
       length-append (asked_about (is_of node_of node) ports.first.registry)
           (asked_about (is_of node_of node) ports.second.registry),
       few_of_one node ports.first,
@@ -154,10 +154,10 @@ few_of_node node ports =
 -- where all ports there are fit an array, those of a node stand in it
 pub all_fit : (node : ℕ) (ports : Ports) (before after : List Port) (n : ℕ)
     → length ports.first.registry.entries + length ports.second.registry.entries ≤ length before
-    → Stand before (map told_port (ports_of_node node ports)) after (Some n)
-    → ListsAll (map told_port (ports_of_node node ports)) before n after
+    → Stand before (map c_port (ports_of_node node ports)) after (Some n)
+    → ListsAll (map c_port (ports_of_node node ports)) before n after
 all_fit node ports before after n room s =
-    let fits : length (map told_port (ports_of_node node ports)) ≤ length before =
+    let fits : length (map c_port (ports_of_node node ports)) ≤ length before =
     omega (arith, room, few_of_node node ports) in
     (fits, s.2 fits, s.0)
 
@@ -165,6 +165,6 @@ all_fit node ports before after n room s =
 pub not_too_many : (node : ℕ) (ports : Ports) (before after : List Port)
     → length before < 2 ^ 64
     → length ports.first.registry.entries + length ports.second.registry.entries ≤ length before
-    → Stand before (map told_port (ports_of_node node ports)) after None → ⊥
+    → Stand before (map c_port (ports_of_node node ports)) after None → ⊥
 not_too_many node ports before after long room s =
     omega (arith, long, room, s.0, few_of_node node ports)

@@ -5,7 +5,7 @@ use Rattle.iox2_container.specs.Handle.{Handle as Named}
 use Rattle.iox2_dynamic.specs.Service.{Service as Held}
 use Rattle.iox2sd.specs.Answers.{id_answer}
 use Rattle.iox2sd.specs.Handles.{ReadsHandle}
-use Rattle.iox2sd.specs.Ports.{told_port}
+use Rattle.iox2sd.specs.Ports.{c_port}
 use Rattle.iox2sd_common.specs.declared.status.Status.TheVariants as status
 
 -- the id whose text this is
@@ -26,7 +26,7 @@ FindsNode handle s (Err _) = ⊥
 abbrev pub FindsPort : Handle → Held → Result Port Status → Type 0
 FindsPort handle s (Ok port) =
     (named : Named) × ReadsHandle handle (Some named)
-    × (d : PortDetails) × StandsAmong s.ports named d × (port ≡ told_port d)
+    × (d : PortDetails) × StandsAmong s.ports named d × (port ≡ c_port d)
 FindsPort handle s (Err status.UnknownRole) = ReadsHandle handle None
 FindsPort handle s (Err status.ForeignHandle) =
     (named : Named) × ReadsHandle handle (Some named) × IsNoPort s.ports named

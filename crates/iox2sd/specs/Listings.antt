@@ -5,7 +5,7 @@ use Rattle.iox2_texts.specs.declared.bounded.callback_progression.CallbackProgre
 use Rattle.iox2sd.specs.Prelude.{ContainerState, listed, Role, PortDetails, Ports, IsNeither, first_role, second_role, count_answer, id_of, Id, Port, Listed, All, TooShort}
 use Rattle.iox2_dynamic.specs.Service.{Service as Held}
 use Rattle.iox2sd.specs.Handles.{ReadsRole}
-use Rattle.iox2sd.specs.Ports.{told_port}
+use Rattle.iox2sd.specs.Ports.{c_port}
 use Rattle.iox2sd_common.specs.declared.answers.CountAnswer.{CountAnswer}
 use Rattle.iox2sd.specs.declared.service.listings.Listed.TheVariants.{Refused}
 use Rattle.iox2sd_common.specs.declared.status.Status.TheVariants as status
@@ -44,7 +44,7 @@ NeedsMore items before n after = (length before < length items) × (after ≡ be
 
 -- these ports, by rising slot
 abbrev pub ports_in : ContainerState PortDetails → List Port
-ports_in ports = map told_port (listed ports.registry)
+ports_in ports = map c_port (listed ports.registry)
 
 -- the ports of the first kind, or those of the second
 abbrev pub ports_of_kind : Bool → Ports → List Port

@@ -3,7 +3,7 @@ use Rattle.std.specs.Prelude.{◌≡◌, ℕ, ◌+◌, ◌^◌, ◌<◌, ◌≤�
 use Rattle.iox2sd.specs.Prelude.{ContainerState, asked_about, is_of, Role, node_of, PortDetails, ports_of_node, first_role, second_role, ReadsNode, Id, Port, Listed, All, TooShort}
 use Rattle.iox2_dynamic.specs.Service.{Service as Held}
 use Rattle.iox2sd.specs.Listings.{ListsAll, NeedsMore}
-use Rattle.iox2sd.specs.Ports.{told_port}
+use Rattle.iox2sd.specs.Ports.{c_port}
 use Rattle.iox2sd.specs.declared.service.listings.Listed.TheVariants.{Refused}
 use Rattle.iox2sd_common.specs.declared.status.Status.TheVariants as status
 
@@ -46,7 +46,7 @@ AllFit service room =
 
 -- the ports of a registry that have the node, by rising slot
 abbrev pub ports_of_in : ℕ → ContainerState PortDetails → List Port
-ports_of_in node ports = map told_port (asked_about (is_of node_of node) ports.registry)
+ports_of_in node ports = map c_port (asked_about (is_of node_of node) ports.registry)
 
 -- the ports of the role that have the node came behind those that stood in the array
 abbrev pub NotesOfRole : Held → Role → ℕ → List Port × Option ℕ → List Port × Option ℕ → Type 0
@@ -59,12 +59,12 @@ NotesOfRole service role node old new =
 abbrev pub ListsPortsOf : Id → List Port → Held → Listed → List Port → Type 0
 ListsPortsOf id before service (All n) after =
     (node : ℕ) × ReadsNode id (Some node)
-    × ListsAll (map told_port (ports_of_node node service.ports)) before n after
+    × ListsAll (map c_port (ports_of_node node service.ports)) before n after
 ListsPortsOf id before service (TooShort n) after =
     (node : ℕ) × ReadsNode id (Some node)
-    × NeedsMore (map told_port (ports_of_node node service.ports)) before n after
+    × NeedsMore (map c_port (ports_of_node node service.ports)) before n after
 ListsPortsOf id before service (Refused status.NoNode) after = ReadsNode id None × (after ≡ before)
 ListsPortsOf id before service (Refused status.TooLarge) after =
     (node : ℕ) × ReadsNode id (Some node)
-    × (2 ^ 64 ≤ length (map told_port (ports_of_node node service.ports))) × (after ≡ before)
+    × (2 ^ 64 ≤ length (map c_port (ports_of_node node service.ports))) × (after ≡ before)
 ListsPortsOf id before service (Refused _) after = ⊥

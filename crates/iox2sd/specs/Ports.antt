@@ -100,29 +100,29 @@ blank d =
     }
 
 -- what the details tell
-abbrev pub told_port : PortDetails → Port
-told_port (of.Publisher d) = record (blank (of.Publisher d)) {
+abbrev pub c_port : PortDetails → Port
+c_port (of.Publisher d) = record (blank (of.Publisher d)) {
   number_of_samples = d.number_of_samples;
   max_slice_len = d.max_slice_len;
   data_segment = segment_number d.data_segment_type;
   max_number_of_segments = d.max_number_of_segments;
 }
-told_port (of.Subscriber d) = record (blank (of.Subscriber d)) { buffer_size = d.buffer_size }
-told_port (of.Server d) = record (blank (of.Server d)) {
+c_port (of.Subscriber d) = record (blank (of.Subscriber d)) { buffer_size = d.buffer_size }
+c_port (of.Server d) = record (blank (of.Server d)) {
   request_buffer_size = d.request_buffer_size;
   number_of_responses = d.number_of_responses;
   max_slice_len = d.max_slice_len;
   data_segment = segment_number d.data_segment_type;
   max_number_of_segments = d.max_number_of_segments;
 }
-told_port (of.Client d) = record (blank (of.Client d)) {
+c_port (of.Client d) = record (blank (of.Client d)) {
   number_of_requests = d.number_of_requests;
   response_buffer_size = d.response_buffer_size;
   max_slice_len = d.max_slice_len;
   data_segment = segment_number d.data_segment_type;
   max_number_of_segments = d.max_number_of_segments;
 }
-told_port other = blank other
+c_port other = blank other
 
 -- attaching a port to a service: the handle that C sees, or the refusal
 abbrev pub AttachesPort : Port → Held → Result Handle Status → Held → Type 0

@@ -19,35 +19,35 @@ roles_in s =
     }
 
 -- whether the pattern has ports of a role
-abbrev pub AsksRole : ℕ → Held → Result Bool Status → Type 0
-AsksRole number s (Ok has_it) = (role : Role) × ReadsRole number (Some role)
+abbrev pub RoleAnswer : ℕ → Held → Result Bool Status → Type 0
+RoleAnswer number s (Ok has_it) = (role : Role) × ReadsRole number (Some role)
     × (IsTrue has_it ↔ HasRole s.pattern role)
-AsksRole number s (Err status.UnknownRole) = ReadsRole number None
-AsksRole number s (Err _) = ⊥
+RoleAnswer number s (Err status.UnknownRole) = ReadsRole number None
+RoleAnswer number s (Err _) = ⊥
 
 -- whether there is room for a node
-abbrev pub AsksNodeRoom : Held → Result Bool Status → Type 0
-AsksNodeRoom s (Ok is_so) = IsTrue is_so ↔ TakesEntry s.nodes.registry
-AsksNodeRoom s (Err _) = ⊥
+abbrev pub NodeRoomAnswer : Held → Result Bool Status → Type 0
+NodeRoomAnswer s (Ok is_so) = IsTrue is_so ↔ TakesEntry s.nodes.registry
+NodeRoomAnswer s (Err _) = ⊥
 
 -- what is said of the ports of a role: a number, or why there is none
-abbrev pub AsksPorts : (RegistryState PortDetails → ℕ → Type 0) → ℕ → Held → Result ℕ Status
+abbrev pub PortsAnswer : (RegistryState PortDetails → ℕ → Type 0) → ℕ → Held → Result ℕ Status
     → Type 0
-AsksPorts says number s (Ok n) =
+PortsAnswer says number s (Ok n) =
     (role : Role) × ReadsRole number (Some role)
     × OfRole says (first_role s.pattern) (second_role s.pattern) s.ports role (Some n)
-AsksPorts says number s (Err status.UnknownRole) = ReadsRole number None
-AsksPorts says number s (Err status.RoleNotInPattern) =
+PortsAnswer says number s (Err status.UnknownRole) = ReadsRole number None
+PortsAnswer says number s (Err status.RoleNotInPattern) =
     (role : Role) × ReadsRole number (Some role)
     × OfRole says (first_role s.pattern) (second_role s.pattern) s.ports role None
-AsksPorts says number s (Err _) = ⊥
+PortsAnswer says number s (Err _) = ⊥
 
 -- whether there is room for a port of a role
-abbrev pub AsksRoom : ℕ → Held → Result Bool Status → Type 0
-AsksRoom number s (Ok is_so) =
+abbrev pub RoomAnswer : ℕ → Held → Result Bool Status → Type 0
+RoomAnswer number s (Ok is_so) =
     (role : Role) × ReadsRole number (Some role) × HasRole s.pattern role
     × (IsTrue is_so ↔ TakesPort s role)
-AsksRoom number s (Err status.UnknownRole) = ReadsRole number None
-AsksRoom number s (Err status.RoleNotInPattern) =
+RoomAnswer number s (Err status.UnknownRole) = ReadsRole number None
+RoomAnswer number s (Err status.RoleNotInPattern) =
     (role : Role) × ReadsRole number (Some role) × (¬ (HasRole s.pattern role))
-AsksRoom number s (Err _) = ⊥
+RoomAnswer number s (Err _) = ⊥

@@ -4,7 +4,7 @@ ghost use Rattle.std.specs.Prelude.{◌≡◌, None};
 ghost use Rattle.iox2sd.specs.Answers.{handle_answer, number_answer, roles_answer, id_answer};
 ghost use Rattle.iox2sd.specs.Answers.{port_answer, told_death, death_answer};
 ghost use Rattle.iox2sd.specs.Handles.{role_number, ReadsRole, c_handle, no_handle, ReadsHandle};
-ghost use Rattle.iox2sd.specs.Ports.{segment_number, ReadsSegment, ReadsPort, blank, told_port};
+ghost use Rattle.iox2sd.specs.Ports.{segment_number, ReadsSegment, ReadsPort, blank, c_port};
 
 use crate::service::roles::Counts;
 use iox2_config::config::DataSegmentType;
@@ -184,7 +184,7 @@ impl Port {
     /// The port with these details.
     #[inline]
     pub(crate) fn of(details: &PortDetails) -> Port
-        ensures { result ≡ told_port details.now }
+        ensures { result ≡ c_port details.now }
     {
         let blank = Port::blank(details);
         match details {

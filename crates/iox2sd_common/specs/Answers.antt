@@ -17,9 +17,9 @@ abbrev pub count_answer : Status → ℕ → CountAnswer
 count_answer s count = record { status = code s; cause = 0; count = count }
 
 -- how many, or the status of a refusal
-abbrev pub told_count : Result ℕ Status → CountAnswer
-told_count (Ok n) = count_answer status.Done n
-told_count (Err s) = count_answer s 0
+abbrev pub c_count : Result ℕ Status → CountAnswer
+c_count (Ok n) = count_answer status.Done n
+c_count (Err s) = count_answer s 0
 
 -- yes or no, or the status of a refusal
 abbrev pub flag_answer : Result Bool Status → FlagAnswer

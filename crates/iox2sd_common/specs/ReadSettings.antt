@@ -8,7 +8,7 @@ use Rattle.iox2_config.specs.declared.config.choices.BackpressureStrategy.{Backp
 use Rattle.iox2_config.specs.declared.config.event.Event.{Event}
 use Rattle.iox2_config.specs.declared.config.publish_subscribe.PublishSubscribe.{PublishSubscribe}
 use Rattle.iox2_config.specs.declared.config.request_response.RequestResonse.{RequestResonse}
-use Rattle.iox2sd_common.specs.Settings.{allocation_number, backpressure_number, told_blackboard, told_publish_subscribe, told_request_response}
+use Rattle.iox2sd_common.specs.Settings.{allocation_number, backpressure_number, c_blackboard, c_publish_subscribe, c_request_response}
 use Rattle.iox2sd_common.specs.Status.{code}
 use Rattle.iox2sd_common.specs.declared.read_settings.Field.{Field}
 use Rattle.iox2sd_common.specs.declared.read_settings.Field.TheVariants as field
@@ -101,7 +101,7 @@ ReadsEventId given None = given.is_some ≡ false
 
 -- the settings of a publish-subscribe service
 abbrev pub ReadsPublishSubscribe : PublishSubscribeSettings → Result PublishSubscribe Field → Type 0
-ReadsPublishSubscribe s (Ok made) = told_publish_subscribe made ≡ s
+ReadsPublishSubscribe s (Ok made) = c_publish_subscribe made ≡ s
 ReadsPublishSubscribe s (Err field.BackpressureStrategy) =
     ReadsBackpressure s.backpressure_strategy None
 ReadsPublishSubscribe s (Err field.PublisherAllocationStrategy) =
@@ -126,7 +126,7 @@ ReadsEvent s (Err f) = ReadsDeadline s.deadline (Err f)
 
 -- the settings of a request-response service: strategies are looked at in the order of the fields
 abbrev pub ReadsRequestResponse : RequestResponseSettings → Result RequestResonse Field → Type 0
-ReadsRequestResponse s (Ok made) = told_request_response made ≡ s
+ReadsRequestResponse s (Ok made) = c_request_response made ≡ s
 ReadsRequestResponse s (Err field.ClientBackpressureStrategy) =
     ReadsBackpressure s.client_backpressure_strategy None
 ReadsRequestResponse s (Err field.ServerBackpressureStrategy) =
@@ -142,7 +142,7 @@ ReadsRequestResponse s (Err _) = ⊥
 
 -- the settings of a blackboard service, which are always valid
 abbrev pub ReadsBlackboard : BlackboardSettings → Result Blackboard Field → Type 0
-ReadsBlackboard s (Ok made) = told_blackboard made ≡ s
+ReadsBlackboard s (Ok made) = c_blackboard made ≡ s
 ReadsBlackboard s (Err _) = ⊥
 
 -- the settings of a system: its timeout

@@ -34,41 +34,41 @@ allocation_number PowerOfTwo = 1
 allocation_number Static = 2
 
 -- a span of time in seconds and nanoseconds
-abbrev pub told_span : Duration → PlainDuration
-told_span d =
+abbrev pub c_span : Duration → PlainDuration
+c_span d =
     record { seconds = as_nanos d / 1_000_000_000; nanoseconds = as_nanos d % 1_000_000_000 }
 
 -- a span of time, if there is one
-abbrev pub told_duration : Option Duration → OptionalDuration
-told_duration (Some d) =
+abbrev pub c_duration : Option Duration → OptionalDuration
+c_duration (Some d) =
     record {
       seconds = as_nanos d / 1_000_000_000;
       nanoseconds = as_nanos d % 1_000_000_000;
       is_some = true;
     }
-told_duration None = record { seconds = 0; nanoseconds = 0; is_some = false }
+c_duration None = record { seconds = 0; nanoseconds = 0; is_some = false }
 
 -- the number of an event, if there is one
-abbrev pub told_event_id : Option ℕ → OptionalEventId
-told_event_id (Some number) = record { number = number; is_some = true }
-told_event_id None = record { number = 0; is_some = false }
+abbrev pub c_event_id : Option ℕ → OptionalEventId
+c_event_id (Some number) = record { number = number; is_some = true }
+c_event_id None = record { number = 0; is_some = false }
 
 -- the settings of a system beside its texts, of which these are parts
-abbrev pub told_global_with : Duration → Service → Node → PlainGlobal
-told_global_with timeout service node = record {
-  creation_timeout = told_span timeout;
+abbrev pub c_global_with : Duration → Service → Node → PlainGlobal
+c_global_with timeout service node = record {
+  creation_timeout = c_span timeout;
   cleanup_dead_nodes_on_open = service.cleanup_dead_nodes_on_open;
   cleanup_dead_nodes_on_creation = node.cleanup_dead_nodes_on_creation;
   cleanup_dead_nodes_on_destruction = node.cleanup_dead_nodes_on_destruction;
 }
 
 -- the settings of a system beside its texts
-abbrev pub told_global : GlobalSettings → PlainGlobal
-told_global s = told_global_with s.creation_timeout s.service s.node
+abbrev pub c_global : GlobalSettings → PlainGlobal
+c_global s = c_global_with s.creation_timeout s.service s.node
 
 -- the settings of a publish-subscribe service
-abbrev pub told_publish_subscribe : PublishSubscribe → PublishSubscribeSettings
-told_publish_subscribe s = record {
+abbrev pub c_publish_subscribe : PublishSubscribe → PublishSubscribeSettings
+c_publish_subscribe s = record {
   max_subscribers = s.max_subscribers;
   max_publishers = s.max_publishers;
   max_nodes = s.max_nodes;
@@ -83,21 +83,21 @@ told_publish_subscribe s = record {
 }
 
 -- the settings of an event service
-abbrev pub told_event : Event → EventSettings
-told_event s = record {
+abbrev pub c_event : Event → EventSettings
+c_event s = record {
   max_listeners = s.max_listeners;
   max_notifiers = s.max_notifiers;
   max_nodes = s.max_nodes;
   event_id_max_value = s.event_id_max_value;
-  deadline = told_duration s.deadline;
-  notifier_created_event = told_event_id s.notifier_created_event;
-  notifier_dropped_event = told_event_id s.notifier_dropped_event;
-  notifier_dead_event = told_event_id s.notifier_dead_event;
+  deadline = c_duration s.deadline;
+  notifier_created_event = c_event_id s.notifier_created_event;
+  notifier_dropped_event = c_event_id s.notifier_dropped_event;
+  notifier_dead_event = c_event_id s.notifier_dead_event;
 }
 
 -- the settings of a request-response service
-abbrev pub told_request_response : RequestResonse → RequestResponseSettings
-told_request_response s = record {
+abbrev pub c_request_response : RequestResonse → RequestResponseSettings
+c_request_response s = record {
   max_active_requests_per_client = s.max_active_requests_per_client;
   max_response_buffer_size = s.max_response_buffer_size;
   max_servers = s.max_servers;
@@ -118,5 +118,5 @@ told_request_response s = record {
 }
 
 -- the settings of a blackboard service
-abbrev pub told_blackboard : Blackboard → BlackboardSettings
-told_blackboard s = record { max_readers = s.max_readers; max_nodes = s.max_nodes }
+abbrev pub c_blackboard : Blackboard → BlackboardSettings
+c_blackboard s = record { max_readers = s.max_readers; max_nodes = s.max_nodes }

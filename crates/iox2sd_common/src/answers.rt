@@ -1,7 +1,7 @@
 //! What exports return beside a status: its cause, an index, a count, or a text for a buffer.
 ghost use Rattle.std.specs.Prelude.{◌≡◌, ◌≤◌, ◌++◌, length, drop};
 ghost use Rattle.iox2sd_common.specs.Answers.{place_answer, count_answer, text_answer, Writes};
-ghost use Rattle.iox2sd_common.specs.Answers.{Written, told_count, flag_answer, zero_padded};
+ghost use Rattle.iox2sd_common.specs.Answers.{Written, c_count, flag_answer, zero_padded};
 
 use super::status::Status;
 
@@ -52,7 +52,7 @@ pub struct TextAnswer {
 }
 
 /// The answer of this status with this index.
-pub fn place(status: Status, at: usize) -> PlaceAnswer
+pub fn position(status: Status, at: usize) -> PlaceAnswer
     ensures { result ≡ place_answer status at }
 {
     PlaceAnswer {
@@ -76,7 +76,7 @@ pub fn count(status: Status, count: usize) -> CountAnswer
 impl CountAnswer {
     /// The answer that says how many, or why it does not.
     pub fn of(asked: Result<usize, Status>) -> CountAnswer
-        ensures { result ≡ told_count asked }
+        ensures { result ≡ c_count asked }
     {
         match asked {
             Ok(number) => count(Status::Done, number),

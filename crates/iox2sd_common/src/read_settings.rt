@@ -1,6 +1,6 @@
 //! Settings that a caller filled: which field is invalid, if one is.
 ghost use Rattle.std.specs.Prelude.{◌≡◌};
-ghost use Rattle.iox2sd_common.specs.Settings.{told_blackboard};
+ghost use Rattle.iox2sd_common.specs.Settings.{c_blackboard};
 ghost use Rattle.iox2sd_common.specs.ReadSettings.{field_number, field_status, field_answer};
 ghost use Rattle.iox2sd_common.specs.ReadSettings.{no_field, refusal_answer};
 ghost use Rattle.iox2sd_common.specs.ReadSettings.{ReadsBackpressure, ReadsAllocation};
@@ -238,7 +238,7 @@ pub fn read_publish_subscribe(
 
 /// The settings of a blackboard service, which are always valid.
 pub fn read_blackboard(settings: &BlackboardSettings) -> Blackboard
-    ensures { told_blackboard result ≡ settings.now }
+    ensures { c_blackboard result ≡ settings.now }
 {
     Blackboard {
         max_readers: settings.max_readers,

@@ -1,10 +1,10 @@
 //! The settings that services get where nothing else is said, as plain values.
 ghost use Rattle.std.specs.Prelude.{◌≡◌};
-ghost use Rattle.iox2sd_common.specs.Settings.{backpressure_number, allocation_number, told_span};
-ghost use Rattle.iox2sd_common.specs.Settings.{told_duration, told_event_id, told_global};
-ghost use Rattle.iox2sd_common.specs.Settings.{told_global_with};
-ghost use Rattle.iox2sd_common.specs.Settings.{told_publish_subscribe, told_event};
-ghost use Rattle.iox2sd_common.specs.Settings.{told_request_response, told_blackboard};
+ghost use Rattle.iox2sd_common.specs.Settings.{backpressure_number, allocation_number, c_span};
+ghost use Rattle.iox2sd_common.specs.Settings.{c_duration, c_event_id, c_global};
+ghost use Rattle.iox2sd_common.specs.Settings.{c_global_with};
+ghost use Rattle.iox2sd_common.specs.Settings.{c_publish_subscribe, c_event};
+ghost use Rattle.iox2sd_common.specs.Settings.{c_request_response, c_blackboard};
 
 use iox2_config::config::{
     AllocationStrategy, BackpressureStrategy, Blackboard, Event, Global, Node, PublishSubscribe,
@@ -184,7 +184,7 @@ fn allocation_number(strategy: AllocationStrategy) -> u32
 
 /// The span of time, if there is one.
 pub fn duration_of(duration: Option<Duration>) -> OptionalDuration
-    ensures { result ≡ told_duration duration }
+    ensures { result ≡ c_duration duration }
 {
     match duration {
         Some(duration) => OptionalDuration {
@@ -198,7 +198,7 @@ pub fn duration_of(duration: Option<Duration>) -> OptionalDuration
 
 /// The number of the event, if there is one.
 pub fn event_id_of(event: Option<usize>) -> OptionalEventId
-    ensures { result ≡ told_event_id event }
+    ensures { result ≡ c_event_id event }
 {
     match event {
         Some(number) => OptionalEventId {
@@ -211,7 +211,7 @@ pub fn event_id_of(event: Option<usize>) -> OptionalEventId
 
 /// A span of time in seconds and nanoseconds.
 fn span_of(duration: Duration) -> PlainDuration
-    ensures { result ≡ told_span duration }
+    ensures { result ≡ c_span duration }
 {
     PlainDuration {
         seconds: duration.as_secs(),
@@ -221,14 +221,14 @@ fn span_of(duration: Duration) -> PlainDuration
 
 /// The settings of a system, beside its texts.
 pub fn global_of(settings: &Global) -> GlobalSettings
-    ensures { result ≡ told_global settings.now }
+    ensures { result ≡ c_global settings.now }
 {
     global_with(settings.creation_timeout, &settings.service, &settings.node)
 }
 
 /// The same of a system with this timeout and these settings of files.
 pub fn global_with(timeout: Duration, service: &Service, node: &Node) -> GlobalSettings
-    ensures { result ≡ told_global_with timeout service.now node.now }
+    ensures { result ≡ c_global_with timeout service.now node.now }
 {
     GlobalSettings {
         creation_timeout: span_of(timeout),
@@ -240,7 +240,7 @@ pub fn global_with(timeout: Duration, service: &Service, node: &Node) -> GlobalS
 
 /// The settings of a publish-subscribe service.
 pub fn publish_subscribe_of(settings: &PublishSubscribe) -> PublishSubscribeSettings
-    ensures { result ≡ told_publish_subscribe settings.now }
+    ensures { result ≡ c_publish_subscribe settings.now }
 {
     PublishSubscribeSettings {
         max_subscribers: settings.max_subscribers,
@@ -259,7 +259,7 @@ pub fn publish_subscribe_of(settings: &PublishSubscribe) -> PublishSubscribeSett
 
 /// The settings of an event service.
 pub fn event_of(settings: &Event) -> EventSettings
-    ensures { result ≡ told_event settings.now }
+    ensures { result ≡ c_event settings.now }
 {
     EventSettings {
         max_listeners: settings.max_listeners,
@@ -275,7 +275,7 @@ pub fn event_of(settings: &Event) -> EventSettings
 
 /// The settings of a request-response service.
 pub fn request_response_of(settings: &RequestResonse) -> RequestResponseSettings
-    ensures { result ≡ told_request_response settings.now }
+    ensures { result ≡ c_request_response settings.now }
 {
     RequestResponseSettings {
         max_active_requests_per_client: settings.max_active_requests_per_client,
@@ -300,7 +300,7 @@ pub fn request_response_of(settings: &RequestResonse) -> RequestResponseSettings
 
 /// The settings of a blackboard service.
 pub fn blackboard_of(settings: &Blackboard) -> BlackboardSettings
-    ensures { result ≡ told_blackboard settings.now }
+    ensures { result ≡ c_blackboard settings.now }
 {
     BlackboardSettings {
         max_readers: settings.max_readers,

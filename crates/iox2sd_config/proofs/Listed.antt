@@ -8,7 +8,7 @@ use Rattle.iox2_config.specs.declared.config.Config.{Config}
 use Rattle.iox2_config_file.specs.Answers.{IsConfigOf, ReportsFaults}
 use Rattle.iox2_config_file.specs.Read.{fault_view, faults_in}
 use Rattle.iox2_config_file.specs.declared.fault.SettingFault.{SettingFault}
-use Rattle.iox2sd_config.specs.Faults.{known_of, told_fault}
+use Rattle.iox2sd_config.specs.Faults.{known_of, c_fault}
 use Rattle.iox2sd_config.specs.Files.{ListsFaults}
 use Rattle.iox2sd_config.specs.declared.fault.PlainFault.{PlainFault}
 use Rattle.toml.specs.Data.{Members}

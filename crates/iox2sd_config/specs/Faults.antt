@@ -155,8 +155,8 @@ key_of (Some key) = key
 
 -- what the report on a file says at a position, with its status, and with the table, the type and
 -- the kind of the value
-abbrev pub told_note : Status → ℕ → ℕ → ℕ → Note → Known
-told_note s table found wanted n = record {
+abbrev pub c_note : Status → ℕ → ℕ → ℕ → Note → Known
+c_note s table found wanted n = record {
   status = code s;
   table = table;
   found = found;
@@ -170,21 +170,21 @@ told_note s table found wanted n = record {
 }
 
 -- what the report says of a value that is not allowed, where its key has this position
-abbrev pub told_at : Option Position → Located → Known
-told_at at (s, key, reason) =
-    told_note (fault_status reason) (section_number s) (found_number reason) (wanted_number reason)
+abbrev pub c_at : Option Position → Located → Known
+c_at at (s, key, reason) =
+    c_note (fault_status reason) (section_number s) (found_number reason) (wanted_number reason)
     (topic_note at (fault (s, key, reason)))
 
 -- the same in a file
-abbrev pub told_fault : List ℕ → Located → Known
-told_fault bytes located = told_at (fault_position bytes located) located
+abbrev pub c_fault : List ℕ → Located → Known
+c_fault bytes located = c_at (fault_position bytes located) located
 
 -- why bytes are no file of settings: what the report says, with its status
-abbrev pub told_unread : Unread → Known
-told_unread (NotUtf8 finding) = told_note status.NotUtf8 0 0 0 (finding_view finding)
-told_unread (TooDeep finding) = told_note status.TooDeep 0 0 0 (finding_view finding)
-told_unread (NotToml finding) = told_note status.NotToml 0 0 0 (finding_view finding)
-told_unread (NoMemory e) = no_place status.NoMemory
+abbrev pub c_unread : Unread → Known
+c_unread (NotUtf8 finding) = c_note status.NotUtf8 0 0 0 (finding_view finding)
+c_unread (TooDeep finding) = c_note status.TooDeep 0 0 0 (finding_view finding)
+c_unread (NotToml finding) = c_note status.NotToml 0 0 0 (finding_view finding)
+c_unread (NoMemory e) = no_place status.NoMemory
 
 -- the same by the status alone
 abbrev pub unread_status : Unread → Status

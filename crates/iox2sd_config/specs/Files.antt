@@ -12,8 +12,8 @@ use Rattle.iox2sd_common.specs.Status.{code}
 use Rattle.iox2sd_common.specs.declared.answers.CountAnswer.{CountAnswer}
 use Rattle.iox2sd_common.specs.declared.status.Status.{Status}
 use Rattle.iox2sd_common.specs.declared.status.Status.TheVariants as status
-use Rattle.iox2sd_config.specs.Configs.{told_config}
-use Rattle.iox2sd_config.specs.Faults.{Known, known_of, no_place, worded, told_fault, told_unread, unread_status}
+use Rattle.iox2sd_config.specs.Configs.{c_config}
+use Rattle.iox2sd_config.specs.Faults.{Known, known_of, no_place, worded, c_fault, c_unread, unread_status}
 use Rattle.iox2sd_config.specs.Order.{place_at, IsInOrder}
 use Rattle.iox2sd_config.specs.declared.config.PlainConfig.{PlainConfig}
 use Rattle.iox2sd_config.specs.declared.fault.PlainFault.{PlainFault}
@@ -27,7 +27,7 @@ fault_place f = place_at f.line f.column
 abbrev pub ListsFaults : List ℕ → List SettingFault → List PlainFault → Type 0
 ListsFaults bytes faults listed =
     (plain : List PlainFault)
-    × (map known_of plain ≡ map (told_fault bytes) (map fault_view faults))
+    × (map known_of plain ≡ map (c_fault bytes) (map fault_view faults))
     × IsInOrder fault_place plain listed
 
 -- what an answer says
@@ -62,7 +62,7 @@ TellsFirst bytes faults known =
 abbrev pub Settles : List ℕ → FileContents → Option Config → PlainConfig → KnownAnswer
     → PlainConfig → Type 0
 Settles bytes contents (Some config) old answer new =
-    (new ≡ told_config config) × (answer ≡ read_answer (length contents.unknown.items))
+    (new ≡ c_config config) × (answer ≡ read_answer (length contents.unknown.items))
 Settles bytes contents None old answer new =
     (known : Known) × TellsFirst bytes contents.faults.items known × Keeps known old answer new
 
@@ -76,7 +76,7 @@ abbrev pub ReadsInto : List ℕ → PlainConfig → KnownAnswer → PlainConfig 
 ReadsInto bytes old answer new =
     (IsText bytes × (contents : FileContents) × ReadsAll bytes contents
     × ReadsContents bytes contents old answer new)
-    ⊎ ((unread : Unread) × IsUnread bytes unread × Keeps (told_unread unread) old answer new)
+    ⊎ ((unread : Unread) × IsUnread bytes unread × Keeps (c_unread unread) old answer new)
 
 -- the same of the first struct, where there is one
 abbrev pub Answers : List ℕ → List PlainConfig → KnownAnswer → List PlainConfig → Type 0

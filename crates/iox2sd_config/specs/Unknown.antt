@@ -39,8 +39,8 @@ meant_path None = []
 meant_path (Some (s, key, likeness)) = key_path s key
 
 -- what the report on a file says of an unknown key, with its table and what was probably meant
-abbrev pub told_key : Section → Option Proposed → Note → PlainUnknown
-told_key s meant n = record {
+abbrev pub c_key : Section → Option Proposed → Note → PlainUnknown
+c_key s meant n = record {
   table = section_number s;
   likeness = meant_number meant;
   line = line_of n.position;
@@ -53,14 +53,14 @@ told_key s meant n = record {
 }
 
 -- an unknown key at a position as a plain value, and its path as TOML writes it
-abbrev pub told_key_at : Option Position → Unknown → PlainUnknown × List ℕ
-told_key_at at (s, key, meant) =
+abbrev pub c_key_at : Option Position → Unknown → PlainUnknown × List ℕ
+c_key_at at (s, key, meant) =
     let n = topic_note at (unknown (s, key, meant)) in
-    (told_key s meant n, key_of n.key)
+    (c_key s meant n, key_of n.key)
 
 -- the same in a file
-abbrev pub told_unknown : List ℕ → Unknown → PlainUnknown × List ℕ
-told_unknown bytes key = told_key_at (unknown_position bytes key) key
+abbrev pub c_unknown : List ℕ → Unknown → PlainUnknown × List ℕ
+c_unknown bytes key = c_key_at (unknown_position bytes key) key
 
 -- a plain value and its path, as the code holds them, and where they stand among others
 abbrev pub named_view : NamedKey → PlainUnknown × List ℕ
@@ -73,7 +73,7 @@ named_place k = place_at k.plain.line k.plain.column
 abbrev pub ListsKeys : List ℕ → List UnknownKey → List NamedKey → Type 0
 ListsKeys bytes keys listed =
     (found : List NamedKey)
-    × (map named_view found ≡ map (told_unknown bytes) (map unknown_view keys))
+    × (map named_view found ≡ map (c_unknown bytes) (map unknown_view keys))
     × IsInOrder named_place found listed
 
 -- their plain values, and their paths, one after the other

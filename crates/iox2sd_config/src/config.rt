@@ -1,6 +1,6 @@
 //! All settings as one plain value.
 ghost use Rattle.std.specs.Prelude.{◌≡◌, ◌≤◌, length};
-ghost use Rattle.iox2sd_config.specs.Configs.{told_text, told_texts, told_config};
+ghost use Rattle.iox2sd_config.specs.Configs.{c_text, c_texts, c_config};
 
 use iox2_config::config::{Config, Global};
 use iox2sd_common::answers::zero_padded;
@@ -79,7 +79,7 @@ pub struct PlainConfig {
 /// A text with its length.
 fn text_of(text: &[u8]) -> PlainText
     requires { length text.now ≤ 255 }
-    ensures { result ≡ told_text text.now }
+    ensures { result ≡ c_text text.now }
 {
     PlainText {
         bytes: zero_padded(text),
@@ -89,7 +89,7 @@ fn text_of(text: &[u8]) -> PlainText
 
 /// The texts of a system's settings.
 fn texts_of(global: &Global) -> PlainTexts
-    ensures { result ≡ told_texts global.now }
+    ensures { result ≡ c_texts global.now }
 {
     let service = &global.service;
     let node = &global.node;
@@ -116,7 +116,7 @@ fn texts_of(global: &Global) -> PlainTexts
 /// All settings of a configuration.
 #[inline(never)]
 pub(crate) fn config_of(config: &Config) -> PlainConfig
-    ensures { result ≡ told_config config.now }
+    ensures { result ≡ c_config config.now }
 {
     PlainConfig {
         global: global_of(&config.global),

@@ -6,7 +6,7 @@ ghost use Rattle.iox2sd_common.specs.Answers.{zero_padded};
 ghost use Rattle.iox2sd_config.specs.Faults.{section_number, type_number, kind_number, fault_status};
 ghost use Rattle.iox2sd_config.specs.Faults.{found_number, wanted_number, key_path, cut_key, key_of};
 ghost use Rattle.iox2sd_config.specs.Faults.{known_of, no_place, worded, line_of, column_of};
-ghost use Rattle.iox2sd_config.specs.Faults.{told_note, told_at, told_unread, unread_status};
+ghost use Rattle.iox2sd_config.specs.Faults.{c_note, c_at, c_unread, unread_status};
 
 use config_report::{Finding, Subject, Unread};
 use iox2_config_file::{Fault, Kind, Section, SettingFault, TomlType};
@@ -212,8 +212,8 @@ pub(crate) fn key_of(finding: &Finding) -> &str
 }
 
 /// What is found in a file, with its status, and the table, the type and the kind of the value.
-fn told(status: Status, table: u32, found: u32, wanted: u32, finding: &Finding) -> PlainFault
-    ensures { known_of result ≡ told_note status table found wanted (finding_view finding.now) }
+fn reported(status: Status, table: u32, found: u32, wanted: u32, finding: &Finding) -> PlainFault
+    ensures { known_of result ≡ c_note status table found wanted (finding_view finding.now) }
 {
     let key = key_of(finding).as_bytes();
     let reason = finding.message.as_bytes();
@@ -237,10 +237,10 @@ pub(crate) fn plain_fault(
     fault: &SettingFault,
     position: Option<Position>,
 ) -> Result<PlainFault, AllocError>
-    ensures { IfOk result (λ plain. known_of plain ≡ told_at position (fault_view fault.now)) }
+    ensures { IfOk result (λ plain. known_of plain ≡ c_at position (fault_view fault.now)) }
 {
     let finding = Subject::Fault(fault).finding(alloc, position)?;
-    Ok(told(
+    Ok(reported(
         fault_status(fault.fault),
         section_number(fault.section),
         found_number(fault.fault),
@@ -251,12 +251,12 @@ pub(crate) fn plain_fault(
 
 /// Why bytes are no file of settings.
 pub(crate) fn plain_unread(unread: &Unread) -> PlainFault
-    ensures { known_of result ≡ told_unread unread.now }
+    ensures { known_of result ≡ c_unread unread.now }
 {
     match unread {
-        Unread::NotUtf8(finding) => told(Status::NotUtf8, 0, 0, 0, finding),
-        Unread::TooDeep(finding) => told(Status::TooDeep, 0, 0, 0, finding),
-        Unread::NotToml(finding) => told(Status::NotToml, 0, 0, 0, finding),
+        Unread::NotUtf8(finding) => reported(Status::NotUtf8, 0, 0, 0, finding),
+        Unread::TooDeep(finding) => reported(Status::TooDeep, 0, 0, 0, finding),
+        Unread::NotToml(finding) => reported(Status::NotToml, 0, 0, 0, finding),
         Unread::NoMemory(_) => PlainFault::of(Status::NoMemory),
     }
 }

@@ -4,7 +4,7 @@ ghost use Rattle.config_report.specs.Notes.{fault_position};
 ghost use Rattle.config_report.specs.Unread.{IsText};
 ghost use Rattle.iox2_config_file.specs.Answers.{ReadsAll};
 ghost use Rattle.iox2_config_file.specs.Read.{fault_view};
-ghost use Rattle.iox2sd_config.specs.Faults.{known_of, told_fault};
+ghost use Rattle.iox2sd_config.specs.Faults.{known_of, c_fault};
 ghost use Rattle.iox2sd_config.specs.Files.{Answers, ListsFaults, PutsFaults, PutsListed};
 ghost use Rattle.iox2sd_config.specs.Files.{ReadsContents, ReadsInto, ReportsFile, TellsFirst};
 ghost use Rattle.iox2sd_config.specs.Files.{fault_place, known_answer, read_answer, refused_answer};
@@ -73,7 +73,7 @@ fn plain_faults(
 ) -> Result<Vec<PlainFault>, AllocError>
     ensures { IfOk result (λ plain. (bytes : List ℕ)
         → positions.now ≡ map (fault_position bytes) (map fault_view faults.now)
-        → map known_of plain.items ≡ map (told_fault bytes) (map fault_view faults.now)) }
+        → map known_of plain.items ≡ map (c_fault bytes) (map fault_view faults.now)) }
 {
     let mut plain = Vec::new(alloc);
     let mut i = 0;

@@ -6,8 +6,8 @@ ghost use Rattle.iox2_config_file.specs.Proposals.{proposal_view};
 ghost use Rattle.iox2_config_file.specs.Unknown.{unknown_view};
 ghost use Rattle.iox2sd_config.specs.Order.{IsInOrder};
 ghost use Rattle.iox2sd_config.specs.Unknown.{likeness_number, meant_number, meant_path, named_place};
-ghost use Rattle.iox2sd_config.specs.Unknown.{named_view, paths_of, plain_of, told_key, told_key_at};
-ghost use Rattle.iox2sd_config.specs.Unknown.{told_unknown, unknown_answer, ListsKeys, ListsUnknown};
+ghost use Rattle.iox2sd_config.specs.Unknown.{named_view, paths_of, plain_of, c_key, c_key_at};
+ghost use Rattle.iox2sd_config.specs.Unknown.{c_unknown, unknown_answer, ListsKeys, ListsUnknown};
 ghost use Rattle.iox2sd_config.specs.Unknown.{PutsKeys, PutsUnknown};
 ghost use Rattle.toml.specs.Parse.{parse_document};
 
@@ -112,9 +112,9 @@ fn meant_path(alloc: Global, meant: Option<Proposal>) -> Result<String, AllocErr
 }
 
 /// An unknown key as a plain value, by what is found of it and what was probably meant.
-fn told_key(key: &UnknownKey, meant: &str, finding: &Finding) -> PlainUnknown
+fn c_key(key: &UnknownKey, meant: &str, finding: &Finding) -> PlainUnknown
     requires { meant.now ≡ meant_path (option_map proposal_view key.now.meant) }
-    ensures { result ≡ told_key key.now.section (option_map proposal_view key.now.meant)
+    ensures { result ≡ c_key key.now.section (option_map proposal_view key.now.meant)
         (finding_view finding.now) }
 {
     let reason = finding.message.as_bytes();
@@ -138,12 +138,12 @@ fn named_key(
     position: Option<Position>,
 ) -> Result<NamedKey, AllocError>
     ensures { IfOk result (λ named.
-        named_view named ≡ told_key_at position (unknown_view key.now)) }
+        named_view named ≡ c_key_at position (unknown_view key.now)) }
 {
     let finding = Subject::Unknown(key).finding(alloc, position)?;
     let path = String::from_str(alloc, key_of(&finding))?;
     let meant = meant_path(alloc, key.meant)?;
-    let plain = told_key(key, meant.as_str(), &finding);
+    let plain = c_key(key, meant.as_str(), &finding);
     Ok(NamedKey { plain, path })
 }
 
@@ -162,7 +162,7 @@ fn named_keys(
 ) -> Result<Vec<NamedKey>, AllocError>
     ensures { IfOk result (λ named. (bytes : List ℕ)
         → positions.now ≡ map (unknown_position bytes) (map unknown_view keys.now)
-        → map named_view named.items ≡ map (told_unknown bytes) (map unknown_view keys.now)) }
+        → map named_view named.items ≡ map (c_unknown bytes) (map unknown_view keys.now)) }
 {
     let mut named = Vec::new(alloc);
     let mut i = 0;

@@ -143,7 +143,7 @@ fn bad_status(text: &PlainText, otherwise: Status) -> Status
 fn check_path(text: &PlainText, key: &'static str) -> Result<(), BadText>
     ensures ok { IfOk result (λ _. IsPath (bytes_of text.now)) }
     ensures err { IfErr result (λ bad. ¬ (IsPath (bytes_of text.now))) }
-    ensures told { IfErr result (λ bad. bad_view bad ≡ bad_path (key.now, bytes_of text.now)) }
+    ensures reported { IfErr result (λ bad. bad_view bad ≡ bad_path (key.now, bytes_of text.now)) }
 {
     match Path::new(bytes_of(text)) {
         Ok(_) => Ok(()),
@@ -159,7 +159,7 @@ fn check_path(text: &PlainText, key: &'static str) -> Result<(), BadText>
 fn check_name(text: &PlainText, key: &'static str) -> Result<(), BadText>
     ensures ok { IfOk result (λ _. IsFileName (bytes_of text.now)) }
     ensures err { IfErr result (λ bad. ¬ (IsFileName (bytes_of text.now))) }
-    ensures told { IfErr result (λ bad. bad_view bad ≡ bad_name (key.now, bytes_of text.now)) }
+    ensures reported { IfErr result (λ bad. bad_view bad ≡ bad_name (key.now, bytes_of text.now)) }
 {
     match FileName::new(bytes_of(text)) {
         Ok(_) => Ok(()),

@@ -28,7 +28,7 @@ expected_status expected.State = status.NoStateLine
 -- the status of a verdict
 abbrev pub verdict_status : Verdict → Status
 verdict_status (verdict.Conforms n m) = status.Done
-verdict_status (verdict.Refused told) = status.NoOrder
+verdict_status (verdict.Refused reported) = status.NoOrder
 verdict_status (verdict.ManyConfigs k) = status.TooManyConfigurations
 verdict_status (verdict.ManyOpen k) = status.TooManyOpenCalls
 verdict_status (verdict.BadLine k e) = expected_status e
@@ -36,7 +36,7 @@ verdict_status (verdict.BadLine k e) = expected_status e
 -- the number of the reported line, or 0
 abbrev pub reported_line : Verdict → ℕ
 reported_line (verdict.Conforms n m) = 0
-reported_line (verdict.Refused told) = told.line
+reported_line (verdict.Refused reported) = reported.line
 reported_line (verdict.ManyConfigs k) = k
 reported_line (verdict.ManyOpen k) = k
 reported_line (verdict.BadLine k e) = k
@@ -44,7 +44,7 @@ reported_line (verdict.BadLine k e) = k
 -- how many calls conform, or 0 where the log does not
 abbrev pub conforming_calls : Verdict → ℕ
 conforming_calls (verdict.Conforms n m) = n
-conforming_calls (verdict.Refused told) = 0
+conforming_calls (verdict.Refused reported) = 0
 conforming_calls (verdict.ManyConfigs k) = 0
 conforming_calls (verdict.ManyOpen k) = 0
 conforming_calls (verdict.BadLine k e) = 0

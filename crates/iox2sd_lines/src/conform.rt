@@ -65,7 +65,7 @@ fn reported_line(verdict: &Verdict) -> usize
 {
     match verdict {
         Verdict::Conforms(_, _) => 0,
-        Verdict::Refused(told) => told.line,
+        Verdict::Refused(reported) => reported.line,
         Verdict::ManyConfigs(line) | Verdict::ManyOpen(line) | Verdict::BadLine(line, _) => *line,
     }
 }

@@ -17,19 +17,21 @@ use Rattle.iox2sd_values.specs.declared.texts.Alphabet.TheVariants as alphabet
 -- the answers are these but for their causes
 abbrev pub TextBut : (TextAnswer → Type 0) → TextAnswer → Type 0
 TextBut Tells answer =
-    (told : TextAnswer) × Tells told × (answer ≡ record told { cause = answer.cause })
+    (reported : TextAnswer) × Tells reported × (answer ≡ record reported { cause = answer.cause })
 
 abbrev pub PlaceBut : (PlaceAnswer → Type 0) → PlaceAnswer → Type 0
 PlaceBut Tells answer =
-    (told : PlaceAnswer) × Tells told × (answer ≡ record told { cause = answer.cause })
+    (reported : PlaceAnswer) × Tells reported × (answer ≡ record reported {
+      cause = answer.cause;
+    })
 
 abbrev pub CountBut : (CountAnswer → Type 0) → CountAnswer → Type 0
 CountBut Tells answer =
-    (told : CountAnswer) × Tells told × (answer ≡ record told { cause = answer.cause })
+    (reported : CountAnswer) × Tells reported × (answer ≡ record reported { cause = answer.cause })
 
 abbrev pub FieldBut : (FieldAnswer → Type 0) → FieldAnswer → Type 0
 FieldBut Tells answer =
-    (told : FieldAnswer) × Tells told × (answer ≡ record told { cause = answer.cause })
+    (reported : FieldAnswer) × Tells reported × (answer ≡ record reported { cause = answer.cause })
 
 -- the cause is the status that the check of the text answers
 abbrev pub IsCause : (PlaceAnswer → Type 0) → ℕ → Type 0

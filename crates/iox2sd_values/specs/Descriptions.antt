@@ -8,7 +8,7 @@ use Rattle.iox2_static.specs.MessagingPattern.{kind_of}
 use Rattle.iox2_static.specs.declared.static_config.messaging_pattern.MessagingPattern.{MessagingPattern}
 use Rattle.iox2_static.specs.declared.static_config.messaging_pattern.MessagingPattern.TheVariants as pattern
 use Rattle.iox2sd_common.specs.Answers.{flag_answer, zero_padded}
-use Rattle.iox2sd_common.specs.Settings.{told_duration, told_event_id}
+use Rattle.iox2sd_common.specs.Settings.{c_duration, c_event_id}
 use Rattle.iox2sd_common.specs.Status.{code}
 use Rattle.iox2sd_common.specs.declared.answers.FlagAnswer.{FlagAnswer}
 use Rattle.iox2sd_values.specs.declared.descriptions.BlackboardConfig.{BlackboardConfig}
@@ -64,20 +64,20 @@ event_config (pattern.Event c) = record {
   max_listeners = c.max_listeners;
   max_nodes = c.max_nodes;
   event_id_max_value = c.event_id_max_value;
-  deadline = told_duration (duration_of c.deadline);
-  notifier_created_event = told_event_id c.notifier_created_event;
-  notifier_dropped_event = told_event_id c.notifier_dropped_event;
-  notifier_dead_event = told_event_id c.notifier_dead_event;
+  deadline = c_duration (duration_of c.deadline);
+  notifier_created_event = c_event_id c.notifier_created_event;
+  notifier_dropped_event = c_event_id c.notifier_dropped_event;
+  notifier_dead_event = c_event_id c.notifier_dead_event;
 }
 event_config _ = record {
   max_notifiers = 0;
   max_listeners = 0;
   max_nodes = 0;
   event_id_max_value = 0;
-  deadline = told_duration None;
-  notifier_created_event = told_event_id None;
-  notifier_dropped_event = told_event_id None;
-  notifier_dead_event = told_event_id None;
+  deadline = c_duration None;
+  notifier_created_event = c_event_id None;
+  notifier_dropped_event = c_event_id None;
+  notifier_dead_event = c_event_id None;
 }
 
 -- what is fixed of a request-response service, or zeros
@@ -114,8 +114,8 @@ blackboard_config (pattern.Blackboard c) =
 blackboard_config _ = record { max_readers = 0; max_writers = 0; max_nodes = 0 }
 
 -- the description of the service that has this id
-abbrev pub told_description : Description → Id → ServiceDescription
-told_description d id = record {
+abbrev pub c_description : Description → Id → ServiceDescription
+c_description d id = record {
   name = zero_padded 256 d.name;
   name_length = length d.name;
   id = id;
@@ -203,16 +203,17 @@ MakesBlackboard name s id made = MakesNamed (λ n m. MakesBy (ReadsBlackboard s)
 -- what the description that is made says of the service that has this id
 abbrev pub DescribesAs : (Result Description Refusal → Type 0) → Id
     → Result ServiceDescription Refusal → Type 0
-DescribesAs Makes id (Ok told) = (d : Description) × Makes (Ok d) × (told ≡ told_description d id)
+DescribesAs Makes id (Ok reported) = (d : Description) × Makes (Ok d) × (reported ≡ c_description d
+    id)
 DescribesAs Makes id (Err r) = Makes (Err r)
 
 -- the first place holds what was made, or is as it was
 abbrev pub Fills : List ServiceDescription → Result ServiceDescription Refusal → FieldAnswer
     → List ServiceDescription → Type 0
 Fills [] made answer new = (answer ≡ no_field status.Null) × (new ≡ [])
-Fills (place ∷ rest) (Ok told) answer new =
-    (answer ≡ no_field status.Done) × (new ≡ told ∷ rest)
-Fills (place ∷ rest) (Err r) answer new = (answer ≡ refusal_answer r) × (new ≡ place ∷ rest)
+Fills (position ∷ rest) (Ok reported) answer new =
+    (answer ≡ no_field status.Done) × (new ≡ reported ∷ rest)
+Fills (position ∷ rest) (Err r) answer new = (answer ≡ refusal_answer r) × (new ≡ position ∷ rest)
 
 -- the same, where there are settings: the name is read first, which may be one of the system's own
 -- where the flag says so
@@ -223,5 +224,6 @@ FillsNamed Makes [] internal bytes id old answer new =
     (answer ≡ no_field status.Null) × (new ≡ old)
 FillsNamed Makes (s ∷ others) internal bytes id old answer new =
     (name : Result (List ℕ) Status) × ReadsAnyName internal bytes name
-    × (told : Result ServiceDescription Refusal) × DescribesAs (Makes name s (number_of id)) id told
-    × Fills old told answer new
+    × (reported : Result ServiceDescription Refusal) × DescribesAs (Makes name s (number_of id)) id
+    reported
+    × Fills old reported answer new

@@ -98,9 +98,9 @@ JudgesBy (Err fault) at set required keys answer = answer ≡ place_answer fault
 abbrev pub JudgesIn : Result (List Pair) Status → ℕ → List Attribute → List Key → PlaceAnswer
     → Type 0
 JudgesIn (Ok set) at required keys answer =
-    (wanted : Result Requirements Status) × (place : ℕ)
-    × ReadsRequirements required keys at wanted place
-    × JudgesBy wanted place set required keys answer
+    (wanted : Result Requirements Status) × (position : ℕ)
+    × ReadsRequirements required keys at wanted position
+    × JudgesBy wanted position set required keys answer
 JudgesIn (Err fault) at required keys answer = answer ≡ place_answer fault at
 
 -- whether the pairs are a set that has what the other pairs and the keys require

@@ -11,11 +11,11 @@ use Rattle.iox2sd_common.specs.declared.settings.EventSettings.{EventSettings}
 use Rattle.iox2sd_common.specs.declared.settings.GlobalSettings.{GlobalSettings}
 use Rattle.iox2sd_common.specs.declared.settings.PublishSubscribeSettings.{PublishSubscribeSettings}
 use Rattle.iox2sd_common.specs.declared.settings.RequestResponseSettings.{RequestResponseSettings}
-use Rattle.iox2sd_common.specs.Settings.{told_global}
+use Rattle.iox2sd_common.specs.Settings.{c_global}
 
 -- the settings that a system has by default
 abbrev pub TellsGlobalDefaults : GlobalSettings → Type 0
-TellsGlobalDefaults answer = (s : Global) × IsDefaultGlobal s × (answer ≡ told_global s)
+TellsGlobalDefaults answer = (s : Global) × IsDefaultGlobal s × (answer ≡ c_global s)
 
 -- the answer on what the reading gave
 abbrev pub checked : {A : Type 0} → Result A Field → FieldAnswer

@@ -17,7 +17,9 @@ use iox2_texts::attribute::{
     AttributeKey, MAX_ATTRIBUTE_KEY_LENGTH, MAX_ATTRIBUTE_VALUE_LENGTH, MAX_ATTRIBUTES,
     Requirement, first_missing, first_that_meets,
 };
-use iox2sd_common::answers::{CountAnswer, PlaceAnswer, TextAnswer, count, no_text, place, write};
+use iox2sd_common::answers::{
+    CountAnswer, PlaceAnswer, TextAnswer, count, no_text, position, write,
+};
 use iox2sd_common::status::Status;
 
 /// A key and its value, each in the caller's memory.
@@ -111,8 +113,8 @@ fn tell_set(pairs: &[Attribute<'_>]) -> PlaceAnswer
 {
     let mut at = 0;
     match check_set(pairs, &mut at) {
-        Ok(()) => place(Status::Done, at),
-        Err(status) => place(status, at),
+        Ok(()) => position(Status::Done, at),
+        Err(status) => position(status, at),
     }
 }
 
@@ -126,10 +128,10 @@ pub extern "C" fn iox2sd_attributes_check_at(pairs: &[Attribute<'_>]) -> PlaceAn
     ensures tells { PlaceBut (TellsSet pairs.now) result }
     ensures cause { SetCause pairs.now result.at result.status result.cause }
 {
-    let told = tell_set(pairs);
+    let reported = tell_set(pairs);
     PlaceAnswer {
-        cause: set_cause(told.status, pairs, told.at),
-        ..told
+        cause: set_cause(reported.status, pairs, reported.at),
+        ..reported
     }
 }
 
@@ -141,9 +143,9 @@ fn sort_set(pairs: &mut [Attribute<'_>]) -> PlaceAnswer
     match check_set(pairs, &mut at) {
         Ok(()) => {
             pairs.sort_unstable();
-            place(Status::Done, at)
+            position(Status::Done, at)
         }
-        Err(status) => place(status, at),
+        Err(status) => position(status, at),
     }
 }
 
@@ -152,13 +154,13 @@ fn sort_set(pairs: &mut [Attribute<'_>]) -> PlaceAnswer
 /// Refused as by `iox2sd_attributes_check`, and then the array stays as it was.
 #[unsafe(no_mangle)]
 pub extern "C" fn iox2sd_attributes_sort_at(pairs: &mut [Attribute<'_>]) -> PlaceAnswer
-    ensures tells { PlaceBut (λ told. SortsSet pairs.old told pairs.new) result }
+    ensures tells { PlaceBut (λ reported. SortsSet pairs.old reported pairs.new) result }
     ensures cause { SetCause pairs.new result.at result.status result.cause }
 {
-    let told = sort_set(pairs);
+    let reported = sort_set(pairs);
     PlaceAnswer {
-        cause: set_cause(told.status, pairs, told.at),
-        ..told
+        cause: set_cause(reported.status, pairs, reported.at),
+        ..reported
     }
 }
 
@@ -241,10 +243,10 @@ pub extern "C" fn iox2sd_attributes_number_of_key_values_at(
     ensures tells { CountBut (CountsValues pairs.now key.now) result }
     ensures cause { AskedCause pairs.now key.now result.status result.cause }
 {
-    let told = count_of(pairs, key);
+    let reported = count_of(pairs, key);
     CountAnswer {
-        cause: asked_cause(told.status, pairs, key),
-        ..told
+        cause: asked_cause(reported.status, pairs, key),
+        ..reported
     }
 }
 
@@ -274,14 +276,15 @@ pub extern "C" fn iox2sd_attributes_key_value_at(
     index: usize,
     out: &mut [u8],
 ) -> TextAnswer
-    ensures tells { TextBut (λ told. TellsValue pairs.now key.now index out.old told out.new)
+    ensures tells { TextBut (λ reported. TellsValue pairs.now key.now index out.old reported
+        out.new)
         result }
     ensures cause { AskedCause pairs.now key.now result.status result.cause }
 {
-    let told = write_of(pairs, key, index, out);
+    let reported = write_of(pairs, key, index, out);
     TextAnswer {
-        cause: asked_cause(told.status, pairs, key),
-        ..told
+        cause: asked_cause(reported.status, pairs, key),
+        ..reported
     }
 }
 
@@ -337,13 +340,13 @@ fn verify(set: &[Attribute<'_>], required: &[Attribute<'_>], keys: &[Key<'_>]) -
     let wanted = &copies[..required.len()];
     if let Some(i) = first_missing(wanted, set) {
         return match first_that_meets(required, &wanted[i]) {
-            Some(at) => place(Status::MissingPair, at),
+            Some(at) => position(Status::MissingPair, at),
             None => unreachable!(),
         };
     }
     match first_missing(keys, set) {
-        Some(i) => place(Status::MissingKey, i),
-        None => place(Status::Done, 0),
+        Some(i) => position(Status::MissingKey, i),
+        None => position(Status::Done, 0),
     }
 }
 
@@ -353,13 +356,13 @@ fn judge(pairs: &[Attribute<'_>], required: &[Attribute<'_>], keys: &[Key<'_>]) 
 {
     let mut at = 0;
     if let Err(status) = check_set(pairs, &mut at) {
-        return place(status, at);
+        return position(status, at);
     }
     if let Err(fault) = check_pairs(required, &mut at) {
-        return place(fault.of_required(), at);
+        return position(fault.of_required(), at);
     }
     if let Err(status) = check_keys(keys, required.len(), &mut at) {
-        return place(status, at);
+        return position(status, at);
     }
     verify(pairs, required, keys)
 }
@@ -382,9 +385,9 @@ pub extern "C" fn iox2sd_attributes_verify_at(
     ensures cause { RequiredCause pairs.now required.now keys.now result.at
         result.status result.cause }
 {
-    let told = judge(pairs, required, keys);
+    let reported = judge(pairs, required, keys);
     PlaceAnswer {
-        cause: required_cause(told.status, pairs, required, keys, told.at),
-        ..told
+        cause: required_cause(reported.status, pairs, required, keys, reported.at),
+        ..reported
     }
 }

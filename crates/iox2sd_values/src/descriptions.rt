@@ -11,7 +11,7 @@ ghost use Rattle.iox2sd_common.specs.Ids.{number_of};
 ghost use Rattle.iox2sd_common.specs.ReadSettings.{ReadsPublishSubscribe, ReadsEvent};
 ghost use Rattle.iox2sd_common.specs.ReadSettings.{ReadsRequestResponse, ReadsBlackboard};
 ghost use Rattle.iox2sd_values.specs.Causes.{FieldBut, NameCause};
-ghost use Rattle.iox2sd_values.specs.Descriptions.{told_description, ComparesPatterns};
+ghost use Rattle.iox2sd_values.specs.Descriptions.{c_description, ComparesPatterns};
 ghost use Rattle.iox2sd_values.specs.Descriptions.{publish_subscribe_config, event_config};
 ghost use Rattle.iox2sd_values.specs.Descriptions.{request_response_config, blackboard_config};
 ghost use Rattle.iox2sd_values.specs.Descriptions.{DescribesAs, Fills, FillsNamed};
@@ -225,13 +225,13 @@ fn blackboard_config(pattern: &MessagingPattern) -> BlackboardConfig
 }
 
 /// The description of the service that has this name, this hash text, this pattern and this id.
-fn told_description(
+fn c_description(
     name: &ServiceName,
     hash: &ServiceHash,
     pattern: &MessagingPattern,
     id: Id,
 ) -> ServiceDescription
-    ensures { result ≡ told_description (record {
+    ensures { result ≡ c_description (record {
       name = name.now;
       id = number_of id;
       hash = hash.now;
@@ -281,7 +281,7 @@ fn described(
     pattern: &MessagingPattern,
     id: Id,
 ) -> Result<ServiceDescription, Refusal>
-    ensures { result ≡ Ok (told_description (record {
+    ensures { result ≡ Ok (c_description (record {
       name = name.now;
       id = number_of id;
       hash = hash.now;
@@ -289,7 +289,7 @@ fn described(
       pattern = pattern.now;
     }) id) }
 {
-    Ok(told_description(name, hash, pattern, id))
+    Ok(c_description(name, hash, pattern, id))
 }
 
 /// Fills the first struct with what was made, or leaves it as it is.
@@ -298,9 +298,9 @@ fn fill(made: Result<ServiceDescription, Refusal>, out: &mut [ServiceDescription
 {
     match out {
         [] => no_field(Status::Null),
-        [place, ..] => match made {
+        [position, ..] => match made {
             Ok(description) => {
-                *place = description;
+                *position = description;
                 no_field(Status::Done)
             }
             Err(refusal) => refusal.answer(),
@@ -353,14 +353,14 @@ pub extern "C" fn iox2sd_describe_publish_subscribe_at(
     id: Id,
     out: &mut [ServiceDescription],
 ) -> FieldAnswer
-    ensures tells { FieldBut (λ told. FillsNamed MakesPublishSubscribe settings.now internal
-        name.now id out.old told out.new) result }
+    ensures tells { FieldBut (λ reported. FillsNamed MakesPublishSubscribe settings.now internal
+        name.now id out.old reported out.new) result }
     ensures cause { NameCause internal name.now result.status result.cause }
 {
-    let told = describe_publish_subscribe(settings, name, internal, id, out);
+    let reported = describe_publish_subscribe(settings, name, internal, id, out);
     FieldAnswer {
-        cause: name_cause(told.status, name, internal),
-        ..told
+        cause: name_cause(reported.status, name, internal),
+        ..reported
     }
 }
 
@@ -401,14 +401,14 @@ pub extern "C" fn iox2sd_describe_event_at(
     id: Id,
     out: &mut [ServiceDescription],
 ) -> FieldAnswer
-    ensures tells { FieldBut (λ told. FillsNamed MakesEvent settings.now internal name.now
-        id out.old told out.new) result }
+    ensures tells { FieldBut (λ reported. FillsNamed MakesEvent settings.now internal name.now
+        id out.old reported out.new) result }
     ensures cause { NameCause internal name.now result.status result.cause }
 {
-    let told = describe_event(settings, name, internal, id, out);
+    let reported = describe_event(settings, name, internal, id, out);
     FieldAnswer {
-        cause: name_cause(told.status, name, internal),
-        ..told
+        cause: name_cause(reported.status, name, internal),
+        ..reported
     }
 }
 
@@ -449,14 +449,15 @@ pub extern "C" fn iox2sd_describe_request_response_at(
     id: Id,
     out: &mut [ServiceDescription],
 ) -> FieldAnswer
-    ensures tells { FieldBut (λ told. FillsNamed MakesRequestResponse settings.now internal name.now
-        id out.old told out.new) result }
+    ensures tells { FieldBut (λ reported. FillsNamed MakesRequestResponse settings.now internal
+        name.now
+        id out.old reported out.new) result }
     ensures cause { NameCause internal name.now result.status result.cause }
 {
-    let told = describe_request_response(settings, name, internal, id, out);
+    let reported = describe_request_response(settings, name, internal, id, out);
     FieldAnswer {
-        cause: name_cause(told.status, name, internal),
-        ..told
+        cause: name_cause(reported.status, name, internal),
+        ..reported
     }
 }
 
@@ -497,14 +498,14 @@ pub extern "C" fn iox2sd_describe_blackboard_at(
     id: Id,
     out: &mut [ServiceDescription],
 ) -> FieldAnswer
-    ensures tells { FieldBut (λ told. FillsNamed MakesBlackboard settings.now internal name.now
-        id out.old told out.new) result }
+    ensures tells { FieldBut (λ reported. FillsNamed MakesBlackboard settings.now internal name.now
+        id out.old reported out.new) result }
     ensures cause { NameCause internal name.now result.status result.cause }
 {
-    let told = describe_blackboard(settings, name, internal, id, out);
+    let reported = describe_blackboard(settings, name, internal, id, out);
     FieldAnswer {
-        cause: name_cause(told.status, name, internal),
-        ..told
+        cause: name_cause(reported.status, name, internal),
+        ..reported
     }
 }
 

@@ -168,14 +168,14 @@ fn tell_below(root: &[u8], directory: &Path, out: &mut [u8]) -> TextAnswer
 
 /// Writes a directory below a root path, or says why there is none and for what cause.
 fn write_below(root: &[u8], directory: &Path, out: &mut [u8]) -> TextAnswer
-    ensures tells { TextBut (λ told. TellsBelow root.now directory.now out.old told out.new)
+    ensures tells { TextBut (λ reported. TellsBelow root.now directory.now out.old reported out.new)
         result }
     ensures cause { RootCause root.now result.status result.cause }
 {
-    let told = tell_below(root, directory, out);
+    let reported = tell_below(root, directory, out);
     TextAnswer {
-        cause: root_cause(told.status, root),
-        ..told
+        cause: root_cause(reported.status, root),
+        ..reported
     }
 }
 
@@ -184,8 +184,8 @@ fn write_below(root: &[u8], directory: &Path, out: &mut [u8]) -> TextAnswer
 /// Refused are, in this order, a wrong root path (`BadPath`), and more than 255 bytes (`TooLong`).
 #[unsafe(no_mangle)]
 pub extern "C" fn iox2sd_service_dir_at(root: &[u8], out: &mut [u8]) -> TextAnswer
-    ensures tells { TextBut
-        (λ told. TellsBelow root.now default_service.directory out.old told out.new) result }
+    ensures tells { TextBut (λ reported. TellsBelow root.now default_service.directory out.old
+        reported out.new) result }
     ensures cause { RootCause root.now result.status result.cause }
 {
     write_below(root, &Service::default().directory, out)
@@ -195,7 +195,7 @@ pub extern "C" fn iox2sd_service_dir_at(root: &[u8], out: &mut [u8]) -> TextAnsw
 #[unsafe(no_mangle)]
 pub extern "C" fn iox2sd_node_dir_at(root: &[u8], out: &mut [u8]) -> TextAnswer
     ensures tells { TextBut
-        (λ told. TellsBelow root.now default_node.directory out.old told out.new) result }
+        (λ reported. TellsBelow root.now default_node.directory out.old reported out.new) result }
     ensures cause { RootCause root.now result.status result.cause }
 {
     write_below(root, &Node::default().directory, out)

@@ -136,13 +136,14 @@ fn tell_hash(pattern: u64, name: &[u8], out: &mut [u8]) -> TextAnswer
 /// a hash text that cannot be the name of a file (`IllegalHash`).
 #[unsafe(no_mangle)]
 pub extern "C" fn iox2sd_hash_text_at(pattern: u64, name: &[u8], out: &mut [u8]) -> TextAnswer
-    ensures tells { TextBut (λ told. TellsHash pattern name.now out.old told out.new) result }
+    ensures tells { TextBut (λ reported. TellsHash pattern name.now out.old reported out.new)
+        result }
     ensures cause { NameCause false name.now result.status result.cause }
 {
-    let told = tell_hash(pattern, name, out);
+    let reported = tell_hash(pattern, name, out);
     TextAnswer {
-        cause: name_cause(told.status, name, false),
-        ..told
+        cause: name_cause(reported.status, name, false),
+        ..reported
     }
 }
 
@@ -163,13 +164,14 @@ pub extern "C" fn iox2sd_internal_hash_text_at(
     name: &[u8],
     out: &mut [u8],
 ) -> TextAnswer
-    ensures tells { TextBut (λ told. TellsInternalHash pattern name.now out.old told out.new)
+    ensures tells { TextBut (λ reported. TellsInternalHash pattern name.now out.old reported
+        out.new)
         result }
     ensures cause { NameCause true name.now result.status result.cause }
 {
-    let told = tell_internal_hash(pattern, name, out);
+    let reported = tell_internal_hash(pattern, name, out);
     TextAnswer {
-        cause: name_cause(told.status, name, true),
-        ..told
+        cause: name_cause(reported.status, name, true),
+        ..reported
     }
 }

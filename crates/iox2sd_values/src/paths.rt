@@ -72,13 +72,14 @@ pub extern "C" fn iox2sd_path_add_path_entry_at(
     entry: &[u8],
     out: &mut [u8],
 ) -> TextAnswer
-    ensures tells { TextBut (λ told. TellsPath path.now entry.now out.old told out.new) result }
+    ensures tells { TextBut (λ reported. TellsPath path.now entry.now out.old reported out.new)
+        result }
     ensures cause { JoinCause (ChecksPath entry.now) path.now result.status result.cause }
 {
-    let told = tell_path(path, entry, out);
+    let reported = tell_path(path, entry, out);
     TextAnswer {
-        cause: entry_cause(told.status, path, entry),
-        ..told
+        cause: entry_cause(reported.status, path, entry),
+        ..reported
     }
 }
 
@@ -93,12 +94,13 @@ pub extern "C" fn iox2sd_file_path_from_path_and_file_at(
     file: &[u8],
     out: &mut [u8],
 ) -> TextAnswer
-    ensures tells { TextBut (λ told. TellsFile path.now file.now out.old told out.new) result }
+    ensures tells { TextBut (λ reported. TellsFile path.now file.now out.old reported out.new)
+        result }
     ensures cause { JoinCause (ChecksFileName file.now) path.now result.status result.cause }
 {
-    let told = tell_file(path, file, out);
+    let reported = tell_file(path, file, out);
     TextAnswer {
-        cause: file_cause(told.status, path, file),
-        ..told
+        cause: file_cause(reported.status, path, file),
+        ..reported
     }
 }

@@ -3,8 +3,8 @@
 ghost use Rattle.std.specs.Prelude.{◌≡◌};
 ghost use Rattle.iox2_config.specs.Defaults.{default_publish_subscribe, default_event};
 ghost use Rattle.iox2_config.specs.Defaults.{default_request_response, default_blackboard};
-ghost use Rattle.iox2sd_common.specs.Settings.{told_publish_subscribe, told_event};
-ghost use Rattle.iox2sd_common.specs.Settings.{told_request_response, told_blackboard};
+ghost use Rattle.iox2sd_common.specs.Settings.{c_publish_subscribe, c_event};
+ghost use Rattle.iox2sd_common.specs.Settings.{c_request_response, c_blackboard};
 ghost use Rattle.iox2sd_values.specs.Settings.{TellsGlobalDefaults, ChecksPublishSubscribe};
 ghost use Rattle.iox2sd_values.specs.Settings.{ChecksEvent, ChecksRequestResponse, ChecksGlobal};
 
@@ -36,7 +36,7 @@ pub extern "C" fn iox2sd_global_defaults() -> GlobalSettings
 /// The settings that a publish-subscribe service gets by default.
 #[unsafe(no_mangle)]
 pub extern "C" fn iox2sd_publish_subscribe_defaults() -> PublishSubscribeSettings
-    ensures { result ≡ told_publish_subscribe default_publish_subscribe }
+    ensures { result ≡ c_publish_subscribe default_publish_subscribe }
 {
     publish_subscribe_of(&PublishSubscribe::default())
 }
@@ -44,7 +44,7 @@ pub extern "C" fn iox2sd_publish_subscribe_defaults() -> PublishSubscribeSetting
 /// The settings that an event service gets by default.
 #[unsafe(no_mangle)]
 pub extern "C" fn iox2sd_event_defaults() -> EventSettings
-    ensures { result ≡ told_event default_event }
+    ensures { result ≡ c_event default_event }
 {
     event_of(&Event::default())
 }
@@ -52,7 +52,7 @@ pub extern "C" fn iox2sd_event_defaults() -> EventSettings
 /// The settings that a request-response service gets by default.
 #[unsafe(no_mangle)]
 pub extern "C" fn iox2sd_request_response_defaults() -> RequestResponseSettings
-    ensures { result ≡ told_request_response default_request_response }
+    ensures { result ≡ c_request_response default_request_response }
 {
     request_response_of(&RequestResonse::default())
 }
@@ -60,7 +60,7 @@ pub extern "C" fn iox2sd_request_response_defaults() -> RequestResponseSettings
 /// The settings that a blackboard service gets by default.
 #[unsafe(no_mangle)]
 pub extern "C" fn iox2sd_blackboard_defaults() -> BlackboardSettings
-    ensures { result ≡ told_blackboard default_blackboard }
+    ensures { result ≡ c_blackboard default_blackboard }
 {
     blackboard_of(&Blackboard::default())
 }

@@ -10,7 +10,7 @@ ghost use Rattle.iox2sd_values.specs.Texts.{MakesPath, MakesFileName, MakesFileP
 use iox2_texts::bounded::SemanticStringError;
 use iox2_texts::paths::{FileName, FilePath, Path, RestrictedFileName};
 use iox2_texts::service_name::INTERNAL_SERVICE_PREFIX;
-use iox2sd_common::answers::{PlaceAnswer, place};
+use iox2sd_common::answers::{PlaceAnswer, position};
 use iox2sd_common::status::Status;
 
 /// The bytes that a kind of texts may hold.
@@ -86,7 +86,7 @@ fn refusal(error: SemanticStringError, text: &[u8], alphabet: Alphabet, most: us
 {
     let mut at = 0;
     let status = explain(error, text, alphabet, most, &mut at);
-    place(status, at)
+    position(status, at)
 }
 
 /// Whether every byte is from 1 to 127. No byte ends the loop early, so many are looked at at once.
@@ -112,7 +112,7 @@ fn check_name(text: &[u8], most: usize) -> PlaceAnswer
     ensures { ChecksText (MakesName most text.now) Alphabet.Text most text.now result }
 {
     if is_name(text, most) {
-        return place(Status::Done, 0);
+        return position(Status::Done, 0);
     }
     if text.len() > most {
         return refusal(
@@ -151,7 +151,7 @@ pub extern "C" fn iox2sd_service_name_check_at(text: &[u8]) -> PlaceAnswer
     ensures { ChecksName text.now result }
 {
     if text.starts_with(INTERNAL_SERVICE_PREFIX.as_bytes()) {
-        return place(Status::ReservedPrefix, 0);
+        return position(Status::ReservedPrefix, 0);
     }
     iox2sd_internal_service_name_check_at(text)
 }
@@ -185,7 +185,7 @@ pub extern "C" fn iox2sd_path_check_at(text: &[u8]) -> PlaceAnswer
     ensures { ChecksText (MakesPath text.now) Alphabet.Text 255 text.now result }
 {
     match Path::new(text) {
-        Ok(_) => place(Status::Done, 0),
+        Ok(_) => position(Status::Done, 0),
         Err(error) => refusal(error, text, Alphabet::Text, 255),
     }
 }
@@ -200,7 +200,7 @@ pub extern "C" fn iox2sd_file_name_check_at(text: &[u8]) -> PlaceAnswer
     ensures { ChecksText (MakesFileName text.now) Alphabet.FileName 255 text.now result }
 {
     match FileName::new(text) {
-        Ok(_) => place(Status::Done, 0),
+        Ok(_) => position(Status::Done, 0),
         Err(error) => refusal(error, text, Alphabet::FileName, 255),
     }
 }
@@ -216,7 +216,7 @@ pub extern "C" fn iox2sd_file_path_check_at(text: &[u8]) -> PlaceAnswer
     ensures { ChecksText (MakesFilePath text.now) Alphabet.Text 255 text.now result }
 {
     match FilePath::new(text) {
-        Ok(_) => place(Status::Done, 0),
+        Ok(_) => position(Status::Done, 0),
         Err(error) => refusal(error, text, Alphabet::Text, 255),
     }
 }
@@ -229,7 +229,7 @@ pub extern "C" fn iox2sd_restricted_file_name_check_at(text: &[u8]) -> PlaceAnsw
     ensures { ChecksText (MakesRestricted text.now) Alphabet.Restricted 64 text.now result }
 {
     match RestrictedFileName::<64>::new(text) {
-        Ok(_) => place(Status::Done, 0),
+        Ok(_) => position(Status::Done, 0),
         Err(error) => refusal(error, text, Alphabet::Restricted, 64),
     }
 }

@@ -257,27 +257,28 @@ module _ (old : State) (a : Answered) (bare : IsBare old)
         old.handles a.command r served_bare a.words a.given text gives)
 
 abbrev AllGive : ℕ → List Answered → Type 0
-AllGive number told = AllByRecursion (λ a. Gives number a.command a.words a.given) told
+AllGive number reported = AllByRecursion (λ a. Gives number a.command a.words a.given) reported
 
 abbrev words_in : List Answered → List (List ℕ)
-words_in told = map (λ (a : Answered). a.words) told
+words_in reported = map (λ (a : Answered). a.words) reported
 
 abbrev commands_in : List Answered → List Command
-commands_in told = map (λ (a : Answered). a.command) told
+commands_in reported = map (λ (a : Answered). a.command) reported
 
-there : (told : List Answered) (old : State) → IsBare old
-    → AllGive old.service.nodes.registry.service told → (new : Service)
-    → CallsLead old.service (calls_of old.handles told) new
-    → (replies : List Reply) × (map text_of replies ≡ words_in told)
-    × ((last : State) × Run old (commands_in told) replies last)
+there : (reported : List Answered) (old : State) → IsBare old
+    → AllGive old.service.nodes.registry.service reported → (new : Service)
+    → CallsLead old.service (calls_of old.handles reported) new
+    → (replies : List Reply) × (map text_of replies ≡ words_in reported)
+    × ((last : State) × Run old (commands_in reported) replies last)
 there [] old bare gives new leads = ([], refl, (old, refl))
-there (a ∷ told) old bare gives new leads =
+there (a ∷ reported) old bare gives new leads =
     let found = there_step old a bare gives.0 leads.0 leads.1 in
     let r = found.0 in
     let step = found.1 in
     let after = next old leads.0 a.given in
     let rest =
-    there told after step.bare (subst (λ n. AllGive n told) (sym step.number) gives.1) new leads.2
+    there reported after step.bare (subst (λ n. AllGive n reported) (sym step.number) gives.1) new
+    leads.2
     in (
       r ∷ rest.0,
       ap (λ (w : List ℕ). w ∷ map text_of rest.0) step.text
@@ -285,24 +286,25 @@ there (a ∷ told) old bare gives new leads =
       (rest.2.0, (after, step.step, rest.2.1)),
     )
 
-back : (told : List Answered) (old : State) → IsBare old
-    → AllGive old.service.nodes.registry.service told → (replies : List Reply)
-    → map text_of replies ≡ words_in told → (last : State)
-    → Run old (commands_in told) replies last
-    → (new : Service) × CallsLead old.service (calls_of old.handles told) new
+back : (reported : List Answered) (old : State) → IsBare old
+    → AllGive old.service.nodes.registry.service reported → (replies : List Reply)
+    → map text_of replies ≡ words_in reported → (last : State)
+    → Run old (commands_in reported) replies last
+    → (new : Service) × CallsLead old.service (calls_of old.handles reported) new
 back [] old bare gives replies e last run = (old.service, refl)
-back (a ∷ told) old bare gives [] e last run = absurd run
-back (a ∷ told) old bare gives (r ∷ rs) e last run =
+back (a ∷ reported) old bare gives [] e last run = absurd run
+back (a ∷ reported) old bare gives (r ∷ rs) e last run =
     let both = cons_same e in
     let mid = run.0 in
     let next_is = back_next old a bare gives.0 r mid both.0 run.1 in
     let after = next old (quiet mid.service) a.given in
     let rest =
-    back told after next_is.bare (subst (λ n. AllGive n told) (sym next_is.number) gives.1) rs
+    back reported after next_is.bare (subst (λ n. AllGive n reported) (sym next_is.number) gives.1)
+    rs
     both.1 (quiet_state last)
-    (subst (λ s. Run s (commands_in told) rs (quiet_state last))
+    (subst (λ s. Run s (commands_in reported) rs (quiet_state last))
     (back_state old a bare gives.0 r mid both.0 run.1)
-    (run_quiet mid last (commands_in told) rs run.2)) in (
+    (run_quiet mid last (commands_in reported) rs run.2)) in (
       rest.0,
       (quiet mid.service, back_step old a bare gives.0 r mid both.0 run.1, rest.1),
     )
@@ -365,10 +367,10 @@ rising zero = refl
 rising (suc n) =
     ap (λ (l : List ℕ). l ++ n ∷ []) (rising n) ∙ sym (range_more 0 n n (omega arith))
 
-calls_length : (told : List Answered) (handles : List (Option Handle))
-    → length (calls_of handles told) ≡ length told
+calls_length : (reported : List Answered) (handles : List (Option Handle))
+    → length (calls_of handles reported) ≡ length reported
 calls_length [] handles = refl
-calls_length (a ∷ told) handles = ap suc (calls_length told (handles ++ a.given ∷ []))
+calls_length (a ∷ reported) handles = ap suc (calls_length reported (handles ++ a.given ∷ []))
 
 same_places : (calls : List Judged) (n : ℕ) → slice_get calls n ≡ slice_get calls (0 + n)
 same_places calls n = (let e : n ≡ 0 + n = omega arith in ap (slice_get calls) e)
@@ -377,38 +379,39 @@ first_only : (x y : Watched) → Contains (x ∷ []) y → x ≡ y
 first_only x y (zero, within, is) = is
 first_only x y (suc k, within, is) = absurd (omega (arith, within))
 
-pub alone : (old : State) (told : List Answered) → IsBare old
-    → AllByRecursion (λ a. Gives old.service.nodes.registry.service a.command a.words a.given) told
-    → IsExplained (WindowStep 0 (judged_of old.handles told)) (calls_alone (length told))
+pub alone : (old : State) (reported : List Answered) → IsBare old
+    → AllByRecursion (λ a. Gives old.service.nodes.registry.service a.command a.words a.given)
+    reported
+    → IsExplained (WindowStep 0 (judged_of old.handles reported)) (calls_alone (length reported))
     (unwatched old.service ∷ [])
-    ↔ ((replies : List Reply) × (map text_of replies ≡ words_in told)
-    × ((new : State) × Run old (commands_in told) replies new))
-alone old told bare gives =
-    let calls = calls_of old.handles told in
+    ↔ ((replies : List Reply) × (map text_of replies ≡ words_in reported)
+    × ((new : State) × Run old (commands_in reported) replies new))
+alone old reported bare gives =
+    let calls = calls_of old.handles reported in
     let all = as_judged calls in
     let start = unwatched old.service in
     let Step = WindowStep 0 all in
-    let order : in_order (length told) ≡ range_with_len 0 (length calls) =
-    rising (length told) ∙ ap (range_with_len 0) (sym (calls_length told old.handles)) in (
+    let order : in_order (length reported) ≡ range_with_len 0 (length calls) =
+    rising (length reported) ∙ ap (range_with_len 0) (sym (calls_length reported old.handles)) in (
       λ explained.
           let from = explained.0 in
           let new = explained.2 in
           let is = first_only start from explained.3 in
-          let leads = ((calls_alone_are_runs Step (length told) from new explained.1).0
+          let leads = ((calls_alone_are_runs Step (length reported) from new explained.1).0
           explained.4).1 in
-          there told old bare gives new.service
+          there reported old bare gives new.service
           (leads_there all calls 0 (same_places all) old.service new
           (subst (λ l. Leads Step start l new) order
-          (subst (λ s. Leads Step s (in_order (length told)) new) (sym is) leads))),
+          (subst (λ s. Leads Step s (in_order (length reported)) new) (sym is) leads))),
       λ run.
-          let found = back told old bare gives run.0 run.1 run.2.0 run.2.1 in
+          let found = back reported old bare gives run.0 run.1 run.2.0 run.2.1 in
           let leads = subst (λ l. Leads Step start l (unwatched found.0)) (sym order)
           (leads_back all calls 0 (same_places all) old.service found.0 found.1) in (
             start,
-            in_order (length told),
+            in_order (length reported),
             unwatched found.0,
             (0, omega arith, refl),
-            (calls_alone_are_runs Step (length told) start (unwatched found.0)
-                (in_order (length told))).1 (refl, leads),
+            (calls_alone_are_runs Step (length reported) start (unwatched found.0)
+                (in_order (length reported))).1 (refl, leads),
           ),
     )

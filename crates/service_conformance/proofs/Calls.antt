@@ -30,7 +30,7 @@ use Rattle.service_conformance.specs.Quiet.{CanServe, LeadsTo, is_removal, quiet
 use Rattle.service_conformance.specs.Seen.{changes_nothing, seen_text}
 use Rattle.service_conformance.specs.Words.{ArePossibleWords, Tells}
 use Rattle.service_conformance.proofs.Following.{attach_stays, deregister_none, deregister_stays, register_stays, release_none, release_stays}
-use Rattle.service_conformance.proofs.Seen.{told_nothing}
+use Rattle.service_conformance.proofs.Seen.{reported_nothing}
 use Rattle.service_conformance.proofs.Words.{same_handle, same_reply, same_step}
 
 one_only : {S : Type 0} (Fact : S → Type 0) (x : S) → Fact x → (k : ℕ) (d : S)
@@ -213,8 +213,8 @@ module _ (call : Call) (covered : IsCovered call.command) (seen : SeenReply)
   same_state : (old mid : Service) (r : Reply) → quiet old ≡ old → text_of r ≡ seen_text seen
       → ServesCall call old r mid → quiet mid ≡ old
   same_state old mid r rest text served =
-      let told = told_nothing r seen nothing text in
-      stays old mid (call.handle ∷ []) call.command r covered rest told.0 told.1 served
+      let reported = reported_nothing r seen nothing text in
+      stays old mid (call.handle ∷ []) call.command r covered rest reported.0 reported.1 served
 
   pub changes_none : ChangesNothing (answered call (seen_text seen))
   changes_none old new step =

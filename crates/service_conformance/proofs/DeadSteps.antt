@@ -32,7 +32,7 @@ use Rattle.service_conformance.specs.declared.conformance.possible.Possible.TheV
 use Rattle.service_conformance.specs.Dead.{is_kept, nodes_if, ports_after, without_node, without_ports}
 use Rattle.service_conformance.specs.Possible.{ArePossible, reply_in, reply_of_owners}
 use Rattle.service_conformance.proofs.Deregistering.{owned}
-use Rattle.service_conformance.proofs.Dying.{Asks, and_true, answered, dies, node_left, removed}
+use Rattle.service_conformance.proofs.Dying.{AsksCleanup, and_true, answered, dies, node_left, removed}
 use Rattle.service_conformance.proofs.Filters.{kept_filter}
 use Rattle.service_conformance.proofs.Possibles.{alone}
 use Rattle.service_conformance.proofs.Touching.{untouching}
@@ -61,7 +61,7 @@ marks_for {T} (e ∷ es) goes rises =
 asked_by : (kept : Vec ℕ) (left : List PortCleanupAction) (dead : ℕ) (marked : ℕ → Bool)
     (es : List (Entry PortDetails))
     → All (λ e. marked e.slot ≡ not (is_kept kept.items e.details)) es
-    → Asked (Asks kept) left (map (λ e. e.details) (candidates (is_of node_of dead) es))
+    → Asked (AsksCleanup kept) left (map (λ e. e.details) (candidates (is_of node_of dead) es))
     (marks_of (is_of node_of dead) marked es) left
 asked_by kept left dead marked [] a = refl
 asked_by kept left dead marked (e ∷ es) a =
@@ -69,7 +69,7 @@ asked_by kept left dead marked (e ∷ es) a =
     let rest = asked_by kept left dead marked es (All-tail P e es a) in
     let some = candidates (is_of node_of dead) es in
     elim (is_of node_of dead e.details) as
-    (λ b. Asked (Asks kept) left
+    (λ b. Asked (AsksCleanup kept) left
     (map (λ (e : Entry PortDetails). e.details) (if b then e ∷ some else some))
     (map (λ (v : Entry PortDetails). marked v.slot) (if b then e ∷ some else some)) left) [
       | true ↦ (
@@ -98,14 +98,15 @@ ports_can kept left dead old k =
     staying_by is_dead (λ d. not (is_kept kept.items d)) m.0 r.entries
     (answered kept left left (asked_about is_dead r) (marks_of is_dead m.0 r.entries) asked) in
     let new = without_ports dead kept.items r in
-    let step : RecoverStep (Asks kept) is_dead r left Default (release_state r.locked) new left =
+    let step : RecoverStep (AsksCleanup kept) is_dead r left Default (release_state r.locked) new
+    left =
     record {
       marked = m.0;
       asked = asked;
       recovers = (rw those refl, refl);
     } in (
       release_state r.locked,
-      untouching (λ r s. RecoverStep (Asks kept) is_dead r left Default
+      untouching (λ r s. RecoverStep (AsksCleanup kept) is_dead r left Default
           (release_state old.registry.locked) s left)
           old new step (kept_filter r Default _ k),
     )

@@ -32,12 +32,13 @@ removed true = refl
 removed false = refl
 
 -- a cleanup that keeps ports of these values is asked about a port
-abbrev pub Asks : Vec ℕ → List PortCleanupAction → PortDetails → Bool → List PortCleanupAction
+abbrev pub AsksCleanup : Vec ℕ → List PortCleanupAction → PortDetails → Bool → List
+    PortCleanupAction
     → Type 0
-Asks kept f d goes g = AskedToGo (Cleans (ByPort kept)) f (port_of d) goes g
+AsksCleanup kept f d goes g = AskedToGo (Cleans (ByPort kept)) f (port_of d) goes g
 
 pub answered : (kept : Vec ℕ) (f g : List PortCleanupAction) (items : List PortDetails)
-    (marks : List Bool) → Asked (Asks kept) f items marks g
+    (marks : List Bool) → Asked (AsksCleanup kept) f items marks g
     → marks ≡ map (λ d. not (is_kept kept.items d)) items
 answered kept f g [] [] s = refl
 answered kept f g [] (m ∷ ms) s = absurd s
@@ -49,7 +50,7 @@ answered kept f g (d ∷ ds) (m ∷ ms) s =
 
 ports_left : (kept : Vec ℕ) (dead : ℕ) (old new : RegistryState PortDetails)
     (f g : List PortCleanupAction) (state : ReleaseState)
-    → RecoverStep (Asks kept) (is_of node_of dead) old f Default state new g
+    → RecoverStep (AsksCleanup kept) (is_of node_of dead) old f Default state new g
     → new ≡ without_ports dead kept.items old
 ports_left kept dead old new f g state s =
     s.recovers.0

@@ -14,7 +14,7 @@ use Rattle.iox2_dynamic.specs.Ports.{IsNeither}
 use Rattle.iox2_dynamic.specs.PortsState.{Side}
 use Rattle.iox2_dynamic.specs.PortsState.Side.{First, Second}
 use Rattle.iox2_dynamic.specs.Service.{IsPortRegistry, IsService, Registered, Service, entries_of_node, first_role, second_role, role_at}
-use Rattle.service_conformance.specs.Given.{Becomes, GivesNode, GivesNodes, GivesPort, GivesPorts, IsBefore, IsUnused, MayStand, StandsLast, UsedSo, placed, with_last, with_nodes, with_ports, with_used}
+use Rattle.service_conformance.specs.Given.{Becomes, GivesNode, GivesNodes, GivesPort, GivesPorts, IsBefore, IsUnused, MayStand, StandsLast, UsedSo, slot_entry, with_last, with_nodes, with_ports, with_used}
 use Rattle.service_conformance.specs.Sides.{ports_at}
 use Rattle.service_conformance.proofs.Sides.{has_role, lacks, one_side, ports_are}
 
@@ -49,9 +49,9 @@ all_before slot ticket es p q k d h = record { below = p k d h; other = q k d h 
 
 -- an entry that may stand behind the others makes a registry
 pub stands_is : {T : Type 0} (r : RegistryState T) (slot ticket : ℕ) (details : T) → IsRegistry r
-    → MayStand r slot ticket → IsRegistry (with_last r (placed slot ticket details))
+    → MayStand r slot ticket → IsRegistry (with_last r (slot_entry slot ticket details))
 stands_is {T} r slot ticket details k m =
-    let x : Entry T = placed slot ticket details in
+    let x : Entry T = slot_entry slot ticket details in
     record {
       slots_rise = all_pairs_push (λ (a b : Entry T). a.slot < b.slot) r.entries x k.slots_rise
           (λ i d h. (m.before i d h).below);
@@ -67,9 +67,9 @@ stands_is {T} r slot ticket details k m =
 
 -- and only such an entry does
 pub stands_only : {T : Type 0} (r : RegistryState T) (slot ticket : ℕ) (details : T)
-    → IsRegistry (with_last r (placed slot ticket details)) → MayStand r slot ticket
+    → IsRegistry (with_last r (slot_entry slot ticket details)) → MayStand r slot ticket
 stands_only {T} r slot ticket details k =
-    let x : Entry T = placed slot ticket details in
+    let x : Entry T = slot_entry slot ticket details in
     record {
       is_open = unlocked r.locked refl;
       fits = All-head (λ (e : Entry T). e.slot < r.capacity) x []
@@ -82,7 +82,7 @@ stands_only {T} r slot ticket details k =
     }
   where
     unlocked : (b : Bool) → r.locked ≡ b → r.locked ≡ false
-    unlocked true e = absurd (push_some r.entries (placed slot ticket details)
+    unlocked true e = absurd (push_some r.entries (slot_entry slot ticket details)
         (k.locked_is_empty e))
     unlocked false e = e
 
@@ -236,11 +236,11 @@ module _ (s : Service) (i : IsService s) where
       )
 
   pub gives_node : (slot ticket id : ℕ) (yes : Bool) (r : RegistryState ℕ)
-      → Becomes (StandsLast s.nodes.registry (placed slot ticket id)) s.nodes.registry yes r
+      → Becomes (StandsLast s.nodes.registry (slot_entry slot ticket id)) s.nodes.registry yes r
       → Becomes (GivesNode s slot ticket id) s yes (with_nodes s r) × IsService (with_nodes s r)
   gives_node slot ticket id true r b =
       let k =
-      node_last s (placed slot ticket id) i
+      node_last s (slot_entry slot ticket id) i
       (subst (λ (x : RegistryState ℕ). IsRegistry x) b.0 b.1) in
       let is = ap (λ (x : RegistryState ℕ). with_nodes s x) b.0 in
       let kept = subst (λ (x : Service). IsService x) (sym is) k in
@@ -248,7 +248,7 @@ module _ (s : Service) (i : IsService s) where
   gives_node slot ticket id false r b =
       let is : with_nodes s r ≡ s = ap (λ (x : RegistryState ℕ). with_nodes s x) b.1 in (
         (
-          λ new g. b.0 (with_last s.nodes.registry (placed slot ticket id))
+          λ new g. b.0 (with_last s.nodes.registry (slot_entry slot ticket id))
               (refl, (subst (λ (x : Service). IsService x) g.0 g.1).nodes_are),
           is,
         ),
@@ -290,13 +290,13 @@ module _ (s : Service) (i : IsService s) where
     pub gives_port : (slot ticket : ℕ) (d : PortDetails) (yes : Bool)
         (r : RegistryState PortDetails) → role_of d ≡ role_at s.pattern side
         → 0 < entries_of_node (node_of d) s.nodes.registry
-        → Becomes (StandsLast (ports_at s side).registry (placed slot ticket d))
+        → Becomes (StandsLast (ports_at s side).registry (slot_entry slot ticket d))
         (ports_at s side).registry yes r
         → Becomes (GivesPort s slot ticket d) s yes (with_ports side s r)
         × IsService (with_ports side s r)
     gives_port slot ticket d true r at has b =
         let k =
-        port_last s side (placed slot ticket d) i has
+        port_last s side (slot_entry slot ticket d) i has
         (subst (λ (x : RegistryState PortDetails). IsRegistry x) b.0 b.1) in
         let is = ap (λ (x : RegistryState PortDetails). with_ports side s x) b.0 in
         let kept = subst (λ (x : Service). IsService x) (sym is) k in
@@ -307,11 +307,12 @@ module _ (s : Service) (i : IsService s) where
           (
             λ new g.
                 let here : side ≡ g.0 = one_side s.pattern g.0 side (role_of d) g.1 at in
-                b.0 (with_last (ports_at s side).registry (placed slot ticket d)) (
+                b.0 (with_last (ports_at s side).registry (slot_entry slot ticket d)) (
                   refl,
-                  (ports_only s side (with_last (ports_at s side).registry (placed slot ticket d))
+                  (ports_only s side (with_last (ports_at s side).registry (slot_entry slot ticket
+                      d))
                       (subst (λ (z : Side). IsService (with_ports z s
-                      (with_last (ports_at s z).registry (placed slot ticket d)))) (sym here)
+                      (with_last (ports_at s z).registry (slot_entry slot ticket d)))) (sym here)
                       (subst (λ (x : Service). IsService x) g.2 g.3))).is_registry,
                 ),
             is,
@@ -324,7 +325,7 @@ module _ (s : Service) (i : IsService s) where
       → (¬ (0 < entries_of_node (node_of d) s.nodes.registry)) → (new : Service)
       → ¬ (GivesPort s slot ticket d new)
   no_node slot ticket d none new g =
-      let x = placed slot ticket d in
+      let x = slot_entry slot ticket d in
       let p =
       ports_only s g.0 (with_last (ports_at s g.0).registry x)
       (subst (λ (x : Service). IsService x) g.2 g.3) in

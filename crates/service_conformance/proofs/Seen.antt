@@ -408,7 +408,7 @@ no_change (reply.Handle h) e = absurd (let z : true ≡ false = e in cc)
 no_change _ e = (refl, e)
 
 -- a reply with words that tell that nothing changed gives no handle and is of no removal
-pub told_nothing : (r : Reply) (s : SeenReply) → changes_nothing s ≡ true
+pub reported_nothing : (r : Reply) (s : SeenReply) → changes_nothing s ≡ true
     → text_of r ≡ seen_text s → (handle_in r ≡ None) × (is_removal r ≡ false)
-told_nothing r s nothing e =
+reported_nothing r s nothing e =
     no_change r (sym (of_change r) ∙ (ap tells_change e ∙ of_seen s nothing))

@@ -107,31 +107,31 @@ unread words never slot ticket s t e =
 module _ {T : Type 0} (r : RegistryState T) (words : List ℕ) (fits : r.capacity < 2 ^ 64)
     (counts : r.used < 2 ^ 64) where
   module _ (slot ticket : ℕ) (s : slot < 2 ^ 64) (t : ticket < 2 ^ 64)
-      (told : handle_words slot ticket ≡ words) where
-    parts_told : (h : Handle) → MayGive r h → text_of (reply.Handle h) ≡ words
+      (reported : handle_words slot ticket ≡ words) where
+    parts_reported : (h : Handle) → MayGive r h → text_of (reply.Handle h) ≡ words
         → (h.slot ≡ slot) × (h.ticket ≡ ticket)
-    parts_told h may e =
+    parts_reported h may e =
         parts_same h.slot h.ticket slot ticket (omega (arith, may.fits, fits))
-        (omega (arith, may.ticket, counts)) s t (e ∙ sym told)
+        (omega (arith, may.ticket, counts)) s t (e ∙ sym reported)
 
     -- the slot is not free
     pub none_free : ((h : Handle) → h.slot ≡ slot → ¬ (MayGive r h))
         → TellsHandle (MayGive r) words None
-    none_free never h may e = never h (parts_told h may e).0 may
+    none_free never h may e = never h (parts_reported h may e).0 may
 
     -- the ticket is not the next one
     pub none_next : (next : Handle) → MayGive r next → next.ticket ≢ ticket
         → TellsHandle (MayGive r) words None
-    none_next next may never h so e = never (may.ticket ∙ sym so.ticket ∙ (parts_told h so e).1)
+    none_next next may never h so e = never (may.ticket ∙ sym so.ticket ∙ (parts_reported h so e).1)
 
     pub one_next : (next : Handle) → next.slot ≡ slot → MayGive r next → next.ticket ≡ ticket
         → TellsHandle (MayGive r) words (Some next)
     one_next next is may same =
         let text : text_of (reply.Handle next) ≡ words =
-        ap (λ k. handle_words k next.ticket) is ∙ ap (handle_words slot) same ∙ told in (
+        ap (λ k. handle_words k next.ticket) is ∙ ap (handle_words slot) same ∙ reported in (
           may,
           text,
-          λ other so e. same_handle r next other may so (is ∙ sym (parts_told other so e).0),
+          λ other so e. same_handle r next other may so (is ∙ sym (parts_reported other so e).0),
         )
 
 same_text : (one r : Reply) → IsSameReply one r → text_of one ≡ text_of r
@@ -142,17 +142,17 @@ same_text (reply.Ports ports) r e =
 same_text _ r e = ap text_of e
 
 module _ (s : Service) (words : List ℕ) where
-  pub one_told : (one : LineReply) → text_of (reply_in one) ≡ words
+  pub one_reported : (one : LineReply) → text_of (reply_in one) ≡ words
       → Tells s (possible.One one) words (Some (reply_in one))
-  one_told one e = (same_reply (reply_in one), e, λ other a f. a)
+  one_reported one e = (same_reply (reply_in one), e, λ other a f. a)
 
   pub one_not : (one : LineReply) → ¬ (text_of (reply_in one) ≡ words)
       → Tells s (possible.One one) words None
   one_not one never r a e = never (same_text (reply_in one) r a ∙ e)
 
-  pub given_told : (part : Part) (h : Handle) → TellsHandle (MayGiveIn s part) words (Some h)
+  pub given_reported : (part : Part) (h : Handle) → TellsHandle (MayGiveIn s part) words (Some h)
       → Tells s (possible.Given part) words (Some (reply.Handle h))
-  given_told part h tells = (
+  given_reported part h tells = (
     (h, refl, tells.0),
     tells.1,
     λ other a e. ap reply.Handle (tells.2 a.0 a.2 (ap text_of (sym a.1) ∙ e)) ∙ sym a.1,

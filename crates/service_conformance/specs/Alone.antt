@@ -75,15 +75,16 @@ pub record IsBare (s : State) : Type 0 where
 
 -- the same, as calls that are judged
 abbrev pub judged_of : List (Option Handle) → List Answered → List Judged
-judged_of handles told = map (λ (c : Call). call c) (calls_of handles told)
+judged_of handles reported = map (λ (c : Call). call c) (calls_of handles reported)
 
 -- Calls that overlap nothing are a run as scripts have it: some order explains them exactly where
 -- there are replies with these words which are a run of the commands.
 abbrev pub CallsAloneAreRuns : Type 0
 CallsAloneAreRuns =
-    (old : State) (told : List Answered) → IsBare old
-    → AllByRecursion (λ a. Gives old.service.nodes.registry.service a.command a.words a.given) told
-    → IsExplained (WindowStep 0 (judged_of old.handles told)) (calls_alone (length told))
+    (old : State) (reported : List Answered) → IsBare old
+    → AllByRecursion (λ a. Gives old.service.nodes.registry.service a.command a.words a.given)
+    reported
+    → IsExplained (WindowStep 0 (judged_of old.handles reported)) (calls_alone (length reported))
     (unwatched old.service ∷ [])
-    ↔ ((replies : List Reply) × (map text_of replies ≡ map (λ (a : Answered). a.words) told)
-    × ((new : State) × Run old (map (λ (a : Answered). a.command) told) replies new))
+    ↔ ((replies : List Reply) × (map text_of replies ≡ map (λ (a : Answered). a.words) reported)
+    × ((new : State) × Run old (map (λ (a : Answered). a.command) reported) replies new))

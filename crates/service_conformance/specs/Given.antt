@@ -24,8 +24,8 @@ abbrev pub with_last : {T : Type 0} → RegistryState T → Entry T → Registry
 with_last r e = record r { entries = r.entries ++ e ∷ [] }
 
 -- details in a slot, and the ticket that they were given
-abbrev pub placed : {T : Type 0} → ℕ → ℕ → T → Entry T
-placed slot ticket details = record { slot = slot; ticket = ticket; details = details }
+abbrev pub slot_entry : {T : Type 0} → ℕ → ℕ → T → Entry T
+slot_entry slot ticket details = record { slot = slot; ticket = ticket; details = details }
 
 -- the entry stands before this slot, and has another ticket
 pub record IsBefore {T : Type 0} (slot ticket : ℕ) (e : Entry T) : Type 0 where
@@ -78,12 +78,12 @@ GivesPorts s role used new =
 -- a node has an entry behind the others
 abbrev pub GivesNode : Service → ℕ → ℕ → ℕ → Service → Type 0
 GivesNode s slot ticket id new =
-    (new ≡ with_nodes s (with_last s.nodes.registry (placed slot ticket id))) × IsService new
+    (new ≡ with_nodes s (with_last s.nodes.registry (slot_entry slot ticket id))) × IsService new
 
 -- a port stands behind the others of its role
 abbrev pub GivesPort : Service → ℕ → ℕ → PortDetails → Service → Type 0
 GivesPort s slot ticket details new =
     (side : Side) × (role_of details ≡ role_at s.pattern side)
     × (new ≡ with_ports side s
-    (with_last (ports_at s side).registry (placed slot ticket details)))
+    (with_last (ports_at s side).registry (slot_entry slot ticket details)))
     × IsService new

@@ -97,9 +97,9 @@ ids_lacking (l ∷ looks) start =
 -- stops, the ids that its reply must not have, and those that it has to have
 abbrev pub AreJudgedReplies : Watched → Judged → PossibleReplies → Type 0
 AreJudgedReplies w (call c) p = AreRepliesOf w.service c p
-AreJudgedReplies w (starts p reply) told = Unit {0}
-AreJudgedReplies w (stops start reply) told =
-    (lists : PossibleList) × (told ≡ replies.List lists)
+AreJudgedReplies w (starts p reply) reported = Unit {0}
+AreJudgedReplies w (stops start reply) reported =
+    (lists : PossibleList) × (reported ≡ replies.List lists)
     × ((lists.unseen.items, lists.missing.items) ≡ ids_lacking w.looks start)
 
 -- the number is that of one of so many calls from the first one on

@@ -6,7 +6,6 @@ mod judged_call;
 mod line_reply;
 mod look;
 mod mover;
-mod placed;
 mod possible;
 mod registry_check;
 mod replies;
@@ -17,6 +16,7 @@ mod seen_call;
 mod seen_reply;
 mod service_check;
 mod sides;
+mod slot_entry;
 mod watched;
 mod words;
 

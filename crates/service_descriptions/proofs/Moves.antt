@@ -242,11 +242,11 @@ dies old dead cleanup reply.NoMoreOwners new s = cleans_up old dead cleanup node
 dies old dead cleanup _ new s = absurd s
 
 -- nothing changes, and no handle is told
-tells : (old new : Service) (Told : Reply → Type 0) (r : Reply)
-    → ((h : Handle) → Told (reply.Handle h) → ⊥) → Told r × (new ≡ old)
+tells : (old new : Service) (Reported : Reply → Type 0) (r : Reply)
+    → ((h : Handle) → Reported (reply.Handle h) → ⊥) → Reported r × (new ≡ old)
     → Moves old new (handle_in r)
-tells old new Told (reply.Handle h) never s = absurd (never h s.0)
-tells old new Told _ never s = still old new s.1
+tells old new Reported (reply.Handle h) never s = absurd (never h s.0)
+tells old new Reported _ never s = still old new s.1
 
 no_handle_of_part : (answered : MessageTypeDetails → Reply → Type 0) (h : Handle)
     (found : Option MessageTypeDetails)

@@ -68,7 +68,7 @@ after old service earlier = record old { service = service; earlier = earlier }
 
 module _ (about : Option Description) (old : Inside) (service : Service) (earlier : Vec Earlier)
     (cell : Earlier) (given : Option Handle)
-    (told : (n : ℕ) → IfSome given (λ h. h.service ≡ n) → handle_at n cell ≡ given)
+    (reported : (n : ℕ) → IfSome given (λ h. h.service ≡ n) → handle_at n cell ≡ given)
     (more : earlier.items ≡ old.earlier.items ++ cell ∷ []) (sound : IsSound old)
     (is_service : IsService service) (m : Moves old.service service given) where
   -- the fields after a service moved on
@@ -79,7 +79,7 @@ module _ (about : Option Description) (old : Inside) (service : Service) (earlie
       ≡ handles_in old.number old.earlier.items ++ given ∷ []
   noted_more =
       let stands : handle_at old.number cell ≡ given =
-      told old.number
+      reported old.number
       (next_number old.number old.service service given sound.number_is m.next) in
       ap (λ (es : List Earlier). handles_in old.number es) more
       ∙ map-append (handle_at old.number) old.earlier.items (cell ∷ [])
@@ -122,11 +122,12 @@ pub served : (about : Option Description) (old : Inside) (service : Service) (ea
     → IsSound (after old service earlier)
     × ServiceStep (described (session_of old) about) c r
     (described (session_of (after old service earlier)) about)
-served about old service earlier cell c r sound is_service s told more =
+served about old service earlier cell c r sound is_service s reported more =
     let handles = handles_in old.number old.earlier.items in
     let m = moves old.service about handles c r service sound.is_service s in (
-      noted about old service earlier cell (handle_in r) told more sound is_service m,
-      stepped about old service earlier cell (handle_in r) told more sound is_service m c r refl s,
+      noted about old service earlier cell (handle_in r) reported more sound is_service m,
+      stepped about old service earlier cell (handle_in r) reported more sound is_service m c r
+          refl s,
     )
 
 -- what sound fields stand for is a state
@@ -179,12 +180,13 @@ pub served_line : (old : Inside) (service : Service) (earlier : Vec Earlier) (ce
     → earlier.items ≡ old.earlier.items ++ cell ∷ []
     → IsSound (after old service earlier)
     × LineStep (session_of old) c a (session_of (after old service earlier))
-served_line old service earlier cell c a sound is_service s told more =
+served_line old service earlier cell c a sound is_service s reported more =
     let handles = handles_in old.number old.earlier.items in
     let m = line_moves old.service None handles c a service sound.is_service s in (
-      noted None old service earlier cell (handle_given a) told more sound is_service m,
+      noted None old service earlier cell (handle_given a) reported more sound is_service m,
       λ r so.
           let may = line_serves old.service None handles c a service s r so in
-          stepped None old service earlier cell (handle_given a) told more sound is_service m c r
+          stepped None old service earlier cell (handle_given a) reported more sound is_service m c
+          r
           may.0 may.1,
     )

@@ -132,7 +132,7 @@ fn a_line_that_is_no_text(rt: HostRuntime) {
 }
 
 /// The text of what is known to be an error alone.
-fn told(alloc: Global, error: &impl Error) -> Result<String, AllocError> {
+fn reported(alloc: Global, error: &impl Error) -> Result<String, AllocError> {
     format!(in alloc; "{error}")
 }
 
@@ -146,7 +146,7 @@ fn each_end_has_its_text(rt: HostRuntime) -> Result<(), Fail> {
         ),
         (ScriptError::from(AllocError), "no memory"),
     ] {
-        assert_eq!(rt; told(rt.alloc(), &end)?.as_str(), text);
+        assert_eq!(rt; reported(rt.alloc(), &end)?.as_str(), text);
     }
     Ok(())
 }

@@ -9,7 +9,7 @@ use Rattle.iox2_config.specs.declared.config.Config.{Config}
 use Rattle.service_drawing.specs.Descriptions.{StopsReading}
 use Rattle.service_drawing.specs.Fronts.{IsOver}
 use Rattle.service_drawing.specs.Reasons.{IsReason}
-use Rattle.service_drawing.specs.Arguments.{AsksFor, IsRead}
+use Rattle.service_drawing.specs.Arguments.{IsRequestOf, IsRead}
 use Rattle.service_drawing.specs.Streams.{status_of, output_text, error_text, TellsBadLine, Draws, Answers, Reported}
 use Rattle.service_drawing.specs.declared.arguments.Asked.{Asked}
 use Rattle.service_drawing.specs.declared.fault.Fault.{Fault}
@@ -26,16 +26,16 @@ answered_at_zero end P h k = grind arith
 -- what was requested was answered where the outcome was written
 pub reported_where_written : (arguments : Result (IntoIter (String Global) Global) Error)
     (asked : Result Asked Fault) (end : Result Written Fault) (wrote : Result ℕ Error)
-    (given left out_old out_new err_old err_new : Option (List ℕ)) → AsksFor arguments asked
+    (given left out_old out_new err_old err_new : Option (List ℕ)) → IsRequestOf arguments asked
     → Answers given asked end → IfOk end (λ written. IsRead asked → IsAtEnd left)
     → IfOk wrote (λ status. status ≡ status_of end)
     → OnOk wrote (Appends out_old out_new (output_text end))
     → OnOk wrote (Appends err_old err_new (error_text end))
     → IfOk wrote (λ status. Reported arguments status given left out_old out_new err_old err_new)
 reported_where_written arguments asked end (Ok status) given left out_old out_new err_old err_new
-    asks answered read told output errors = grind (arith, answered_at_zero)
+    asks answered read reported output errors = grind (arith, answered_at_zero)
 reported_where_written arguments asked end (Err why) given left out_old out_new err_old err_new
-    asks answered read told output errors = tt
+    asks answered read reported output errors = tt
 
 -- what is true of an error is true of it where it is handed on
 pub handed_on : {A E : Type 0} (Good : A → Type 0) (Bad : E → Type 0) (r : Result A E) (why : E)

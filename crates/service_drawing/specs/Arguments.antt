@@ -24,23 +24,24 @@ IsNoRequest words =
     × (words ≢ codes "--version" ∷ [])
 
 -- what the words after the program's name ask for
-abbrev pub Asks : List (List ℕ) → Result Asked Fault → Type 0
-Asks words (Ok (Drawing Text)) = words ≡ []
-Asks words (Ok (Drawing Svg)) = words ≡ codes "svg" ∷ []
-Asks words (Ok Help) = words ≡ codes "--help" ∷ []
-Asks words (Ok Version) = words ≡ codes "--version" ∷ []
-Asks words (Err BadArgument) = IsNoRequest words
-Asks words (Err NoMemory) = ⊥
-Asks words (Err (BadLine line cause prefix form)) = ⊥
-Asks words (Err (BadSettings lines)) = ⊥
-Asks words (Err NoEnd) = ⊥
+abbrev pub IsRequest : List (List ℕ) → Result Asked Fault → Type 0
+IsRequest words (Ok (Drawing Text)) = words ≡ []
+IsRequest words (Ok (Drawing Svg)) = words ≡ codes "svg" ∷ []
+IsRequest words (Ok Help) = words ≡ codes "--help" ∷ []
+IsRequest words (Ok Version) = words ≡ codes "--version" ∷ []
+IsRequest words (Err BadArgument) = IsNoRequest words
+IsRequest words (Err NoMemory) = ⊥
+IsRequest words (Err (BadLine line cause prefix form)) = ⊥
+IsRequest words (Err (BadSettings lines)) = ⊥
+IsRequest words (Err NoEnd) = ⊥
 
 -- what the arguments ask for: where they could not be had, there is no memory or they are bad
-abbrev pub AsksFor : Result (IntoIter (String Global) Global) Error → Result Asked Fault → Type 0
-AsksFor (Ok words) asked = Asks (drop 1 (words_of words)) asked
-AsksFor (Err why) (Err NoMemory) = error_kind why ≡ OutOfMemory
-AsksFor (Err why) (Err BadArgument) = error_kind why ≢ OutOfMemory
-AsksFor (Err why) other = ⊥
+abbrev pub IsRequestOf : Result (IntoIter (String Global) Global) Error → Result Asked Fault → Type
+    0
+IsRequestOf (Ok words) asked = IsRequest (drop 1 (words_of words)) asked
+IsRequestOf (Err why) (Err NoMemory) = error_kind why ≡ OutOfMemory
+IsRequestOf (Err why) (Err BadArgument) = error_kind why ≢ OutOfMemory
+IsRequestOf (Err why) other = ⊥
 
 -- what is asked for is made of what is read
 abbrev pub IsRead : Result Asked Fault → Type 0

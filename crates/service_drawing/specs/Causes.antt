@@ -48,6 +48,7 @@ IsSpelled bytes =
 abbrev pub IsCause : List ℕ → Reason → Cause → Type 0
 IsCause bytes reason TwoSpaces =
     IsSpelled bytes × (reason ≢ InternalName) × HasTwoSpaces (line_of bytes)
-IsCause bytes reason (Read told) =
-    IsSpelled bytes × (told ≡ reason) × ((reason ≡ InternalName) ⊎ (¬ HasTwoSpaces (line_of bytes)))
+IsCause bytes reason (Read reported) =
+    IsSpelled bytes × (reported ≡ reason) × ((reason ≡ InternalName) ⊎ (¬ HasTwoSpaces (line_of
+    bytes)))
 IsCause bytes reason cause = IsMisspelled bytes cause

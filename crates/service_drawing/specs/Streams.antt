@@ -6,7 +6,7 @@ use Rattle.std.specs.declared.alloc.Global.{Global}
 use Rattle.std.specs.declared.io.Error.{Error}
 use Rattle.std.specs.declared.vec.IntoIter.{IntoIter}
 use Rattle.line_streams.specs.Filters.{either}
-use Rattle.service_drawing.specs.Arguments.{AsksFor, IsRead, IsTextOrNoMemory}
+use Rattle.service_drawing.specs.Arguments.{IsRequestOf, IsRead, IsTextOrNoMemory}
 use Rattle.iox2_config.specs.declared.config.Config.{Config}
 use Rattle.service_drawing.specs.Causes.{IsCause}
 use Rattle.service_drawing.specs.Descriptions.{IsDescription, StopsReading}
@@ -129,9 +129,9 @@ pub record Reported (arguments : Result (IntoIter (String Global) Global) Error)
     (given left out_old out_new err_old err_new : Option (List ℕ)) : Type 0 where
   pub asked : Result Asked Fault
   pub end : Result Written Fault
-  pub asks : AsksFor arguments asked
+  pub asks : IsRequestOf arguments asked
   pub answered : Answers given asked end
-  pub told : status ≡ status_of end
+  pub reported : status ≡ status_of end
   pub read : status ≡ 0 → IsRead asked → IsAtEnd left
   pub output : Appends out_old out_new (output_text end)
   pub errors : Appends err_old err_new (error_text end)

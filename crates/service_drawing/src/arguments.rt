@@ -1,6 +1,6 @@
 //! The request in the program's arguments.
 ghost use Rattle.std.specs.Prelude.{[], ◌∷◌, drop};
-ghost use Rattle.service_drawing.specs.Arguments.{Asks, AsksFor, words_of};
+ghost use Rattle.service_drawing.specs.Arguments.{IsRequest, IsRequestOf, words_of};
 
 use crate::fault::Fault;
 use std::env::Args;
@@ -49,7 +49,7 @@ pub(crate) const VERSION: &str = "iox2-describe 0.1.0 (iceoryx2 0.9.3)\n";
 
 /// What the arguments request. The first is the program's name.
 pub(crate) fn asked_by(arguments: io::Result<Args>) -> Result<Asked, Fault>
-    ensures { AsksFor arguments result }
+    ensures { IsRequestOf arguments result }
 {
     match arguments {
         Ok(words) => asked_in(words),
@@ -60,7 +60,7 @@ pub(crate) fn asked_by(arguments: io::Result<Args>) -> Result<Asked, Fault>
 
 /// What the words after the first request.
 fn asked_in(words: Args) -> Result<Asked, Fault>
-    ensures { Asks (drop 1 (words_of words)) result }
+    ensures { IsRequest (drop 1 (words_of words)) result }
 {
     let mut words = words;
     // The program's name asks for nothing.
@@ -76,7 +76,7 @@ fn asked_in(words: Args) -> Result<Asked, Fault>
 
 /// What one word requests.
 fn asked_by_word(word: &str) -> Result<Asked, Fault>
-    ensures { Asks (word.now ∷ []) result }
+    ensures { IsRequest (word.now ∷ []) result }
 {
     match word {
         "svg" => Ok(Asked::Drawing(Form::Svg)),

@@ -83,7 +83,7 @@ fn answer<R: Source>(
     asked: Result<Asked, Fault>,
     input: &mut R,
 ) -> io::Result<Result<Written, Fault>>
-    ensures told { IfOk result (λ end. Answers (R.remaining input.old) asked end) }
+    ensures end_is { IfOk result (λ end. Answers (R.remaining input.old) asked end) }
     ensures read { IfOk result (λ end. IfOk end (λ written.
         IsRead asked → IsAtEnd (R.remaining input.new))) }
     ensures failed { IfErr result (ReadFails R.FailsBy input.new) }

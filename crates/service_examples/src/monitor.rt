@@ -16,21 +16,21 @@ pub fn remove_dead_nodes(
     dead: &[UniqueNodeId],
 ) -> Option<DeregisterNodeState>
     ensures removed { OnlyOthersStay dead.now service.old service.new }
-    ensures told { MatchOption result (dead.now ≡ [])
+    ensures reported { MatchOption result (dead.now ≡ [])
         (λ state. state_of state ≡ release_state service.new.nodes.registry.locked) }
 {
-    let mut told = None;
+    let mut reported = None;
     for id in dead {
-        told = Some(remove_dead_node(service, id));
+        reported = Some(remove_dead_node(service, id));
     }
-    told
+    reported
 }
 
 /// Removes all ports and all entries of one dead node, and says whether the service has nodes left
 /// or may have some again.
 fn remove_dead_node(service: &mut DynamicConfig, dead: &UniqueNodeId) -> DeregisterNodeState
     ensures removed { OnlyOthersStay (dead.now ∷ []) service.old service.new }
-    ensures told { state_of result ≡ release_state service.new.nodes.registry.locked }
+    ensures reported { state_of result ≡ release_state service.new.nodes.registry.locked }
 {
     let mut remove = |_port: UniquePortId| -> PortCleanupAction
         ensures { result ≡ PortCleanupAction.RemovePort }

@@ -10,10 +10,15 @@ use std::process::Abort;
 use std::test::Fail;
 
 /// What is answered to a node: its ticket and that of its port, or why it did not join.
-type Told = Result<(u64, u64), JoinError>;
+type Joined = Result<(u64, u64), JoinError>;
 
 /// What is answered to the node with this counter.
-fn told(rt: &impl Abort, service: &mut DynamicConfig, counter: u32, port: PortDetails) -> Told {
+fn reported(
+    rt: &impl Abort,
+    service: &mut DynamicConfig,
+    counter: u32,
+    port: PortDetails,
+) -> Joined {
     join(service, node(rt, counter), port).map(|joined| (
         joined.node.ticket(),
         joined.port.ticket(),
@@ -30,12 +35,12 @@ fn listener(rt: &impl Abort, counter: u32, node_counter: u32) -> PortDetails {
 
 /// What a service answers whose last node is gone:
 /// each port has one fault less than the one before.
-fn told_late(rt: &impl Abort, service: &mut DynamicConfig) -> [Told; 3] {
+fn reported_late(rt: &impl Abort, service: &mut DynamicConfig) -> [Joined; 3] {
     remove_dead_nodes(service, &[node(rt, 1)]);
     [
-        told(rt, service, 2, listener(rt, 41, 3)),
-        told(rt, service, 2, subscriber(rt, 31, 3)),
-        told(rt, service, 2, subscriber(rt, 31, 2)),
+        reported(rt, service, 2, listener(rt, 41, 3)),
+        reported(rt, service, 2, subscriber(rt, 31, 3)),
+        reported(rt, service, 2, subscriber(rt, 31, 2)),
     ]
 }
 
@@ -44,12 +49,12 @@ fn told_late(rt: &impl Abort, service: &mut DynamicConfig) -> [Told; 3] {
 #[test]
 fn the_first_cause_is_told(rt: HostRuntime) -> Result<(), Fail> {
     let mut service = service(rt.alloc(), 1)?;
-    let first = told(&rt, &mut service, 1, subscriber(&rt, 31, 1));
+    let first = reported(&rt, &mut service, 1, subscriber(&rt, 31, 1));
     let second = subscriber(&rt, 32, 1);
     assert!(rt; service.has_role(second.role()));
     service.attach(second)?;
-    let full = told(&rt, &mut service, 2, subscriber(&rt, 33, 2));
-    let late = told_late(&rt, &mut service);
+    let full = reported(&rt, &mut service, 2, subscriber(&rt, 33, 2));
+    let late = reported_late(&rt, &mut service);
     assert_eq!(rt;
         ([first, full], late),
         (
@@ -70,14 +75,14 @@ fn the_first_cause_is_told(rt: HostRuntime) -> Result<(), Fail> {
 fn who_finds_no_room_may_join_otherwise(rt: HostRuntime) -> Result<(), Fail> {
     let mut service = service(rt.alloc(), 3)?;
     let publisher = |counter: u32| publisher_details(&rt, 20 + counter, counter);
-    let told = [
-        told(&rt, &mut service, 1, publisher(1)),
-        told(&rt, &mut service, 2, publisher(2)),
-        told(&rt, &mut service, 3, publisher(3)),
-        told(&rt, &mut service, 3, subscriber(&rt, 31, 3)),
+    let reported = [
+        reported(&rt, &mut service, 1, publisher(1)),
+        reported(&rt, &mut service, 2, publisher(2)),
+        reported(&rt, &mut service, 3, publisher(3)),
+        reported(&rt, &mut service, 3, subscriber(&rt, 31, 3)),
     ];
     assert_eq!(rt;
-        told,
+        reported,
         [
             Ok((0, 0)),
             Ok((1, 1)),
@@ -98,7 +103,7 @@ fn a_fresh_service_stays_open(rt: HostRuntime) -> Result<(), Fail> {
     };
     let settings = MessagingPatternSettings::PublishSubscribe(no_ports);
     let mut service = DynamicConfig::new(rt.alloc(), &settings, 1, 7)?;
-    let refused = told(&rt, &mut service, 1, subscriber(&rt, 31, 1));
+    let refused = reported(&rt, &mut service, 1, subscriber(&rt, 31, 1));
     assert_eq!(rt;
         (refused, service.is_locked(), service.number_of_nodes()),
         (Err(JoinError::NoRoomForPort), false, 0)

@@ -112,8 +112,8 @@ fn the_last_of_some_deaths_ends_a_service(rt: HostRuntime) -> Result<(), Fail> {
     let mut service = service(rt.alloc(), 3)?;
     come(&rt, &mut service);
     let dead = [node(&rt, 1), node(&rt, 3), node(&rt, 2)];
-    let told = remove_dead_nodes(&mut service, &dead);
-    assert!(rt; told == Some(DeregisterNodeState::NoMoreOwners));
+    let reported = remove_dead_nodes(&mut service, &dead);
+    assert!(rt; reported == Some(DeregisterNodeState::NoMoreOwners));
     assert!(rt; are_attached(rt.alloc(), &service, &[])?);
     Ok(())
 }

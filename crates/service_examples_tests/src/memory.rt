@@ -15,10 +15,14 @@ fn a_list_is_whole_or_empty(rt: HostRuntime) -> Result<(), Fail> {
     let mut members = Vec::new(alloc);
     for counter in 1..24 {
         service.register_node_id(node(&rt, 24 - counter))?;
-        let told = list_attached(alloc, &service, &mut members);
-        let length = if told.is_ok() { counter as usize } else { 0 };
+        let reported = list_attached(alloc, &service, &mut members);
+        let length = if reported.is_ok() {
+            counter as usize
+        } else {
+            0
+        };
         assert_eq!(rt; members.len(), length);
-        assert!(rt; told.is_ok() || may_be_refused(&rt));
+        assert!(rt; reported.is_ok() || may_be_refused(&rt));
     }
     Ok(())
 }

@@ -38,7 +38,7 @@ fn open(
 
 /// What the red service answers to an opener that wants this
 /// color, messages of these types, and this many elements.
-fn told(
+fn reported(
     rt: &impl Abort,
     service: &mut DynamicConfig,
     color: &str,
@@ -52,7 +52,7 @@ fn told(
 }
 
 /// What an event service answers to an opener with each fault.
-fn told_by_event(
+fn reported_by_event(
     rt: &impl Abort,
     service: &mut DynamicConfig,
 ) -> Result<(usize, usize), &'static str> {
@@ -72,18 +72,18 @@ fn the_first_cause_is_told_and_nothing_stays(rt: HostRuntime) -> Result<(), Fail
     let mut service = service(rt.alloc(), 1)?;
     let most = usize::MAX;
     let answers = [
-        told_by_event(&rt, &mut service),
-        told(&rt, &mut service, "blue", types(&rt, 16), most),
-        told(&rt, &mut service, "red", types(&rt, 16), most),
-        told(
+        reported_by_event(&rt, &mut service),
+        reported(&rt, &mut service, "blue", types(&rt, 16), most),
+        reported(&rt, &mut service, "red", types(&rt, 16), most),
+        reported(
             &rt,
             &mut service,
             "red",
             MessageTypeDetails::default(),
             most,
         ),
-        told(&rt, &mut service, "red", types(&rt, 8), most),
-        told(&rt, &mut service, "red", types(&rt, 8), 2),
+        reported(&rt, &mut service, "red", types(&rt, 8), most),
+        reported(&rt, &mut service, "red", types(&rt, 8), 2),
     ];
     assert_eq!(rt;
         answers,

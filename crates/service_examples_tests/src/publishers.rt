@@ -34,7 +34,7 @@ fn attach(
 }
 
 /// What is answered to a publisher of node 1 with this counter.
-fn told(
+fn reported(
     rt: &impl Abort,
     service: &mut DynamicConfig,
     counter: u32,
@@ -48,13 +48,13 @@ fn all_told(
     rt: &impl Abort,
     service: &mut DynamicConfig,
 ) -> [Result<(u64, usize, usize), PublisherError>; 5] {
-    let unknown = told(rt, service, 20);
+    let unknown = reported(rt, service, 20);
     assert!(rt; service.register_node_id(node(rt, 1)).is_ok());
-    let first = told(rt, service, 21);
-    let second = told(rt, service, 22);
-    let third = told(rt, service, 23);
+    let first = reported(rt, service, 21);
+    let second = reported(rt, service, 22);
+    let third = reported(rt, service, 23);
     remove_dead_nodes(service, &[node(rt, 1)]);
-    let late = told(rt, service, 24);
+    let late = reported(rt, service, 24);
     [unknown, first, second, third, late]
 }
 
@@ -63,9 +63,9 @@ fn all_told(
 #[test]
 fn a_publisher_has_a_block_for_each_sample_in_use(rt: HostRuntime) -> Result<(), Fail> {
     let mut service = service(rt.alloc(), 1)?;
-    let told = all_told(&rt, &mut service);
+    let reported = all_told(&rt, &mut service);
     assert_eq!(rt;
-        told,
+        reported,
         [
             Err(PublisherError::NotAttached(AttachError::NodeNotRegistered)),
             Ok((0, 34, 2176)),

@@ -46,20 +46,21 @@ pub ends_where_written : (Gives : List ℕ → Result (List ℕ) FileError → T
     (either (λ answer. string_bytes answer.errors) (λ why. codes "no memory\n") end))
     → IfOk wrote (λ status.
     Ends Gives coloured arguments status given left out_old out_new err_old err_new)
-ends_where_written _ _ _ asked (Ok answer) (Ok status) _ _ _ _ _ _ requests answered read told
+ends_where_written _ _ _ asked (Ok answer) (Ok status) _ _ _ _ _ _ requests answered read reported
     output errors =
     inl (record {
       asked = asked;
       answer = answer;
       requests = requests;
       answered = answered;
-      told = told;
+      reported = reported;
       read = read;
       output = output;
       errors = errors;
     })
-ends_where_written _ _ _ asked (Err refused) (Ok status) _ _ _ _ _ _ requests answered read told
+ends_where_written _ _ _ asked (Err refused) (Ok status) _ _ _ _ _ _ requests answered read reported
     output errors =
-    inr (told, (output, errors))
-ends_where_written _ _ _ asked end (Err why) _ _ _ _ _ _ requests answered read told output errors =
+    inr (reported, (output, errors))
+ends_where_written _ _ _ asked end (Err why) _ _ _ _ _ _ requests answered read reported output
+    errors =
     tt

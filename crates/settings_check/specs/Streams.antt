@@ -37,7 +37,7 @@ pub record Reported (Gives : List ℕ → Result (List ℕ) FileError → Type 0
   pub answer : Answer
   pub requests : Requests arguments asked
   pub answered : AnswersArguments Gives coloured asked given answer
-  pub told : status ≡ status_number answer.status
+  pub reported : status ≡ status_number answer.status
   pub read : input_is_read asked ≡ true → IsAtEnd left
   pub output : Appends out_old out_new (string_bytes answer.output)
   pub errors : Appends err_old err_new (string_bytes answer.errors)

@@ -11,9 +11,9 @@ ghost use Rattle.log_lines.specs.Lines.{IsLine, Line, line_seen, line_text};
 ghost use Rattle.service_conformance.specs.Judged.{Judged};
 ghost use Rattle.history_logs.specs.Good.{IsOrderly};
 ghost use Rattle.history_logs.specs.Judging.{AreBelow, AreJudged, AreLines, AreLinesTo, Explores};
-ghost use Rattle.history_logs.specs.Judging.{IsFoundOf, IsRefusedIn, IsToldAt, IsToldOf, earlier};
-ghost use Rattle.history_logs.specs.Logs.{IsTold, StepOf, news};
-ghost use Rattle.history_logs.specs.Placed.{Answers, IsLineAt, IsPlaced};
+ghost use Rattle.history_logs.specs.Judging.{IsFoundOf, IsRefusedIn, IsReportedAt, IsReportOf, earlier};
+ghost use Rattle.history_logs.specs.Logs.{IsReported, StepOf, news};
+ghost use Rattle.history_logs.specs.EventLines.{Answers, IsLineAt, HasEventLines};
 
 use super::needed::{first_states, lines_needed};
 use super::service::LogService;
@@ -88,8 +88,8 @@ fn configuration(
     requires below { AreBelow slots.now (length service.now.begins) }
     requires within { call < length service.now.calls }
     requires whole { service.now.first ≡ 0 }
-    ensures { IfOk result (λ told. (c : Judged) × (slice_get service.now.calls call ≡ Some c)
-        × IsTold service.now c slots.now config.now told) }
+    ensures { IfOk result (λ reported. (c : Judged) × (slice_get service.now.calls call ≡ Some c)
+        × IsReported service.now c slots.now config.now reported) }
 {
     Ok(Configuration {
         made: lines_made(alloc, service.begins(), slots, config.waiting)?,
@@ -111,14 +111,14 @@ fn configurations(
     requires below { AreBelow slots.now (length service.now.begins) }
     requires within { call < length service.now.calls }
     requires whole { service.now.first ≡ 0 }
-    ensures { IfOk result (λ told. (c : Judged) → slice_get service.now.calls call ≡ Some c
-        → AllZip (IsTold service.now c slots.now) configs.now told.items) }
+    ensures { IfOk result (λ reported. (c : Judged) → slice_get service.now.calls call ≡ Some c
+        → AllZip (IsReported service.now c slots.now) configs.now reported.items) }
 {
-    let mut told = Vec::new(alloc);
+    let mut reported = Vec::new(alloc);
     for config in configs {
-        told.push(configuration(alloc, service, slots, config, call)?)?;
+        reported.push(configuration(alloc, service, slots, config, call)?)?;
     }
-    Ok(told)
+    Ok(reported)
 }
 
 /// What follows so many lines.
@@ -178,7 +178,7 @@ fn words_in(alloc: Global, log: &[u8], line: usize) -> Result<Vec<u8>, AllocErro
 fn refusal(
     alloc: Global,
     service: &LogService,
-    place: usize,
+    index: usize,
     call: usize,
     words: Vec<u8>,
     needed: Vec<usize>,
@@ -187,39 +187,40 @@ fn refusal(
     requires few { length window.now.front.slots.items ≤ 64 }
     requires below { AreBelow window.now.front.slots.items (length service.now.begins) }
     requires within { call < length service.now.calls }
-    requires place { place < length service.now.places }
-    requires begin { window.now.begin < length service.now.places }
+    requires index { index < length service.now.event_lines }
+    requires begin { window.now.begin < length service.now.event_lines }
     requires whole { service.now.first ≡ 0 }
-    ensures given { IfOk result (λ told. (told.words ≡ words) × (told.needed ≡ needed)) }
-    ensures told { IfOk result (λ told. (c : Judged) → slice_get service.now.calls call ≡ Some c
-        → IsToldAt service.now place c window.now told) }
+    ensures given { IfOk result
+        (λ reported. (reported.words ≡ words) × (reported.needed ≡ needed)) }
+    ensures reported { IfOk result (λ reported. (c : Judged) → slice_get service.now.calls call
+        ≡ Some c → IsReportedAt service.now index c window.now reported) }
 {
     let front = &window.front;
     let configurations = configurations(alloc, service, &front.slots, &front.configs, call)?;
     Ok(Refusal {
-        line: service.places()[place],
+        line: service.event_lines()[index],
         words,
-        window: service.places()[window.begin],
+        window: service.event_lines()[window.begin],
         needed,
         configurations,
     })
 }
 
 /// The line of the event of this index.
-fn line_at(service: &LogService, place: usize) -> usize
-    requires { place < length service.now.places }
-    ensures { slice_get service.now.places place ≡ Some result }
+fn line_at(service: &LogService, index: usize) -> usize
+    requires { index < length service.now.event_lines }
+    ensures { slice_get service.now.event_lines index ≡ Some result }
 {
-    service.places()[place]
+    service.event_lines()[index]
 }
 
 /// The call that the event of this index ends.
-fn call_ended(service: &LogService, place: usize) -> usize
-    requires within { place < length service.now.events }
-    requires ended { (call : ℕ) × StandsAt service.now.events place (event.End call) }
-    ensures { StandsAt service.now.events place (event.End result) }
+fn call_ended(service: &LogService, index: usize) -> usize
+    requires within { index < length service.now.events }
+    requires ended { (call : ℕ) × StandsAt service.now.events index (event.End call) }
+    ensures { StandsAt service.now.events index (event.End result) }
 {
-    match service.events()[place] {
+    match service.events()[index] {
         Event::End(call) => call,
         Event::Begin(_) | Event::Crash(_) => unreachable!(),
     }
@@ -230,49 +231,49 @@ fn refused(
     alloc: Global,
     log: &[u8],
     service: &LogService,
-    place: usize,
+    index: usize,
     window: &Window<WatchedService>,
 ) -> Result<Refusal, AllocError>
     requires orderly { IsOrderly service.now }
-    requires placed { IsPlaced log.now service.now }
-    requires stops { IsStop (StepOf service.now) (news service.now) service.now.events place
+    requires placed { HasEventLines log.now service.now }
+    requires stops { IsStop (StepOf service.now) (news service.now) service.now.events index
         stop.Refused }
     requires window { IsWindowOf (StepOf service.now) (news service.now)
-        (take place service.now.events) window.now }
-    ensures { IfOk result (λ told. IsRefusedIn service.now told.line told) }
+        (take index service.now.events) window.now }
+    ensures { IfOk result (λ reported. IsRefusedIn service.now reported.line reported) }
 {
-    let call = call_ended(service, place);
-    let line = line_at(service, place);
+    let call = call_ended(service, index);
+    let line = line_at(service, index);
     let words = words_in(alloc, log, line)?;
-    let needed = lines_needed(alloc, service, window.begin, place, call)?;
-    refusal(alloc, service, place, call, words, needed, window)
+    let needed = lines_needed(alloc, service, window.begin, index, call)?;
+    refusal(alloc, service, index, call, words, needed, window)
 }
 
 /// The verdict by what was found of the service, with its line, or the window in which it ends
 /// where orders explain all.
-fn told_of(
+fn reported_of(
     alloc: Global,
     log: &[u8],
     service: &LogService,
     found: Found<WatchedService>,
 ) -> Result<Result<Window<WatchedService>, (usize, Verdict)>, AllocError>
     requires orderly { IsOrderly service.now }
-    requires placed { IsPlaced log.now service.now }
+    requires placed { HasEventLines log.now service.now }
     requires found { IsVerdict (StepOf service.now) (news service.now) service.now.events found }
-    ensures { IfOk result (IsToldOf service.now found) }
+    ensures { IfOk result (IsReportOf service.now found) }
 {
     match found {
         Found::Explained(window) => Ok(Ok(window)),
-        Found::Refused(place, window) => {
-            let told = refused(alloc, log, service, place, &window)?;
-            Ok(Err((told.line, Verdict::Refused(told))))
+        Found::Refused(index, window) => {
+            let reported = refused(alloc, log, service, index, &window)?;
+            Ok(Err((reported.line, Verdict::Refused(reported))))
         }
-        Found::ManyConfigs(place) => {
-            let line = line_at(service, place);
+        Found::ManyConfigs(index) => {
+            let line = line_at(service, index);
             Ok(Err((line, Verdict::ManyConfigs(line))))
         }
-        Found::ManyOpen(place) => {
-            let line = line_at(service, place);
+        Found::ManyOpen(index) => {
+            let line = line_at(service, index);
             Ok(Err((line, Verdict::ManyOpen(line))))
         }
     }
@@ -287,7 +288,7 @@ pub(super) fn explore(
     cut: Cut,
 ) -> Result<Result<Window<WatchedService>, (usize, Verdict)>, AllocError>
     requires orderly { IsOrderly service.now }
-    requires placed { IsPlaced log.now service.now }
+    requires placed { HasEventLines log.now service.now }
     ensures { IfOk result (Explores service.now cut) }
 {
     let machine = Calls {
@@ -297,7 +298,7 @@ pub(super) fn explore(
     };
     let states = first_states(alloc, service)?;
     let found = judge_windows(alloc, &machine, &states, service.events(), cut)?;
-    told_of(alloc, log, service, found)
+    reported_of(alloc, log, service, found)
 }
 
 /// Judges what was seen of a service. Returns what was found, with its line, unless orders of the
@@ -308,7 +309,7 @@ fn judge_service(
     service: &LogService,
 ) -> Result<Option<(usize, Verdict)>, AllocError>
     requires orderly { IsOrderly service.now }
-    requires placed { IsPlaced log.now service.now }
+    requires placed { HasEventLines log.now service.now }
     ensures { IfOk result (IsFoundOf service.now) }
 {
     match explore(alloc, log, service, Cut::WhereQuiet)? {
@@ -345,7 +346,7 @@ pub(super) fn judge_services(
     services: &[LogService],
 ) -> Result<Option<Verdict>, AllocError>
     requires orderly { All IsOrderly services.now }
-    requires placed { All (IsPlaced log.now) services.now }
+    requires placed { All (HasEventLines log.now) services.now }
     ensures { IfOk result (AreJudged services.now) }
 {
     let mut first: Option<(usize, Verdict)> = None;

@@ -114,17 +114,17 @@ pub(super) fn lines_needed(
     alloc: Global,
     service: &LogService,
     begin: usize,
-    place: usize,
+    index: usize,
     refused: usize,
 ) -> Result<Vec<usize>, AllocError>
     requires orderly { IsOrderly service.now }
-    requires stops { IsStop (StepOf service.now) (news service.now) service.now.events place
+    requires stops { IsStop (StepOf service.now) (news service.now) service.now.events index
         stop.Refused }
-    requires within { begin ≤ place }
+    requires within { begin ≤ index }
     requires cut { HasCut (StepOf service.now) (news service.now) (take begin service.now.events) }
-    requires ended { StandsAt service.now.events place (End refused) }
+    requires ended { StandsAt service.now.events index (End refused) }
     ensures { IfOk result (λ lines.
-        AreNeededLines service.now begin place refused lines.items) }
+        AreNeededLines service.now begin index refused lines.items) }
 {
     let machine = Calls {
         alloc,
@@ -133,7 +133,7 @@ pub(super) fn lines_needed(
     };
     let states = first_states(alloc, service)?;
     let idle = idle_calls(alloc, service.calls(), refused)?;
-    let events = &service.events()[..place + 1];
+    let events = &service.events()[..index + 1];
     let past = &events[..begin];
     let window = &events[begin..];
     let left_out = calls_left_out(alloc, &machine, &states, past, window, &idle)?;

@@ -169,19 +169,19 @@ fn append_choice(
 }
 
 /// Appends the lines of a configuration.
-fn append_configuration(told: &Configuration, out: &mut Vec<u8>) -> Result<(), AllocError>
-    ensures { OnOk result (out.new.items ≡ out.old.items ++ config_text told.now) }
+fn append_configuration(reported: &Configuration, out: &mut Vec<u8>) -> Result<(), AllocError>
+    ensures { OnOk result (out.new.items ≡ out.old.items ++ config_text reported.now) }
 {
-    append_choice(&told.made, &told.possible, out)?;
-    append_attached(&told.nodes, &told.ports, out)?;
+    append_choice(&reported.made, &reported.possible, out)?;
+    append_attached(&reported.nodes, &reported.ports, out)?;
     Ok(())
 }
 
 /// Appends the lines of configurations.
-fn append_configurations(told: &[Configuration], out: &mut Vec<u8>) -> Result<(), AllocError>
-    ensures { OnOk result (out.new.items ≡ out.old.items ++ flat_map config_text told.now) }
+fn append_configurations(reported: &[Configuration], out: &mut Vec<u8>) -> Result<(), AllocError>
+    ensures { OnOk result (out.new.items ≡ out.old.items ++ flat_map config_text reported.now) }
 {
-    for one in told {
+    for one in reported {
         append_configuration(one, out)?;
     }
     Ok(())
@@ -198,15 +198,15 @@ fn append_window(window: usize, needed: &[usize], out: &mut Vec<u8>) -> Result<(
 }
 
 /// Appends the report on a reply that no order explains.
-fn append_refusal(told: &Refusal, out: &mut Vec<u8>) -> Result<(), AllocError>
-    ensures { OnOk result (out.new.items ≡ out.old.items ++ refusal_text told.now) }
+fn append_refusal(reported: &Refusal, out: &mut Vec<u8>) -> Result<(), AllocError>
+    ensures { OnOk result (out.new.items ≡ out.old.items ++ refusal_text reported.now) }
 {
-    append_number(b"line ", told.line as u64, out)?;
+    append_number(b"line ", reported.line as u64, out)?;
     out.extend_from_slice(b": no order of the calls explains this reply\nseen: ")?;
-    out.extend_from_slice(&told.words)?;
-    append_window(told.window, &told.needed, out)?;
+    out.extend_from_slice(&reported.words)?;
+    append_window(reported.window, &reported.needed, out)?;
     out.push(b'\n')?;
-    append_configurations(&told.configurations, out)?;
+    append_configurations(&reported.configurations, out)?;
     Ok(())
 }
 
@@ -272,7 +272,7 @@ pub(super) fn append_report(verdict: &Verdict, out: &mut Vec<u8>) -> Result<(), 
 {
     match verdict {
         Verdict::Conforms(calls, services) => append_conforms(*calls, *services, out),
-        Verdict::Refused(told) => append_refusal(told, out),
+        Verdict::Refused(reported) => append_refusal(reported, out),
         Verdict::ManyConfigs(line) => append_line(*line, MANY_CONFIGS, out),
         Verdict::ManyOpen(line) => append_line(*line, MANY_OPEN, out),
         Verdict::BadLine(line, expected) => append_line(*line, expected_text(*expected), out),

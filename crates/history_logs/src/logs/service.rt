@@ -44,7 +44,7 @@ pub(super) struct LogService {
     begins: Vec<usize>,
     commands: Vec<usize>,
     events: Vec<Event>,
-    places: Vec<usize>,
+    event_lines: Vec<usize>,
 }
 
 impl Model for LogService {
@@ -92,9 +92,9 @@ fn show(
     let Some(start) = calls[at].stopped() else {
         return Ok(());
     };
-    let place = start - first;
-    if place < calls.len() {
-        calls[place].show(alloc, reply)?;
+    let position = start - first;
+    if position < calls.len() {
+        calls[position].show(alloc, reply)?;
     }
     Ok(())
 }
@@ -128,7 +128,7 @@ impl LogService {
             begins: Vec::new(alloc),
             commands: Vec::new(alloc),
             events: Vec::new(alloc),
-            places: Vec::new(alloc),
+            event_lines: Vec::new(alloc),
         }
     }
 
@@ -222,10 +222,10 @@ impl LogService {
     }
 
     /// The line of each event.
-    pub(super) fn places(&self) -> &[usize]
-        ensures { result.now ≡ self.now.places }
+    pub(super) fn event_lines(&self) -> &[usize]
+        ensures { result.now ≡ self.now.event_lines }
     {
-        &self.places
+        &self.event_lines
     }
 
     /// The handle that the command of this number gave, by what is above.
@@ -306,7 +306,7 @@ impl LogService {
         self.given.push(None)?;
         self.begins.push(line)?;
         self.events.push(Event::Begin(number))?;
-        self.places.push(line)?;
+        self.event_lines.push(line)?;
         Ok(number)
     }
 
@@ -327,7 +327,7 @@ impl LogService {
         ensures { OnOk result (self.new ≡ with_over self.old number line) }
     {
         self.events.push(Event::End(number))?;
-        self.places.push(line)?;
+        self.event_lines.push(line)?;
         Ok(())
     }
 
@@ -415,7 +415,7 @@ impl LogService {
         show(alloc, &mut self.calls, self.first, at, &reply)?;
         self.calls[at].answer(reply);
         self.events.push(Event::End(number))?;
-        self.places.push(line)?;
+        self.event_lines.push(line)?;
         Ok(())
     }
 
@@ -430,7 +430,7 @@ impl LogService {
         self.first = first;
         self.events = self.events.split_off(followed)?;
         self.begins.clear();
-        self.places.clear();
+        self.event_lines.clear();
         Ok(())
     }
 
@@ -440,7 +440,7 @@ impl LogService {
         ensures { OnOk result (self.new ≡ with_crash self.old number line) }
     {
         self.events.push(Event::Crash(number))?;
-        self.places.push(line)?;
+        self.event_lines.push(line)?;
         Ok(())
     }
 }

@@ -17,14 +17,14 @@ fn pair(rt: &impl Abort, k: &[u8], v: &[u8]) -> AttributeVerificationError {
 }
 
 /// The text of what is known to be an error alone.
-fn told(rt: &(impl Abort + AllocGlobal), error: &impl Error) -> String {
+fn reported(rt: &(impl Abort + AllocGlobal), error: &impl Error) -> String {
     text_of(rt, error)
 }
 
 #[test]
 fn longest_fault_prints_whole(rt: HostRuntime) {
     let fault = pair(&rt, &[b'k'; 64], &[b'v'; 256]);
-    let text = told(&rt, &fault);
+    let text = reported(&rt, &fault);
     // The path, `(("`, the key, `", "`, the value and `"))`.
     assert_eq!(rt; text.as_str().len(), 49 + 3 + 64 + 4 + 256 + 3);
 }
@@ -33,8 +33,8 @@ fn longest_fault_prints_whole(rt: HostRuntime) {
 fn errors_are_errors(rt: HostRuntime) {
     assert_eq!(rt;
         [
-            told(&rt, &ServiceNameError::InvalidContent).as_str(),
-            told(
+            reported(&rt, &ServiceNameError::InvalidContent).as_str(),
+            reported(
                 &rt,
                 &AttributeDefinitionError::ExceedsMaxSupportedAttributes,
             )

@@ -8,7 +8,7 @@ ghost use Rattle.iox2sd.specs.Listings.{nodes_in, ListsNodes, listed_answer};
 ghost use Rattle.iox2sd.specs.NodeListings.{Counts as CountsTo, PutsAt, Notes, NotesOfRole};
 ghost use Rattle.iox2sd.specs.NodeListings.{AllFit, Stand, ListsPortsOf};
 ghost use Rattle.iox2sd.specs.Objects.{IsSoundObject, Asked};
-ghost use Rattle.iox2sd.specs.Ports.{told_port};
+ghost use Rattle.iox2sd.specs.Ports.{c_port};
 ghost use Rattle.iox2sd_common.specs.Ids.{id_of};
 ghost use Rattle.iox2sd.specs.declared.service.listings.Listed.TheVariants as listed;
 
@@ -116,7 +116,7 @@ fn put_first<A: PortKind, B: PortKind>(
 {
     let mut note = |details: &A| -> CallbackProgression
         ensures noted { Puts (out.entry.now, used.entry.now)
-            (told_port (A.details details.now)) result (out.exit.now, used.exit.now) }
+            (c_port (A.details details.now)) result (out.exit.now, used.exit.now) }
         ensures same { out.exit.ghost_name ≡ out.entry.ghost_name }
     { put(out, used, Port::of(&(*details).into_details())) };
     ports.list_first(&mut note);
@@ -133,7 +133,7 @@ fn put_second<A: PortKind, B: PortKind>(
 {
     let mut note = |details: &B| -> CallbackProgression
         ensures noted { Puts (out.entry.now, used.entry.now)
-            (told_port (B.details details.now)) result (out.exit.now, used.exit.now) }
+            (c_port (B.details details.now)) result (out.exit.now, used.exit.now) }
         ensures same { out.exit.ghost_name ≡ out.entry.ghost_name }
     { put(out, used, Port::of(&(*details).into_details())) };
     ports.list_second(&mut note);
@@ -228,7 +228,7 @@ fn one_more(count: Option<usize>) -> Option<usize>
 /// Puts the port with these details at this index, where there is one.
 #[inline(always)]
 fn put_at(out: &mut [Port], index: Option<usize>, details: &PortDetails)
-    ensures { PutsAt index (told_port details.now) out.old out.new }
+    ensures { PutsAt index (c_port details.now) out.old out.new }
 {
     if let Some(index) = index {
         if index < out.len() {
@@ -241,7 +241,7 @@ fn put_at(out: &mut [Port], index: Option<usize>, details: &PortDetails)
 /// far as the array goes, and counts it.
 #[inline(always)]
 fn note(is_its: bool, out: &mut [Port], count: &mut Option<usize>, details: &PortDetails)
-    ensures { Notes is_its (out.old, count.old) (told_port details.now) (out.new, count.new) }
+    ensures { Notes is_its (out.old, count.old) (c_port details.now) (out.new, count.new) }
 {
     if !is_its {
         return;
@@ -263,7 +263,7 @@ fn note_ports(
 {
     let mut show = |details: &PortDetails| -> CallbackProgression
         ensures noted { Notes (is_of node_of node.entry.now details.now)
-            (out.entry.now, count.entry.now) (told_port details.now)
+            (out.entry.now, count.entry.now) (c_port details.now)
             (out.exit.now, count.exit.now) }
         ensures same { out.exit.ghost_name ≡ out.entry.ghost_name }
         ensures same_count { count.exit.ghost_name ≡ count.entry.ghost_name }
@@ -277,7 +277,7 @@ fn note_ports(
 
 /// Puts the ports of the node at the front of the array, as far as it goes, and counts them.
 fn note_all(service: &DynamicConfig, node: &UniqueNodeId, out: &mut [Port]) -> Option<usize>
-    ensures { Stand out.old (map told_port (ports_of_node node.now service.now.ports))
+    ensures { Stand out.old (map c_port (ports_of_node node.now service.now.ports))
         out.new result }
 {
     let (first, second) = service.kind().port_roles();
@@ -298,7 +298,7 @@ fn all_fit(service: &DynamicConfig, length: usize) -> bool
 /// Puts the ports of the node at the front of an array that all ports would fit, and counts them.
 fn note_few(service: &DynamicConfig, node: &UniqueNodeId, out: &mut [Port]) -> usize
     requires { AllFit service.now (length out.old) }
-    ensures { ListsAll (map told_port (ports_of_node node.now service.now.ports))
+    ensures { ListsAll (map c_port (ports_of_node node.now service.now.ports))
         out.old result out.new }
 {
     let _fits = out.len();

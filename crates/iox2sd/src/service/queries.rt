@@ -7,8 +7,8 @@ ghost use Rattle.iox2_config.specs.Hashing.{pattern_number};
 ghost use Rattle.iox2sd.specs.Answers.{id_answer, number_answer, port_answer, roles_answer};
 ghost use Rattle.iox2sd.specs.Finding.{FindsNode, FindsPort};
 ghost use Rattle.iox2sd.specs.Objects.{IsSoundObject, Asked, Nothing};
-ghost use Rattle.iox2sd.specs.Queries.{Gives, AsksRole, roles_in, AsksPorts, AsksRoom, AsksNodeRoom};
-ghost use Rattle.iox2sd_common.specs.Answers.{flag_answer, told_count};
+ghost use Rattle.iox2sd.specs.Queries.{Gives, RoleAnswer, roles_in, PortsAnswer, RoomAnswer, NodeRoomAnswer};
+ghost use Rattle.iox2sd_common.specs.Answers.{flag_answer, c_count};
 
 use super::Service;
 use crate::values::{
@@ -32,7 +32,7 @@ fn roles_of(service: &DynamicConfig) -> Roles
 
 /// Whether the pattern has ports of the role of this number.
 fn has_role(service: &DynamicConfig, role: u64) -> Result<bool, Status>
-    ensures { AsksRole role service.now result }
+    ensures { RoleAnswer role service.now result }
 {
     let role = role_of(role).ok_or(Status::UnknownRole)?;
     Ok(service.has_role(role))
@@ -93,7 +93,7 @@ pub extern "C" fn iox2sd_is_locked_at(objects: &mut [Service]) -> FlagAnswer
 #[unsafe(no_mangle)]
 pub extern "C" fn iox2sd_has_role_at(objects: &mut [Service], role: u64) -> FlagAnswer
     requires { All IsSoundObject objects.old }
-    ensures answer { Asked flag_answer Err Nothing (AsksRole role) objects.old result }
+    ensures answer { Asked flag_answer Err Nothing (RoleAnswer role) objects.old result }
     ensures unchanged { objects.new ≡ objects.old }
 {
     let service = lent_or_return!(objects, status => FlagAnswer::of(Err(status)));
@@ -102,7 +102,7 @@ pub extern "C" fn iox2sd_has_role_at(objects: &mut [Service], role: u64) -> Flag
 
 /// How many ports of the role of this number there are.
 fn count_ports(service: &DynamicConfig, role: u64) -> Result<usize, Status>
-    ensures { AsksPorts (λ r n. n ≡ length r.entries) role service.now result }
+    ensures { PortsAnswer (λ r n. n ≡ length r.entries) role service.now result }
 {
     let role = role_of(role).ok_or(Status::UnknownRole)?;
     service.count_ports(role).ok_or(Status::RoleNotInPattern)
@@ -110,7 +110,7 @@ fn count_ports(service: &DynamicConfig, role: u64) -> Result<usize, Status>
 
 /// How many ports of the role of this number there may be.
 fn max_ports(service: &DynamicConfig, role: u64) -> Result<usize, Status>
-    ensures { AsksPorts (λ r n. n ≡ r.capacity) role service.now result }
+    ensures { PortsAnswer (λ r n. n ≡ r.capacity) role service.now result }
 {
     let role = role_of(role).ok_or(Status::UnknownRole)?;
     service.max_ports(role).ok_or(Status::RoleNotInPattern)
@@ -118,7 +118,7 @@ fn max_ports(service: &DynamicConfig, role: u64) -> Result<usize, Status>
 
 /// Whether a port of the role of this number can be attached.
 fn has_room(service: &DynamicConfig, role: u64) -> Result<bool, Status>
-    ensures { AsksRoom role service.now result }
+    ensures { RoomAnswer role service.now result }
 {
     let role = role_of(role).ok_or(Status::UnknownRole)?;
     if !service.has_role(role) {
@@ -129,7 +129,7 @@ fn has_room(service: &DynamicConfig, role: u64) -> Result<bool, Status>
 
 /// Whether a node can be registered.
 fn has_room_for_node(service: &DynamicConfig) -> Result<bool, Status>
-    ensures { AsksNodeRoom service.now result }
+    ensures { NodeRoomAnswer service.now result }
 {
     Ok(service.has_room_for_node())
 }
@@ -138,7 +138,7 @@ fn has_room_for_node(service: &DynamicConfig) -> Result<bool, Status>
 #[unsafe(no_mangle)]
 pub extern "C" fn iox2sd_number_of_nodes_at(objects: &mut [Service]) -> CountAnswer
     requires { All IsSoundObject objects.old }
-    ensures answer { Asked told_count Err Nothing (Gives (λ s. length s.nodes.registry.entries))
+    ensures answer { Asked c_count Err Nothing (Gives (λ s. length s.nodes.registry.entries))
         objects.old result }
     ensures unchanged { objects.new ≡ objects.old }
 {
@@ -151,7 +151,7 @@ pub extern "C" fn iox2sd_number_of_nodes_at(objects: &mut [Service]) -> CountAns
 #[unsafe(no_mangle)]
 pub extern "C" fn iox2sd_max_nodes_at(objects: &mut [Service]) -> CountAnswer
     requires { All IsSoundObject objects.old }
-    ensures answer { Asked told_count Err Nothing (Gives (λ s. s.nodes.registry.capacity))
+    ensures answer { Asked c_count Err Nothing (Gives (λ s. s.nodes.registry.capacity))
         objects.old result }
     ensures unchanged { objects.new ≡ objects.old }
 {
@@ -164,7 +164,7 @@ pub extern "C" fn iox2sd_max_nodes_at(objects: &mut [Service]) -> CountAnswer
 #[unsafe(no_mangle)]
 pub extern "C" fn iox2sd_has_room_for_node_at(objects: &mut [Service]) -> FlagAnswer
     requires { All IsSoundObject objects.old }
-    ensures answer { Asked flag_answer Err Nothing AsksNodeRoom objects.old result }
+    ensures answer { Asked flag_answer Err Nothing NodeRoomAnswer objects.old result }
     ensures unchanged { objects.new ≡ objects.old }
 {
     let service = lent_or_return!(objects, status => FlagAnswer::of(Err(status)));
@@ -176,7 +176,7 @@ pub extern "C" fn iox2sd_has_room_for_node_at(objects: &mut [Service]) -> FlagAn
 #[unsafe(no_mangle)]
 pub extern "C" fn iox2sd_count_ports_at(objects: &mut [Service], role: u64) -> CountAnswer
     requires { All IsSoundObject objects.old }
-    ensures answer { Asked told_count Err Nothing (AsksPorts (λ r n. n ≡ length r.entries) role)
+    ensures answer { Asked c_count Err Nothing (PortsAnswer (λ r n. n ≡ length r.entries) role)
         objects.old result }
     ensures unchanged { objects.new ≡ objects.old }
 {
@@ -188,7 +188,7 @@ pub extern "C" fn iox2sd_count_ports_at(objects: &mut [Service], role: u64) -> C
 #[unsafe(no_mangle)]
 pub extern "C" fn iox2sd_max_ports_at(objects: &mut [Service], role: u64) -> CountAnswer
     requires { All IsSoundObject objects.old }
-    ensures answer { Asked told_count Err Nothing (AsksPorts (λ r n. n ≡ r.capacity) role)
+    ensures answer { Asked c_count Err Nothing (PortsAnswer (λ r n. n ≡ r.capacity) role)
         objects.old result }
     ensures unchanged { objects.new ≡ objects.old }
 {
@@ -201,7 +201,7 @@ pub extern "C" fn iox2sd_max_ports_at(objects: &mut [Service], role: u64) -> Cou
 #[unsafe(no_mangle)]
 pub extern "C" fn iox2sd_has_room_at(objects: &mut [Service], role: u64) -> FlagAnswer
     requires { All IsSoundObject objects.old }
-    ensures answer { Asked flag_answer Err Nothing (AsksRoom role) objects.old result }
+    ensures answer { Asked flag_answer Err Nothing (RoomAnswer role) objects.old result }
     ensures unchanged { objects.new ≡ objects.old }
 {
     let service = lent_or_return!(objects, status => FlagAnswer::of(Err(status)));

@@ -15,9 +15,9 @@ ghost use Rattle.service_conformance.specs.Words.{IsNextHandle, TellsHandle, han
 
 mod given;
 
-use super::placed::{Placed, details_of, free_position, position_with, put, slots_of};
 use super::possible::NextHandle;
 use super::same::{Same, are_same};
+use super::slot_entry::{SlotEntry, details_of, free_position, position_with, put, slots_of};
 use iox2_container::container::{ContainerAddFailure, ContainerHandle, ReleaseMode, Role};
 use iox2_dynamic::dynamic_config::PortDetails;
 use iox2_ids::identifiers::UniqueNodeId;
@@ -43,7 +43,7 @@ pub(super) struct RegistryCheck<T: Copy> {
     tickets: u64,
     used: u64,
     locked: bool,
-    entries: Vec<Placed<T>>,
+    entries: Vec<SlotEntry<T>>,
 }
 
 impl<T: Copy> Model for RegistryCheck<T> {
@@ -163,7 +163,7 @@ impl<T: Copy> RegistryCheck<T> {
     /// The handle of this slot and this ticket that the next add may give, or `None` where it may
     /// not.
     pub(super) fn handle_at(&self, slot: usize, ticket: u64) -> Option<ContainerHandle>
-        ensures told { TellsHandle (MayGive self.now) (handle_words slot ticket) result }
+        ensures reported { TellsHandle (MayGive self.now) (handle_words slot ticket) result }
         ensures kept { IsRegistry self.now }
     {
         // For the proof: slots and tickets are numbers of 64 bits.

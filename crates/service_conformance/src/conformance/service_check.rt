@@ -12,7 +12,7 @@ ghost use Rattle.service_conformance.specs.Sides.{HasPart, LacksPart, ports_at};
 mod following;
 mod given;
 mod replies_possible;
-mod reply_told;
+mod reported_reply;
 mod seeing;
 
 use super::possible::Part;

@@ -24,8 +24,8 @@ loop-left-smaller g c =
     c.loop-left.invariant).1
 
 pub returns-clause-no : goal.returns-clause-no
-returns-clause-no g c is place d from below =
-    c.loop-left.invariant.others place d (omega (arith, c.loop-left-test.false)) below
+returns-clause-no g c is index d from below =
+    c.loop-left.invariant.others index d (omega (arith, c.loop-left-test.false)) below
 
 pub returns-then-is_same-clause-yes : goal.returns-then-is_same-clause-yes
 returns-then-is_same-clause-yes g c is = (

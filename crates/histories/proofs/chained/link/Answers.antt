@@ -7,11 +7,11 @@ use Rattle.histories.proofs.chained.link.Goals as goal
 pub returns-clause-chained : goal.returns-clause-chained
 returns-clause-chained g c =
     let before = c.args.before.now in
-    let place : c.len-place.result ≡ length before.items = c.len-place.ensures ∙ before.ok.0 in
-    let item = c.index-configs-place.result in
-    rw (c.in_ok-push.ensures.items, place)
+    let index : c.len-index.result ≡ length before.items = c.len-index.ensures ∙ before.ok.0 in
+    let item = c.index-configs-index.result in
+    rw (c.in_ok-push.ensures.items, index)
     (chained_more c.args.configs.now item c.args.heads.now before.items c.chain_of-chain.result
     (c.chain_of-chain.ensures
-    ∙ ap (λ (k : Config g.row.S.Denot). chain_of k.waiting) (sym c.index-configs-place.is))
-    (rw place at c.index-configs-place.is)
+    ∙ ap (λ (k : Config g.row.S.Denot). chain_of k.waiting) (sym c.index-configs-index.is))
+    (rw index at c.index-configs-index.is)
     (omega (arith, c.chain_of-chain.ensures, c.requires.all)) c.requires.more c.requires.chained)

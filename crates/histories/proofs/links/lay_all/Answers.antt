@@ -7,8 +7,8 @@ pub loop-config-init : goal.loop-config-init
 loop-config-init g c = (
   record {
     many = refl;
-    done = λ place d h. absurd (omega (arith, h));
-    rest = λ place d h. refl;
+    done = λ index d h. absurd (omega (arith, h));
+    rest = λ index d h. refl;
   },
   grows_none c.args.links.now.items,
 )
@@ -28,9 +28,9 @@ loop-config-preserved g c =
             c.lay_one.new.links.items configs now (set now at one) at config one h before.many
             before.done before.rest c.loop-config.invariant.1
             (get_or_default now at c.config-item.result config h) refl c.in_ok-lay_one.ensures;
-        rest = λ place d past.
-            get_or-set_other now at place one d (λ e. absurd (omega (arith, past, e)))
-            ∙ before.rest place d (omega (arith, past));
+        rest = λ index d past.
+            get_or-set_other now at index one d (λ e. absurd (omega (arith, past, e)))
+            ∙ before.rest index d (omega (arith, past));
       },
       grows_then c.args.links.now.items c.loop-config.links.items c.lay_one.new.links.items
           c.loop-config.invariant.1 c.in_ok-lay_one.ensures.2,
@@ -41,6 +41,6 @@ returns g c =
     let before = c.loop-config.invariant.0 in record {
       grows = c.loop-config.invariant.1;
       as_many = before.many;
-      each = λ place d h.
-          before.done place d (omega (arith, h, before.many, c.loop-config-test.false));
+      each = λ index d h.
+          before.done index d (omega (arith, h, before.many, c.loop-config-test.false));
     }

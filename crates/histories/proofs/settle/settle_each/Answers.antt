@@ -10,7 +10,7 @@ loop-config-init g c = (
   done_none
       (λ x y. IsSettled (g.M.Machine.Step c.args.machine.now) c.args.slots.now x (spot_of y))
       c.args.configs.now,
-  λ none place d. refl,
+  λ none index d. refl,
 )
 
 pub loop-config-preserved : goal.loop-config-preserved
@@ -25,13 +25,13 @@ loop-config-preserved g c =
           (λ x y. IsSettled (g.M.Machine.Step c.args.machine.now) c.args.slots.now x (spot_of y))
           c.args.configs.now now at config one h is c.in_ok-any.ensures.settled
           c.loop-config.invariant.0,
-      λ none place d.
+      λ none index d.
           elim c.if-branch.branch [
             | then-branch w ↦ absurd (true≢false (sym w.if-branch.true ∙ (sym w.any-is ∙ none)))
             | else-branch w ↦
-                ap (λ l. get_or l place d)
+                ap (λ l. get_or l index d)
                 (same_set now at config one h is (c.in_ok-any.ensures.same w.if-branch.false))
-                ∙ c.loop-config.invariant.1 (sym w.any-is ∙ none) place d
+                ∙ c.loop-config.invariant.1 (sym w.any-is ∙ none) index d
           ],
     )
 
@@ -39,5 +39,5 @@ pub returns-clause-settled : goal.returns-clause-settled
 returns-clause-settled g c =
     let done = c.loop-config.invariant.0 in (
       done.many,
-      λ place d h. done.done place d (omega (arith, h, done.many, c.loop-config-test.false)),
+      λ index d h. done.done index d (omega (arith, h, done.many, c.loop-config-test.false)),
     )

@@ -11,7 +11,7 @@ use Rattle.histories.proofs.step.open_all.Goals as goal
 pub loop-config-init : goal.loop-config-init
 loop-config-init g c = (
   done_none (IsOpened c.args.slot) c.args.configs.now,
-  λ is place d h. absurd (omega (arith, h)),
+  λ is index d h. absurd (omega (arith, h)),
 )
 
 pub loop-config-preserved : goal.loop-config-preserved
@@ -27,17 +27,17 @@ loop-config-preserved g c =
     let config = get_or now at item in (
       done_more (IsOpened slot) olds now at config c.open.new.config h
           (get_or_default now at item config h) c.open.ensures.opened before.0,
-      λ is place d less.
+      λ is index d less.
           elim c.if-open.branch [
             | then-open w ↦
-                elim (cases_eq place at) as (λ _. bit_at (get_or olds place d).waiting slot ≡ 0) [
+                elim (cases_eq index at) as (λ _. bit_at (get_or olds index d).waiting slot ≡ 0) [
                   | inl e ↦
                       ap (λ (k : Config S). bit_at k.waiting slot)
                       (ap (λ i. get_or olds i d) e
                       ∙ (sym (before.0.rest at d (omega arith)) ∙ get_or_default now at d item h))
                       ∙ c.open.ensures.new w.if-open.true
                   | inr ne ↦
-                      before.1 (sym w.is_new-is ∙ is) place d (less_of place at less ne)
+                      before.1 (sym w.is_new-is ∙ is) index d (less_of index at less ne)
                 ]
             | else-open w ↦ absurd (true≢false (sym is ∙ (w.is_new-is ∙ w.if-open.false)))
           ],
@@ -47,10 +47,10 @@ pub returns-clause-opened : goal.returns-clause-opened
 returns-clause-opened g c =
     let done = c.loop-config.invariant.0 in (
       done.many,
-      λ place d h. done.done place d (omega (arith, h, done.many, c.loop-config-test.false)),
+      λ index d h. done.done index d (omega (arith, h, done.many, c.loop-config-test.false)),
     )
 
 pub returns-clause-new : goal.returns-clause-new
-returns-clause-new g c is place d h =
-    c.loop-config.invariant.1 is place d
+returns-clause-new g c is index d h =
+    c.loop-config.invariant.1 is index d
     (omega (arith, h, c.loop-config.invariant.0.many, c.loop-config-test.false))

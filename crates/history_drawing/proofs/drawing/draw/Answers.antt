@@ -9,14 +9,14 @@ use Rattle.history_drawing.proofs.drawing.draw.Goals as goal
 pub draw_refused-requires : goal.draw_refused-requires
 draw_refused-requires c =
     let judged = rw c.in-Refused.is at c.requires.judged in
-    let (order, within) = window_in c.args.log.now c.in-Refused.told judged in
+    let (order, within) = window_in c.args.log.now c.in-Refused.reported judged in
     record { order = order; within = within }
 
 pub returns-in_ok-draw_refused-in-Refused : goal.returns-in_ok-draw_refused-in-Refused
 returns-in_ok-draw_refused-in-Refused c =
     let found = c.in_ok-draw_refused-in-Refused.field-0 in
     let report = rw c.in-Refused.is at c.requires.report in
-    rw c.in-Refused.is (window_drawn c.args.log.now c.args.report.now c.in-Refused.told found
+    rw c.in-Refused.is (window_drawn c.args.log.now c.args.report.now c.in-Refused.reported found
     c.drawn.result report c.in_ok-draw_refused-in-Refused.ensures.some
     c.in_ok-draw_refused-in-Refused.ensures.none
     (has_both Faulty found c.drawn.result c.drawn.ensures.some c.drawn.ensures.none))

@@ -34,7 +34,7 @@ returns-in_default-clause-none c =
         service = subst (λ (l : List (Bor (List ℕ))). IsFirstService l w.service)
             c.deref.ensures.value c.in_ok-window.ensures.service;
         wanted = subst (λ (l : List (Bor (List ℕ))).
-            IsServiceOf l w.first w.last c.args.told.now.line w.service w.wanted)
+            IsServiceOf l w.first w.last c.args.reported.now.line w.service w.wanted)
             c.deref.ensures.value c.in_ok-window.ensures.wanted;
       },
       subst (λ (l : List (Bor (List ℕ))). HasMany l w) c.deref-2.ensures.value many,
@@ -55,7 +55,7 @@ returns-clause-some c =
         service = subst (λ (l : List (Bor (List ℕ))). IsFirstService l w.service)
             c.deref.ensures.value c.in_ok-window.ensures.service;
         wanted = subst (λ (l : List (Bor (List ℕ))).
-            IsServiceOf l w.first w.last c.args.told.now.line w.service w.wanted)
+            IsServiceOf l w.first w.last c.args.reported.now.line w.service w.wanted)
             c.deref.ensures.value c.in_ok-window.ensures.wanted;
       };
       t = t;

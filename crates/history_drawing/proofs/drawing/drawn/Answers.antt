@@ -4,7 +4,7 @@ use Rattle.history_drawing.proofs.drawing.drawn.Goals as goal
 
 pub returns-in-Some-clause-some : goal.returns-in-Some-clause-some
 returns-in-Some-clause-some c =
-    rw c.in-Some.is (record { ended = refl; told = c.new.ensures.items }, refl)
+    rw c.in-Some.is (record { ended = refl; reported = c.new.ensures.items }, refl)
 
 pub returns-in-Some-clause-none : goal.returns-in-Some-clause-none
 returns-in-Some-clause-none c = rw c.in-Some.is tt

@@ -7,11 +7,11 @@ pub returns-clause-text : goal.returns-clause-text
 returns-clause-text c =
     let orders = c.in_ok-verdict.orders.items in
     let report = report_text c.in_ok-verdict.verdict in
-    let told = flat_map order_text c.deref.result.now in (
+    let reported = flat_map order_text c.deref.result.now in (
       orders,
       c.in_ok-verdict.ensures.orders,
       c.in_ok-append_orders.ensures
-          ∙ (ap (λ (l : List ℕ). l ++ told)
+          ∙ (ap (λ (l : List ℕ). l ++ reported)
           (c.in_ok-append_report.ensures
           ∙ ap (λ (l : List ℕ). l ++ report) c.new-text.ensures.items)
           ∙ ap (λ l. report ++ flat_map order_text l) c.deref.ensures.value),

@@ -5,5 +5,5 @@ pub unreachable-requires : goal.unreachable-requires
 unreachable-requires g c =
     let arm = c.in-Err-default-Refused in
     not_refused (g.M.Machine.Step c.args.machine.now) c.args.states.now c.args.events.now
-    c.args.place arm.field-0-0 c.requires.history c.requires.stop.before
+    c.args.index arm.field-0-0 c.requires.history c.requires.stop.before
     (rw arm.field-0-1-is at (rw arm.is at c.in_ok-window.ensures.stop))

@@ -4,7 +4,7 @@ use Rattle.config_report.proofs.Lines.{at_map, item_is, one_listed}
 use Rattle.config_report.specs.Notes.{fault_position}
 use Rattle.iox2_config_file.specs.Read.{fault_view}
 use Rattle.iox2_config_file.specs.declared.fault.SettingFault.{SettingFault}
-use Rattle.iox2sd_config.specs.Faults.{Known, known_of, told_at, told_fault}
+use Rattle.iox2sd_config.specs.Faults.{Known, known_of, c_at, c_fault}
 use Rattle.iox2sd_config.specs.declared.fault.PlainFault.{PlainFault}
 use Rattle.toml_positions.specs.declared.position.Position.{Position}
 use Rattle.iox2sd_config.proofs.read.plain_faults.Goals as goal
@@ -13,15 +13,15 @@ next : (bytes : List ℕ) (faults : List SettingFault) (i j : ℕ) (x : SettingF
     (positions : List (Option Position)) (at : Option Position) (old new : List PlainFault)
     (y : PlainFault) (whole : List Known) → i < length faults → j ≡ i → x ≡ get_or faults i x
     → positions ≡ map (fault_position bytes) (map fault_view faults)
-    → at ≡ get_or positions j None → known_of y ≡ told_at at (fault_view x)
+    → at ≡ get_or positions j None → known_of y ≡ c_at at (fault_view x)
     → new ≡ old ++ y ∷ []
-    → map known_of old ++ map (told_fault bytes) (map fault_view (drop i faults)) ≡ whole
-    → map known_of new ++ map (told_fault bytes) (map fault_view (drop (i + 1) faults)) ≡ whole
+    → map known_of old ++ map (c_fault bytes) (map fault_view (drop i faults)) ≡ whole
+    → map known_of new ++ map (c_fault bytes) (map fault_view (drop (i + 1) faults)) ≡ whole
 next bytes faults i j x positions at old new y whole lt index is same at_is says added before =
     let there = at_map fault_view (fault_position bytes) faults i x None lt is in
     let here : at ≡ fault_position bytes (fault_view x) = at_is ∙ (rw (index, same) there) in
-    one_listed fault_view (told_fault bytes) known_of faults i x old new y whole lt is before added
-    (says ∙ ap (λ p. told_at p (fault_view x)) here)
+    one_listed fault_view (c_fault bytes) known_of faults i x old new y whole lt is before added
+    (says ∙ ap (λ p. c_at p (fault_view x)) here)
 
 pub loop-fault-preserved : goal.loop-fault-preserved
 loop-fault-preserved c = (

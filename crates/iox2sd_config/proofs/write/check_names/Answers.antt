@@ -6,5 +6,5 @@ pub returns-in_err-check_name-clause-err : goal.returns-in_err-check_name-clause
 returns-in_err-check_name-clause-err c =
     let refused = c.in_err-check_name.ensures in
     let first : IsFirstBadName c.args.texts.now (bad_view c.in_err-check_name.field-0.0) =
-    inl (refused.err, refused.told) in
+    inl (refused.err, refused.reported) in
     search (rules, first)

@@ -6,7 +6,7 @@ pub returns-in_err-check_name-clause-err : goal.returns-in_err-check_name-clause
 returns-in_err-check_name-clause-err c =
     let refused = c.in_err-check_name.ensures in
     let first : IsFirstBad IsFileName bad_name (service_names_of c.args.texts.now)
-    (bad_view c.in_err-check_name.field-0.0) = inl (refused.err, refused.told) in
+    (bad_view c.in_err-check_name.field-0.0) = inl (refused.err, refused.reported) in
     search (rules, first)
 
 pub returns-in_err-check_name-2-clause-err : goal.returns-in_err-check_name-2-clause-err
@@ -14,7 +14,7 @@ returns-in_err-check_name-2-clause-err c =
     let refused = c.in_err-check_name-2.ensures in
     let first : IsFirstBad IsFileName bad_name (service_names_of c.args.texts.now)
     (bad_view c.in_err-check_name-2.field-0.0) =
-    inr (c.in_ok-check_name.ensures.ok, inl (refused.err, refused.told)) in
+    inr (c.in_ok-check_name.ensures.ok, inl (refused.err, refused.reported)) in
     search (rules, first)
 
 pub returns-in_err-check_name-3-clause-err : goal.returns-in_err-check_name-3-clause-err
@@ -26,7 +26,7 @@ returns-in_err-check_name-3-clause-err c =
       c.in_ok-check_name.ensures.ok,
       inr (
         c.in_ok-check_name-2.ensures.ok,
-        inl (refused.err, refused.told),
+        inl (refused.err, refused.reported),
       ),
     ) in
     search (rules, first)

@@ -11,7 +11,7 @@ use Rattle.iox2sd_values.proofs.attributes.judge.Goals as goal
 pub returns-in-Err : goal.returns-in-Err
 returns-in-Err c =
     let set = has_listing (map pair_of c.args.pairs.now) in
-    (Err c.in-Err.status, c.check_set.new.at, c.in-Err.ensures set.0 set.1, c.place.ensures)
+    (Err c.in-Err.status, c.check_set.new.at, c.in-Err.ensures set.0 set.1, c.position.ensures)
 
 pub returns-in-Err-check_pairs : goal.returns-in-Err-check_pairs
 returns-in-Err-check_pairs c =
@@ -33,7 +33,7 @@ returns-in-Err-check_pairs c =
               wanted.0 c.in-Err-check_pairs.ensures wanted.1),
           (refl, refl),
         ),
-        c.place-in-Err-check_pairs.ensures,
+        c.position-in-Err-check_pairs.ensures,
       ),
     )
 
@@ -61,7 +61,7 @@ returns-in-Err-check_keys c =
               c.in_default-check_pairs.ensures wanted.1,
           c.in-Err-check_keys.ensures wanted.0 as_long,
         ),
-        c.place-in-Err-check_keys.ensures,
+        c.position-in-Err-check_keys.ensures,
       ),
     )
 

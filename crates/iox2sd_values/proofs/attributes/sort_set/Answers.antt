@@ -10,7 +10,7 @@ returns-in-Ok c =
       c.check_set.new.at,
       c.in-Ok.ensures set.0 set.1,
       (c.sort_unstable.ensures.permutation, c.sort_unstable.ensures.sorted),
-      c.place.ensures,
+      c.position.ensures,
     )
 
 pub returns-in-Err : goal.returns-in-Err
@@ -20,5 +20,5 @@ returns-in-Err c =
       c.check_set.new.at,
       c.in-Err.ensures set.0 set.1,
       refl,
-      c.place-in-Err.ensures,
+      c.position-in-Err.ensures,
     )

@@ -15,9 +15,10 @@ returns-in-Some c =
       map pair_of wanted,
       c.sorted-copies.ensures,
       λ listing listed. tells_pair c.args.set.now c.args.required.now wanted c.args.keys.now listing
-          listed c.sorted-copies.ensures c.in-Some.i c.in-Some-first_that_meets.at _ c.place.result
+          listed c.sorted-copies.ensures c.in-Some.i c.in-Some-first_that_meets.at _
+          c.position.result
           c.in-Some.ensures.bound c.in-Some.ensures.misses c.in-Some-first_that_meets.ensures
-          c.place.ensures,
+          c.position.ensures,
     )
 
 pub returns-in-Some-first_missing : goal.returns-in-Some-first_missing
@@ -27,8 +28,8 @@ returns-in-Some-first_missing c =
       c.sorted-copies.ensures,
       λ listing listed. tells_key c.args.set.now c.args.required.now wanted c.args.keys.now listing
           listed c.sorted-copies.ensures c.in-Some-first_missing.i
-          c.place-in-Some-first_missing.result c.in_default.ensures.misses
-          c.in-Some-first_missing.ensures.misses c.place-in-Some-first_missing.ensures,
+          c.position-in-Some-first_missing.result c.in_default.ensures.misses
+          c.in-Some-first_missing.ensures.misses c.position-in-Some-first_missing.ensures,
     )
 
 pub returns-in-None-first_missing : goal.returns-in-None-first_missing
@@ -37,7 +38,7 @@ returns-in-None-first_missing c =
       map pair_of wanted,
       c.sorted-copies.ensures,
       λ listing listed. tells_done c.args.set.now c.args.required.now wanted c.args.keys.now listing
-          listed c.sorted-copies.ensures c.place-in-None-first_missing.result
+          listed c.sorted-copies.ensures c.position-in-None-first_missing.result
           c.in_default.ensures.misses c.in-None-first_missing.ensures.misses
-          c.place-in-None-first_missing.ensures,
+          c.position-in-None-first_missing.ensures,
     )

@@ -15,10 +15,10 @@ returns-in-Ok-internal_new_prefixed c =
 pub returns-in-Err-InvalidContent : goal.returns-in-Err-InvalidContent
 returns-in-Err-InvalidContent c =
     let read = c.in-Ok.ensures.cases in let refused = c.in-Err-InvalidContent in
-    let told =
+    let reported =
     subst (λ e. MakesServiceName (codes "iox2://" ++ c.in-Ok.text.now) (Err e))
     refused.field-0-is refused.ensures in (
       read.1,
       subst
-          (λ text. MakesServiceName (codes "iox2://" ++ text) (Err InvalidContent)) read.0 told,
+          (λ text. MakesServiceName (codes "iox2://" ++ text) (Err InvalidContent)) read.0 reported,
     )

@@ -9,7 +9,7 @@ use Rattle.iox2sd_values.proofs.texts.check_name.Goals as goal
 pub returns-then-is_name : goal.returns-then-is_name
 returns-then-is_name c =
     let name = made c.args.most c.args.text.now (c.is_name.ensures.0 c.if-is_name.true) in
-    (Ok name.0, name.1, c.place.ensures)
+    (Ok name.0, name.1, c.position.ensures)
 
 pub returns-then-text-most : goal.returns-then-text-most
 returns-then-text-most c = (Err ExceedsMaximumLength, c.if-text-most.true, c.refusal.ensures)

@@ -2,13 +2,13 @@
 ghost use Rattle.std.specs.Prelude.{◌≡◌, All, IfOk, IsTrue, OnErr};
 ghost use Rattle.iox2_container.specs.State.{IsRegistry};
 ghost use Rattle.service_conformance.specs.Given.{Becomes, IsBefore, IsUnused, MayStand, StandsLast};
-ghost use Rattle.service_conformance.specs.Given.{UsedSo, placed};
+ghost use Rattle.service_conformance.specs.Given.{UsedSo, slot_entry};
 
-use super::super::placed::Placed;
+use super::super::slot_entry::SlotEntry;
 use super::RegistryCheck;
 use std::alloc::AllocError;
 
-impl<T: Copy> Placed<T> {
+impl<T: Copy> SlotEntry<T> {
     /// Whether it stands before this slot, and has another ticket.
     fn is_before(&self, slot: usize, ticket: u64) -> bool
         ensures yes { IsTrue result → IsBefore slot ticket self.now }
@@ -19,7 +19,7 @@ impl<T: Copy> Placed<T> {
 }
 
 /// Whether all entries stand before this slot, and none has this ticket.
-fn are_before<T: Copy>(entries: &[Placed<T>], slot: usize, ticket: u64) -> bool
+fn are_before<T: Copy>(entries: &[SlotEntry<T>], slot: usize, ticket: u64) -> bool
     ensures yes { IsTrue result → All (IsBefore slot ticket) entries.now }
     ensures no { All (IsBefore slot ticket) entries.now → IsTrue result }
 {
@@ -76,14 +76,14 @@ impl<T: Copy> RegistryCheck<T> {
         details: T,
     ) -> Result<bool, AllocError>
         ensures gives { IfOk result (λ yes.
-            Becomes (StandsLast self.old (placed slot ticket details)) self.old yes self.new) }
+            Becomes (StandsLast self.old (slot_entry slot ticket details)) self.old yes self.new) }
         ensures err { OnErr result (self.new ≡ self.old) }
         ensures kept { IsRegistry self.new }
     {
         if !self.may_stand(slot, ticket) {
             return Ok(false);
         }
-        self.entries.push(Placed {
+        self.entries.push(SlotEntry {
             slot,
             ticket,
             details,

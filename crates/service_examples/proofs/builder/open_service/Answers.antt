@@ -38,11 +38,11 @@ returns-in_err-message-clause-cause c =
     let v = verified c.args.description.now c.args.opener.now c.attributes.result.now
     (c.if-not-is_publish_subscribe.ensures.0 refl) c.attributes.ensures c.in_default.ensures
     in
-    let told =
+    let reported =
     subst (λ types. GivesRoom types c.args.opener.now (Err c.in_err-message.field-0.0))
     c.types_of.ensures c.in_err-message.ensures in
     let is = refused c.args.description.now c.args.opener.now c.args.service.now
-    c.in_err-message.field-0.0 v told in
+    c.in_err-message.field-0.0 v reported in
     search (rules, is)
 
 pub returns-in-Ok-clause-opened : goal.returns-in-Ok-clause-opened

@@ -5,7 +5,7 @@ use Rattle.service_examples.proofs.Deaths.{nobody_dies, more_die}
 use Rattle.service_examples.proofs.monitor.remove_dead_nodes.Goals as goal
 
 pub loop-id-init : goal.loop-id-init
-loop-id-init c = record { removed = nobody_dies c.args.service.now; told = refl }
+loop-id-init c = record { removed = nobody_dies c.args.service.now; reported = refl }
 
 pub loop-id-preserved : goal.loop-id-preserved
 loop-id-preserved c =
@@ -22,5 +22,5 @@ loop-id-preserved c =
           (more_die (take i dead)
           (now ∷ []) c.args.service.now c.loop-id.service c.remove_dead_node.new.service
           c.loop-id.invariant.removed c.remove_dead_node.ensures.removed);
-      told = c.remove_dead_node.ensures.told;
+      reported = c.remove_dead_node.ensures.reported;
     }

@@ -8,6 +8,6 @@ use Rattle.service_examples.proofs.monitor.remove_dead_nodes.Given as goal
 abbrev pub invariant-loop-id : goal.invariant-loop-id
 invariant-loop-id l = record {
   removed : OnlyOthersStay (take l.id-index l.dead) l.fn.service l.service;
-  told : MatchOption l.told (take l.id-index l.dead ≡ [])
+  reported : MatchOption l.reported (take l.id-index l.dead ≡ [])
       (λ state. state_of state ≡ release_state l.service.nodes.registry.locked);
 }

@@ -15,8 +15,8 @@ returns-in_default-2-clause-value c x e =
     sym c.in_ok-key.ensures.value
     ∙ ap (λ o. option_map (λ p. (key_view p.0, p.1.now)) o) c.in-Some.is in
     let seen = pair_seen s c.in-Some.at_value.now (key_view c.in-Some.key) x other keyed e in
-    let told = c.in_ok-rest.ensures.value seen.rest seen.read in
-    absurd (none-some _ (sym (ap (λ o. option_map (λ r. r.now) o) c.in_default-2.is) ∙ told))
+    let reported = c.in_ok-rest.ensures.value seen.rest seen.read in
+    absurd (none-some _ (sym (ap (λ o. option_map (λ r. r.now) o) c.in_default-2.is) ∙ reported))
 
 pub returns-clause-value : goal.returns-clause-value
 returns-clause-value c x e =
@@ -26,7 +26,7 @@ returns-clause-value c x e =
     sym c.in_ok-key.ensures.value
     ∙ ap (λ o. option_map (λ p. (key_view p.0, p.1.now)) o) c.in-Some.is in
     let seen = pair_seen s c.in-Some.at_value.now (key_view c.in-Some.key) x other keyed e in
-    let told = c.in_ok-rest.ensures.value seen.rest seen.read in
+    let reported = c.in_ok-rest.ensures.value seen.rest seen.read in
     let here : c.in-Some-2.rest.now ≡ seen.rest =
-    same_Some _ _ (sym (ap (λ o. option_map (λ r. r.now) o) c.in-Some-2.is) ∙ told) in
+    same_Some _ _ (sym (ap (λ o. option_map (λ r. r.now) o) c.in-Some-2.is) ∙ reported) in
     ap Some (rw here (sym seen.is))

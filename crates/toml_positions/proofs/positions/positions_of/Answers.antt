@@ -43,9 +43,9 @@ returns-in_default c some =
     let ended : line (skip_blank l.rest.now) ≡ None = no_line (line (skip_blank l.rest.now))
     (λ e is.
     let read = line_expression (skip_blank l.rest.now) e is in
-    let told = c.in_ok-head.ensures.value (seen_view e)
+    let reported = c.in_ok-head.ensures.value (seen_view e)
     (rw start_is (ap (λ o. option_map seen_view o) read)) in
-    none-some _ (sym (ap (λ o. option_map head_view o) c.in_default.is) ∙ told)) in
+    none-some _ (sym (ap (λ o. option_map head_view o) c.in_default.is) ∙ reported)) in
     let (m, doc, final, is, known) = l.invariant.4 some in
     all_by_index (λ path. position_in text path) l.found.items (map path_view paths)
     (l.invariant.3 ∙ sym (length-map paths path_view))
@@ -79,12 +79,12 @@ expressions-preserved c =
           let read = line_expression (skip_blank l.rest.now) (line.e, line.after) line.read in
           let there : expression c.skip_blank-start.result.now ≡ Some (line.e, line.after) =
           subst (λ t. expression t ≡ Some (line.e, line.after)) (sym start_is) read in
-          let told = c.in_ok-head.ensures.value (seen_view (line.e, line.after))
+          let reported = c.in_ok-head.ensures.value (seen_view (line.e, line.after))
           (ap (λ o. option_map seen_view o) there) in
           let both : ◌≡◌ {A = ((List (List ℕ) × List ℕ) × _) × List ℕ}
           ((key_view c.in-Some.head.key, c.in-Some.head.pair), c.in-Some.after.now)
           (seen line.e, line.after) =
-          same_Some _ _ (sym (ap (λ o. option_map head_view o) c.in-Some.is) ∙ told) in
+          same_Some _ _ (sym (ap (λ o. option_map head_view o) c.in-Some.is) ∙ reported) in
           let after_is : c.in-Some.after.now ≡ line.after = ap (λ q. q.1) both in
           let pair_is : c.in-Some.head.pair ≡ (seen line.e).1 = ap (λ q. q.0.1) both in
           let h = take l.header (keys_view l.keys.items) in

@@ -35,9 +35,9 @@ after_array-returns-in_default-clause-value c c' n h x e =
     let start_is = c'.skip_blank-start.ensures.rest in
     let other : (first (skip_blank l.rest.now) == 93) ≡ false = grind (arith, common_steps) in
     let el = element_of (val c'.args.depth) m found l.rest.now read other loop in
-    let told = c'.in_ok-after.ensures.value el.after
+    let reported = c'.in_ok-after.ensures.value el.after
     (rw start_is (ap (λ o. option_map (λ p. p.1) o) el.value)) in
-    absurd (none-some _ (sym (ap (λ o. option_map (λ r. r.now) o) c'.in_default.is) ∙ told)))
+    absurd (none-some _ (sym (ap (λ o. option_map (λ r. r.now) o) c'.in_default.is) ∙ reported)))
 
 pub after_array-returns-in_default-after_element-clause-value :
     goal.after_array-returns-in_default-after_element-clause-value
@@ -48,10 +48,10 @@ after_array-returns-in_default-after_element-clause-value c c' n h x e =
     let start_is = c'.skip_blank-start.ensures.rest in
     let other : (first (skip_blank l.rest.now) == 93) ≡ false = grind (arith, common_steps) in
     let el = element_of (val c'.args.depth) m found l.rest.now read other loop in
-    let told = c'.in_ok-after.ensures.value el.after
+    let reported = c'.in_ok-after.ensures.value el.after
     (rw start_is (ap (λ o. option_map (λ p. p.1) o) el.value)) in
     let here : c'.in-Some.after.now ≡ el.after =
-    same_Some _ _ (sym (ap (λ o. option_map (λ r. r.now) o) c'.in-Some.is) ∙ told) in
+    same_Some _ _ (sym (ap (λ o. option_map (λ r. r.now) o) c'.in-Some.is) ∙ reported) in
     let element : after_element 93 c'.in-Some.after.now ≡ Some el.next = rw here el.element in
     absurd (none-some _ (c'.in_default-after_element.ensures.value ∙ element)))
 
@@ -68,10 +68,10 @@ after_array-items-preserved c c' =
       λ n h read is.
           let (m, found, room, loop) = l.invariant.2 n h read is in
           let el = element_of (val c'.args.depth) m found l.rest.now read other loop in
-          let told = c'.in_ok-after.ensures.value el.after
+          let reported = c'.in_ok-after.ensures.value el.after
           (rw start_is (ap (λ o. option_map (λ p. p.1) o) el.value)) in
           let here : c'.in-Some.after.now ≡ el.after =
-          same_Some _ _ (sym (ap (λ o. option_map (λ r. r.now) o) c'.in-Some.is) ∙ told) in
+          same_Some _ _ (sym (ap (λ o. option_map (λ r. r.now) o) c'.in-Some.is) ∙ reported) in
           let element : after_element 93 c'.in-Some.after.now ≡ Some el.next =
           rw here el.element in
           let there : c'.in-Some-after_element.next.now ≡ el.next =
@@ -123,9 +123,9 @@ after_table-returns-in_default-2-clause-value c c' n h x e =
     keyed_at _ (key_view c'.in-Some._key) pair.key c'.in-Some.at_value.now pair.at_value
     (sym (ap (λ o. option_map (λ p. (key_view p.0, p.1.now)) o) c'.in-Some.is)
     ∙ c'.in_ok-_key.ensures.value) keyed in
-    let told = c'.in_ok-after.ensures.value pair.after
+    let reported = c'.in_ok-after.ensures.value pair.after
     (rw at (ap (λ o. option_map (λ p. p.1) o) pair.value)) in
-    absurd (none-some _ (sym (ap (λ o. option_map (λ r. r.now) o) c'.in_default-2.is) ∙ told)))
+    absurd (none-some _ (sym (ap (λ o. option_map (λ r. r.now) o) c'.in_default-2.is) ∙ reported)))
 
 pub after_table-returns-in_default-after_element-clause-value :
     goal.after_table-returns-in_default-after_element-clause-value
@@ -142,10 +142,10 @@ after_table-returns-in_default-after_element-clause-value c c' n h x e =
     keyed_at _ (key_view c'.in-Some._key) pair.key c'.in-Some.at_value.now pair.at_value
     (sym (ap (λ o. option_map (λ p. (key_view p.0, p.1.now)) o) c'.in-Some.is)
     ∙ c'.in_ok-_key.ensures.value) keyed in
-    let told = c'.in_ok-after.ensures.value pair.after
+    let reported = c'.in_ok-after.ensures.value pair.after
     (rw at (ap (λ o. option_map (λ p. p.1) o) pair.value)) in
     let here : c'.in-Some-2.after.now ≡ pair.after =
-    same_Some _ _ (sym (ap (λ o. option_map (λ r. r.now) o) c'.in-Some-2.is) ∙ told) in
+    same_Some _ _ (sym (ap (λ o. option_map (λ r. r.now) o) c'.in-Some-2.is) ∙ reported) in
     let element : after_element 125 c'.in-Some-2.after.now ≡ Some pair.next =
     rw here pair.element in
     absurd (none-some _ (c'.in_default-after_element.ensures.value ∙ element)))
@@ -170,10 +170,10 @@ after_table-members-preserved c c' =
           keyed_at _ (key_view c'.in-Some._key) pair.key c'.in-Some.at_value.now pair.at_value
           (sym (ap (λ o. option_map (λ p. (key_view p.0, p.1.now)) o) c'.in-Some.is)
           ∙ c'.in_ok-_key.ensures.value) keyed in
-          let told = c'.in_ok-after.ensures.value pair.after
+          let reported = c'.in_ok-after.ensures.value pair.after
           (rw at (ap (λ o. option_map (λ p. p.1) o) pair.value)) in
           let here : c'.in-Some-2.after.now ≡ pair.after =
-          same_Some _ _ (sym (ap (λ o. option_map (λ r. r.now) o) c'.in-Some-2.is) ∙ told) in
+          same_Some _ _ (sym (ap (λ o. option_map (λ r. r.now) o) c'.in-Some-2.is) ∙ reported) in
           let element : after_element 125 c'.in-Some-2.after.now ≡ Some pair.next =
           rw here pair.element in
           let there : c'.in-Some-after_element.next.now ≡ pair.next =

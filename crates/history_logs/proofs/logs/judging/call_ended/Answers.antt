@@ -3,5 +3,5 @@ use Rattle.history_logs.proofs.logs.judging.call_ended.Goals as goal
 
 pub unreachable-requires : goal.unreachable-requires
 unreachable-requires c =
-    no_other c.events.result.now c.args.service.now.events c.args.place _ c.events.ensures
+    no_other c.events.result.now c.args.service.now.events c.args.index _ c.events.ensures
     c.requires.ended c.in-Begin.is

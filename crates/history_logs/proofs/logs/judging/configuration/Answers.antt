@@ -1,12 +1,12 @@
 use Rattle.std.proofs.Common.{◌++◌, ◌∙◌, ap}
 use Rattle.iox2_container.specs.Steps.{listed}
 use Rattle.iox2_dynamic.specs.Service.{Service}
-use Rattle.history_logs.proofs.Telling.{told_of}
+use Rattle.history_logs.proofs.Telling.{reported_of}
 use Rattle.history_logs.proofs.logs.judging.configuration.Goals as goal
 
 pub returns : goal.returns
 returns c =
-    told_of c.args.service.now c.args.call c.index-calls-call.result c.args.slots.now
+    reported_of c.args.service.now c.args.call c.index-calls-call.result c.args.slots.now
     c.args.config.now _ c.begins.result.now c.calls.result.now c.begins.ensures c.calls.ensures
     c.requires.within c.index-calls-call.is c.in_ok-lines_made.ensures
     c.in_ok-possible_replies.ensures

@@ -1,10 +1,10 @@
 use Rattle.std.proofs.Common.{◌≡◌, Some, slice_get, take}
 use Rattle.std.specs.List.{AllZip}
 use Rattle.service_conformance.specs.Judged.{Judged}
-use Rattle.history_logs.specs.Logs.{IsTold}
+use Rattle.history_logs.specs.Logs.{IsReported}
 use Rattle.history_logs.proofs.logs.judging.configurations.Given as goal
 
 abbrev pub invariant-loop-config : goal.invariant-loop-config
 invariant-loop-config l =
     (c : Judged) → slice_get l.service.calls l.call ≡ Some c
-    → AllZip (IsTold l.service c l.slots) (take l.config-index l.configs) l.told.items
+    → AllZip (IsReported l.service c l.slots) (take l.config-index l.configs) l.reported.items

@@ -15,8 +15,8 @@ judge_windows-requires c =
           c.requires.orderly.history;
     }
 
-pub told_of-requires : goal.told_of-requires
-told_of-requires c =
+pub reported_of-requires : goal.reported_of-requires
+reported_of-requires c =
     let s = c.args.service.now in
     let states : c.deref.result.now ≡ news s =
     c.deref.ensures.value ∙ c.in_ok-states.ensures in
@@ -33,8 +33,8 @@ returns c =
     let found = c.in_ok-found.found in
     let states : c.deref.result.now ≡ news s =
     c.deref.ensures.value ∙ c.in_ok-states.ensures in
-    if_ok _ _ c.told_of.result c.told_of.ensures (λ told is.
-    explored s c.args.cut found told
+    if_ok _ _ c.reported_of.result c.reported_of.ensures (λ reported is.
+    explored s c.args.cut found reported
     (verdict_of s c.calls.result.now c.deref.result.now c.events.result.now found c.calls.ensures
     states c.events.ensures c.in_ok-found.ensures.verdict)
     (λ never.

@@ -1,5 +1,5 @@
 use Rattle.history_logs.specs.Good.{IsOrderly}
-use Rattle.history_logs.specs.Placed.{IsPlaced}
+use Rattle.history_logs.specs.EventLines.{HasEventLines}
 use Rattle.history_logs.proofs.Found.{first_next, first_none, first_whole, item_of}
 use Rattle.history_logs.proofs.logs.judging.judge_services.Goals as goal
 
@@ -13,7 +13,7 @@ judge_service-requires-clause-orderly c =
 
 pub judge_service-requires-clause-placed : goal.judge_service-requires-clause-placed
 judge_service-requires-clause-placed c =
-    item_of (IsPlaced c.args.log.now) c.args.services.now c.loop-service.service-index
+    item_of (HasEventLines c.args.log.now) c.args.services.now c.loop-service.service-index
     c.service-item.result c.requires.placed c.loop-service-test.true c.service-item.is
 
 pub loop-service-preserved : goal.loop-service-preserved

@@ -1,7 +1,7 @@
 use Rattle.std.proofs.Common.{ap}
 use Rattle.history_logs.proofs.LinesAt.{if_both}
 use Rattle.history_logs.proofs.Needing.{begin_cut, begin_within}
-use Rattle.history_logs.proofs.Refusing.{call_within, place_within, refused_in, window_below, window_few, window_within}
+use Rattle.history_logs.proofs.Refusing.{call_within, index_within, refused_in, window_below, window_few, window_within}
 use Rattle.history_logs.proofs.logs.judging.refused.Goals as goal
 
 pub call_ended-call-requires : goal.call_ended-call-requires
@@ -12,7 +12,7 @@ call_ended-call-requires c = record {
 
 pub line_at-line-requires : goal.line_at-line-requires
 line_at-line-requires c =
-    place_within c.args.service.now c.requires.orderly c.args.place c.args.window.now
+    index_within c.args.service.now c.requires.orderly c.args.index c.args.window.now
     c.requires.stops.within c.requires.window
 
 pub lines_needed-requires : goal.lines_needed-requires
@@ -22,8 +22,8 @@ lines_needed-requires c =
     record {
       orderly = c.requires.orderly;
       stops = c.requires.stops;
-      within = begin_within s c.args.place w c.requires.stops.within c.requires.window;
-      cut = begin_cut s c.args.place w c.requires.stops.within c.requires.window;
+      within = begin_within s c.args.index w c.requires.stops.within c.requires.window;
+      cut = begin_cut s c.args.index w c.requires.stops.within c.requires.window;
       ended = c.call_ended-call.ensures;
     }
 
@@ -35,24 +35,24 @@ refusal-requires c =
     let within = c.requires.stops.within in
     let is = c.requires.window in
     record {
-      few = window_few s o c.args.place w within is;
-      below = window_below s o c.args.place w within is;
-      within = call_within s o c.args.place w within is c.args.log.now c.requires.placed.answers
+      few = window_few s o c.args.index w within is;
+      below = window_below s o c.args.index w within is;
+      within = call_within s o c.args.index w within is c.args.log.now c.requires.placed.answers
           c.call_ended-call.result c.line_at-line.result c.call_ended-call.ensures
           c.line_at-line.ensures;
-      place = place_within s o c.args.place w within is;
-      begin = window_within s o c.args.place w within is;
+      index = index_within s o c.args.index w within is;
+      begin = window_within s o c.args.index w within is;
       whole = o.all.whole;
     }
 
 pub returns : goal.returns
 returns c =
     let s = c.args.service.now in
-    if_both _ _ _ c.refusal.result c.refusal.ensures.given c.refusal.ensures.told
-    (λ told its tells.
-    refused_in s c.requires.orderly c.args.place c.args.window.now c.requires.stops.within
+    if_both _ _ _ c.refusal.result c.refusal.ensures.given c.refusal.ensures.reported
+    (λ reported its tells.
+    refused_in s c.requires.orderly c.args.index c.args.window.now c.requires.stops.within
     c.requires.window c.args.log.now c.requires.placed.answers c.call_ended-call.result
     c.line_at-line.result
     c.call_ended-call.ensures c.line_at-line.ensures c.in_ok-words.words.items c.in_ok-words.ensures
-    c.requires.stops c.in_ok-needed.needed.items c.in_ok-needed.ensures told
+    c.requires.stops c.in_ok-needed.needed.items c.in_ok-needed.ensures reported
     (ap (λ v. v.items) its.0) (ap (λ v. v.items) its.1) tells)

@@ -1,6 +1,6 @@
 use Rattle.std.proofs.Common.{◌≡◌, ◌-◌, suc, zero, subst, arith}
 use Rattle.log_lines.specs.Lines.{line_text}
-use Rattle.history_logs.specs.Placed.{IsLineAt}
+use Rattle.history_logs.specs.EventLines.{IsLineAt}
 use Rattle.history_logs.proofs.LinesAt.{cut_to, if_ok, line_first, no_line}
 use Rattle.history_logs.proofs.logs.judging.words_in.Goals as goal
 

@@ -1,7 +1,7 @@
 use Rattle.std.proofs.Common.{◌<◌, All, List, ℕ, ap, length, refl, subst, sym}
 use Rattle.std.specs.List.{AllZip}
 use Rattle.history_logs.specs.Logs.{BeginsAt}
-use Rattle.history_logs.proofs.Ordered.{calls_within, order_told}
+use Rattle.history_logs.proofs.Ordered.{calls_within, order_reported}
 use Rattle.history_logs.proofs.logs.ordering.order_of.Goals as goal
 
 pub lines_of-requires : goal.lines_of-requires
@@ -16,7 +16,7 @@ pub returns : goal.returns
 returns c =
     let s = c.args.service.now in
     let lines = c.in_ok-lines.lines.items in
-    order_told s c.requires.orderly c.args.window.now c.in_ok-calls.calls.items c.requires.front
+    order_reported s c.requires.orderly c.args.window.now c.in_ok-calls.calls.items c.requires.front
     c.requires.some c.in_ok-calls.ensures c.line.result.now.number lines _
     (ap (λ l. l.number) c.line.ensures)
     (subst (λ (l : List ℕ). AllZip (BeginsAt l) c.in_ok-calls.calls.items lines) c.begins.ensures

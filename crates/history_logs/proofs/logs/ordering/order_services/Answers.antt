@@ -1,5 +1,5 @@
 use Rattle.history_logs.specs.Good.{IsOrderly}
-use Rattle.history_logs.specs.Placed.{IsPlaced}
+use Rattle.history_logs.specs.EventLines.{HasEventLines}
 use Rattle.history_logs.proofs.Found.{first_whole, item_of}
 use Rattle.history_logs.proofs.Ordered.{orders_all, orders_next, orders_none}
 use Rattle.history_logs.proofs.logs.ordering.order_services.Goals as goal
@@ -15,7 +15,7 @@ order_service-requires-clause-orderly c =
 
 pub order_service-requires-clause-placed : goal.order_service-requires-clause-placed
 order_service-requires-clause-placed c =
-    item_of (IsPlaced c.args.log.now) c.args.services.now c.loop-service.service-index
+    item_of (HasEventLines c.args.log.now) c.args.services.now c.loop-service.service-index
     c.service-item.result c.requires.placed c.loop-service-test.true c.service-item.is
 
 pub loop-service-preserved : goal.loop-service-preserved

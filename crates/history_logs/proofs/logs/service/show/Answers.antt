@@ -7,8 +7,8 @@ returns-in_default c =
     shown_none c.args.calls.now.items c.args.at c.index.result.now c.args.reply.now
     c.requires.within c.index.ensures (sym c.stopped.ensures ∙ c.in_default.is) c.args.first
 
-pub overflow_sub-place : goal.overflow_sub-place
-overflow_sub-place c =
+pub overflow_sub-position : goal.overflow_sub-position
+overflow_sub-position c =
     stops_kept c.args.first c.args.calls.now.items c.args.at c.in-Some.start c.index.result.now
     c.args.reply.now c.requires.within c.index.ensures (sym c.stopped.ensures ∙ c.in-Some.is)
     c.requires.kept
@@ -19,8 +19,8 @@ returns-in_ok-show c =
     c.args.reply.now c.requires.within c.index.ensures (sym c.stopped.ensures ∙ c.in-Some.is)
     _ refl c.index_mut.result.now c.show.new.self c.index_mut.ensures.value c.in_ok-show.ensures
 
-pub returns-else-place-len : goal.returns-else-place-len
-returns-else-place-len c =
+pub returns-else-position-len : goal.returns-else-position-len
+returns-else-position-len c =
     shown_past c.args.first c.args.calls.now.items c.args.at c.in-Some.start c.index.result.now
     c.args.reply.now c.requires.within c.index.ensures (sym c.stopped.ensures ∙ c.in-Some.is)
-    _ refl (omega (arith, c.if-place-len.false, c.len.ensures))
+    _ refl (omega (arith, c.if-position-len.false, c.len.ensures))

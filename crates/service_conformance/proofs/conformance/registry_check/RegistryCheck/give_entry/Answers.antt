@@ -1,6 +1,6 @@
 use Rattle.std.proofs.Common.{refl, sym, subst, rules}
 use Rattle.iox2_container.specs.State.{IsRegistry}
-use Rattle.service_conformance.specs.Given.{placed}
+use Rattle.service_conformance.specs.Given.{slot_entry}
 use Rattle.service_conformance.proofs.Given.{last_is, stands_is, stands_only}
 use Rattle.service_conformance.proofs.conformance.registry_check.RegistryCheck.give_entry.Goals as goal
 
@@ -20,14 +20,14 @@ pub invariant_of-self-2 : goal.invariant_of-self-2
 invariant_of-self-2 g c =
     let r = c.args.self.now in
     subst IsRegistry
-    (sym (last_is _ r (placed c.args.slot c.args.ticket c.args.details) _ c.self.view_is
+    (sym (last_is _ r (slot_entry c.args.slot c.args.ticket c.args.details) _ c.self.view_is
     c.in_ok-push.ensures.items))
     (stands_is r c.args.slot c.args.ticket c.args.details
     (subst IsRegistry c.self.view_is c.self.invariant) (search rules))
 
 pub returns-clause-gives : goal.returns-clause-gives
 returns-clause-gives g c = (
-  last_is _ c.args.self.now (placed c.args.slot c.args.ticket c.args.details) _ c.self.view_is
+  last_is _ c.args.self.now (slot_entry c.args.slot c.args.ticket c.args.details) _ c.self.view_is
       c.in_ok-push.ensures.items,
   invariant_of-self-2 g c,
 )

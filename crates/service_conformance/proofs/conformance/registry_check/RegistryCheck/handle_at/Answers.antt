@@ -3,8 +3,8 @@ use Rattle.service_conformance.specs.Words.{handle_words}
 use Rattle.service_conformance.proofs.Words.{none_free, none_next, one_next}
 use Rattle.service_conformance.proofs.conformance.registry_check.RegistryCheck.handle_at.Goals as goal
 
-pub returns-in_default-clause-told : goal.returns-in_default-clause-told
-returns-in_default-clause-told g c =
+pub returns-in_default-clause-reported : goal.returns-in_default-clause-reported
+returns-in_default-clause-reported g c =
     let r = c.args.self.now in
     let fits : r.capacity < 2 ^ 64 = search rules in
     let counts : r.used < 2 ^ 64 = search rules in
@@ -13,8 +13,8 @@ returns-in_default-clause-told g c =
     none_free r (handle_words c.args.slot c.args.ticket) fits counts c.args.slot c.args.ticket s t
     refl c.in_default.ensures.none
 
-pub returns-then-ticket-clause-told : goal.returns-then-ticket-clause-told
-returns-then-ticket-clause-told g c =
+pub returns-then-ticket-clause-reported : goal.returns-then-ticket-clause-reported
+returns-then-ticket-clause-reported g c =
     let r = c.args.self.now in
     let fits : r.capacity < 2 ^ 64 = search rules in
     let counts : r.used < 2 ^ 64 = search rules in
@@ -24,8 +24,8 @@ returns-then-ticket-clause-told g c =
     refl c.in-Some.handle c.in-Some.ensures.some.1
     (λ e. c.if-ticket.true (c.ticket.ensures ∙ e))
 
-pub returns-clause-told : goal.returns-clause-told
-returns-clause-told g c =
+pub returns-clause-reported : goal.returns-clause-reported
+returns-clause-reported g c =
     let r = c.args.self.now in
     let fits : r.capacity < 2 ^ 64 = search rules in
     let counts : r.used < 2 ^ 64 = search rules in

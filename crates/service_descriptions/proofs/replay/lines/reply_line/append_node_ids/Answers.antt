@@ -9,5 +9,5 @@ returns-in_err-append_id-clause-err c =
     let items = c.loop-id.out.items in
     let kept : take (length items) now ≡ items = search rules in
     let front = front_stays before _ items now c.loop-id.invariant kept in
-    let told : take (vec_len c.args.out.now) now ≡ before = search (rules, front) in
-    search (rules, told)
+    let reported : take (vec_len c.args.out.now) now ≡ before = search (rules, front) in
+    search (rules, reported)

@@ -36,10 +36,11 @@ step : (c : After-push_reserved)
     c.match-command.reply (described (session_of (after c.self.inside
     c.match-command.self-inside.service c.push_reserved.new.self)) c.args.about.now)
 step c =
-    let told = answered c in
+    let reported = answered c in
     served c.args.about.now c.self.inside c.match-command.self-inside.service
     c.push_reserved.new.self c.of_reply.result c.args.command.now c.match-command.reply
-    c.self.invariant told.1 told.0 c.of_reply.ensures (rw told.3 at c.push_reserved.ensures.items)
+    c.self.invariant reported.1 reported.0 c.of_reply.ensures (rw reported.3 at
+    c.push_reserved.ensures.items)
 
 pub invariant_of-self-2 : goal.invariant_of-self-2
 invariant_of-self-2 c = rw (answered c).2 (step c).0

@@ -32,10 +32,10 @@ step : (c : After-push_reserved)
     × LineStep (session_of c.self.inside) (command_of c.args.command.now) c.match-command.answer
     (session_of (after c.self.inside c.match-command.self-inside.service c.push_reserved.new.self))
 step c =
-    let told = answered c in
+    let reported = answered c in
     served_line c.self.inside c.match-command.self-inside.service c.push_reserved.new.self
-    c.of.result (command_of c.args.command.now) c.match-command.answer c.self.invariant told.1
-    told.0 c.of.ensures (rw told.3 at c.push_reserved.ensures.items)
+    c.of.result (command_of c.args.command.now) c.match-command.answer c.self.invariant reported.1
+    reported.0 c.of.ensures (rw reported.3 at c.push_reserved.ensures.items)
 
 pub invariant_of-self-2 : goal.invariant_of-self-2
 invariant_of-self-2 c = rw (answered c).2 (step c).0

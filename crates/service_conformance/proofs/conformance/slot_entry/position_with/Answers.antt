@@ -2,8 +2,8 @@ use Rattle.std.proofs.Common.{arith, rules, refl}
 use Rattle.std.specs.Prelude.{IsTrue}
 use Rattle.std.proofs.lemmas.Option.{slice_get_read}
 use Rattle.service_conformance.proofs.Rising.{none_there, other_entry}
-use Rattle.service_conformance.proofs.conformance.placed.position_with.Goals.{else-position-entries-via-then-position-entries+else-is_at, else-position-entries-via-else-position-entries}
-use Rattle.service_conformance.proofs.conformance.placed.position_with.Goals as goal
+use Rattle.service_conformance.proofs.conformance.slot_entry.position_with.Goals.{else-position-entries-via-then-position-entries+else-is_at, else-position-entries-via-else-position-entries}
+use Rattle.service_conformance.proofs.conformance.slot_entry.position_with.Goals as goal
 
 pub returns-then-is_at-clause-some : goal.returns-then-is_at-clause-some
 returns-then-is_at-clause-some g c =

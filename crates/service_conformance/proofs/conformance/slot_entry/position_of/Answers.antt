@@ -1,7 +1,7 @@
 use Rattle.std.proofs.Common.{◌<◌, ◌≤◌, arith, subst}
 use Rattle.std.proofs.lemmas.List.Elements.{All-more}
 use Rattle.service_conformance.proofs.Rising.{all_from}
-use Rattle.service_conformance.proofs.conformance.placed.position_of.Goals as goal
+use Rattle.service_conformance.proofs.conformance.slot_entry.position_of.Goals as goal
 
 pub loop-position-preserved : goal.loop-position-preserved
 loop-position-preserved g c =

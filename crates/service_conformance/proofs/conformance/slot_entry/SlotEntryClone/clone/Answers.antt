@@ -1,5 +1,5 @@
 use Rattle.std.proofs.Common.{refl, rules}
-use Rattle.service_conformance.proofs.conformance.placed.PlacedClone.clone.Goals as goal
+use Rattle.service_conformance.proofs.conformance.slot_entry.SlotEntryClone.clone.Goals as goal
 
 pub returns : goal.returns
 returns g c = record {

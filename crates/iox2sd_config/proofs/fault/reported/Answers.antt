@@ -1,5 +1,5 @@
 use Rattle.std.proofs.Common.{refl}
-use Rattle.iox2sd_config.proofs.fault.told.Goals as goal
+use Rattle.iox2sd_config.proofs.fault.reported.Goals as goal
 
 pub returns : goal.returns
 returns c =

@@ -16,13 +16,13 @@ use std::marker::Model;
 
 /// Details in a slot, and the ticket that they were given.
 #[derive(Clone, Copy, Debug)]
-pub(super) struct Placed<T: Copy> {
+pub(super) struct SlotEntry<T: Copy> {
     pub(super) slot: usize,
     pub(super) ticket: u64,
     pub(super) details: T,
 }
 
-impl<T: Copy> Model for Placed<T> {
+impl<T: Copy> Model for SlotEntry<T> {
     ghost use Rattle.iox2_container.specs.State.{Entry};
 
     ghost Value = { Entry T };
@@ -32,7 +32,7 @@ impl<T: Copy> Model for Placed<T> {
     ghost inverse = { λ e. record { slot = e.slot; ticket = e.ticket; details = e.details } };
 }
 
-impl<T: Copy> Placed<T> {
+impl<T: Copy> SlotEntry<T> {
     /// The slot.
     pub(super) fn slot(&self) -> usize
         ensures { result ≡ self.now.slot }
@@ -55,14 +55,14 @@ impl<T: Copy> Placed<T> {
     }
 }
 
-impl<T: Copy + Same> Same for Placed<T> {
+impl<T: Copy + Same> Same for SlotEntry<T> {
     fn same(&self, other: &Self) -> bool {
         self.slot == other.slot && self.ticket == other.ticket && self.details.same(&other.details)
     }
 }
 
 /// The position of the first entry whose slot is not below this one.
-pub(super) fn position_of<T: Copy>(entries: &[Placed<T>], slot: usize) -> usize
+pub(super) fn position_of<T: Copy>(entries: &[SlotEntry<T>], slot: usize) -> usize
     requires { AllPairs (λ a b. a.slot < b.slot) entries.now }
     ensures within { result ≤ length entries.now }
     ensures below { All (λ e. e.slot < slot) (take result entries.now) }
@@ -76,7 +76,7 @@ pub(super) fn position_of<T: Copy>(entries: &[Placed<T>], slot: usize) -> usize
 }
 
 /// The position that an entry of this slot would have, or `None` where the slot is taken.
-pub(super) fn free_position<T: Copy>(entries: &[Placed<T>], slot: usize) -> Option<usize>
+pub(super) fn free_position<T: Copy>(entries: &[SlotEntry<T>], slot: usize) -> Option<usize>
     requires { AllPairs (λ a b. a.slot < b.slot) entries.now }
     ensures none { IfNone result (¬ (All (λ e. e.slot ≢ slot) entries.now)) }
     ensures some { IfSome result (IsFreePosition entries.now slot) }
@@ -90,7 +90,7 @@ pub(super) fn free_position<T: Copy>(entries: &[Placed<T>], slot: usize) -> Opti
 
 /// Puts an entry with the slot and the ticket of the handle in the position.
 pub(super) fn put<T: Copy>(
-    entries: &mut Vec<Placed<T>>,
+    entries: &mut Vec<SlotEntry<T>>,
     position: usize,
     handle: ContainerHandle,
     details: T,
@@ -104,7 +104,7 @@ pub(super) fn put<T: Copy>(
     let ticket = handle.ticket();
     entries.insert(
         position,
-        Placed {
+        SlotEntry {
             slot,
             ticket,
             details,
@@ -115,7 +115,7 @@ pub(super) fn put<T: Copy>(
 
 /// The position of the entry with this slot and this ticket, or `None` where there is none.
 pub(super) fn position_with<T: Copy>(
-    entries: &[Placed<T>],
+    entries: &[SlotEntry<T>],
     slot: usize,
     ticket: u64,
 ) -> Option<usize>
@@ -133,7 +133,7 @@ pub(super) fn position_with<T: Copy>(
 /// The details of the entries.
 pub(super) fn details_of<T: Copy>(
     alloc: Global,
-    entries: &[Placed<T>],
+    entries: &[SlotEntry<T>],
 ) -> Result<Vec<T>, AllocError>
     ensures { IfOk result (λ list. list.items ≡ map (λ e. e.details) entries.now) }
 {
@@ -147,7 +147,7 @@ pub(super) fn details_of<T: Copy>(
 /// The slots of the entries.
 pub(super) fn slots_of<T: Copy>(
     alloc: Global,
-    entries: &[Placed<T>],
+    entries: &[SlotEntry<T>],
 ) -> Result<Vec<usize>, AllocError>
     ensures { IfOk result (λ list. list.items ≡ map (λ e. e.slot) entries.now) }
 {
@@ -158,7 +158,7 @@ pub(super) fn slots_of<T: Copy>(
     Ok(list)
 }
 
-impl Placed<UniqueNodeId> {
+impl SlotEntry<UniqueNodeId> {
     /// Whether it is an entry of the node.
     pub(super) fn is_of(&self, node: &UniqueNodeId) -> bool
         ensures { result ≡ is_of (λ i. i) node.now self.now.details }
@@ -167,7 +167,7 @@ impl Placed<UniqueNodeId> {
     }
 }
 
-impl Placed<PortDetails> {
+impl SlotEntry<PortDetails> {
     /// Whether it is a port of the node.
     pub(super) fn is_of(&self, node: &UniqueNodeId) -> bool
         ensures { result ≡ is_of node_of node.now self.now.details }

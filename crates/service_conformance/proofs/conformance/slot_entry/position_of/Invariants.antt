@@ -1,5 +1,5 @@
 use Rattle.std.proofs.Common.{length, ◌-◌, ◌<◌, ◌≤◌, All, take}
-use Rattle.service_conformance.proofs.conformance.placed.position_of.Given as goal
+use Rattle.service_conformance.proofs.conformance.slot_entry.position_of.Given as goal
 
 abbrev pub invariant-loop-position : goal.invariant-loop-position
 invariant-loop-position g l = record {

@@ -4,9 +4,9 @@ use Rattle.config_report.specs.Notes.{Note, finding_view}
 use Rattle.iox2_config_file.specs.Proposals.{Proposed, proposal_view}
 use Rattle.iox2_config_file.specs.declared.section.Section.{Section}
 use Rattle.iox2sd_config.specs.Faults.{column_of, cut_key, cut_reason, key_of, line_of, section_number}
-use Rattle.iox2sd_config.specs.Unknown.{meant_number, meant_path, told_key}
+use Rattle.iox2sd_config.specs.Unknown.{meant_number, meant_path, c_key}
 use Rattle.iox2sd_config.specs.declared.unknown.PlainUnknown.{PlainUnknown}
-use Rattle.iox2sd_config.proofs.unknown.told_key.Goals as goal
+use Rattle.iox2sd_config.proofs.unknown.c_key.Goals as goal
 
 -- the plain value of these fields
 of_fields : (s : Section) (meant : Option Proposed) (n : Note) (table likeness line column : ℕ)
@@ -24,7 +24,7 @@ of_fields : (s : Section) (meant : Option Proposed) (n : Note) (table likeness l
       meant_length = length path;
       reason = words;
       reason_length = length reason;
-    }) (told_key s meant n)
+    }) (c_key s meant n)
 of_fields s meant n table likeness line column key path cut reason words a b c d e f g h i =
     rw (a, b, c, d, e, f, g, h, i) refl
 

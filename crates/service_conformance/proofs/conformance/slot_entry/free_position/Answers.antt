@@ -1,7 +1,7 @@
 use Rattle.std.proofs.Common.{arith, ◌∙◌}
 use Rattle.service_conformance.proofs.Rising.{free_there, other_slot}
-use Rattle.service_conformance.proofs.conformance.placed.free_position.Goals.{else-position-entries-via-then-position-entries+else-slot, else-position-entries-via-else-position-entries}
-use Rattle.service_conformance.proofs.conformance.placed.free_position.Goals as goal
+use Rattle.service_conformance.proofs.conformance.slot_entry.free_position.Goals.{else-position-entries-via-then-position-entries+else-slot, else-position-entries-via-else-position-entries}
+use Rattle.service_conformance.proofs.conformance.slot_entry.free_position.Goals as goal
 
 pub returns-clause-some : goal.returns-clause-some
 returns-clause-some g c =

@@ -1,7 +1,7 @@
 use Rattle.std.proofs.Common.{refl}
 use Rattle.history_windows.specs.declared.window.Stop.TheVariants as stop
 use Rattle.history_logs.proofs.Found.{line_within}
-use Rattle.history_logs.proofs.logs.judging.told_of.Goals as goal
+use Rattle.history_logs.proofs.logs.judging.reported_of.Goals as goal
 
 pub refused-requires : goal.refused-requires
 refused-requires c =
@@ -15,25 +15,25 @@ refused-requires c =
 
 pub line_at-line-requires : goal.line_at-line-requires
 line_at-line-requires c =
-    line_within c.args.service.now c.in-ManyConfigs.place stop.ManyConfigs c.requires.orderly
+    line_within c.args.service.now c.in-ManyConfigs.index stop.ManyConfigs c.requires.orderly
     (rw c.in-ManyConfigs.is at c.requires.found)
 
 pub line_at-line-requires-in-ManyOpen : goal.line_at-line-requires-in-ManyOpen
 line_at-line-requires-in-ManyOpen c =
-    line_within c.args.service.now c.in-ManyOpen.place stop.ManyOpen c.requires.orderly
+    line_within c.args.service.now c.in-ManyOpen.index stop.ManyOpen c.requires.orderly
     (rw c.in-ManyOpen.is at c.requires.found)
 
 pub returns-in-Explained : goal.returns-in-Explained
 returns-in-Explained c = c.in-Explained.is
 
-pub returns-in_ok-told-in-Refused : goal.returns-in_ok-told-in-Refused
-returns-in_ok-told-in-Refused c = c.in_ok-told-in-Refused.ensures
+pub returns-in_ok-reported-in-Refused : goal.returns-in_ok-reported-in-Refused
+returns-in_ok-reported-in-Refused c = c.in_ok-reported-in-Refused.ensures
 
 pub returns-in-ManyConfigs : goal.returns-in-ManyConfigs
 returns-in-ManyConfigs c = (
   refl,
   (
-    c.in-ManyConfigs.place,
+    c.in-ManyConfigs.index,
     record {
       stops = rw c.in-ManyConfigs.is at c.requires.found;
       there = c.line_at-line.ensures;
@@ -45,7 +45,7 @@ pub returns-in-ManyOpen : goal.returns-in-ManyOpen
 returns-in-ManyOpen c = (
   refl,
   (
-    c.in-ManyOpen.place,
+    c.in-ManyOpen.index,
     record {
       stops = rw c.in-ManyOpen.is at c.requires.found;
       there = c.line_at-line-in-ManyOpen.ensures;

@@ -39,10 +39,10 @@ IsAnsweredIn bytes s number k =
 -- where a call was answered, its words are seen, and they stand in the line of the answer
 abbrev pub HasAnswers : List ℕ → Service → Type 0
 HasAnswers bytes s =
-    (place number k : ℕ) → StandsAt s.events place (End number)
-    → slice_get s.places place ≡ Some k → IsAnsweredIn bytes s number k
+    (index number k : ℕ) → StandsAt s.events index (End number)
+    → slice_get s.event_lines index ≡ Some k → IsAnsweredIn bytes s number k
 
 -- the lines of the events rise, and replies stand in those of their calls' ends
-pub record IsPlaced (bytes : List ℕ) (s : Service) : Type 0 where
-  pub rising : AllPairs (λ (one other : ℕ). one ≤ other) s.places
+pub record HasEventLines (bytes : List ℕ) (s : Service) : Type 0 where
+  pub rising : AllPairs (λ (one other : ℕ). one ≤ other) s.event_lines
   pub answers : HasAnswers bytes s
