@@ -7,7 +7,7 @@ that the next one needs beside them.
 
 import re
 
-from reference_site.parts import WORD, cited, code, plural
+from reference_site.parts import WORD, cited, code, filled, plural
 from reference_site.project import head_of
 
 CITED = re.compile(r"((?:`[\w:]+`(?:, | and )?)+)\s+of\s+`(\w+)`")
@@ -99,12 +99,9 @@ class Headline:
 
     def summary(self):
         """The sentences, each with links to its functions."""
-        rows = "".join(f"<li>{self.parts.inline(text.partition(' (')[0])}: "
+        return "".join(f"<li>{self.parts.inline(text.partition(' (')[0])}: "
                        + ", ".join(code(f.title, f.href) for f in functions)
                        for text, functions in self.sentences)
-        return (f'<ul>{rows}</ul><p><a href="headline.html">The definitions behind these '
-                "sentences</a>, to be read in one sitting: "
-                f"{self.counts(', and then ')}.</p>")
 
     def body(self):
         """The page below its title."""
@@ -126,13 +123,7 @@ class Headline:
             texts.append(f"<p>{self.parts.inline(found.comment)}</p>"
                          + self.parts.definition(found))
         names = ", ".join(f"<code>{name}</code>" for _, _, name in sorted(self.trusted))
-        return (
-            "<p>Each sentence of the headline, and the clauses that carry it. Below stand all "
-            "definitions that these clauses cite, and nothing else, each after those that it uses: "
-            f"{self.counts(', and for the last sentences ')}. With the {len(self.trusted)} "
-            "definitions of the toolchain's library that they cite, they say all that the clauses "
-            "mean.</p>"
-            f"<h2>Sentences</h2>{''.join(rows)}"
-            f"<h2>What contracts see of the types</h2>{''.join(models.values())}"
-            f"<h2>Definitions</h2>{''.join(texts)}"
-            f"<h2>Of the library</h2><p>{names}</p>")
+        return filled(
+            "headline", counts=self.counts(", and for the last sentences "),
+            trusted=len(self.trusted), sentences="".join(rows), models="".join(models.values()),
+            definitions="".join(texts), names=names)

@@ -4,9 +4,7 @@ import shutil
 from pathlib import Path
 
 from reference_site.headline import Headline
-from reference_site.parts import Parts, breakable, code, escape, first_sentence, plural
-
-TITLE = "service_descriptions"
+from reference_site.parts import Parts, breakable, code, escape, filled, first_sentence, plural
 
 
 class Pages:
@@ -31,15 +29,7 @@ class Pages:
         crates = "".join(
             f'<li><a href="{name}.html"{" aria-current=page" if name == now else ""}>{name}</a>'
             for name in self.project.crates)
-        return (
-            '<!doctype html>\n<html lang="en"><head><meta charset="utf-8">'
-            '<meta name="viewport" content="width=device-width, initial-scale=1">'
-            f"<title>{escape(title)}</title>"
-            '<link rel="stylesheet" href="style.css"></head><body>'
-            f'<header><a href="index.html">{TITLE}</a></header>'
-            f'<nav aria-label="Crates"><details open><summary>Crates</summary><ul>{crates}</ul>'
-            "</details></nav>"
-            f"<main><h1>{escape(title)}</h1>\n{body}</main></body></html>\n")
+        return filled("page", title=escape(title), crates=crates, body=body)
 
     def section(self, anchor, title, body):
         """A part of a page about one name."""
@@ -108,15 +98,9 @@ class Pages:
             for c in self.project.crates.values())
         meanings = "".join(f"<p><b>{inline(word)}</b>: {inline(meaning)}</p>"
                            for word, meaning in words)
-        return self.page(
-            TITLE,
-            "<p>The public items of each crate, with what is proved of them. A condition "
-            "(<code>requires</code>) is what a caller is proved to keep; a promise "
-            "(<code>ensures</code>) is what the function is proved to keep, for every argument. "
-            "Each definition in them is a link, and says what it means where one points at it.</p>"
-            f"<h2>What is proved</h2>{headline.summary()}"
-            f'<h2>Crates, bottom up</h2><div class="named">{crates}</div>'
-            f'<h2>Words</h2><div class="named">{meanings}</div>')
+        counts = headline.counts(", and then ")
+        return self.page("service_descriptions", filled(
+            "index", sentences=headline.summary(), counts=counts, crates=crates, words=meanings))
 
     def write(self, folder):
         """Writes the pages and what they load."""

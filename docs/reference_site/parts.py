@@ -2,6 +2,8 @@
 
 import html
 import re
+import string
+from pathlib import Path
 
 WORD = re.compile(r"[^\W\d][\w']*(?:\.[^\W\d][\w']*)*")
 STRING = re.compile(r'("(?:[^"\\]|\\.)*")')
@@ -10,6 +12,12 @@ LINK = re.compile(r"\[`(?P<link>[^`]+)`\](?:\((?P<path>[^)]+)\))?|`(?P<code>[^`]
 
 def escape(text):
     return html.escape(text, quote=True)
+
+
+def filled(template, **parts):
+    """A template of this folder, filled with these parts."""
+    text = (Path(__file__).parent / f"{template}.html").read_text()
+    return string.Template(text).substitute(parts)
 
 
 def breakable(name):

@@ -21,10 +21,6 @@ class Module:
     items: list
 
     @property
-    def href(self):
-        return f"{self.crate}.html#{self.name}"
-
-    @property
     def name(self):
         return ".".join(self.path) or "crate"
 
