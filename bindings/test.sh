@@ -69,26 +69,17 @@ baseline() {
             "$work/instructions"
 }
 
-# A command of cargo on the crate for Rust, with further arguments.
-crate() {
-    CARGO_TARGET_DIR=$work/rust IOX2SD_LIB_DIR=$PWD/out \
-        cargo "$1" --jobs 1 --offline --manifest-path rust/Cargo.toml "${@:2}"
+# A command of cargo in a target folder, with the library of a folder, on the crate of a folder.
+cargo_in() {
+    CARGO_TARGET_DIR=$work/$1 IOX2SD_LIB_DIR=$2 \
+        cargo "$4" --jobs 1 --offline --manifest-path "$3/Cargo.toml" "${@:5}"
 }
 
-documented() { RUSTDOCFLAGS="--deny warnings" crate doc --no-deps; }
+# A command of cargo on the crate for Rust.
+crate() { cargo_in rust "$PWD/out" rust "$@"; }
 
-# The tests of the package for Python, of which there are some.
-unittests() {
-    PYTHONDONTWRITEBYTECODE=1 python3 -m unittest discover --start-directory python/tests \
-        --top-level-directory python 2>&1 | tee "$work/unittests" &&
-        grep -q '^Ran [1-9]' "$work/unittests"
-}
-
-# The tests of the crate, of which there are some.
-crate_tests() {
-    crate test --quiet 2>&1 | tee "$work/crate_tests" &&
-        grep -q '^test result: ok[.] [1-9]' "$work/crate_tests"
-}
+# Runs tests, of which there are some, as a line says that they print.
+some() { "${@:2}" 2>&1 | tee "$work/tests" && grep -q "$1" "$work/tests"; }
 
 # The comparison with the original crate, with one that stands in for it: all answers alike, and one
 # default of another number.
@@ -97,25 +88,20 @@ against() {
     cp -r against "$work/compared"
     ln -s "$PWD/rust" "$work/compared/rust"
     with_stand_in() {
-        CARGO_TARGET_DIR=$work/compared/target IOX2SD_LIB_DIR=$PWD/out \
-            cargo "$1" --quiet --jobs 1 --offline --manifest-path "$work/compared/against/Cargo.toml" \
-            --config "patch.crates-io.iceoryx2.path=\"$work/compared/against/stand_in\"" "${@:2}"
+        cargo_in compared/target "$PWD/out" "$work/compared/against" run --quiet \
+            --config "patch.crates-io.iceoryx2.path=\"$work/compared/against/stand_in\"" "$@"
     }
-    with_stand_in run | grep '^[1-9][0-9]* compared, 0 differ$' &&
-        with_stand_in run --bin headers | grep '^response-header 8 8 ' &&
-        ! with_stand_in run --features iceoryx2/differs > "$work/differs" &&
+    with_stand_in | grep '^[1-9][0-9]* compared, 0 differ$' &&
+        with_stand_in --bin headers | grep '^response-header 8 8 ' &&
+        ! with_stand_in --features iceoryx2/differs > "$work/differs" &&
         grep 'event.max_listeners: iceoryx2 has' "$work/differs" &&
         grep ' compared, 1 differ$' "$work/differs"
 }
 
 # Where the library is missing, what does not link passes, and what links says what is missing.
 without_library() {
-    local missing=$work/missing
-    mkdir -p "$missing"
-    without() {
-        CARGO_TARGET_DIR=$missing/target IOX2SD_LIB_DIR=$missing \
-            cargo "$1" --jobs 1 --offline --manifest-path rust/Cargo.toml "${@:2}" 2>&1
-    }
+    mkdir -p "$work/missing"
+    without() { cargo_in missing/target "$work/missing" rust "$@" 2>&1; }
     without check --tests && without doc --no-deps && ! without build > "$work/built" &&
         grep 'run bindings/build.sh' "$work/built"
 }
@@ -129,9 +115,7 @@ packaged() {
     ./install.sh "$prefix" &&
         crate package --no-verify --allow-dirty &&
         tar xf "$work"/rust/package/iox2sd-*.crate -C "$work" &&
-        CARGO_TARGET_DIR=$work/rust IOX2SD_LIB_DIR=$prefix/lib \
-            cargo test --quiet --jobs 1 --offline --tests --examples \
-            --manifest-path "$work"/iox2sd-*/Cargo.toml
+        cargo_in rust "$prefix/lib" "$work"/iox2sd-* test --quiet --tests --examples
 }
 
 # Each C header, included alone.
@@ -216,13 +200,12 @@ include_takes() {
 named=(-Wno-c++98-compat -Wno-c++98-compat-pedantic -Wno-c++98-compat-local-type-template-args
     -Wno-pre-c++14-compat -Wno-pre-c++17-compat -Wno-padded)
 
-if has g++ && has /usr/bin/time; then
+if has g++ /usr/bin/time; then
     run "an include of iox2sd.hpp takes at most 100 MB" include_costs 102400 g++ -std=c++17
     for compiler in g++ clang++; do
-        if has "$compiler"; then
-            run "$compiler: an include of iox2sd.hpp beside <iostream> takes at most 2.4 times as long" \
-                include_takes 140 "$compiler" -std=c++17
-        fi
+        has "$compiler" && run \
+            "$compiler: an include of iox2sd.hpp beside <iostream> takes at most 2.4 times as long" \
+            include_takes 140 "$compiler" -std=c++17
     done
 fi
 if has clang++; then
@@ -241,7 +224,7 @@ for compiler in g++ clang++; do
                 -x c++ "../include/$header"
         done
     done
-    if has_format "$compiler"; then runs "$compiler" plain cpp/test_format.cpp -std=c++20; fi
+    has_format "$compiler" && runs "$compiler" plain cpp/test_format.cpp -std=c++20
     while read -r -u 3 ways source options; do
         runs "$compiler" "$ways" "$source" $options
     done 3<< END
@@ -261,41 +244,26 @@ END
         example "$compiler" "$source" c++17
     done
 done
-if has g++; then
-    if [ -x ../crates/iox2_conform/out/iox2_conform ]; then
-        run "the logs of a registry without a lock conform, and its faults are found" \
-            env CARGO_TARGET_DIR="$work/rust" lockfree/run 3000
-    else
-        echo "not found: iox2_conform, so no logs of a registry without a lock are judged"
-    fi
-fi
+has g++ ../crates/iox2_conform/out/iox2_conform &&
+    run "the logs of a registry without a lock conform, and its faults are found" \
+        env CARGO_TARGET_DIR="$work/rust" lockfree/run 3000
 run "statuses agree" same_statuses
-if has objdump && [ "$(uname -m)" = x86_64 ]; then
-    run "libiox2sd runs on every x86-64" baseline
-fi
-if has nm; then
-    run "libiox2sd exports the functions of the headers alone" same_exports
-fi
+[ "$(uname -m)" = x86_64 ] && has objdump && run "libiox2sd runs on every x86-64" baseline
+has nm && run "libiox2sd exports the functions of the headers alone" same_exports
 
 # ---- The same programs in each language, where there is an iceoryx2.toml ----
 
 # The first of the programs of a name is what the others are compared with. They run in docs/.
 alike() {
-    local name=$1
-    shift
-    if ! (cd ../docs && "$@") > "$work/printed"; then return 1; fi
-    if [ ! -e "$work/$name" ]; then
-        [ -s "$work/printed" ] && mv "$work/printed" "$work/$name"
-    else
-        diff "$work/$name" "$work/printed"
-    fi
+    (cd ../docs && "${@:2}") > "$work/printed" && [ -s "$work/printed" ] || return 1
+    [ -e "$work/$1" ] || cp "$work/printed" "$work/$1"
+    diff "$work/$1" "$work/printed"
 }
 
-# compiler, name, its ending and standard
+# compiler, name with its ending, and standard
 compiled() {
-    has "$1" || return 0
-    compiles "$1" "../examples/$2.$3" "$4" &&
-        run "$1 $2.$3 prints the same as the others" alike "$2" "$work/caller"
+    has "$1" && compiles "$1" "../examples/$2" "$3" &&
+        run "$1 $2 prints the same as the others" alike first "$work/caller"
 }
 
 # Runs a program in a package of its own in a folder outside, which depends on the crate at a path.
@@ -321,14 +289,11 @@ of_python() {
         IOX2SD_LIBRARY=../bindings/out/libiox2sd.so.2 python3 ../examples/first.py
 }
 
-compiled gcc first c -std=c99
-compiled g++ first cpp -std=c++17
+compiled gcc first.c -std=c99
+compiled g++ first.cpp -std=c++17
+has python3 && run "first.py prints the same as the others" alike first of_python
 if has cargo; then
     run "first.rs prints the same as the others" alike first of_rust first "$PWD/rust"
-fi
-if has python3; then run "first.py prints the same as the others" alike first of_python; fi
-
-if has cargo; then
     for name in builder monitor settings; do
         run "$name.rs prints what it says" prints_what_it_says "../examples/$name.rs" \
             of_rust "$name" "$PWD/rust"
@@ -384,7 +349,7 @@ installation() {
     run "install.sh wants an absolute path" bash -c '! ./install.sh prefix'
     # The directories of a distribution, as GNUInstallDirs names them.
     if run "install.sh installs into other directories" env LIBDIR=lib/x86_64-linux-gnu \
-        INCLUDEDIR=include/iox2sd ./install.sh "$work/debian" && has gcc && has g++ && has cmake; then
+        INCLUDEDIR=include/iox2sd ./install.sh "$work/debian" && has gcc g++ cmake; then
         run "find_package, in other directories" by_find_package "$work/debian"
         run "pkg-config, in other directories" by_pkg_config "$work/debian" lib/x86_64-linux-gnu
         rm -rf "$work/outside"/*
@@ -397,11 +362,9 @@ installation() {
 
 # prefix, and what is to be said of it
 installed_at() {
-    if has gcc && has g++; then
-        if has pkg-config; then run "pkg-config$2" by_pkg_config "$1"; fi
-        if has cmake; then run "find_package$2" by_find_package "$1"; fi
-    fi
-    if has cargo; then run "cargo, by a path$2" by_cargo "$1"; fi
+    has gcc g++ pkg-config && run "pkg-config$2" by_pkg_config "$1"
+    has gcc g++ cmake && run "find_package$2" by_find_package "$1"
+    has cargo && run "cargo, by a path$2" by_cargo "$1"
     if [ -e "$1/share/iox2sd/python" ]; then
         run "pip install$2" by_pip "$1"
     else
@@ -411,16 +374,13 @@ installed_at() {
 installation
 
 if has cargo; then
-    run "cargo test" crate_tests
+    run "cargo test" some '^test result: ok[.] [1-9]' crate test --quiet
     for example in discovery factory; do
         run "cargo run --example $example" crate run --quiet --example "$example"
     done
     run "cargo check and cargo doc pass without the library" without_library
-    run "cargo doc" documented &&
-        if has python3; then
-            run "each public item of the crate has an example" rust/check_examples \
-                "$work/rust/doc/iox2sd"
-        fi
+    RUSTDOCFLAGS="--deny warnings" run "cargo doc" crate doc --no-deps && has python3 &&
+        run "each public item of the crate has an example" rust/check_examples "$work/rust/doc/iox2sd"
     if has_cargo clippy; then run "cargo clippy" crate clippy --all-targets -- --deny warnings
     run "cargo clippy, pedantic" crate clippy --lib --examples -- --deny warnings --deny clippy::pedantic; fi
     if has_cargo fmt; then
@@ -433,9 +393,10 @@ if has cargo; then
 fi
 if has python3; then
     has cc || echo "so the declarations of Python were not compared with the headers"
-    run "python3 -m unittest" unittests
-    if has mypy; then run "mypy" env -C python mypy --cache-dir "$work/mypy"; fi
+    run "python3 -m unittest" some '^Ran [1-9]' env PYTHONDONTWRITEBYTECODE=1 python3 -m unittest \
+        discover --start-directory python/tests --top-level-directory python
+    has mypy && run "mypy" env -C python mypy --cache-dir "$work/mypy"
 fi
 # Last, so that it sees what all tests left in the checkout.
-if has rt; then run "rt ci starts again in this checkout" ./starts_again; fi
+has rt && run "rt ci starts again in this checkout" ./starts_again
 finish

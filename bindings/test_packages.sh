@@ -13,10 +13,13 @@ if [ "${1:-}" != inside ]; then
     ./package.sh "$work/dist" > "$work/log" 2>&1 || { cat "$work/log"; exit 1; }
     ./package.sh "$work/again" > "$work/log" 2>&1 || { cat "$work/log"; exit 1; }
     cp -r ../examples testing.sh test_packages.sh "$work"
-    for program in replay describe conform; do
-        mkdir "$work/$program" && cp "../crates/iox2_$program"/st* "$work/$program"
+    for program in replay describe conform check; do
+        mkdir -p "$work/$program/data"
+        for part in args data status stdin stdout; do
+            [ ! -e "../crates/iox2_$program/$part" ] ||
+                cp -r "../crates/iox2_$program/$part" "$work/$program"
+        done
     done
-    mkdir "$work/check" && cp -r ../crates/iox2_check/{args,data,status,stdout} "$work/check"
     rm -rf ../dist && cp -r "$work/dist" ../dist
     # In a mount namespace of its own, an empty folder stands over the repository and the toolchain.
     kit=$(dirname "$(rt doc)")
@@ -62,7 +65,10 @@ by_cmake() {
 }
 # A program of the archive on its stored run.
 repeats() {
-    "$prefix/bin/iox2-$1" < "$work/$1/stdin" > "$work/printed"
+    local words=() input=$work/$1/stdin
+    [ -e "$input" ] || input=/dev/null
+    [ ! -e "$work/$1/args" ] || mapfile -t words < "$work/$1/args"
+    (cd "$work/$1/data" && "$prefix/bin/iox2-$1" "${words[@]}") < "$input" > "$work/printed"
     [ $? = "$(cat "$work/$1/status" 2> "$work/log" || echo 0)" ] &&
         diff "$work/printed" "$work/$1/stdout"
 }
@@ -70,11 +76,11 @@ has_version() { [ "$("$prefix/bin/$1" --version)" = "$1 $version (iceoryx2 0.9.3
 has_manual() { zcat "$prefix/share/man/man1/$1.1.gz" | man -l - | grep -q "$2"; }
 if has gcc; then run "archive: C" c_static; fi
 if has g++; then run "archive: C++" cpp_static; fi
-if has gcc && has pkg-config; then run "archive: pkg-config" by_pkg_config; fi
-if has make && has g++; then run "archive: make" by_make; fi
-if has cmake && has g++; then run "archive: CMake" by_cmake; fi
-has_site() { grep -q "sample_layout" "$prefix/share/doc/iox2sd/reference/headline.html"; }
-run "archive: the site of contracts" has_site
+if has gcc pkg-config; then run "archive: pkg-config" by_pkg_config; fi
+if has make g++; then run "archive: make" by_make; fi
+if has cmake g++; then run "archive: CMake" by_cmake; fi
+run "archive: the site of contracts" \
+    grep -q sample_layout "$prefix/share/doc/iox2sd/reference/headline.html"
 refuses_argument() { ! "$prefix/bin/$1" what < /dev/null; }
 # The program that ignores its arguments, on its stored run.
 ignores() {
@@ -84,44 +90,25 @@ ignores() {
             diff - "$work/replay/stdout" || return 1
     done
 }
+# The order of a log's calls, with these words. Progress is shown on a terminal alone.
 has_witness() {
-    printf 'service event 7 1 0 0\nnodes\n= list\n' | "$prefix/bin/iox2-conform" --witness |
+    printf 'service event 7 1 0 0\nnodes\n= list\n' | "$prefix/bin/iox2-conform" "$@" 2>&1 |
         diff - <(printf 'conforms, 1 calls on 1 service\nservice 7\n3\n')
-}
-# Progress is shown on a terminal alone.
-has_no_progress() {
-    printf 'service event 7 1 0 0
-nodes
-= list
-' |
-        "$prefix/bin/iox2-conform" --progress --witness 2>&1 |
-        diff - <(printf 'conforms, 1 calls on 1 service
-service 7
-3
-')
-}
-# The stored run of the program that reads files by their names.
-checks() {
-    local words
-    mapfile -t words < "$work/check/args"
-    (cd "$work/check/data" && "$prefix/bin/iox2-check" "${words[@]}") > "$work/printed"
-    [ $? = "$(cat "$work/check/status")" ] && diff "$work/printed" "$work/check/stdout"
 }
 default_is_documented() {
     "$prefix/bin/iox2-check" --default | diff - "$prefix/share/doc/iox2sd/iceoryx2.toml"
 }
 # A program with these words has status 3 where what it writes goes nowhere.
 fails_to_write() { "$prefix/bin/iox2-$1" "${@:3}" < "$2" > /dev/full; [ $? = 3 ]; }
-run "archive: iox2-conform --witness" has_witness
-run "archive: iox2-conform --progress" has_no_progress
+run "archive: iox2-conform --witness" has_witness --witness
+run "archive: iox2-conform --progress" has_witness --progress --witness
 run "archive: iox2-replay with any argument" ignores
-run "archive: iox2-check" checks
 run "archive: iox2-check --default" default_is_documented
 run "archive: iox2-check where nothing can be written" fails_to_write check /dev/null --schema
 for program in replay describe conform; do
-    run "archive: iox2-$program" repeats $program
     run "archive: iox2-$program where nothing can be written" fails_to_write $program "$work/$program/stdin"
 done
+for program in replay describe conform check; do run "archive: iox2-$program" repeats $program; done
 for program in describe conform check; do
     run "archive: iox2-$program --version" has_version iox2-$program
     run "archive: iox2-$program with a bad argument" refuses_argument iox2-$program
@@ -198,7 +185,7 @@ removed() {
 }
 if has dpkg; then
     run "Debian: installed" installed
-    if has gcc && has python3; then run "Debian: used" used; fi
+    if has gcc python3; then run "Debian: used" used; fi
     run "Debian: installed over itself" installed
     run "Debian: removed, and nothing is left" removed
 fi

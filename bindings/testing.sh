@@ -5,7 +5,13 @@ if [ -z "${work:-}" ]; then
 fi
 passed=0 failed=0
 
-has() { command -v "$1" > "$work/which" 2>&1 || { echo "not found: $1"; return 1; }; }
+# Whether all these tools are there.
+has() {
+    local tool
+    for tool; do
+        command -v "$tool" > "$work/which" 2>&1 || { echo "not found: $tool"; return 1; }
+    done
+}
 
 # What is tested, and a command that succeeds where it is so; what it prints is shown where not.
 run() {
