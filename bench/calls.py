@@ -55,27 +55,16 @@ DEFAULT, LARGE, SIZES, NONE = "20 8 2", "500 250 250", "40 8 24", "0 0 0"
 SINGLE = [
     Call("register", DEFAULT, 50, 10, 20),
     Call("register", LARGE, 2, 250, 500),
-    Call("attach", DEFAULT, 50, 4, 8),
-    Call("attach", LARGE, 2, 125, 250),
-    Call("list", DEFAULT, 1, 100, 200),
-    Call("list", LARGE, 1, 100, 200),
-    Call("nodes", DEFAULT, 1, 100, 200),
-    Call("nodes", LARGE, 1, 100, 200),
-    Call("ports", DEFAULT, 1, 100, 200),
-    Call("ports", LARGE, 1, 100, 200),
-    Call("release", DEFAULT, 50, 4, 8),
-    Call("release", LARGE, 2, 125, 250),
-    Call("deregister", DEFAULT, 50, 4, 8),
-    Call("deregister", LARGE, 2, 125, 250),
-    Call("death", DEFAULT, 50, 4, 8),
-    Call("death", LARGE, 2, 125, 250),
+    *(Call(name, *at) for name in ("list", "nodes", "ports")
+      for at in ((DEFAULT, 1, 100, 200), (LARGE, 1, 100, 200))),
+    *(Call(name, *at) for name in ("attach", "release", "deregister", "death")
+      for at in ((DEFAULT, 50, 4, 8), (LARGE, 2, 125, 250))),
     Call("layout", SIZES, 1, 1_000, 2_000),
     Call("verification", NONE, 1, 100, 200, 0.78),
     Call("hash-text", NONE, 1, 100, 200, 1.18),
 ]
 BESIDE_PLAIN_CPP = [
-    Call("attach-release", "1 8 2", 1, 100, 200, 1.1),
-    Call("attach-release", "19 8 2", 1, 100, 200, 1.1),
+    *(Call("attach-release", places, 1, 100, 200, 1.1) for places in ("1 8 2", "19 8 2")),
     Call("ports", "1 15 0", 1, 100, 200, 1.1),
     Call("ports", "1 999 0", 1, 10, 20, 1.1),
     Call("port", DEFAULT, 1, 100, 200, 1.1),
@@ -114,14 +103,19 @@ def run(*command, **more):
     subprocess.run(command, check=True, **more)
 
 
+def cargo(folder, *names, **more):
+    """The paths of programs that cargo builds in a folder."""
+    run("cargo", "build", "--release", "--quiet", "--offline", cwd=folder, **more)
+    return [str(folder / "target" / "release" / name) for name in names]
+
+
 def built():
     """The paths of the programs of calls inside: the plain one is built each time, the proved one
     where it is missing. `None` where there are not the libraries of which the plain one is made."""
     if not all(any(DEBIAN.glob(f"{library}-*")) for library in ("sha1", "base64")):
         print("Single calls are not measured: librust-sha1-dev and librust-base64-dev are not installed.")
         return None
-    run("cargo", "build", "--release", "--quiet", "--offline", cwd=PLAIN)
-    return [measure.proved("bench_calls"), str(PLAIN / "target" / "release" / "plain_calls")]
+    return [measure.proved("bench_calls"), *cargo(PLAIN, "plain_calls")]
 
 
 def built_for_c(work):
@@ -134,12 +128,6 @@ def built_for_c(work):
     return [str(work / "from_c"), str(work / "plain")]
 
 
-def built_for_rust():
-    """The paths of the programs of `ffi/rust`: on the crate, and the plain one."""
-    run("cargo", "build", "--release", "--quiet", "--offline", cwd=FFI / "rust", env={**os.environ, "IOX2SD_LIB_DIR": str(ARCHIVE.parent)})
-    return [str(FFI / "rust" / "target" / "release" / name) for name in ("from_rust", "plain")]
-
-
 def measure_all(marks):
     """Prints what the calls of each pair of programs take, beside their marks."""
     inside, c, rust = built(), None, None
@@ -150,7 +138,8 @@ def measure_all(marks):
         if absent:
             print(f"Calls from C and Rust are not measured: there is no {', no '.join(absent)}.")
         else:
-            c, rust = built_for_c(work), built_for_rust()
+            library = os.environ | {"IOX2SD_LIB_DIR": str(ARCHIVE.parent)}
+            c, rust = built_for_c(work), cargo(FFI / "rust", "from_rust", "plain", env=library)
         measure_calls("Inside / plain", ratio, SINGLE, inside, work, marks)
         measure_calls("From C / plain C++", ratio, BESIDE_PLAIN_CPP, c, work, marks)
         measure_kept(c, work, marks)
