@@ -111,16 +111,12 @@ strip --strip-unneeded "$lib/libiox2sd.so.2"
 deb libiox2sd2
 
 dev=$work/deb/libiox2sd-dev/usr
-install -d "$dev/include" "$dev/lib/$triplet/pkgconfig" "$dev/lib/$triplet/cmake/iox2sd"
-install -m 644 "$prefix"/include/* "$dev/include"
-install -m 644 out/libiox2sd.a "$dev/lib/$triplet"
+DESTDIR=$work/deb/libiox2sd-dev LIBDIR=lib/$triplet ./install.sh /usr > "$work/log"
+rm -r "$dev/share/iox2sd" "$dev/lib/$triplet/libiox2sd.so.2"
 strip --strip-debug "$dev/lib/$triplet/libiox2sd.a"
-ln -s libiox2sd.so.2 "$dev/lib/$triplet/libiox2sd.so"
-# Where the system finds the library without a path in the program.
-DESTDIR=$work/usr LIBDIR=lib/$triplet ./install.sh /usr > "$work/log"
-sed -e 's|^prefix=.*|prefix=/usr|' -e 's| -Wl,-rpath,[^ ]*||' \
-    "$work/usr/usr/lib/$triplet/pkgconfig/iox2sd.pc" > "$dev/lib/$triplet/pkgconfig/iox2sd.pc"
-install -m 644 "$work/usr/usr/lib/$triplet"/cmake/iox2sd/* "$dev/lib/$triplet/cmake/iox2sd"
+# The system finds the library without a path in the program.
+sed -i -e 's|^prefix=.*|prefix=/usr|' -e 's| -Wl,-rpath,[^ ]*||' \
+    "$dev/lib/$triplet/pkgconfig/iox2sd.pc"
 install -D -m 644 -t "$dev/share/doc/iox2sd/reference" "$prefix"/share/doc/iox2sd/reference/*
 deb libiox2sd-dev
 
