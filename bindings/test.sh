@@ -118,21 +118,21 @@ packaged() {
         cargo_in rust "$prefix/lib" "$work"/iox2sd-* test --quiet --tests --examples
 }
 
-# Each C header, included alone.
+# Each header with this ending, included alone, has no warning. A test has that of <format>.
 headers_compile() {
     local header
-    for header in ../include/*.h; do
-        echo "#include \"$(basename "$header")\"" |
-            "$1" "$2" "${warnings[@]}" -fsyntax-only -I../include "${@:3}" - || return 1
+    for header in ../include/*."$1"; do
+        [ "$header" = ../include/iox2sd_format.hpp ] ||
+            echo "#include \"${header##*/}\"" |
+            "${@:2}" "${warnings[@]}" -fsyntax-only -I../include - || return 1
     done
 }
 
 allocations=-Wl,--wrap=malloc,--wrap=realloc
 for compiler in gcc clang; do
     if has "$compiler"; then
-        run "$compiler: each header compiles alone, in C99" headers_compile "$compiler" -std=c99 -x c
-        run "$compiler: each header compiles alone, in C++11" \
-            headers_compile "$compiler" -std=c++11 -x c++
+        run "$compiler: each header for C, in C99" headers_compile h "$compiler" -std=c99 -x c
+        run "$compiler: each header for C, in C++11" headers_compile h "$compiler" -std=c++11 -x c++
     fi
     while read -r -u 3 ways source options; do
         runs "$compiler" "$ways" "c/$source" -std=c99 $options
@@ -208,21 +208,12 @@ if has g++ /usr/bin/time; then
             include_takes 140 "$compiler" -std=c++17
     done
 fi
-if has clang++; then
-    for header in ../include/*.hpp; do
-        [ "$header" = ../include/iox2sd_format.hpp ] && continue
-        echo "#include \"${header##*/}\"" > "$work/everything.cpp"
-        run "clang++ -Weverything has no warning about $header but those named" clang++ -std=c++17 \
-            -Weverything -Werror "${named[@]}" -fsyntax-only -I../include "$work/everything.cpp"
-    done
-fi
+has clang++ && run "clang++ -Weverything has no warning about the headers but those named" \
+    headers_compile hpp clang++ -std=c++17 -Weverything "${named[@]}" -x c++
 for compiler in g++ clang++; do
     for standard in c++17 c++20 c++2b; do
-        for header in iox2sd{,_fwd,_result,_text,_values,_service,_config,_log,_conform}.hpp; do
-            run "$compiler -std=$standard has no warning about $header" "$compiler" \
-                -std=$standard "${warnings[@]}" -Wshadow -fsyntax-only -I../include \
-                -x c++ "../include/$header"
-        done
+        has "$compiler" && run "$compiler: each header for C++, in ${standard^}" \
+            headers_compile hpp "$compiler" -std=$standard -Wshadow -x c++
     done
     has_format "$compiler" && runs "$compiler" plain cpp/test_format.cpp -std=c++20
     while read -r -u 3 ways source options; do
