@@ -4,8 +4,8 @@ use Rattle.std.specs.declared.alloc.Global.{Global}
 use Rattle.std.specs.declared.alloc.AllocError.{AllocError}
 use Rattle.std.specs.Io.KnownBytes.{Appends}
 use Rattle.line_streams.specs.Filters.{either, status_number}
-use Rattle.line_streams.specs.declared.filter.Status.{Status}
-use Rattle.line_streams.specs.declared.filter.Status.TheVariants.{Good, Faulty}
+use Rattle.line_streams.specs.declared.streams.Status.{Status}
+use Rattle.line_streams.specs.declared.streams.Status.TheVariants.{Good, Faulty}
 use Rattle.history_logs.specs.Reports.{report_text}
 use Rattle.history_logs.specs.declared.logs.verdict.Refusal.{Refusal}
 use Rattle.history_logs.specs.declared.logs.verdict.Verdict.TheVariants.{Conforms, Refused}

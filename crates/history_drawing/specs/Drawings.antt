@@ -5,8 +5,8 @@ use Rattle.std.specs.Io.KnownBytes.{Appends}
 use Rattle.std.specs.List.{flat_map}
 use Rattle.line_streams.specs.Filters.{status_number}
 use Rattle.line_streams.specs.Spelling.{HasNo}
-use Rattle.line_streams.specs.declared.filter.Status.{Status}
-use Rattle.line_streams.specs.declared.filter.Status.TheVariants.{Good, Faulty, Unusable}
+use Rattle.line_streams.specs.declared.streams.Status.{Status}
+use Rattle.line_streams.specs.declared.streams.Status.TheVariants.{Good, Faulty, Unusable}
 use Rattle.history_logs.specs.Logs.{Judged}
 use Rattle.history_logs.specs.Orders.{HasOrders}
 use Rattle.history_logs.specs.Reports.{report_text}

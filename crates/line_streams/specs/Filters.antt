@@ -4,8 +4,8 @@ use Rattle.std.specs.Io.KnownBytes.{Appends, IsAtEnd}
 use Rattle.std.specs.declared.alloc.AllocError.{AllocError}
 use Rattle.std.specs.declared.alloc.Global.{Global}
 use Rattle.std.specs.declared.vec.Vec.{Vec}
-use Rattle.line_streams.specs.declared.filter.Status.{Status}
-use Rattle.line_streams.specs.declared.filter.Status.TheVariants.{Good, Faulty, Unusable}
+use Rattle.line_streams.specs.declared.streams.Status.{Status}
+use Rattle.line_streams.specs.declared.streams.Status.TheVariants.{Good, Faulty, Unusable}
 
 -- the number of a status
 abbrev pub status_number : Status → ℕ

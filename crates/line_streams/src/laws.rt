@@ -1,8 +1,7 @@
 //! How phrases are copied.
 ghost use Rattle.std.specs.Prelude.{◌≡◌, IsOkAnd};
 
-use crate::number::Number;
-use crate::phrase::{After, LineEnd, Then};
+use crate::phrase::{After, LineEnd, Number, Then};
 use std::alloc::AllocError;
 
 /// A phrase of each kind.

@@ -1,11 +1,12 @@
-//! Phrases: kinds of text that can begin the bytes of a line.
-ghost use Rattle.std.specs.Prelude.{◌≡◌, ◌≢◌, ◌==◌, ◌≤◌, ◌∷◌, ◌++◌, ℕ, List, map, length};
-ghost use Rattle.std.specs.Prelude.{IfNone, IfOk, IfSome, MatchOption};
+//! Phrases: kinds of text that can begin the bytes of a line. The first is a decimal number.
+ghost use Rattle.std.specs.Prelude.{◌≡◌, ◌≢◌, ◌==◌, ◌-◌, ◌<◌, ◌≤◌, ◌∷◌, ◌++◌, ℕ, List};
+ghost use Rattle.std.specs.Prelude.{IfNone, IfOk, IfSome, MatchOption, get_or, length, map};
 ghost use Rattle.std.specs.List.{before_first, position};
 ghost use Rattle.std.specs.Option.{option_map};
-ghost use Rattle.line_streams.specs.Spelling.{HasNo, OneWay, Reads, Spelling, after as after_it};
-ghost use Rattle.line_streams.specs.Spelling.{before, line_end, listed, sequence};
-ghost use Rattle.line_streams.specs.OneWay.{after_one, line_end_one, sequence_one};
+ghost use Rattle.line_streams.specs.Spelling.{HasNo, IsDigit, OneWay, Reads, Spelling};
+ghost use Rattle.line_streams.specs.Spelling.{after as after_it, before, line_end, listed};
+ghost use Rattle.line_streams.specs.Spelling.{number, sequence};
+ghost use Rattle.line_streams.specs.OneWay.{after_one, line_end_one, number_one, sequence_one};
 
 use std::alloc::{AllocError, Global};
 
@@ -30,6 +31,84 @@ pub trait Phrase<'a> {
 
     /// No two values have one text.
     ghost one_way: { (phrase : Self) → OneWay (spelling phrase) };
+}
+
+/// The digit that a byte is the code of; above 9 where it is none.
+#[inline(always)]
+fn digit_of(byte: u8) -> u64
+    ensures some { result ≤ 9 → IsDigit byte × (result ≡ byte - 48) }
+    ensures none { 9 < result → ¬ (IsDigit byte) }
+{
+    (byte as u64).wrapping_sub(48)
+}
+
+/// The number that all the digits at the front are the text of, unless it is greater than `most`,
+/// and what follows them. Its first digit is `first`, which is not 0.
+#[inline(always)]
+fn digits_before(bytes: &[u8], first: u64, most: u64) -> Option<(u64, &[u8])>
+    requires some { 0 < length bytes.now }
+    requires digit { IsDigit (get_or bytes.now 0 0) × (first ≡ get_or bytes.now 0 0 - 48) }
+    requires own { (first ≢ 0) × (first ≤ most) }
+    ensures { Reads (number most).Fits (number most).text
+        (option_map (λ found. (found.0, found.1.now)) result) bytes.now }
+{
+    let (tens, ones) = (most / 10, most % 10);
+    let mut rest = &bytes[1..];
+    let mut value = first;
+    while let Some((b, tail)) = rest.split_first() {
+        let digit = digit_of(*b);
+        if digit > 9 {
+            return Some((value, rest));
+        }
+        if value >= tens && (value > tens || digit > ones) {
+            return None;
+        }
+        value = value * 10 + digit;
+        rest = tail;
+    }
+    Some((value, rest))
+}
+
+/// A number of at most so much, in decimal digits without a leading zero.
+#[derive(Clone, Copy)]
+pub struct Number(pub u64);
+
+impl<'a> Phrase<'a> for Number {
+    type Value = u64;
+
+    ghost Seen = { ℕ };
+
+    ghost view = { λ n. n };
+
+    ghost spelling = { λ s. number s.0 };
+
+    #[inline(always)]
+    fn read(&self, bytes: &'a [u8]) -> Option<(u64, &'a [u8])> {
+        let most = self.0;
+        let Some((b, rest)) = bytes.split_first() else {
+            return None;
+        };
+        let first = digit_of(*b);
+        if first > 9 {
+            return None;
+        }
+        if first > most {
+            return None;
+        }
+        if first != 0 {
+            return digits_before(bytes, first, most);
+        }
+        // A zero stands alone.
+        let [next, ..] = rest else {
+            return Some((0, rest));
+        };
+        if digit_of(*next) <= 9 {
+            return None;
+        }
+        Some((0, rest))
+    }
+
+    ghost one_way = { λ s. number_one s.0 };
 }
 
 /// What ends a line.

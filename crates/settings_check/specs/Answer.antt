@@ -10,8 +10,8 @@ use Rattle.settings_check.specs.Lines.{lines_in, counts_text, errors_in, warning
 use Rattle.settings_check.specs.Schema.{IsSchema}
 use Rattle.settings_check.specs.Words.{texts_of}
 use Rattle.settings_check.specs.declared.answer.Answer.{Answer}
-use Rattle.line_streams.specs.declared.filter.Status.{Status}
-use Rattle.line_streams.specs.declared.filter.Status.TheVariants.{Good, Faulty, Unusable}
+use Rattle.line_streams.specs.declared.streams.Status.{Status}
+use Rattle.line_streams.specs.declared.streams.Status.TheVariants.{Good, Faulty, Unusable}
 use Rattle.settings_check.specs.declared.answer.TheConstants.{HELP, VERSION, BAD_ARGUMENTS}
 use Rattle.settings_check.specs.declared.arguments.Request.{Request}
 use Rattle.settings_check.specs.declared.arguments.RequestError.{RequestError}

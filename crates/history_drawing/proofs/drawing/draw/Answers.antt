@@ -1,5 +1,5 @@
 use Rattle.std.proofs.Common.{ℕ, List, subst}
-use Rattle.line_streams.specs.declared.filter.Status.TheVariants.{Faulty, Good}
+use Rattle.line_streams.specs.declared.streams.Status.TheVariants.{Faulty, Good}
 use Rattle.history_logs.proofs.LinesAt.{if_ok}
 use Rattle.history_drawing.proofs.Drawn.{has_both, whole_drawn, window_drawn}
 use Rattle.history_drawing.proofs.Placed.{window_in}

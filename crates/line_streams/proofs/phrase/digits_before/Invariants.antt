@@ -1,6 +1,6 @@
 use Rattle.std.proofs.Common.{length}
 use Rattle.line_streams.proofs.Fronts.{DigitsSoFar}
-use Rattle.line_streams.proofs.number.digits_before.Given as goal
+use Rattle.line_streams.proofs.phrase.digits_before.Given as goal
 
 -- the digits so far, their number, and what follows them
 abbrev pub invariant-loop-b : goal.invariant-loop-b

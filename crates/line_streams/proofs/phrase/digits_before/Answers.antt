@@ -1,7 +1,7 @@
 use Rattle.std.proofs.Common.{◌≤◌, ◌+◌, ◌*◌, arith, inl, inr}
 use Rattle.line_streams.proofs.Fronts.{all_digits, ends_before, ends_there, least_number, next_digit}
-use Rattle.line_streams.proofs.number.digits_before.Goals as goal
-use Rattle.line_streams.proofs.number.digits_before.Goals.{else-value-tens-via-then-value-tens+else-digit-ones, else-value-tens-via-else-value-tens}
+use Rattle.line_streams.proofs.phrase.digits_before.Goals as goal
+use Rattle.line_streams.proofs.phrase.digits_before.Goals.{else-value-tens-via-then-value-tens+else-digit-ones, else-value-tens-via-else-value-tens}
 
 pub returns-then-digit-gt9 : goal.returns-then-digit-gt9
 returns-then-digit-gt9 c =

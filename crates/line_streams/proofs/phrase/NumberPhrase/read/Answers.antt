@@ -2,7 +2,7 @@ use Rattle.std.proofs.Common.{◌≡◌, ◌∷◌, ◌∙◌, arith, refl, rule
 use Rattle.line_streams.specs.Spelling.{EndsNumber, IsDigit}
 use Rattle.std.proofs.Common.{get_or}
 use Rattle.line_streams.proofs.Fronts.{ends_there, no_spare_zero, starts_somewhere, starts_with_digit, too_large, zero_found}
-use Rattle.line_streams.proofs.number.NumberPhrase.read.Goals as goal
+use Rattle.line_streams.proofs.phrase.NumberPhrase.read.Goals as goal
 
 pub returns-in_default-clause-read : goal.returns-in_default-clause-read
 returns-in_default-clause-read c a fits e =

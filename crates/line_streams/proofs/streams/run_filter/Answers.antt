@@ -1,5 +1,5 @@
 use Rattle.line_streams.proofs.Outcomes.{ran_where_written}
-use Rattle.line_streams.proofs.filter.run_filter.Goals as goal
+use Rattle.line_streams.proofs.streams.run_filter.Goals as goal
 
 pub returns-clause-ran : goal.returns-clause-ran
 returns-clause-ran g c =
