@@ -1,14 +1,174 @@
-//! Command lines.
-ghost use Rattle.std.specs.Prelude.{◌++◌, IfOk, codes};
+//! Command lines, and the ids, roles and ports in them.
+ghost use Rattle.std.specs.Prelude.{◌++◌, ℕ, IfOk, codes};
 ghost use Rattle.std.specs.Option.{option_map};
+ghost use Rattle.iox2_container.specs.declared.container.role.Role.{Role as OneRole};
+ghost use Rattle.iox2_dynamic.specs.declared.dynamic_config.port_details.PortDetails.{PortDetails as Details};
 ghost use Rattle.line_streams.specs.Spelling.{Reads};
 ghost use Rattle.service_descriptions.specs.Lines.{command_of, line_of, HasLine, IsLine, line_text};
+ghost use Rattle.service_descriptions.specs.Lines.{plain_of, value_of};
+ghost use Rattle.service_descriptions.specs.OneWay.{id_one, node_id_one, port_one, role_one};
+ghost use Rattle.service_descriptions.specs.Phrases.{id_phrase, node_id_phrase, port_phrase, role_phrase};
 
-use super::id::{IdNumber, NodeId};
-use super::port::{Port, RoleName};
-use crate::replay::machine::{Cleanup, Command, LineCommand};
-use line_streams::{LineEnd, Number, Phrase, Then, after_word, list_before};
+use crate::replay::machine::{Cleanup, Command, LineCommand, Parts, ScriptPort};
+use iox2_container::container::Role;
+use iox2_ids::identifiers::UniqueNodeId;
+use line_streams::{After, LineEnd, Number, Phrase, Then, after_word, list_before};
 use std::alloc::{AllocError, Global};
+
+/// A part of an id.
+const PART: Number = Number(u32::MAX as u64);
+
+/// An id: four numbers, joined by dots.
+#[derive(Clone, Copy)]
+struct Id;
+
+impl<'a> Phrase<'a> for Id {
+    type Value = Parts;
+
+    ghost Seen = { ℕ };
+
+    ghost view = { value_of };
+
+    ghost spelling = { λ s. id_phrase };
+
+    #[inline(always)]
+    fn read(&self, bytes: &'a [u8]) -> Option<(Parts, &'a [u8])> {
+        let four = Then(
+            PART,
+            After(b".", Then(PART, After(b".", Then(PART, After(b".", PART))))),
+        );
+        let Some(((process, (seconds, (nanoseconds, counter))), rest)) = four.read(bytes) else {
+            return None;
+        };
+        let parts = Parts {
+            process: process as u32,
+            seconds: seconds as u32,
+            nanoseconds: nanoseconds as u32,
+            counter: counter as u32,
+        };
+        Some((parts, rest))
+    }
+
+    ghost one_way = { λ s. id_one };
+}
+
+/// An id, as its number.
+#[derive(Clone, Copy)]
+struct IdNumber;
+
+impl<'a> Phrase<'a> for IdNumber {
+    type Value = u128;
+
+    ghost Seen = { ℕ };
+
+    ghost view = { λ n. n };
+
+    ghost spelling = { λ s. id_phrase };
+
+    #[inline(always)]
+    fn read(&self, bytes: &'a [u8]) -> Option<(u128, &'a [u8])> {
+        let (parts, rest) = Id.read(bytes)?;
+        Some((parts.value(), rest))
+    }
+
+    ghost one_way = { λ s. id_one };
+}
+
+/// The id of a node: process or counter is not 0.
+#[derive(Clone, Copy)]
+struct NodeId;
+
+impl<'a> Phrase<'a> for NodeId {
+    type Value = UniqueNodeId;
+
+    ghost Seen = { ℕ };
+
+    ghost view = { λ id. id };
+
+    ghost spelling = { λ s. node_id_phrase };
+
+    #[inline(always)]
+    fn read(&self, bytes: &'a [u8]) -> Option<(UniqueNodeId, &'a [u8])> {
+        let Some((parts, rest)) = Id.read(bytes) else {
+            return None;
+        };
+        let Parts {
+            process,
+            seconds,
+            nanoseconds,
+            counter,
+        } = parts;
+        let Some(id) = UniqueNodeId::new(process, seconds, nanoseconds, counter) else {
+            return None;
+        };
+        Some((id, rest))
+    }
+
+    ghost one_way = { λ s. node_id_one };
+}
+
+/// The name of a role of ports.
+#[derive(Clone, Copy)]
+pub struct RoleName;
+
+impl<'a> Phrase<'a> for RoleName {
+    type Value = Role;
+
+    ghost Seen = { OneRole };
+
+    ghost view = { λ r. r };
+
+    ghost spelling = { λ s. role_phrase };
+
+    #[inline(always)]
+    fn read(&self, bytes: &'a [u8]) -> Option<(Role, &'a [u8])> {
+        if let Some(rest) = after_word(bytes, b"publisher") {
+            Some((Role::Publisher, rest))
+        } else if let Some(rest) = after_word(bytes, b"subscriber") {
+            Some((Role::Subscriber, rest))
+        } else if let Some(rest) = after_word(bytes, b"listener") {
+            Some((Role::Listener, rest))
+        } else if let Some(rest) = after_word(bytes, b"notifier") {
+            Some((Role::Notifier, rest))
+        } else if let Some(rest) = after_word(bytes, b"server") {
+            Some((Role::Server, rest))
+        } else if let Some(rest) = after_word(bytes, b"client") {
+            Some((Role::Client, rest))
+        } else if let Some(rest) = after_word(bytes, b"reader") {
+            Some((Role::Reader, rest))
+        } else if let Some(rest) = after_word(bytes, b"writer") {
+            Some((Role::Writer, rest))
+        } else {
+            None
+        }
+    }
+
+    ghost one_way = { λ s. role_one };
+}
+
+/// A port: its role, its id and its node.
+#[derive(Clone, Copy)]
+struct Port;
+
+impl<'a> Phrase<'a> for Port {
+    type Value = ScriptPort;
+
+    ghost Seen = { Details };
+
+    ghost view = { plain_of };
+
+    ghost spelling = { λ s. port_phrase };
+
+    fn read(&self, bytes: &'a [u8]) -> Option<(ScriptPort, &'a [u8])> {
+        let three = Then(RoleName, After(b" ", Then(Id, After(b" ", NodeId))));
+        let Some(((role, (port, node)), rest)) = three.read(bytes) else {
+            return None;
+        };
+        Some((ScriptPort { role, port, node }, rest))
+    }
+
+    ghost one_way = { λ s. port_one };
+}
 
 /// The name of an earlier command: how many commands come before it.
 const EARLIER: Number = Number(u64::MAX);

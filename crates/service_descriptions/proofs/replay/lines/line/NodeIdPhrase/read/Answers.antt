@@ -2,7 +2,7 @@ use Rattle.std.proofs.Common.{◌≡◌, arith, rules, sym, ◌∙◌, ap}
 use Rattle.iox2_ids.specs.Packing.{owner_of}
 use Rattle.service_descriptions.specs.Lines.{value_of}
 use Rattle.service_descriptions.specs.OneWay.{id_one}
-use Rattle.service_descriptions.proofs.replay.lines.id.NodeIdPhrase.read.Goals as goal
+use Rattle.service_descriptions.proofs.replay.lines.line.NodeIdPhrase.read.Goals as goal
 
 pub returns-in_default-new-clause-read : goal.returns-in_default-new-clause-read
 returns-in_default-new-clause-read c a fits e =
