@@ -4,9 +4,9 @@ use Rattle.std.specs.Borrow.{Lends, LendsIf, MutBor, Fml}
 use Rattle.iox2_dynamic.specs.Service.{Service as Held}
 use Rattle.iox2_dynamic.specs.contracts.dynamic_config.service.DynamicConfig as DynamicConfig
 use Rattle.iox2sd.specs.declared.service.Service.{Service}
-use Rattle.iox2sd.specs.declared.service.slot.Slot.{Slot}
+use Rattle.iox2sd.specs.declared.service.Slot.{Slot}
 use Rattle.iox2sd.specs.contracts.service.Service as object
-use Rattle.iox2sd.specs.contracts.service.slot.Slot as slot
+use Rattle.iox2sd.specs.contracts.service.Slot as slot
 
 -- the slot with this service
 abbrev pub with_service : Slot → Held → Slot

@@ -15,13 +15,13 @@ use Rattle.std.specs.Ptr.{points_to}
 use Rattle.iox2_dynamic.specs.Service.{Service}
 use Rattle.iox2_dynamic.specs.contracts.dynamic_config.service.DynamicConfig as DynamicConfig
 use Rattle.iox2sd.proofs.There.{the_some}
-use Rattle.iox2sd.proofs.service.slot.Slot.TheLaws as slot
-use Rattle.iox2sd.proofs.service.slot.Slot.lend.Code as code
-use Rattle.iox2sd.proofs.service.slot.Slot.lend.Statement.{statement}
+use Rattle.iox2sd.proofs.service.Slot.TheLaws as slot
+use Rattle.iox2sd.proofs.service.Slot.lend.Code as code
+use Rattle.iox2sd.proofs.service.Slot.lend.Statement.{statement}
 use Rattle.iox2sd.specs.Lending.{with_service}
 use Rattle.iox2sd.specs.Slots.{slot_owns}
-use Rattle.iox2sd.specs.contracts.service.slot.Slot as Slot
-use Rattle.iox2sd.specs.contracts.service.slot.Slot.lend as f
+use Rattle.iox2sd.specs.contracts.service.Slot as Slot
+use Rattle.iox2sd.specs.contracts.service.Slot.lend as f
 
 abbrev R : RattleType
 R = DynamicConfig.the_row

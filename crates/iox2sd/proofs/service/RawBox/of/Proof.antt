@@ -9,10 +9,10 @@ use Rattle.std_alloc.proofs.boxed.Box.into_raw.Met.{met}
 use Rattle.std_alloc.specs.contracts.boxed.Box as Box
 use Rattle.std_alloc.specs.contracts.boxed.Box.into_raw as g
 use Rattle.iox2sd.proofs.Heap.{heap, heap_laws, drops as spared}
-use Rattle.iox2sd.proofs.service.slot.RawBox.of.Code as code
-use Rattle.iox2sd.proofs.service.slot.RawBox.of.Statement.{statement}
-use Rattle.iox2sd.specs.contracts.service.slot.RawBox as RawBox
-use Rattle.iox2sd.specs.contracts.service.slot.RawBox.of as f
+use Rattle.iox2sd.proofs.service.RawBox.of.Code as code
+use Rattle.iox2sd.proofs.service.RawBox.of.Statement.{statement}
+use Rattle.iox2sd.specs.contracts.service.RawBox as RawBox
+use Rattle.iox2sd.specs.contracts.service.RawBox.of as f
 
 pub of_spec : {M : Type 1} → statement M
 unfolding Rattle.iox2sd.proofs.Destruct++none.drop.Code.code

@@ -14,7 +14,7 @@ use Rattle.iox2_dynamic.proofs.Sending.{DynamicConfig-send}
 use Rattle.iox2_dynamic.specs.Service.{Service}
 use Rattle.iox2_dynamic.specs.contracts.dynamic_config.service.DynamicConfig as DynamicConfig
 use Rattle.iox2sd.specs.Slots.{slot_owns}
-use Rattle.iox2sd.specs.contracts.service.slot.Slot.{the_row, the_type}
+use Rattle.iox2sd.specs.contracts.service.Slot.{the_row, the_type}
 
 crosses : (at : Ptr) (service : Option Service) → Keyless (slot_owns at service)
 crosses at (Some service) = (
