@@ -8,8 +8,7 @@ ghost use Rattle.config_report.specs.Positions.{table_path};
 ghost use Rattle.toml.specs.Parse.{parse_document};
 ghost use Rattle.toml_positions.specs.Written.{path_view};
 
-use crate::finding::{Finding, Severity};
-use crate::line::in_line;
+use crate::finding::{Finding, Severity, in_line};
 use crate::positions::{key_path, position_of};
 use iox2_config_file::{Section, SettingValue};
 use std::alloc::{AllocError, Global};

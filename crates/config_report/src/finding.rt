@@ -1,10 +1,12 @@
-//! What is found in a file of settings.
-ghost use Rattle.std.specs.Prelude.{◌≡◌, Some};
+//! What is found in a file of settings. Its texts stand in one line.
+ghost use Rattle.std.specs.Prelude.{◌≡◌, Some, IfOk, string_bytes};
 ghost use Rattle.config_report.specs.Findings.{place_of};
+ghost use Rattle.config_report.specs.Lines.{has_no_control, in_line};
 ghost use Rattle.config_report.specs.Notes.{severity_text, note_text, finding_view};
 
 use crate::positions::At;
 use iox2_config::config::Config;
+use std::alloc::{AllocError, Global};
 use std::fmt;
 use toml_positions::Position;
 
@@ -72,5 +74,23 @@ pub(crate) fn place(finding: &Finding) -> (usize, usize)
     match finding.position {
         Some(Position { line, column }) => (line, column),
         None => (usize::MAX, usize::MAX),
+    }
+}
+
+/// Whether no byte is a control character below 32.
+fn has_no_control(text: &[u8]) -> bool
+    ensures { result ≡ has_no_control text.now }
+{
+    text.iter().all(|byte| 32 <= *byte)
+}
+
+/// A text, unless it has a control character.
+pub(crate) fn in_line(alloc: Global, text: String) -> Result<String, AllocError>
+    ensures { IfOk result (λ line. string_bytes line ≡ in_line (string_bytes text)) }
+{
+    if has_no_control(text.as_bytes()) {
+        Ok(text)
+    } else {
+        String::from_str(alloc, "a text with control characters")
     }
 }

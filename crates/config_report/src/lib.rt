@@ -14,7 +14,6 @@ mod finding;
 mod key;
 mod keys;
 pub mod laws;
-mod line;
 mod meant;
 mod named;
 mod positions;

@@ -6,9 +6,8 @@ ghost use Rattle.config_report.specs.Notes.{fault, unknown, topic_path, topic_no
 ghost use Rattle.config_report.specs.Subjects.{subject_view};
 ghost use Rattle.toml_positions.specs.Written.{path_view};
 
-use crate::finding::{Finding, Severity};
+use crate::finding::{Finding, Severity, in_line};
 use crate::key::TomlKey;
-use crate::line::in_line;
 use crate::meant::Meant;
 use crate::positions::key_path;
 use iox2_config_file::{SettingFault, UnknownKey};

@@ -9,8 +9,7 @@ ghost use Rattle.config_report.specs.declared.finding.Severity.TheVariants as se
 ghost use Rattle.toml.specs.Parse.{parse_document};
 ghost use Rattle.toml_positions.specs.Position.{position_after};
 
-use crate::finding::{Finding, Severity};
-use crate::line::in_line;
+use crate::finding::{Finding, Severity, in_line};
 use iox2_config_file::{ConfigFileError, FileContents, read_config, too_deep};
 use std::alloc::{AllocError, Global};
 use std::str;
