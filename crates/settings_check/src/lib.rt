@@ -8,7 +8,6 @@ mod compare;
 mod files;
 mod found;
 mod lines;
-mod printable;
 mod schema;
 mod streams;
 

@@ -1,4 +1,4 @@
-//! How findings are written.
+//! How findings are written, so that a terminal takes no text of theirs as a command.
 ghost use Rattle.std.specs.Prelude.{◌≡◌, ◌++◌, IfOk, OnOk, flat_map, string_bytes, option_map};
 ghost use Rattle.serde_json.specs.View.{view};
 ghost use Rattle.config_report.specs.Notes.{severity_text};
@@ -7,11 +7,11 @@ ghost use Rattle.settings_check.specs.Lines.{style_of, colour_of, text_of, text_
 ghost use Rattle.settings_check.specs.Lines.{json_line, line_in, lines_in, note_data};
 ghost use Rattle.settings_check.specs.Lines.{number_data, key_data, is_error, errors_in};
 ghost use Rattle.settings_check.specs.Lines.{warnings_in, plural, counts_text, unread_line, unsought};
+ghost use Rattle.settings_check.specs.Printable.{printable, printable_char};
 
 use crate::arguments::Format;
 use crate::files::why_text;
 use crate::found::{Report, Unread};
-use crate::printable::write_printable;
 use config_report::{Finding, Position, Severity};
 use serde_json::{Value, json};
 use std::alloc::{AllocError, Global};
@@ -45,6 +45,28 @@ fn colour_of(severity: Severity) -> &'static str
     match severity {
         Severity::Error => "\x1b[31m",
         Severity::Warning => "\x1b[33m",
+    }
+}
+
+/// Appends a text with its control characters escaped.
+pub(crate) fn write_printable(out: &mut String, text: &str) -> Result<(), AllocError>
+    ensures { OnOk result (string_bytes out.new ≡ string_bytes out.old ++ printable text.now) }
+{
+    for c in text.chars() {
+        write_char(out, c)?;
+    }
+    Ok(())
+}
+
+/// Appends a character, escaped if it is a control character.
+fn write_char(out: &mut String, c: char) -> Result<(), AllocError>
+    ensures { OnOk result (string_bytes out.new ≡ string_bytes out.old ++ printable_char c) }
+{
+    if c.is_control() {
+        let code = c as u32;
+        write!(out, "\\u{{{code:x}}}")
+    } else {
+        out.push(c)
     }
 }
 

@@ -1,7 +1,7 @@
 use Rattle.std.proofs.Common.{arith}
 use Rattle.std.proofs.lemmas.Str.{IsUtf8-past_char}
 use Rattle.settings_check.proofs.Escaping.{printed_next, printed_end}
-use Rattle.settings_check.proofs.printable.write_printable.Goals as goal
+use Rattle.settings_check.proofs.lines.write_printable.Goals as goal
 
 pub loop-c-preserved : goal.loop-c-preserved
 loop-c-preserved c =
