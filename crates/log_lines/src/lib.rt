@@ -4,8 +4,6 @@
 mod command;
 pub mod laws;
 mod line;
-mod name;
-mod service;
 mod state;
 
 pub use command::{BegunCall, LogCommand};

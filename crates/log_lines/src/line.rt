@@ -1,17 +1,18 @@
-//! Lines of a log.
-ghost use Rattle.std.specs.Prelude.{◌≡◌, ◌≢◌, ◌++◌, ℕ, List, Option, IfNone, IfOk, IfSome, codes};
+//! Lines of a log, and the names of callers and the numbers of services in them.
+ghost use Rattle.std.specs.Prelude.{◌≡◌, ◌≢◌, ◌<◌, ◌≤◌, ◌^◌, ◌++◌, ℕ, List, Option};
+ghost use Rattle.std.specs.Prelude.{IfNone, IfOk, IfSome, IsTrue, codes, get_or, length};
 ghost use Rattle.std.specs.Option.{option_map};
 ghost use Rattle.line_streams.specs.Spelling.{Reads};
 ghost use Rattle.log_lines.specs.Commands.{Begun, HasBegun, HasText, NamedCommand, command_text};
 ghost use Rattle.log_lines.specs.States.{HasState, State};
-ghost use Rattle.log_lines.specs.Lines.{HasNumber, IsCaller, IsLine, IsLineOf, begin_text, given_text, is_note, line_seen, line_text};
+ghost use Rattle.log_lines.specs.Lines.{HasNumber, IsCaller, IsLine, IsLineOf, IsNameByte, are_letters};
+ghost use Rattle.log_lines.specs.Lines.{begin_text, given_text, is_note, line_seen, line_text, number_text};
+ghost use Rattle.service_descriptions.specs.Script.{IsServiceLine, service_line};
 
 use super::command::{BegunCall, LogCommand, read_begun, read_command};
-use super::name::{is_caller, number_front, split_name};
-use super::service::service_of;
 use super::state::{LogState, read_state};
-use line_streams::after_word;
-use service_descriptions::replay::ServiceLine;
+use line_streams::{Number, Phrase, after_word};
+use service_descriptions::replay::{ServiceLine, service_before};
 use std::alloc::{AllocError, Global};
 
 /// A line of a log that says something.
@@ -42,6 +43,48 @@ pub fn is_note(line: &[u8]) -> bool
         [] => true,
         [first, ..] => *first == b'#',
     }
+}
+
+/// How many letters and digits the name of a caller has at most.
+const MAX_NAME: usize = 16;
+
+/// The letters and digits that begin the line, and what follows them.
+fn split_name(line: &[u8]) -> (&[u8], &[u8])
+    ensures whole { line.now ≡ result.0.now ++ result.1.now }
+    ensures name { IsTrue (are_letters result.0.now) }
+    ensures ends { ¬ (IsNameByte (get_or result.1.now 0 0)) }
+{
+    for at in 0..line.len() {
+        if !line[at].is_ascii_alphanumeric() {
+            return (&line[..at], &line[at..]);
+        }
+    }
+    (line, &[])
+}
+
+/// Whether letters and digits are the name of a caller.
+fn is_caller(name: &[u8]) -> bool
+    requires { IsTrue (are_letters name.now) }
+    ensures yes { IsTrue result → IsCaller name.now }
+    ensures no { IsCaller name.now → IsTrue result }
+{
+    !name.is_empty() && name.len() <= MAX_NAME
+}
+
+/// The number of a service that begins the line, and what follows it.
+fn number_front(line: &[u8]) -> Option<(u64, &[u8])>
+    ensures some { IfSome result (λ found.
+        (found.0 < 2 ^ 64) × (line.now ≡ number_text found.0 ++ found.1.now)) }
+    ensures none { IfNone result ((number : ℕ) (rest : List ℕ) → number < 2 ^ 64
+        → line.now ≢ number_text number ++ rest) }
+{
+    let Some((number, rest)) = Number(u64::MAX).read(line) else {
+        return None;
+    };
+    let Some(rest) = after_word(rest, b": ") else {
+        return None;
+    };
+    Some((number, rest))
 }
 
 /// The call whose text this is, alone or the begin of one, after the number of its service.
@@ -126,6 +169,24 @@ fn end_of(line: &[u8]) -> Option<LogLine<'_>>
         return None;
     }
     Some(LogLine::Crash(caller))
+}
+
+/// The service whose line this is.
+fn service_of(alloc: Global, line: &[u8]) -> Result<Option<ServiceLine>, AllocError>
+    ensures { IfOk result (λ found. Reads IsServiceLine service_line found line.now) }
+{
+    let Some(_) = after_word(line, b"service ") else {
+        return Ok(None);
+    };
+    let mut whole = Vec::from_slice(alloc, line)?;
+    whole.push(b'\n')?;
+    let Some((service, rest)) = service_before(&whole) else {
+        return Ok(None);
+    };
+    if !rest.is_empty() {
+        return Ok(None);
+    }
+    Ok(Some(service))
 }
 
 /// Parses a line without its newline, or returns `None` where it is not the text of one.

@@ -1,6 +1,6 @@
 use Rattle.std.proofs.Common.{◌++◌, codes, decimal, arith, append_assoc, ap, sym, ◌∙◌}
 use Rattle.line_streams.specs.Numerals.{same_number}
-use Rattle.log_lines.proofs.name.number_front.Goals as goal
+use Rattle.log_lines.proofs.line.number_front.Goals as goal
 
 pub returns-in_default-clause-none : goal.returns-in_default-clause-none
 returns-in_default-clause-none c number rest fits e =

@@ -1,6 +1,6 @@
 use Rattle.std.proofs.Common.{[], ◌∷◌, ◌++◌, ◌∙◌, ◌≡◌, List, ℕ, ap, arith, length, sym}
 use Rattle.service_descriptions.proofs.Services.{same_service}
-use Rattle.log_lines.proofs.service.service_of.Goals as goal
+use Rattle.log_lines.proofs.line.service_of.Goals as goal
 
 pub returns-in_default : goal.returns-in_default
 returns-in_default c l p e = c.in_default.ensures.none _ e

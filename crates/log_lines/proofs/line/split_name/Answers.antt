@@ -1,6 +1,6 @@
 use Rattle.std.proofs.Common.{arith}
 use Rattle.log_lines.proofs.Names.{letters_more}
-use Rattle.log_lines.proofs.name.split_name.Goals as goal
+use Rattle.log_lines.proofs.line.split_name.Goals as goal
 
 pub loop-at-preserved : goal.loop-at-preserved
 loop-at-preserved c =
