@@ -21,7 +21,7 @@ pub struct KeyPath<'a> {
 }
 
 /// What follows a byte order mark, if there is one.
-#[tactic(auto, unfolding(toml::specs::Parse::skip_bom))]
+#[tactic(auto, using(std::proofs::lemmas::Bool::Decides::nat_tests, toml::proofs::Turns::bom_boundary), unfolding(toml::specs::Parse::skip_bom))]
 fn skip_bom(text: &str) -> &str
     ensures rest { result.now ≡ spec.skip_bom text.now }
     ensures within { length result.now ≤ length text.now }
@@ -34,6 +34,7 @@ fn skip_bom(text: &str) -> &str
 }
 
 /// Whether two paths agree as far as both go.
+#[tactic(auto, using(crate::proofs::Paths::agree_past))]
 fn agree(keys: &[String], path: &[&str]) -> bool
     ensures { result ≡ agree (keys_view keys.now) (map (λ k. k.now) path.now) }
 {
@@ -72,6 +73,7 @@ fn writes(keys: &[String], pair: bool, path: &KeyPath<'_>) -> bool
 }
 
 /// Appends the keys of an expression to a path.
+#[tactic(auto, using(crate::proofs::Paths::led))]
 fn lead(path: &mut Vec<String>, key: Key) -> Result<(), AllocError>
     ensures { OnOk result (keys_view path.new.items
         ≡ keys_view path.old.items ++ parts (key_view key)) }
