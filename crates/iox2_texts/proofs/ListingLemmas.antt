@@ -7,8 +7,11 @@ use Rattle.std.specs.Ordering.{is_lt, is_eq, eq_by_cmp}
 use Rattle.std.specs.Cmp.{IsTotalOrder, tied_itself}
 use Rattle.std.specs.Bool.{Decides}
 use Rattle.std.specs.Cmp.Lexicographic.{pointwise, texts_ties, bytes_decides}
-use Rattle.std.proofs.lemmas.List.Sorted.{ranks_by, sorted_far, sum_by-IsPermutation}
-use Rattle.std.proofs.lemmas.List.Sums.{sum_by-cons}
+use Rattle.std.proofs.lemmas.List.{length-map}
+use Rattle.std.proofs.lemmas.List.Sorted.{IsPermutation-refl, IsPermutation-sym, IsPermutation-to_front, IsPermutation-trans, ranks_by, sorted_far, sum_by-IsPermutation}
+use Rattle.std.proofs.lemmas.List.Sums.{length-filter, sum_by-cons}
+use Rattle.std.proofs.lemmas.Slice.Eq.{slice_eq-Decides}
+use Rattle.arrayvec.proofs.ArrayVecLemmas.{items-with_items}
 use Rattle.iox2_texts.specs.Pair.{Pair, pair_cmp}
 use Rattle.iox2_texts.proofs.VerifyLemmas.{pair_cmp_total}
 
@@ -86,3 +89,17 @@ listing_unique xs ys s t same =
 pub pairs-Decides : (p q : Pair)
     → Decides (pointwise nat_eq p.key q.key && pointwise nat_eq p.value q.value) (p ≡ q)
 pairs-Decides p q = search rules
+
+-- that sets are equal where they have the same pairs
+pub ruleset equal = (slice_eq-Decides, pairs-Decides, IsPermutation-refl, listing_unique)
+
+-- that a pair that was pushed and sorted is one more
+pub ruleset pushed = (
+  items-with_items,
+  IsPermutation-trans,
+  IsPermutation-sym,
+  IsPermutation-to_front,
+)
+
+-- how many values a filter leaves
+pub ruleset filtered = (length-map, length-filter)

@@ -9,11 +9,11 @@ use Rattle.std.proofs.lemmas.List.Sums.{suffix_len_is}
 use Rattle.iox2_texts.specs.Path.{is_slash, join, IsPlain, EndsPlain}
 
 -- from `start` on there is no `/`, and before it stands one or nothing
-pub last_part_is : (bytes : List ℕ) (start d : ℕ) → start ≤ length bytes
-    → ((k : ℕ) → start ≤ k → k < length bytes → not (is_slash (get_or bytes k d)) ≡ true)
-    → (0 < start → not (is_slash (get_or bytes (start - 1) d)) ≡ false)
-    → after_last is_slash bytes ≡ drop start bytes
-last_part_is bytes start d within tail before = grind (arith, suffix_len_is)
+pub last_part_is : (bytes : List ℕ) (start : ℕ) → start ≤ length bytes
+    → ((k : ℕ) → start ≤ k → k < length bytes → not (is_slash (get_or bytes k 0)) ≡ true)
+    → (0 < start → not (is_slash (get_or bytes (start - 1) 0)) ≡ false)
+    → drop start bytes ≡ after_last is_slash bytes
+last_part_is bytes start within tail before = grind (arith, suffix_len_is)
 
 -- what is not in a list is not found there
 not_found : (file : List ℕ) (k : ℕ) → ¬ (Contains file 47) → k < length file
@@ -25,7 +25,7 @@ last_part-after : (front file : List ℕ) → ¬ (Contains file 47)
     → (0 < length front → is_slash (get_or front (length front - 1) 0) ≡ true)
     → after_last is_slash (front ++ file) ≡ file
 last_part-after front file plain ends =
-    let whole = last_part_is (front ++ file) (length front) 0 in
+    let whole = last_part_is (front ++ file) (length front) in
     let sizes = length-append front file in
     let behind = get_or-append_right front file in
     let last = get_or-append front file 0 (length front - 1) in

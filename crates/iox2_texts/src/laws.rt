@@ -30,6 +30,7 @@ pub fn listings_are_unique()
 {}
 
 /// Two sets are equal exactly where they hold the same pairs, each as often.
+#[tactic(auto, using(crate::proofs::ListingLemmas::equal))]
 pub fn sets_are_equal_by_pairs(one: &AttributeSet, other: &AttributeSet) -> bool
     ensures equal { IsTrue result ↔ (one.now ≡ other.now) }
     ensures pairs { IsTrue result ↔ IsPermutation one.now other.now }

@@ -32,6 +32,7 @@ pub fn first_missing<P, R: Requirement<P>>(required: &[R], pairs: &[P]) -> Optio
 }
 
 /// The index of a pair that meets the requirement. It is sought from `from` on, and then before.
+#[tactic(auto, using(crate::proofs::VerifyLemmas::found_before, crate::proofs::VerifyLemmas::found_behind))]
 fn index_near<P, R: Requirement<P>>(pairs: &[P], from: usize, requirement: &R) -> Option<usize>
     requires { from ≤ length pairs.now }
     ensures { MatchOption result (¬ (Any (R.IsMetBy requirement.now) pairs.now))

@@ -78,6 +78,7 @@ impl AttributeSet {
     /// Adds a pair. One that is there already is kept once more.
     ///
     /// Refused where there are 16 pairs; then the set stays as it was.
+    #[tactic(auto, using(crate::proofs::ListingLemmas::pushed))]
     pub fn add(
         &mut self,
         key: &AttributeKey,
@@ -123,6 +124,7 @@ impl AttributeSet {
     }
 
     /// The number of pairs that have the key.
+    #[tactic(auto, using(crate::proofs::ListingLemmas::filtered))]
     pub fn number_of_key_values(&self, key: &AttributeKey) -> usize
         ensures { result ≡ length (values_of self.now key.now) }
     {

@@ -34,6 +34,7 @@ impl Content for FilePathContent {
 }
 
 /// What stands after the last `/`, or all where there is none.
+#[tactic(auto, using(std::proofs::lemmas::List::take_rest, crate::proofs::PathLemmas::last_part_is))]
 fn last_part(bytes: &[u8]) -> &[u8]
     ensures { result.now ≡ after_last is_slash bytes.now }
 {
