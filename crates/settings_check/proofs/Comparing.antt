@@ -2,6 +2,7 @@
 use Rattle.std.proofs.Common.{◌≡◌, inl, inr, ℕ, true, Bool, List, [], codes, Option, Some, IfOk, Result, Ok, Err, subst, string_bytes}
 use Rattle.std.specs.Prelude.{String, OnOk}
 use Rattle.std.specs.Io.KnownBytes.{Appends, IsAtEnd}
+use Rattle.std.proofs.lemmas.Result.{IfOk-weaker}
 use Rattle.std.specs.declared.alloc.AllocError.{AllocError}
 use Rattle.std.specs.declared.alloc.Global.{Global}
 use Rattle.std.specs.declared.io.Error.{Error}
@@ -23,6 +24,8 @@ use Rattle.settings_check.specs.declared.files.FileError.{FileError}
 pub text_is : (first : Option Config) (config : Config) (text : List ℕ) → first ≡ Some config
     → IsReportText config text → IsTextOf first text
 text_is first config text p report = rw p report
+
+pub ruleset shown = (IfOk-weaker, text_is)
 
 -- two configurations are compared
 pub compared_is : (file : Option (String Global)) (first second : Option Config)

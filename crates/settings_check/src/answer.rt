@@ -129,6 +129,7 @@ fn checked(
 }
 
 /// The text of the settings, or none.
+#[tactic(auto, using(crate::proofs::Comparing::shown))]
 fn text_of(alloc: Global, config: Option<&Config>) -> Result<String, AllocError>
     ensures { IfOk result (λ text. IsTextOf (option_copied config.entry) (string_bytes text)) }
 {

@@ -189,6 +189,7 @@ fn take_file(chosen: Chosen, files: &mut Vec<String>, word: String) -> Result<Ch
 }
 
 /// Takes one word more: the name of a file, or an option.
+#[tactic(auto, using(crate::proofs::Saying::taken, crate::proofs::Saying::said_option, crate::proofs::Saying::said_none))]
 fn take_word(chosen: Chosen, files: &mut Vec<String>, word: String) -> Result<Chosen, RequestError>
     ensures taken { IfOk result (λ next. (words : List (List ℕ))
         → after_files (texts_of files.old.items) (said chosen (string_bytes word ∷ words))
@@ -235,6 +236,7 @@ fn request_with(chosen: Chosen, files: Vec<String>) -> Result<Request, RequestEr
 }
 
 /// What words request.
+#[tactic(auto, using(crate::proofs::Lists::nothing_left, crate::proofs::Saying::words_end))]
 fn request_in(alloc: Global, words: Args) -> Result<Request, RequestError>
     ensures { RequestsIn (words_of words) result }
 {
@@ -247,6 +249,7 @@ fn request_in(alloc: Global, words: Args) -> Result<Request, RequestError>
 }
 
 /// What the words after the first request.
+#[tactic(auto, using(crate::proofs::Saying::drop_first))]
 fn request_after(alloc: Global, words: Args) -> Result<Request, RequestError>
     ensures { RequestsIn (drop 1 (words_of words)) result }
 {

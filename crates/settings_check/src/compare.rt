@@ -115,6 +115,7 @@ fn add_table<'a>(
 }
 
 /// Adds the settings of some tables that differ.
+#[tactic(auto, using(config_report::proofs::Pairs::tables_end))]
 fn add_tables<'a>(
     alloc: Global,
     reports: &mut Vec<Report<'a>>,

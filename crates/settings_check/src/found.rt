@@ -52,6 +52,7 @@ pub(crate) fn add_report<'a>(
 }
 
 /// Adds what was found in one file to what was found before.
+#[tactic(auto, using(crate::proofs::Lists::items_end, crate::proofs::Lists::nothing_left))]
 fn add_findings<'a>(
     reports: &mut Vec<Report<'a>>,
     file: &'a str,
@@ -123,6 +124,7 @@ fn add_file<'a, F: Files>(
 }
 
 /// What is found in some files. `-` among their names is the standard input.
+#[tactic(auto, using(crate::proofs::Finding::found_end))]
 pub(crate) fn find_in<'a, F: Files>(
     alloc: Global,
     files: &F,

@@ -49,6 +49,7 @@ fn colour_of(severity: Severity) -> &'static str
 }
 
 /// Appends a text with its control characters escaped.
+#[tactic(auto, using(crate::proofs::Escaping::printed_end))]
 pub(crate) fn write_printable(out: &mut String, text: &str) -> Result<(), AllocError>
     ensures { OnOk result (string_bytes out.new ≡ string_bytes out.old ++ printable text.now) }
 {

@@ -105,6 +105,7 @@ fn write_next(
 }
 
 /// Appends the keys of a table.
+#[tactic(auto, using(crate::proofs::Defining::properties_end))]
 fn write_properties(out: &mut String, section: Section, rows: &[Row]) -> Result<(), AllocError>
     ensures { OnOk result (string_bytes out.new
         ≡ string_bytes out.old ++ properties section true rows.now) }
@@ -148,6 +149,7 @@ fn write_definition(out: &mut String, section: Section) -> Result<(), AllocError
 }
 
 /// Appends some tables.
+#[tactic(auto, using(crate::proofs::Defining::definitions_end))]
 fn write_definitions(out: &mut String, sections: &[Section]) -> Result<(), AllocError>
     ensures { OnOk result ((text : List ℕ)
         × (string_bytes out.new ≡ string_bytes out.old ++ text)

@@ -1,5 +1,4 @@
-use Rattle.std.proofs.Common.{rules}
-use Rattle.config_report.proofs.Pairs.{table_next, tables_end}
+use Rattle.config_report.proofs.Pairs.{table_next}
 use Rattle.settings_check.specs.Compare.{IsDifference}
 use Rattle.settings_check.proofs.compare.add_tables.Goals as goal
 
@@ -10,6 +9,3 @@ loop-section-preserved c =
     table_next (IsDifference c.args.file.now) c.args.first.now c.args.second.now
     c.args.sections.now c.loop-section.section-index _ _ _ _ done said c.loop-section-test.true was
     now is rest
-
-pub returns : goal.returns
-returns c = search (rules, tables_end)

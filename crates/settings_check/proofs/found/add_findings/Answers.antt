@@ -1,7 +1,7 @@
 use Rattle.std.proofs.Common.{◌≡◌, ◌∷◌, length, ap, arith}
 use Rattle.std.specs.Vec.Iter.{into_iter_items}
 use Rattle.settings_check.specs.Found.{report_of}
-use Rattle.settings_check.proofs.Lists.{items_more, items_end, nothing_left}
+use Rattle.settings_check.proofs.Lists.{items_more}
 use Rattle.settings_check.proofs.found.add_findings.Goals as goal
 
 pub loop-finding-preserved : goal.loop-finding-preserved
@@ -16,6 +16,3 @@ loop-finding-preserved c =
           let short = ap length steps in
           omega arith,
     )
-
-pub returns : goal.returns
-returns c = grind (arith, nothing_left, items_end)

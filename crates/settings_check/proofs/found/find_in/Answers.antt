@@ -1,6 +1,6 @@
-use Rattle.std.proofs.Common.{arith, ap, ◌∙◌, string_bytes}
+use Rattle.std.proofs.Common.{ap, ◌∙◌, string_bytes}
 use Rattle.settings_check.specs.Found.{found_view}
-use Rattle.settings_check.proofs.Finding.{found_next, found_end}
+use Rattle.settings_check.proofs.Finding.{found_next}
 use Rattle.settings_check.proofs.found.find_in.Goals as goal
 
 pub loop-name-preserved : goal.loop-name-preserved
@@ -10,6 +10,3 @@ loop-name-preserved g c =
     (found_view c.add_file.new.found) c.loop-name-test.true
     (c.as_str.ensures.value ∙ ap (λ s. string_bytes s) c.name-item.is)
     c.in_ok-add_file.ensures c.loop-name.invariant
-
-pub returns : goal.returns
-returns g c = grind (arith, found_end)

@@ -1,6 +1,5 @@
-use Rattle.std.proofs.Common.{arith}
 use Rattle.std.proofs.lemmas.Str.{IsUtf8-past_char}
-use Rattle.settings_check.proofs.Escaping.{printed_next, printed_end}
+use Rattle.settings_check.proofs.Escaping.{printed_next}
 use Rattle.settings_check.proofs.lines.write_printable.Goals as goal
 
 pub loop-c-preserved : goal.loop-c-preserved
@@ -10,6 +9,3 @@ loop-c-preserved c =
       IsUtf8-past_char _ _ c.in-Some.c held.0 parts,
       printed_next _ _ c.in-Some.c _ _ _ held.0 parts held.1 c.in_ok-write_char.ensures,
     )
-
-pub returns : goal.returns
-returns c = grind (arith, printed_end)

@@ -1,5 +1,4 @@
-use Rattle.std.proofs.Common.{arith}
-use Rattle.settings_check.proofs.Defining.{definition_next, definitions_end}
+use Rattle.settings_check.proofs.Defining.{definition_next}
 use Rattle.settings_check.proofs.schema.write_definitions.Goals as goal
 
 pub loop-section-preserved : goal.loop-section-preserved
@@ -7,6 +6,3 @@ loop-section-preserved c =
     let (done, was, rest) = c.loop-section.invariant in
     definition_next c.args.sections.now c.loop-section.section-index _ _ _ _ done
     c.loop-section-test.true c.in_ok-write_definition.ensures was rest
-
-pub returns : goal.returns
-returns c = grind (arith, definitions_end)
