@@ -9,6 +9,7 @@ use crate::section::Section;
 use toml::{Table, Value};
 
 /// The value at a key.
+#[tactic(auto, using(toml::proofs::Views::table_get))]
 pub(crate) fn get<'a>(table: &'a Table, key: &str) -> Option<&'a Value>
     ensures { option_map (λ v. view v.now) result ≡ get_member key.now (table_view table.now) }
 {
@@ -16,6 +17,7 @@ pub(crate) fn get<'a>(table: &'a Table, key: &str) -> Option<&'a Value>
 }
 
 /// How many keys a table has.
+#[tactic(auto, using(crate::proofs::Counting::count_is))]
 pub(crate) fn member_count(table: &Table) -> usize
     ensures { result ≡ member_count (table_view table.now) }
 {

@@ -88,6 +88,7 @@ impl fmt::Display for Assignment<'_> {
 /// seconds, since TOML has no such integer: the first such setting is reported. A configuration
 /// for which memory is refused is refused at any point. `read_config` reads the text as the same
 /// configuration.
+#[tactic(auto, using(crate::proofs::ReadBack::wrote_back))]
 pub fn write_config(alloc: Global, config: &Config) -> Result<String, ConfigWriteError>
     ensures written { Writes config.now result }
     ensures reads_back { IfOk result (λ text. ReadsBack config.now (string_bytes text)) }
@@ -117,6 +118,7 @@ fn first_misfit(config: &Config) -> Option<Misfit>
 }
 
 /// The first setting of some tables whose value TOML does not have.
+#[tactic(auto, using(crate::proofs::Sections::misfit_first, crate::proofs::Sections::misfit_next))]
 fn misfit_among(config: &Config, sections: &[Section]) -> Option<Misfit>
     ensures { FirstMisfitOf (flat_map (located_misfits config.now) sections.now) result }
 {
@@ -132,6 +134,7 @@ fn misfit_among(config: &Config, sections: &[Section]) -> Option<Misfit>
 }
 
 /// The first setting of a table whose value TOML does not have.
+#[tactic(auto, using(crate::proofs::Rowed::misfits_end))]
 fn misfit_in(config: &Config, section: Section) -> Option<&'static str>
     ensures { option_map (λ key. key.now) result
         ≡ slice_get (section_misfits section config.now) 0 }

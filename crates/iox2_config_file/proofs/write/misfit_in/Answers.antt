@@ -2,7 +2,7 @@ use Rattle.std.proofs.Common.{◌≡◌, ◌∙◌, true, sym, arith}
 use Rattle.std.proofs.lemmas.Option.{slice_get-get_or}
 use Rattle.iox2_config_file.specs.Settings.{settings_in}
 use Rattle.iox2_config_file.specs.Write.{value_view, value_fits}
-use Rattle.iox2_config_file.proofs.Rowed.{misfits_past, misfits_fit, misfits_here, misfits_end}
+use Rattle.iox2_config_file.proofs.Rowed.{misfits_past, misfits_fit, misfits_here}
 use Rattle.iox2_config_file.proofs.write.misfit_in.Goals as goal
 use Rattle.iox2_config_file.proofs.write.misfit_in.Goals.{in-Some+else-not-fits, in_default}
 
@@ -21,6 +21,3 @@ loop-index-preserved c =
       | in_default w ↦
           misfits_past xs c.loop-index.index (sym w.in_default.ensures) ∙ c.loop-index.invariant
     ]
-
-pub returns : goal.returns
-returns c = grind (arith, misfits_end)
