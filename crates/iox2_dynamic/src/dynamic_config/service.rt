@@ -97,6 +97,7 @@ impl DynamicConfig {
 
     /// As `new`, but there are this many tickets for nodes in all, and this many for each kind of
     /// ports: each registering and each attaching takes one, and none comes back.
+    #[tactic(auto, using(crate::proofs::Making::new_service))]
     pub fn with_tickets(
         alloc: Global,
         settings: &MessagingPatternSettings,
@@ -167,6 +168,7 @@ impl DynamicConfig {
     }
 
     /// Whether the pattern has ports of the role.
+    #[tactic(auto, using(crate::proofs::Sides::has_side))]
     pub fn has_role(&self, role: Role) -> bool
         ensures role { IsTrue result ↔ HasRole self.now.pattern role }
         ensures kept { IsService self.now }
