@@ -165,6 +165,7 @@ pub extern "C" fn iox2sd_attributes_sort_at(pairs: &mut [Attribute<'_>]) -> Plac
 }
 
 /// How many pairs have the key.
+#[tactic(auto, using(crate::proofs::Values::counted))]
 fn count_values(pairs: &[Attribute<'_>], key: &[u8]) -> usize
     ensures { result ≡ length (values_of (map pair_of pairs.now) key.now) }
 {
