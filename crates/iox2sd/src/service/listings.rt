@@ -240,6 +240,7 @@ fn put_at(out: &mut [Port], index: Option<usize>, details: &PortDetails)
 /// Puts the port with these details, if it is to be listed, behind those that were put before, as
 /// far as the array goes, and counts it.
 #[inline(always)]
+#[tactic(auto, using(crate::proofs::NodeListings::noted))]
 fn note(is_its: bool, out: &mut [Port], count: &mut Option<usize>, details: &PortDetails)
     ensures { Notes is_its (out.old, count.old) (c_port details.now) (out.new, count.new) }
 {
@@ -296,6 +297,7 @@ fn all_fit(service: &DynamicConfig, length: usize) -> bool
 }
 
 /// Puts the ports of the node at the front of an array that all ports would fit, and counts them.
+#[tactic(auto, using(crate::proofs::NodeListings::all_fit, crate::proofs::NodeListings::not_too_many))]
 fn note_few(service: &DynamicConfig, node: &UniqueNodeId, out: &mut [Port]) -> usize
     requires { AllFit service.now (length out.old) }
     ensures { ListsAll (map c_port (ports_of_node node.now service.now.ports))
