@@ -1,5 +1,5 @@
 -- What an event does to a front.
-use Rattle.std.proofs.Common.{◌≡◌, ◌↔◌, ℕ, suc, ◌<◌, ◌≤◌, List, [], ◌∷◌, ◌++◌, length, get_or, refl, sym, ap, subst, arith, inl, inr, Option, Some, None}
+use Rattle.std.proofs.Common.{◌≡◌, ℕ, suc, ◌<◌, ◌≤◌, List, [], ◌∷◌, ◌++◌, length, get_or, refl, sym, ap, subst, arith, inl, inr, Option, Some, None}
 use Rattle.std.proofs.lemmas.Bool.{cases_lt}
 use Rattle.histories.specs.declared.event.Event.{Event}
 use Rattle.histories.specs.declared.event.Event.TheVariants.{Begin}
@@ -13,7 +13,7 @@ use Rattle.histories.specs.Advances.{AdvancesIn, Agrees, Ends, EndsOpen}
 use Rattle.histories.specs.Frontier.{HasManyOpen, HasSlot, IsFrontOf, IsFrontier, IsSound, IsTable}
 use Rattle.histories.specs.Gathering.{AreLaidIn, AreTaken, Finishes, FreesSlot, HasMany, IsLeft, spot_of}
 use Rattle.histories.proofs.Chains.{frontier_laid}
-use Rattle.histories.proofs.Closing.{made_as}
+use Rattle.histories.proofs.Closing.{HaveSameSteps, made_as}
 use Rattle.histories.proofs.Counting.{times-cons, times_none, times_one, times_other, times_same}
 use Rattle.histories.proofs.Events.{begin_no_end, ends_one, open_begin_now, open_begin_still}
 use Rattle.histories.proofs.Frontiers.{front_many}
@@ -50,7 +50,7 @@ pub finished : {S : Type 0} (Step : S → ℕ → S → Type 0) (events : List E
     → AdvancesIn Step events olds event new result
 finished Step events olds event old new slot configs result f ends is =
     let there = f new.slots.items is.0 in
-    elim is.1 as (λ _. AdvancesIn Step events olds event new result) [
+    elim is.1 [
       | inl many ↦
           subst (λ r. AdvancesIn Step events olds event new r) (sym many.1)
           (inr (front_many Step old.links.items new.slots.items (events ++ event ∷ []) olds configs
@@ -76,14 +76,12 @@ no_slot events e slots c ends table none is =
 -- the machine makes the calls that have slots as the history has it
 pub agrees_slots : {S : Type 0} (Made Step : S → ℕ → S → Type 0) (events : List Event)
     (slots : List (Option ℕ)) → IsTable events slots → Agrees Made Step events
-    → (slot call : ℕ) → HasSlot slots slot call → (old new : S)
-    → Made old call new ↔ Step old call new
+    → HaveSameSteps Made Step slots
 agrees_slots Made Step events slots table agrees slot call has =
     agrees call (table.each slot call has)
 
 pub many_as : {S : Type 0} (A B : S → ℕ → S → Type 0) (slots : List (Option ℕ))
-    → ((slot call : ℕ) → HasSlot slots slot call → (old new : S) → A old call new ↔ B old call new)
-    → (configs : List (Config S)) → HasMany A slots configs → HasMany B slots configs
+    → HaveSameSteps A B slots → (configs : List (Config S)) → HasMany A slots configs → HasMany B slots configs
 many_as A B slots same configs many = (
   many.0,
   many.1,
@@ -112,8 +110,7 @@ unfolding called
 called_slot [] call h = absurd (omega (arith, h, times_none call))
 called_slot (None ∷ slots) call h = let at = called_slot slots call h in (suc at.0, at.1)
 called_slot (Some one ∷ slots) call h =
-    elim (cases_lt 0 (times call (one ∷ []))) as (λ _. (slot : ℕ) × HasSlot (Some one ∷ slots)
-    slot call) [
+    elim (cases_lt 0 (times call (one ∷ []))) [
       | inl here ↦ (0, ap (λ n. Some n) (times_same call one here))
       | inr away ↦
           let at = called_slot slots call (omega (
@@ -140,13 +137,12 @@ called_once (None ∷ slots) apart call =
 called_once (Some x ∷ slots) apart call =
     let rest = called_once slots
     (λ one other c a b. pred_of one other (apart (suc one) (suc other) c a b)) call in
-    elim (cases_lt 0 (times call (x ∷ []))) as (λ _. times call (x ∷ called slots) ≤ 1) [
+    elim (cases_lt 0 (times call (x ∷ []))) [
       | inl here ↦
           let same : x ≡ call = times_same call x here in
           let one : times call (x ∷ []) ≡ 1 =
           subst (λ y. times call (y ∷ []) ≡ 1) (sym same) (times_one call) in
-          elim (cases_lt 0 (times call (called slots)))
-          as (λ _. times call (x ∷ called slots) ≤ 1) [
+          elim (cases_lt 0 (times call (called slots))) [
             | inl again ↦
                 let at = called_slot slots call again in
                 let zero_is = apart 0 (suc at.0) call (ap (λ n. Some n) same) at.1 in
@@ -169,7 +165,7 @@ many_open events slots c s fresh table taken =
     λ x h. let at = called_slot slots x h in table.each at.0 x at.1 in (
       calls,
       omega (arith, taken.0, called_all slots taken.1),
-      λ x. elim (cases_lt 0 (times x (called slots))) as (λ _. times x calls ≤ 1) [
+      λ x. elim (cases_lt 0 (times x (called slots))) [
         | inl some ↦
             let other : times x (c ∷ []) ≡ 0 =
             times_other x c (λ e. absurd
@@ -177,25 +173,24 @@ many_open events slots c s fresh table taken =
             omega (arith, other, called_once slots table.apart x, times-cons x c (called slots))
         | inr none ↦ omega (arith, none, times_most x c, times-cons x c (called slots))
       ],
-      λ x h. elim (cases_lt 0 (times x (called slots))) as (λ _. IsOpen (events ++ Begin c ∷ [])
-          x) [
-            | inl some ↦ open_begin_still events c x (was_open x some)
-            | inr none ↦
-                let here : 0 < times x (c ∷ []) = omega (
-                  arith,
-                  h,
-                  none,
-                  times-cons x c (called
-                      slots),
-                ) in
-                subst (λ y. IsOpen (events ++ Begin c ∷ []) y) (times_same x c here)
-                (open_begin_now events c s fresh)
-          ],
+      λ x h. elim (cases_lt 0 (times x (called slots))) [
+        | inl some ↦ open_begin_still events c x (was_open x some)
+        | inr none ↦
+            let here : 0 < times x (c ∷ []) = omega (
+              arith,
+              h,
+              none,
+              times-cons x c (called
+                  slots),
+            ) in
+            subst (λ y. IsOpen (events ++ Begin c ∷ []) y) (times_same x c here)
+            (open_begin_now events c s fresh)
+      ],
     )
   where
     times_most : (x c : ℕ) → times x (c ∷ []) ≤ 1
     times_most x c =
-        elim (cases_lt 0 (times x (c ∷ []))) as (λ _. times x (c ∷ []) ≤ 1) [
+        elim (cases_lt 0 (times x (c ∷ []))) [
           | inl here ↦
               let one : times x (c ∷ []) ≡ 1 =
               subst (λ y. times x (y ∷ []) ≡ 1) (sym (times_same x c here)) (times_one x) in

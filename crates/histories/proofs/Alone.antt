@@ -1,5 +1,5 @@
 -- Calls that overlap nothing.
-use Rattle.std.proofs.Common.{◌≡◌, ◌↔◌, slice_set, true, ℕ, zero, suc, ◌+◌, ◌<◌, ◌≤◌, List, [], ◌∷◌, ◌++◌, length, get_or, Option, refl, sym, ◌∙◌, ap, subst, arith, inl, inr, append_assoc}
+use Rattle.std.proofs.Common.{◌≡◌, ◌↔◌, slice_set, true, ℕ, zero, suc, ◌+◌, ◌<◌, List, [], ◌∷◌, ◌++◌, length, get_or, Option, refl, sym, ◌∙◌, ap, subst, arith, inl, inr, append_assoc}
 use Rattle.std.specs.List.{Contains}
 use Rattle.std.proofs.lemmas.Bool.{cases_lt}
 use Rattle.std.proofs.lemmas.List.Quantifiers.{all_pairs_push}
@@ -45,21 +45,20 @@ alone_more es count a =
     λ c. begins_ends c count mid (End count) (inl refl) ∙ begins_begin c count es in record {
       sound = sound_end mid (End count) count (inl refl)
           (sound_begin es count a.sound fresh) here;
-      below = λ c some. elim (cases_lt 0 (begins c es)) as (λ _. c < count + 1) [
+      below = λ c some. elim (cases_lt 0 (begins c es)) [
         | inl before ↦ omega (arith, a.below c before)
         | inr none ↦
             let same : count ≡ c = times_same c count (omega (arith, some, none, counts c)) in
             omega (arith, same)
       ];
-      ended = λ c some. elim (cases_lt 0 (begins c es)) as (λ _. HasEnded (mid ++ End count ∷ [])
-          c) [
-            | inl before ↦
-                ended_still mid (End count) c (ended_still es (Begin count) c (a.ended c before))
-            | inr none ↦
-                let same : count ≡ c = times_same c count (omega (arith, some, none, counts c)) in
-                subst (λ x. HasEnded (mid ++ End count ∷ []) x) same
-                (ended_now mid (End count) count (inl refl))
-          ];
+      ended = λ c some. elim (cases_lt 0 (begins c es)) [
+        | inl before ↦
+            ended_still mid (End count) c (ended_still es (Begin count) c (a.ended c before))
+        | inr none ↦
+            let same : count ≡ c = times_same c count (omega (arith, some, none, counts c)) in
+            subst (λ x. HasEnded (mid ++ End count ∷ []) x) same
+            (ended_now mid (End count) count (inl refl))
+      ];
     }
 
 is_alone : (count : ℕ) → IsAlone (calls_alone count) count
@@ -94,19 +93,18 @@ module _ {S : Type 0} (Step : S → ℕ → S → Type 0) where
       λ c. times-append c order (count ∷ []) in
       explains_end Step es_mid (End count) old new (order ++ count ∷ []) count (inl refl)
       (λ is. omega (arith, counts count, times_one count)) (record {
-        once = λ c. elim (cases_lt 0 (times c (count ∷ []))) as (λ _. times c (order ++ count ∷
-            []) ≤ 1) [
-              | inl here ↦
-                  let same : count ≡ c = times_same c count here in
-                  omega (
-                    arith,
-                    counts c,
-                    subst (λ x. times x order ≡ 0) same none,
-                    subst (λ x. times x (count ∷ []) ≡ 1) same (times_one count),
-                  )
-              | inr away ↦ omega (arith, counts c, away, ex.once c)
-            ];
-        begun = λ c some. elim (cases_lt 0 (times c (count ∷ []))) as (λ _. 0 < begins c es_mid) [
+        once = λ c. elim (cases_lt 0 (times c (count ∷ []))) [
+          | inl here ↦
+              let same : count ≡ c = times_same c count here in
+              omega (
+                arith,
+                counts c,
+                subst (λ x. times x order ≡ 0) same none,
+                subst (λ x. times x (count ∷ []) ≡ 1) same (times_one count),
+              )
+          | inr away ↦ omega (arith, counts c, away, ex.once c)
+        ];
+        begun = λ c some. elim (cases_lt 0 (times c (count ∷ []))) [
           | inl here ↦ subst (λ x. 0 < begins x es_mid) (times_same c count here) is_open.0
           | inr away ↦ before.begun c (omega (arith, some, counts c, away))
         ];
@@ -214,8 +212,7 @@ module _ {S : Type 0} (Step : S → ℕ → S → Type 0) (slots : List (Option 
     each = λ slot call has. absurd (empty slot call has);
     all = λ call is.
         let mid : List Event = es ++ Begin c ∷ [] in
-        elim (open_begin_cases es c call (open_end_before mid (End c) c call (inl refl) is))
-        as (λ _. (slot : ℕ) × HasSlot slots slot call) [
+        elim (open_begin_cases es c call (open_end_before mid (End c) c call (inl refl) is)) [
           | inl before ↦ table.all call before
           | inr same ↦ absurd (open_end_other mid (End c) c call (inl refl) is (sym same))
         ];

@@ -1,5 +1,5 @@
 -- The configurations after the begin of a call.
-use Rattle.std.proofs.Common.{◌≡◌, ℕ, ◌+◌, ◌<◌, ◌≤◌, ◌⊎◌, List, [], ◌∷◌, ◌++◌, length, get_or, sym, ◌∙◌, ap, subst, arith, inl, inr, Option}
+use Rattle.std.proofs.Common.{◌≡◌, ℕ, ◌+◌, ◌<◌, ◌≤◌, List, [], ◌∷◌, ◌++◌, length, get_or, sym, ◌∙◌, ap, subst, arith, inl, inr, Option}
 use Rattle.std.specs.Int.{bit_at}
 use Rattle.std.specs.List.{Contains}
 use Rattle.std.proofs.lemmas.Bool.{cases_lt}
@@ -9,7 +9,7 @@ use Rattle.histories.specs.declared.front.Link.{Link}
 use Rattle.histories.specs.declared.event.Event.{Event}
 use Rattle.histories.specs.declared.event.Event.TheVariants.{Begin}
 use Rattle.histories.specs.Histories.{begins, times, Explains}
-use Rattle.histories.specs.Frontier.{HasSlot, IsFrontier, IsIdle, IsLighter, IsSound, IsTable, IsWaiting, LeadTo, Leaves, Path, Runs, order_at, order_of, put}
+use Rattle.histories.specs.Frontier.{HasSlot, IsFrontier, IsLighter, IsSound, IsTable, IsWaiting, LeadTo, Leaves, Path, Runs, order_at, order_of, put}
 use Rattle.histories.specs.Gathering.{AreOpened, AreSettled, IsOpened, TakesSlot}
 use Rattle.histories.proofs.Bits.{cleared_put, put_other, put_same}
 use Rattle.histories.proofs.Counting.{not_some, split_times, times-append, times-cons, times_one, times_same}
@@ -25,16 +25,12 @@ module _ {S : Type 0} (Step : S → ℕ → S → Type 0) where
     lighter_put : (fewer rest : ℕ) → IsLighter Step slots fewer rest
         → IsLighter Step more (put fewer t) (put rest t)
     lighter_put fewer rest l slot call has =
-        elim (taken_cases slots more c t slot call takes has)
-        as (λ _. (bit_at (put fewer t) slot ≡ bit_at (put rest t) slot)
-        ⊎ ((bit_at (put fewer t) slot ≡ 0) × IsIdle Step call)) [
+        elim (taken_cases slots more c t slot call takes has) [
           | inl now ↦ inl
               (subst (λ s. bit_at (put fewer t) s ≡ bit_at (put rest t) s) (sym now.0)
               (put_same fewer t takes.within ∙ sym (put_same rest t takes.within)))
           | inr was ↦
-              elim (l slot call was.1)
-              as (λ _. (bit_at (put fewer t) slot ≡ bit_at (put rest t) slot)
-              ⊎ ((bit_at (put fewer t) slot ≡ 0) × IsIdle Step call)) [
+              elim (l slot call was.1) [
                 | inl same ↦ inl
                     (put_other fewer t slot takes.within was.0
                     ∙ (same ∙ sym (put_other rest t slot takes.within was.0)))
@@ -45,8 +41,7 @@ module _ {S : Type 0} (Step : S → ℕ → S → Type 0) where
     leaves_put : (order : List ℕ) (rest : ℕ) → times c order ≡ 0 → Leaves slots order rest
         → Leaves more order (put rest t)
     leaves_put order rest none leaves slot call has =
-        elim (taken_cases slots more c t slot call takes has)
-        as (λ _. times call order + bit_at (put rest t) slot ≡ 1) [
+        elim (taken_cases slots more c t slot call takes has) [
           | inl now ↦
               omega (
                 arith,
@@ -160,8 +155,7 @@ module _ {S : Type 0} (Step : S → ℕ → S → Type 0) where
         let all : (x : ℕ) → 0 < times x (c ∷ back) → (slot : ℕ) × IsWaiting more (put rest t) slot
         x =
         λ x some.
-        elim (cases_lt 0 (times x (c ∷ []))) as (λ _. (slot : ℕ) × IsWaiting more (put rest t)
-        slot x) [
+        elim (cases_lt 0 (times x (c ∷ []))) [
           | inl here ↦
               let same : c ≡ x = times_same x c here in
               (t, (subst (λ y. HasSlot more t y) same takes.has, put_same rest t takes.within))
@@ -199,8 +193,7 @@ module _ {S : Type 0} (Step : S → ℕ → S → Type 0) where
         → AreComplete Step slots es olds configs → AreOpened t configs opened
         → AreComplete Step more (es ++ Begin c ∷ []) olds opened
     opened_complete es olds configs opened s fresh table next complete o old order new from ex =
-        elim (cases_lt 0 (times c order))
-        as (λ _. (rest : ℕ) × Leaves more order rest × LeadTo Step more opened new rest) [
+        elim (cases_lt 0 (times c order)) [
           | inl some ↦
               let parts = split_times c order some in
               subst

@@ -31,7 +31,7 @@ pub put_apart : (one other slot : ℕ) → slot < 64 → bit_at one slot ≡ 0 �
     → put one slot ≡ put other slot → one ≡ other
 put_apart one other slot h none gone same =
     same_from_bits one other (λ i.
-    elim (cases_eq i slot) as (λ _. bit_at one i ≡ bit_at other i) [
+    elim (cases_eq i slot) [
       | inl e ↦ ap (bit_at one) e ∙ (none ∙ sym (ap (bit_at other) e ∙ gone))
       | inr ne ↦
           sym (put_other one slot i h ne)
@@ -59,7 +59,7 @@ cleared_put set slot t h k ne =
     (bit_at set i) (bit_at P i) (bit_at N i) (bit_at (bit_or set P) i) (bit_at (bit_and set N) i)
     (bit_at_and (bit_or set P) N i) (bit_at_or (bit_and set N) P i) (bit_at_or set P i)
     (bit_at_and set N i) (bit_at-lt set i) (bit_at-lt P i)
-    (elim (cases_eq i t) as (λ _. (bit_at P i ≡ 0) ⊎ (bit_at N i ≡ 1)) [
+    (elim (cases_eq i t) [
       | inl e ↦
           let ones : bit_at N t ≡ 1 =
           sym (and_one (bit_at ones64 t) (bit_at N t) (bit_at (bit_and ones64 N) t)
@@ -89,7 +89,7 @@ cleared_put set slot t h k ne =
 -- a slot is in the set or not
 pub bit_cases : (set slot : ℕ) → (bit_at set slot ≡ 0) ⊎ (bit_at set slot ≡ 1)
 bit_cases set slot =
-    elim (cases_eq (bit_at set slot) 0) as (λ _. (bit_at set slot ≡ 0) ⊎ (bit_at set slot ≡ 1)) [
+    elim (cases_eq (bit_at set slot) 0) [
       | inl none ↦ inl none
       | inr some ↦ inr (one_of (bit_at set slot) (bit_at-lt set slot) some)
     ]
@@ -102,7 +102,7 @@ bit_cases set slot =
 -- a slot that is not in the set
 pub bit_none : (set slot : ℕ) → (bit_at set slot ≡ 1 → ⊥) → bit_at set slot ≡ 0
 bit_none set slot never =
-    elim (bit_cases set slot) as (λ _. bit_at set slot ≡ 0) [
+    elim (bit_cases set slot) [
       | inl none ↦ none
       | inr some ↦ absurd (never some)
     ]
@@ -111,7 +111,7 @@ bit_none set slot never =
 pub cleared_le : (set slot other : ℕ) → slot < 64 → other < 64
     → bit_at (cleared set slot) other ≤ bit_at set other
 cleared_le set slot other h k =
-    elim (cases_eq other slot) as (λ _. bit_at (cleared set slot) other ≤ bit_at set other) [
+    elim (cases_eq other slot) [
       | inl e ↦
           subst (λ x. bit_at (cleared set slot) x ≤ bit_at set x) (sym e)
           (omega (arith, cleared_same set slot h))
@@ -122,7 +122,7 @@ cleared_le set slot other h k =
 pub slot_within : (slots : List (Option ℕ)) (slot call : ℕ) → HasSlot slots slot call
     → slot < length slots
 slot_within slots slot call has =
-    elim (cases_lt slot (length slots)) as (λ _. slot < length slots) [
+    elim (cases_lt slot (length slots)) [
       | inl h ↦ h
       | inr late ↦
           let past : get_or slots slot None ≡ None = get_or_past slots slot None (omega (
@@ -164,7 +164,7 @@ pub ones_less : (set more n slot : ℕ) → ((i : ℕ) → i < n → bit_at set 
 unfolding ones
 ones_less set more zero slot le h none some = absurd (omega arith)
 ones_less set more (suc n) slot le h none some =
-    elim (cases_eq slot n) as (λ _. ones set (suc n) < ones more (suc n)) [
+    elim (cases_eq slot n) [
       | inl e ↦
           let here : bit_at set n ≡ 0 = subst (λ i. bit_at set i ≡ 0) e none in
           let there : bit_at more n ≡ 1 = subst (λ i. bit_at more i ≡ 1) e some in
@@ -180,7 +180,7 @@ ones_less set more (suc n) slot le h none some =
   where
     below_of : (slot n : ℕ) → slot < suc n → slot ≢ n → slot < n
     below_of slot n h ne =
-        elim (cases_lt slot n) as (λ _. slot < n) [
+        elim (cases_lt slot n) [
           | inl less ↦ less
           | inr past ↦ absurd (ne (omega (arith, h, past)))
         ]

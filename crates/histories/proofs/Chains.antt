@@ -75,7 +75,7 @@ left_short : (front : List Link) (at left : ℕ) (link : Link) → length front 
     → (link.before ≤ at → left ≡ link.before) → (at < link.before → left ≡ 0)
     → left ≤ length front
 left_short front at left link long same none =
-    elim (cases_lt at link.before) as (λ _. left ≤ length front) [
+    elim (cases_lt at link.before) [
       | inl above ↦ omega (arith, none above)
       | inr within ↦
           let few : link.before ≤ at = omega (arith, within) in omega (arith, same few, few, long)
@@ -86,7 +86,7 @@ pub read_bounded : (links : List Link) (base left : ℕ)
     → (base ≤ length links → left ≡ base) → (length links < base → left ≡ 0)
     → read links base ≡ read links left
 read_bounded links base left same none =
-    elim (cases_lt (length links) base) as (λ _. read links base ≡ read links left) [
+    elim (cases_lt (length links) base) [
       | inl above ↦
           read_past links base above
           ∙ sym (ap (λ n. read links n) (none above) ∙ read_zero links)
@@ -244,8 +244,7 @@ module _ {S : Type 0} where
       → IsLaid links more (get_or configs index d) (get_or new index d)
   are_laid_more links mid more configs now new at config laid h many done rest g is e l index d
       less =
-      elim (cases_eq index at)
-      as (λ _. IsLaid links more (get_or configs index d) (get_or new index d)) [
+      elim (cases_eq index at) [
         | inl here ↦
             let there : get_or configs index d ≡ config =
             ap (λ n. get_or configs n d) here
@@ -267,7 +266,7 @@ module _ {S : Type 0} where
     where
       less_of : (i n : ℕ) → i < n + 1 → i ≢ n → i < n
       less_of i n h ne =
-          elim (cases_lt i n) as (λ _. i < n) [
+          elim (cases_lt i n) [
             | inl less ↦ less
             | inr past ↦ absurd (ne (omega (arith, h, past)))
           ]

@@ -1,5 +1,5 @@
 -- A call that ends is made.
-use Rattle.std.proofs.Common.{◌≡◌, ◌↔◌, ℕ, ◌+◌, ◌<◌, ◌≤◌, ◌⊎◌, List, [], ◌∷◌, ◌++◌, length, refl, sym, ◌∙◌, ap, subst, arith, inl, inr, append-nil, append_assoc, Option}
+use Rattle.std.proofs.Common.{◌≡◌, ◌↔◌, ℕ, ◌+◌, ◌<◌, ◌≤◌, List, [], ◌∷◌, ◌++◌, length, refl, sym, ◌∙◌, ap, subst, arith, inl, inr, append-nil, append_assoc, Option}
 use Rattle.std.specs.Prelude.{AllPairs}
 use Rattle.std.specs.Int.{bit_at}
 use Rattle.std.specs.List.{Contains}
@@ -142,7 +142,7 @@ module _ {S : Type 0} (Step : S → ℕ → S → Type 0) (slots : List (Option 
   }
 
   only_one : (config k : Config S) → Contains (config ∷ []) k → k ≡ config
-  only_one config k has = elim (Contains-push_cases [] config k has) as (λ _. k ≡ config) [
+  only_one config k has = elim (Contains-push_cases [] config k has) [
     | inl none ↦ absurd (nothing_in k none)
     | inr e ↦ sym e
   ]
@@ -160,54 +160,52 @@ module _ {S : Type 0} (Step : S → ℕ → S → Type 0) (slots : List (Option 
       fewer rest g
       (run.0, slot_within slots run.0 c run.1.0, (c, run.1, run.2.1, refl, refl)) run.2.2 light
 
-  -- from one configuration, by each call that waits
-  pub goes_all : (slot : ℕ) (config : Config S) (old new : List (Config S))
-      → bit_at config.waiting slot ≡ 1 → Gathers (IsNext Step slots config) old new
-      → GoesOn Step slots slot (config ∷ []) old new
-  goes_all slot config old new waits g = record {
-    sound = λ k has. elim (g.sound k has)
-        as (λ _. Contains old k
-        ⊎ FromOne (IsUnderWay Step slots slot) (config ∷ []) (spot_of k)) [
-          | inl m ↦ inl m
-          | inr p ↦ inr (config, Contains-push [] config, (waits, p))
-        ];
+  -- from one configuration, in which the call in the slot waits
+  goes_one : (slot : ℕ) (config : Config S) (Found : Spot S → Type 0) (old new : List (Config S))
+      → bit_at config.waiting slot ≡ 1
+      → ((spot : Spot S) → Found spot → IsNext Step slots config spot)
+      → ((calls : List ℕ) (last : S) (fewer rest : ℕ) → bit_at fewer slot ≡ 0
+      → Runs Step slots config.state config.waiting calls last fewer
+      → IsLighter Step slots fewer rest → LeadTo Step slots new last rest)
+      → Gathers Found old new → GoesOn Step slots slot (config ∷ []) old new
+  goes_one slot config Found old new waits next leads g = record {
+    sound = λ k has. elim (g.sound k has) [
+      | inl m ↦ inl m
+      | inr p ↦ inr (config, Contains-push [] config, (waits, next (spot_of k) p))
+    ];
     kept = g.kept;
     complete = λ k calls last fewer rest has w over run light.
-        let e : k ≡ config = only_one config k has in
-        leads_next old new slot config calls last fewer rest g waits over
-        (subst (λ (x : Config S). Runs Step slots x.state x.waiting calls last fewer) e run) light;
+        leads calls last fewer rest over
+        (subst (λ (x : Config S). Runs Step slots x.state x.waiting calls last fewer)
+        (only_one config k has) run) light;
     once = g.once;
   }
 
-  -- from one configuration, by the call in the slot alone, which moves before the others
+  -- by each call that waits
+  pub goes_all : (slot : ℕ) (config : Config S) (old new : List (Config S))
+      → bit_at config.waiting slot ≡ 1 → Gathers (IsNext Step slots config) old new
+      → GoesOn Step slots slot (config ∷ []) old new
+  goes_all slot config old new waits g =
+      goes_one slot config (IsNext Step slots config) old new waits (λ spot found. found)
+      (λ calls last fewer rest over run light.
+      leads_next old new slot config calls last fewer rest g waits over run light) g
+
+  -- by the call in the slot alone, which moves before the others
   pub goes_first : (slot : ℕ) (config : Config S) (old new : List (Config S))
       → length slots ≤ 64 → bit_at config.waiting slot ≡ 1
       → MovesFirst Step slots slot config.waiting
       → Gathers (IsNextAt Step slots config slot) old new
       → GoesOn Step slots slot (config ∷ []) old new
-  goes_first slot config old new few waits moves g = record {
-    sound = λ k has. elim (g.sound k has)
-        as (λ _. Contains old k
-        ⊎ FromOne (IsUnderWay Step slots slot) (config ∷ []) (spot_of k)) [
-          | inl m ↦ inl m
-          | inr p ↦ inr (
-            config,
-            Contains-push [] config,
-            (waits, (slot, slot_within slots slot moves.0 moves.1, p)),
-          )
-        ];
-    kept = g.kept;
-    complete = λ k calls last fewer rest has w over run light.
-        let e : k ≡ config = only_one config k has in
-        let call = moves.0 in
-        let first = runs_first Step slots config.state last config.waiting fewer slot call calls
-        few moves.1 waits over (λ at other apart is. moves.2 at other apart is)
-        (subst (λ (x : Config S). Runs Step slots x.state x.waiting calls last fewer) e run) in
-        leads_found (IsNextAt Step slots config slot) old new
-        (spot_after config slot call first.0) first.2.0 last fewer rest g
-        (call, (moves.1, waits), first.1, refl, refl) first.2.1 light;
-    once = g.once;
-  }
+  goes_first slot config old new few waits moves g =
+      goes_one slot config (IsNextAt Step slots config slot) old new waits
+      (λ spot found. (slot, slot_within slots slot moves.0 moves.1, found))
+      (λ calls last fewer rest over run light.
+      let call = moves.0 in
+      let first = runs_first Step slots config.state last config.waiting fewer slot call calls few
+      moves.1 waits over (λ at other apart is. moves.2 at other apart is) run in
+      leads_found (IsNextAt Step slots config slot) old new
+      (spot_after config slot call first.0) first.2.0 last fewer rest g
+      (call, (moves.1, waits), first.1, refl, refl) first.2.1 light) g
 
   -- where the call does not wait
   pub goes_not : (slot : ℕ) (config : Config S) (old : List (Config S))
@@ -236,25 +234,21 @@ module _ {S : Type 0} (Step : S → ℕ → S → Type 0) (slots : List (Option 
       → GoesOn Step slots slot (from ∷ []) mid new
       → GoesOn Step slots slot (layer ++ from ∷ []) old new
   goes_pushed slot layer from old mid new f g = record {
-    sound = λ k has. elim (g.sound k has)
-        as (λ _. Contains old k
-        ⊎ FromOne (IsUnderWay Step slots slot) (layer ++ from ∷ []) (spot_of k)) [
-          | inl m ↦ elim (f.sound k m)
-              as (λ _. Contains old k
-              ⊎ FromOne (IsUnderWay Step slots slot) (layer ++ from ∷ []) (spot_of k)) [
-                | inl n ↦ inl n
-                | inr p ↦ inr (p.0, Contains-append_left layer (from ∷ []) p.0 p.1, p.2)
-              ]
-          | inr q ↦ inr (
-            from,
-            Contains-push layer from,
-            subst (λ (x : Config S). IsUnderWay Step slots slot x (spot_of k))
-                (only_one from q.0 q.1) q.2,
-          )
-        ];
+    sound = λ k has. elim (g.sound k has) [
+      | inl m ↦ elim (f.sound k m) [
+        | inl n ↦ inl n
+        | inr p ↦ inr (p.0, Contains-append_left layer (from ∷ []) p.0 p.1, p.2)
+      ]
+      | inr q ↦ inr (
+        from,
+        Contains-push layer from,
+        subst (λ (x : Config S). IsUnderWay Step slots slot x (spot_of k))
+            (only_one from q.0 q.1) q.2,
+      )
+    ];
     kept = λ k has. g.kept k (f.kept k has);
     complete = λ k calls last fewer rest has waits over run light.
-        elim (Contains-push_cases layer from k has) as (λ _. LeadTo Step slots new last rest) [
+        elim (Contains-push_cases layer from k has) [
           | inl m ↦
               let l = f.complete k calls last fewer rest m waits over run light in
               (l.0, g.kept l.0 l.1, l.2)
@@ -270,7 +264,7 @@ module _ {S : Type 0} (Step : S → ℕ → S → Type 0) (slots : List (Option 
   lighter_gone : (fewer rest slot call : ℕ) → HasSlot slots slot call
       → IsLighter Step slots fewer rest → bit_at rest slot ≡ 0 → bit_at fewer slot ≡ 0
   lighter_gone fewer rest slot call here light over =
-      elim (light slot call here) as (λ _. bit_at fewer slot ≡ 0) [
+      elim (light slot call here) [
         | inl same ↦ same ∙ over
         | inr idle ↦ idle.0
       ]
@@ -283,8 +277,7 @@ module _ {S : Type 0} (Step : S → ℕ → S → Type 0) (slots : List (Option 
       → GoesOn Step slots slot layer [] next → IsClosing Step slots configs slot more next left
   closing_more configs done layer more next slot call left few here cl f g = record {
     sound = λ k has.
-        elim (f.sound k has)
-        as (λ _. IsMadeFrom Step slots configs (spot_of k) × (bit_at k.waiting slot ≡ 0)) [
+        elim (f.sound k has) [
           | inl before ↦ cl.sound k before
           | inr found ↦ (
             made_done configs found.0 (spot_of k) found.2.1 (cl.under_way found.0 found.1),
@@ -292,19 +285,17 @@ module _ {S : Type 0} (Step : S → ℕ → S → Type 0) (slots : List (Option 
           )
         ];
     under_way = λ k has.
-        elim (g.sound k has) as (λ _. IsMadeFrom Step slots configs (spot_of k)) [
+        elim (g.sound k has) [
           | inl none ↦ absurd (nothing_in k none)
           | inr found ↦
               made_next configs found.0 (spot_of k) found.2.1 (cl.under_way found.0 found.1)
         ];
     complete = λ new rest l over.
-        elim (cl.complete new rest l over)
-        as (λ _. LeadTo Step slots more new rest ⊎ LeadTo Step slots next new rest) [
+        elim (cl.complete new rest l over) [
           | inl before ↦
               inl (leads_kept (FromOne (IsDone slot) layer) done more new rest f before)
           | inr m ↦
-              elim (bit_cases m.0.waiting slot)
-              as (λ _. LeadTo Step slots more new rest ⊎ LeadTo Step slots next new rest) [
+              elim (bit_cases m.0.waiting slot) [
                 | inr waits ↦ inr
                     (g.complete m.0 m.2.0 new m.2.1 rest m.1 waits
                     (lighter_gone m.2.1 rest slot call here m.2.3 over) m.2.2 m.2.3)
@@ -313,7 +304,7 @@ module _ {S : Type 0} (Step : S → ℕ → S → Type 0) (slots : List (Option 
                     m.2.1 rest f (m.0, m.1, (gone, (refl, refl, refl))) m.2.2 m.2.3)
               ]
         ];
-    short = λ k has. elim (g.sound k has) as (λ _. ones k.waiting (length slots) < left) [
+    short = λ k has. elim (g.sound k has) [
       | inl none ↦ absurd (nothing_in k none)
       | inr found ↦
           let from = found.0 in
@@ -345,8 +336,7 @@ module _ {S : Type 0} (Step : S → ℕ → S → Type 0) (slots : List (Option 
         let is = a.sound k has in
         made_settled configs is.0 (spot_of k) is.2 (cl.under_way is.0 is.1);
     complete = λ new rest l over.
-        elim (cl.complete new rest l over)
-        as (λ _. LeadTo Step slots done new rest ⊎ LeadTo Step slots settled new rest) [
+        elim (cl.complete new rest l over) [
           | inl there ↦ inl there
           | inr m ↦ inr (leads_settled layer settled new rest few a m)
         ];
@@ -405,7 +395,7 @@ module _ {S : Type 0} (Step : S → ℕ → S → Type 0) (slots : List (Option 
   closing_end configs done layer slot left none cl = record {
     sound = cl.sound;
     complete = λ new rest l over.
-        elim (cl.complete new rest l over) as (λ _. LeadTo Step slots done new rest) [
+        elim (cl.complete new rest l over) [
           | inl there ↦ there
           | inr m ↦ absurd (omega (arith, cl.short m.0 m.1, none))
         ];
@@ -416,10 +406,22 @@ module _ {S : Type 0} (Step : S → ℕ → S → Type 0) (slots : List (Option 
 pub none_same : {S : Type 0} → AllPairs (λ (a b : Config S). ¬ (IsSame a b)) []
 none_same {S} = λ i j d less h. absurd (omega arith)
 
--- as another relation has the steps of the calls that have slots
+-- the calls that have slots take the same steps
+abbrev pub HaveSameSteps : {S : Type 0} → (S → ℕ → S → Type 0) → (S → ℕ → S → Type 0)
+    → List (Option ℕ) → Type 0
+HaveSameSteps {S} A B slots =
+    (slot call : ℕ) → HasSlot slots slot call → (old new : S) → A old call new ↔ B old call new
+
 module _ {S : Type 0} (A B : S → ℕ → S → Type 0) (slots : List (Option ℕ))
-    (same : (slot call : ℕ) → HasSlot slots slot call → (old new : S)
-    → A old call new ↔ B old call new) where
+    (same : HaveSameSteps A B slots) where
+  as_run : (old new : S) (waiting rest : ℕ) (calls : List ℕ)
+      → Runs A slots old waiting calls new rest → Runs B slots old waiting calls new rest
+  as_run = runs_as A B slots (λ slot call has old next. (same slot call has old next).0)
+
+  as_light : (fewer waiting : ℕ) → IsLighter A slots fewer waiting
+      → IsLighter B slots fewer waiting
+  as_light = lighter_as B A slots (λ slot call has old next. (same slot call has old next).1)
+
   pub leads_as : (configs : List (Config S)) (new : S) (rest : ℕ)
       → LeadTo A slots configs new rest → LeadTo B slots configs new rest
   leads_as configs new rest l = (
@@ -428,10 +430,8 @@ module _ {S : Type 0} (A B : S → ℕ → S → Type 0) (slots : List (Option �
     (
       l.2.0,
       l.2.1,
-      runs_as A B slots (λ slot call has old next. (same slot call has old next).0) l.0.state new
-          l.0.waiting l.2.1 l.2.0 l.2.2,
-      lighter_as B A slots (λ slot call has old next. (same slot call has old next).1) l.2.1 rest
-          l.2.3,
+      as_run l.0.state new l.0.waiting l.2.1 l.2.0 l.2.2,
+      as_light l.2.1 rest l.2.3,
     ),
   )
 
@@ -440,61 +440,41 @@ module _ {S : Type 0} (A B : S → ℕ → S → Type 0) (slots : List (Option �
   made_as configs spot m = (
     m.0,
     m.1,
-    (
-      m.2.0,
-      runs_as A B slots (λ slot call has old next. (same slot call has old next).0) m.0.state
-          spot.state m.0.waiting spot.waiting m.2.0 m.2.1,
-      m.2.2,
-    ),
+    (m.2.0, as_run m.0.state spot.state m.0.waiting spot.waiting m.2.0 m.2.1, m.2.2),
   )
 
-pub turned : {S : Type 0} (A B : S → ℕ → S → Type 0) (slots : List (Option ℕ))
-    → ((slot call : ℕ) → HasSlot slots slot call → (old new : S) → A old call new ↔ B old call new)
-    → (slot call : ℕ) → HasSlot slots slot call → (old new : S) → B old call new ↔ A old call new
-turned A B slots same slot call has old new =
-    let e = same slot call has old new in (e.1, e.0)
+  pub settled_as : (configs settled : List (Config S)) → AreSettled A slots configs settled
+      → AreSettled B slots configs settled
+  settled_as configs settled a = record {
+    sound = λ k has.
+        let is = a.sound k has in
+        let s = is.2 in (
+          is.0,
+          is.1,
+          record {
+            state = s.state;
+            calls = s.calls;
+            runs = as_run is.0.state is.0.state is.0.waiting k.waiting s.calls s.runs;
+            lighter = as_light k.waiting is.0.waiting s.lighter;
+            made = s.made;
+          },
+        );
+    complete = λ config has.
+        let one = a.complete config has in
+        (one.0, one.1, one.2, as_light one.0.waiting config.waiting one.3);
+    once = a.once;
+  }
 
 pub closed_as : {S : Type 0} (A B : S → ℕ → S → Type 0) (slots : List (Option ℕ))
-    → ((slot call : ℕ) → HasSlot slots slot call → (old new : S) → A old call new ↔ B old call new)
-    → (configs done : List (Config S)) (slot : ℕ) → IsClosed A slots configs slot done
-    → IsClosed B slots configs slot done
+    → HaveSameSteps A B slots → (configs done : List (Config S)) (slot : ℕ)
+    → IsClosed A slots configs slot done → IsClosed B slots configs slot done
 closed_as A B slots same configs done slot cl = record {
   sound = λ k has.
       let is = cl.sound k has in (made_as A B slots same configs (spot_of k) is.0, is.1);
   complete = λ new rest l over.
       leads_as A B slots same done new rest
-      (cl.complete new rest (leads_as B A slots (turned A B slots same) configs new rest l) over);
+      (cl.complete new rest
+      (leads_as B A slots (λ at call has old new. let e = same at call has old new in (e.1, e.0))
+      configs new rest l) over);
   once = cl.once;
-}
-
-pub settled_as : {S : Type 0} (A B : S → ℕ → S → Type 0) (slots : List (Option ℕ))
-    → ((slot call : ℕ) → HasSlot slots slot call → (old new : S) → A old call new ↔ B old call new)
-    → (configs settled : List (Config S)) → AreSettled A slots configs settled
-    → AreSettled B slots configs settled
-settled_as A B slots same configs settled a = record {
-  sound = λ k has.
-      let is = a.sound k has in
-      let s = is.2 in (
-        is.0,
-        is.1,
-        record {
-          state = s.state;
-          calls = s.calls;
-          runs = runs_as A B slots (λ slot call here old next. (same slot call here old next).0)
-              is.0.state is.0.state is.0.waiting k.waiting s.calls s.runs;
-          lighter = lighter_as B A slots
-              (λ slot call here old next. (same slot call here old next).1) k.waiting
-              is.0.waiting s.lighter;
-          made = s.made;
-        },
-      );
-  complete = λ config has.
-      let one = a.complete config has in (
-        one.0,
-        one.1,
-        one.2,
-        lighter_as B A slots (λ slot call here old next. (same slot call here old next).1)
-            one.0.waiting config.waiting one.3,
-      );
-  once = a.once;
 }

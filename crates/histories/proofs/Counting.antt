@@ -1,5 +1,5 @@
 -- How often a number stands in a list.
-use Rattle.std.proofs.Common.{◌≡◌, ◌≢◌, ℕ, zero, suc, ◌+◌, ◌<◌, ◌≤◌, List, [], ◌∷◌, ◌++◌, length, take, drop, cond, eqb, get_or, refl, ◌∙◌, ap, subst, arith, inl, inr, eq-eqb}
+use Rattle.std.proofs.Common.{◌≡◌, ◌≢◌, ℕ, zero, suc, ◌+◌, ◌<◌, ◌≤◌, List, [], ◌∷◌, ◌++◌, length, take, drop, cond, get_or, refl, ◌∙◌, ap, subst, arith, inl, inr, eq-eqb}
 use Rattle.std.proofs.Common.{take-append-drop}
 use Rattle.std.proofs.lemmas.List.{take_more}
 use Rattle.std.specs.List.{remove}
@@ -32,7 +32,7 @@ times_one c = rw (eq-eqb c c refl) refl
 pub times_other : (c x : ℕ) → x ≢ c → times c (x ∷ []) ≡ 0
 unfolding times
 times_other c x ne =
-    elim (eqb_tells x c) as (λ _. cond (eqb x c) 1 0 + 0 ≡ 0) [
+    elim (eqb_tells x c) [
       | inl t ↦ absurd (ne t.1)
       | inr f ↦ ap (λ b. cond b 1 0 + 0) f.0
     ]
@@ -40,7 +40,7 @@ times_other c x ne =
 -- a number that stands in a list of one is that one
 pub times_same : (c x : ℕ) → 0 < times c (x ∷ []) → x ≡ c
 times_same c x h =
-    elim (eqb_tells x c) as (λ _. x ≡ c) [
+    elim (eqb_tells x c) [
       | inl t ↦ t.1
       | inr f ↦ absurd (omega (arith, times_other c x f.1))
     ]
@@ -69,7 +69,7 @@ pub at_times : (c : ℕ) (xs : List ℕ) → 0 < times c xs
     → (i : ℕ) × (i < length xs) × (get_or xs i 0 ≡ c)
 at_times c [] h = absurd (omega (arith, times_none c))
 at_times c (x ∷ xs) h =
-    elim (eqb_tells x c) as (λ _. (i : ℕ) × (i < length (x ∷ xs)) × (get_or (x ∷ xs) i 0 ≡ c)) [
+    elim (eqb_tells x c) [
       | inl t ↦ (0, omega arith, t.1)
       | inr f ↦
           let more : (i : ℕ) × (i < length xs) × (get_or xs i 0 ≡ c) =

@@ -41,9 +41,7 @@ pub stands_either : (es fs : List Event) (k : ℕ) (x : Event) → StandsAt (es 
 stands_either [] fs k x at = inr (k, omega arith, at)
 stands_either (y ∷ es) fs zero x at = inl at
 stands_either (y ∷ es) fs (suc k) x at =
-    elim (stands_either es fs k x at)
-    as (λ _. StandsAt (y ∷ es) (suc k) x
-    ⊎ ((j : ℕ) × (suc k ≡ length (y ∷ es) + j) × StandsAt fs j x)) [
+    elim (stands_either es fs k x at) [
       | inl before ↦ inl before
       | inr r ↦ inr (r.0, omega (arith, r.1), r.2)
     ]
@@ -65,7 +63,7 @@ begins_stands : (c : ℕ) (es : List Event) → 0 < begins c es
 unfolding begins
 begins_stands c [] h = absurd (omega (arith, h))
 begins_stands c (Begin b ∷ es) h =
-    elim (eqb_tells b c) as (λ _. (k : ℕ) × StandsAt (Begin b ∷ es) k (Begin c)) [
+    elim (eqb_tells b c) [
       | inl t ↦ (0, ap (λ n. Some (Begin n)) t.1)
       | inr f ↦
           let fewer : 0 < cond false 1 0 + begins c es =
@@ -77,7 +75,7 @@ begins_stands c (Crash b ∷ es) h = let r = begins_stands c es h in (suc r.0, r
 
 ends_left : (es fs : List Event) (k c : ℕ) → EndsAt es k c → EndsAt (es ++ fs) k c
 ends_left es fs k c at =
-    elim at as (λ _. EndsAt (es ++ fs) k c) [
+    elim at [
       | inl x ↦ inl (stands_left es fs k (End c) x)
       | inr x ↦ inr (stands_left es fs k (Crash c) x)
     ]
@@ -85,7 +83,7 @@ ends_left es fs k c at =
 ends_right : (es fs : List Event) (k c : ℕ) → EndsAt fs k c
     → (index : ℕ) × (index ≡ length es + k) × EndsAt (es ++ fs) index c
 ends_right es fs k c at =
-    elim at as (λ _. (index : ℕ) × (index ≡ length es + k) × EndsAt (es ++ fs) index c) [
+    elim at [
       | inl x ↦ let r = stands_right es fs k (End c) x in (r.0, r.1, inl r.2)
       | inr x ↦ let r = stands_right es fs k (Crash c) x in (r.0, r.1, inr r.2)
     ]
@@ -93,17 +91,15 @@ ends_right es fs k c at =
 ends_either : (es fs : List Event) (k c : ℕ) → EndsAt (es ++ fs) k c
     → EndsAt es k c ⊎ ((j : ℕ) × (k ≡ length es + j) × EndsAt fs j c)
 ends_either es fs k c at =
-    elim at as (λ _. EndsAt es k c ⊎ ((j : ℕ) × (k ≡ length es + j) × EndsAt fs j c)) [
-      | inl x ↦ elim (stands_either es fs k (End c) x)
-          as (λ _. EndsAt es k c ⊎ ((j : ℕ) × (k ≡ length es + j) × EndsAt fs j c)) [
-            | inl y ↦ inl (inl y)
-            | inr r ↦ inr (r.0, r.1, inl r.2)
-          ]
-      | inr x ↦ elim (stands_either es fs k (Crash c) x)
-          as (λ _. EndsAt es k c ⊎ ((j : ℕ) × (k ≡ length es + j) × EndsAt fs j c)) [
-            | inl y ↦ inl (inr y)
-            | inr r ↦ inr (r.0, r.1, inr r.2)
-          ]
+    elim at [
+      | inl x ↦ elim (stands_either es fs k (End c) x) [
+        | inl y ↦ inl (inl y)
+        | inr r ↦ inr (r.0, r.1, inl r.2)
+      ]
+      | inr x ↦ elim (stands_either es fs k (Crash c) x) [
+        | inl y ↦ inl (inr y)
+        | inr r ↦ inr (r.0, r.1, inr r.2)
+      ]
     ]
 
 -- a call of the first part is over when one of the second begins
@@ -135,10 +131,7 @@ cut_order es fs [] quiet begun all = (
   λ c h. absurd (omega (arith, h, times_none c)),
 )
 cut_order es fs (x ∷ order) quiet begun all =
-    elim (cases_lt 0 (begins x es))
-    as (λ _. (front : List ℕ) × (back : List ℕ) × (x ∷ order ≡ front ++ back)
-    × ((c : ℕ) → 0 < times c front → 0 < begins c es)
-    × ((c : ℕ) → 0 < times c back → 0 < begins c fs)) [
+    elim (cases_lt 0 (begins x es)) [
       | inl some ↦
           let r = cut_order es fs order quiet
           (λ c h. begun c (omega (arith, h, times-cons c x order)))
@@ -146,7 +139,7 @@ cut_order es fs (x ∷ order) quiet begun all =
             x ∷ r.0,
             r.1,
             ap (λ (l : List ℕ). x ∷ l) r.2,
-            λ c h. elim (cases_lt 0 (times c (x ∷ []))) as (λ _. 0 < begins c es) [
+            λ c h. elim (cases_lt 0 (times c (x ∷ []))) [
               | inl here ↦ subst (λ y. 0 < begins y es) (times_same c x here) some
               | inr not ↦ r.3 c (omega (arith, h, not, times-cons c x r.0))
             ],
@@ -157,9 +150,9 @@ cut_order es fs (x ∷ order) quiet begun all =
         x ∷ order,
         refl,
         λ c h. absurd (omega (arith, h, times_none c)),
-        λ c h. elim (cases_lt 0 (begins c es)) as (λ _. 0 < begins c fs) [
+        λ c h. elim (cases_lt 0 (begins c es)) [
           | inr not ↦ omega (arith, not, begun c h)
-          | inl early ↦ elim (cases_lt 0 (times c (x ∷ []))) as (λ _. 0 < begins c fs) [
+          | inl early ↦ elim (cases_lt 0 (times c (x ∷ []))) [
             | inl here ↦
                 let same : 0 < begins x es =
                 subst (λ y. 0 < begins y es) (sym (times_same c x here)) early in
@@ -203,7 +196,7 @@ answered_right es fs c a = let r = stands_right es fs a.0 (End c) a.1 in (r.0, r
 pub all_pairs_join : (P : ℕ → ℕ → Type 0) (xs ys : List ℕ) → AllPairs P xs → AllPairs P ys
     → ((x y : ℕ) → 0 < times x xs → 0 < times y ys → P x y) → AllPairs P (xs ++ ys)
 all_pairs_join P xs ys a b across = λ i j d less within.
-    elim (cases_lt j (length xs)) as (λ _. P (get_or (xs ++ ys) i d) (get_or (xs ++ ys) j d)) [
+    elim (cases_lt j (length xs)) [
       | inl early ↦
           subst (λ y. P (get_or (xs ++ ys) i d) y) (sym (get_or-append xs ys d j early))
           (subst (λ x. P x (get_or xs j d)) (sym (get_or-append xs ys d i (omega arith)))
@@ -215,7 +208,7 @@ all_pairs_join P xs ys a b across = λ i j d less within.
           ap (λ n. get_or (xs ++ ys) n d) there ∙ get_or-append-add xs ys k d in
           let inside : k < length ys = omega (arith, there, within, length-append xs ys) in
           subst (λ y. P (get_or (xs ++ ys) i d) y) (sym second)
-          (elim (cases_lt i (length xs)) as (λ _. P (get_or (xs ++ ys) i d) (get_or ys k d)) [
+          (elim (cases_lt i (length xs)) [
             | inl before ↦
                 subst (λ x. P x (get_or ys k d)) (sym (get_or-append xs ys d i before))
                 (across (get_or xs i d) (get_or ys k d) (times_at xs i d before)
@@ -234,8 +227,8 @@ all_pairs_join P xs ys a b across = λ i j d less within.
 pub over_in_left : (es fs : List Event) (c d : ℕ) → IsSound (es ++ fs) → 0 < begins d es
     → IsOver (es ++ fs) c d → IsOver es c d
 over_in_left es fs c d whole some o =
-    elim (stands_either es fs o.1 (Begin d) o.4) as (λ _. IsOver es c d) [
-      | inl begun ↦ elim (ends_either es fs o.0 c o.3) as (λ _. IsOver es c d) [
+    elim (stands_either es fs o.1 (Begin d) o.4) [
+      | inl begun ↦ elim (ends_either es fs o.0 c o.3) [
         | inl ended ↦ (o.0, o.1, o.2, ended, begun)
         | inr r ↦ absurd (omega (arith, r.1, o.2, stands_within es o.1 (Begin d) begun))
       ]
@@ -253,7 +246,7 @@ over_in_left es fs c d whole some o =
 pub over_in_right : (es fs : List Event) (c d : ℕ) → IsSound es → IsSound (es ++ fs)
     → 0 < begins c fs → 0 < begins d fs → IsOver (es ++ fs) c d → IsOver fs c d
 over_in_right es fs c d first whole some late o =
-    elim (stands_either es fs o.1 (Begin d) o.4) as (λ _. IsOver fs c d) [
+    elim (stands_either es fs o.1 (Begin d) o.4) [
       | inl begun ↦
           absurd
           (omega (
@@ -263,7 +256,7 @@ over_in_right es fs c d first whole some late o =
             whole.once d,
             begins-append d es fs,
           ))
-      | inr r ↦ elim (ends_either es fs o.0 c o.3) as (λ _. IsOver fs c d) [
+      | inr r ↦ elim (ends_either es fs o.0 c o.3) [
         | inl ended ↦
             absurd
             (omega (

@@ -1,5 +1,5 @@
 -- One event more.
-use Rattle.std.proofs.Common.{◌≡◌, ◌≢◌, ℕ, zero, suc, ◌+◌, ◌<◌, ◌≤◌, ◌⊎◌, List, [], ◌∷◌, ◌++◌, length, cond, eqb, refl, sym, ap, subst, arith, inl, inr}
+use Rattle.std.proofs.Common.{◌≡◌, ◌≢◌, ℕ, zero, suc, ◌+◌, ◌<◌, ◌⊎◌, List, [], ◌∷◌, ◌++◌, length, cond, eqb, refl, sym, ap, subst, arith, inl, inr}
 use Rattle.std.proofs.lemmas.Bool.{cases_eq}
 use Rattle.histories.specs.declared.event.Event.{Event}
 use Rattle.histories.specs.declared.event.Event.TheVariants.{Begin, End, Crash}
@@ -36,7 +36,7 @@ begins_crash c d (Crash b ∷ es) = begins_crash c d es
 pub begins_ends : (c d : ℕ) (es : List Event) (e : Event) → Ends e d
     → begins c (es ++ e ∷ []) ≡ begins c es
 begins_ends c d es e ends =
-    elim ends as (λ _. begins c (es ++ e ∷ []) ≡ begins c es) [
+    elim ends [
       | inl is ↦ subst (λ (x : Event). begins c (es ++ x ∷ []) ≡ begins c es) (sym is)
           (begins_end c d es)
       | inr is ↦ subst (λ (x : Event). begins c (es ++ x ∷ []) ≡ begins c es) (sym is)
@@ -50,12 +50,12 @@ begins_none c = refl
 -- the event ends one call
 pub ends_one : (e : Event) (c d : ℕ) → Ends e c → Ends e d → c ≡ d
 ends_one e c d a b =
-    elim a as (λ _. c ≡ d) [
-      | inl x ↦ elim b as (λ _. c ≡ d) [
+    elim a [
+      | inl x ↦ elim b [
         | inl y ↦ cc
         | inr y ↦ absurd (cc)
       ]
-      | inr x ↦ elim b as (λ _. c ≡ d) [
+      | inr x ↦ elim b [
         | inl y ↦ absurd (cc)
         | inr y ↦ cc
       ]
@@ -63,7 +63,7 @@ ends_one e c d a b =
 
 pub begin_no_end : (c d : ℕ) → Ends (Begin c) d → ⊥
 begin_no_end c d ends =
-    elim ends as (λ _. ⊥) [
+    elim ends [
       | inl x ↦ absurd (cc)
       | inr x ↦ absurd (cc)
     ]
@@ -86,8 +86,7 @@ stands_cases [] e zero x at = inr (refl, cc)
 stands_cases [] e (suc k) x at = absurd (cc)
 stands_cases (y ∷ es) e zero x at = inl at
 stands_cases (y ∷ es) e (suc k) x at =
-    elim (stands_cases es e k x at)
-    as (λ _. StandsAt (y ∷ es) (suc k) x ⊎ ((suc k ≡ length (y ∷ es)) × (e ≡ x))) [
+    elim (stands_cases es e k x at) [
       | inl before ↦ inl before
       | inr last ↦ inr (ap suc last.0, last.1)
     ]
@@ -99,7 +98,7 @@ stands_within (y ∷ es) (suc k) x at = omega (arith, stands_within es k x at)
 
 ends_still : (es : List Event) (e : Event) (k c : ℕ) → EndsAt es k c → EndsAt (es ++ e ∷ []) k c
 ends_still es e k c at =
-    elim at as (λ _. EndsAt (es ++ e ∷ []) k c) [
+    elim at [
       | inl x ↦ inl (stands_still es e k (End c) x)
       | inr x ↦ inr (stands_still es e k (Crash c) x)
     ]
@@ -107,22 +106,20 @@ ends_still es e k c at =
 ends_cases : (es : List Event) (e : Event) (k c : ℕ) → EndsAt (es ++ e ∷ []) k c
     → EndsAt es k c ⊎ ((k ≡ length es) × Ends e c)
 ends_cases es e k c at =
-    elim at as (λ _. EndsAt es k c ⊎ ((k ≡ length es) × Ends e c)) [
-      | inl x ↦ elim (stands_cases es e k (End c) x)
-          as (λ _. EndsAt es k c ⊎ ((k ≡ length es) × Ends e c)) [
-            | inl before ↦ inl (inl before)
-            | inr last ↦ inr (last.0, inl last.1)
-          ]
-      | inr x ↦ elim (stands_cases es e k (Crash c) x)
-          as (λ _. EndsAt es k c ⊎ ((k ≡ length es) × Ends e c)) [
-            | inl before ↦ inl (inr before)
-            | inr last ↦ inr (last.0, inr last.1)
-          ]
+    elim at [
+      | inl x ↦ elim (stands_cases es e k (End c) x) [
+        | inl before ↦ inl (inl before)
+        | inr last ↦ inr (last.0, inl last.1)
+      ]
+      | inr x ↦ elim (stands_cases es e k (Crash c) x) [
+        | inl before ↦ inl (inr before)
+        | inr last ↦ inr (last.0, inr last.1)
+      ]
     ]
 
 pub ends_within : (es : List Event) (k c : ℕ) → EndsAt es k c → k < length es
 ends_within es k c at =
-    elim at as (λ _. k < length es) [
+    elim at [
       | inl x ↦ stands_within es k (End c) x
       | inr x ↦ stands_within es k (Crash c) x
     ]
@@ -133,7 +130,7 @@ ended_still es e c h = (h.0, ends_still es e h.0 c h.1)
 
 pub ended_now : (es : List Event) (e : Event) (c : ℕ) → Ends e c → HasEnded (es ++ e ∷ []) c
 ended_now es e c ends =
-    elim ends as (λ _. HasEnded (es ++ e ∷ []) c) [
+    elim ends [
       | inl is ↦ (length es, inl (subst (λ (x : Event). StandsAt (es ++ e ∷ []) (length es) x) is (stands_last es e)))
       | inr is ↦ (length es, inr (subst (λ (x : Event). StandsAt (es ++ e ∷ []) (length es) x) is (stands_last es e)))
     ]
@@ -141,7 +138,7 @@ ended_now es e c ends =
 pub ended_cases : (es : List Event) (e : Event) (c : ℕ) → HasEnded (es ++ e ∷ []) c
     → HasEnded es c ⊎ Ends e c
 ended_cases es e c h =
-    elim (ends_cases es e h.0 c h.1) as (λ _. HasEnded es c ⊎ Ends e c) [
+    elim (ends_cases es e h.0 c h.1) [
       | inl before ↦ inl (h.0, before)
       | inr last ↦ inr last.1
     ]
@@ -159,7 +156,7 @@ answered_now es c = (length es, stands_last es (End c))
 pub answered_cases : (es : List Event) (e : Event) (c : ℕ) → IsAnswered (es ++ e ∷ []) c
     → IsAnswered es c ⊎ (e ≡ End c)
 answered_cases es e c a =
-    elim (stands_cases es e a.0 (End c) a.1) as (λ _. IsAnswered es c ⊎ (e ≡ End c)) [
+    elim (stands_cases es e a.0 (End c) a.1) [
       | inl before ↦ inl (a.0, before)
       | inr last ↦ inr last.1
     ]
@@ -182,8 +179,8 @@ over_now es c d a = (
 pub over_cases : (es : List Event) (e : Event) (c d : ℕ) → IsOver (es ++ e ∷ []) c d
     → IsOver es c d ⊎ (e ≡ Begin d)
 over_cases es e c d o =
-    elim (stands_cases es e o.1 (Begin d) o.4) as (λ _. IsOver es c d ⊎ (e ≡ Begin d)) [
-      | inl begun ↦ elim (ends_cases es e o.0 c o.3) as (λ _. IsOver es c d ⊎ (e ≡ Begin d)) [
+    elim (stands_cases es e o.1 (Begin d) o.4) [
+      | inl begun ↦ elim (ends_cases es e o.0 c o.3) [
         | inl ended ↦ inl (o.0, o.1, o.2, ended, begun)
         | inr last ↦
             let within : o.1 < length es = stands_within es o.1 (Begin d) begun in
@@ -199,7 +196,7 @@ over_ended es c d o = (o.0, o.3)
 pub open_begin_still : (es : List Event) (c x : ℕ) → IsOpen es x → IsOpen (es ++ Begin c ∷ []) x
 open_begin_still es c x o = (
   omega (arith, o.0, begins_begin x c es),
-  λ h. elim (ended_cases es (Begin c) x h) as (λ _. ⊥) [
+  λ h. elim (ended_cases es (Begin c) x h) [
     | inl before ↦ o.1 before
     | inr ends ↦ begin_no_end c x ends
   ],
@@ -209,7 +206,7 @@ pub open_begin_now : (es : List Event) (c : ℕ) → IsSound es → begins c es 
     → IsOpen (es ++ Begin c ∷ []) c
 open_begin_now es c s fresh = (
   omega (arith, begins_begin c c es, times_one c),
-  λ h. elim (ended_cases es (Begin c) c h) as (λ _. ⊥) [
+  λ h. elim (ended_cases es (Begin c) c h) [
     | inl before ↦ absurd (omega (arith, fresh, s.begun c before))
     | inr ends ↦ begin_no_end c c ends
   ],
@@ -218,7 +215,7 @@ open_begin_now es c s fresh = (
 pub open_begin_cases : (es : List Event) (c x : ℕ) → IsOpen (es ++ Begin c ∷ []) x
     → IsOpen es x ⊎ (c ≡ x)
 open_begin_cases es c x o =
-    elim (cases_eq c x) as (λ _. IsOpen es x ⊎ (c ≡ x)) [
+    elim (cases_eq c x) [
       | inl e ↦ inr e
       | inr ne ↦ inl (
         omega (arith, o.0, begins_begin x c es, times_other x c ne),
@@ -230,7 +227,7 @@ pub open_end_still : (es : List Event) (e : Event) (c x : ℕ) → Ends e c → 
     → IsOpen (es ++ e ∷ []) x
 open_end_still es e c x ends o ne = (
   omega (arith, o.0, begins_ends x c es e ends),
-  λ h. elim (ended_cases es e x h) as (λ _. ⊥) [
+  λ h. elim (ended_cases es e x h) [
     | inl before ↦ o.1 before
     | inr now ↦ ne (ends_one e x c now ends)
   ],
@@ -253,12 +250,12 @@ pub sound_begin : (es : List Event) (c : ℕ) → IsSound es → begins c es ≡
     → IsSound (es ++ Begin c ∷ [])
 sound_begin es c s none = record {
   once = λ x.
-      elim (cases_eq c x) as (λ _. begins x (es ++ Begin c ∷ []) ≤ 1) [
+      elim (cases_eq c x) [
         | inl e ↦ omega (arith, begins_begin x c es, subst (λ y. begins y es ≡ 0) e none, subst (λ y. times y (c ∷ []) ≡ 1) e (times_one c))
         | inr ne ↦ omega (arith, begins_begin x c es, times_other x c ne, s.once x)
       ];
   begun = λ x a.
-      elim (ended_cases es (Begin c) x a) as (λ _. 0 < begins x (es ++ Begin c ∷ [])) [
+      elim (ended_cases es (Begin c) x a) [
         | inl before ↦ omega (arith, begins_begin x c es, s.begun x before)
         | inr ends ↦ absurd (begin_no_end c x ends)
       ];
@@ -269,7 +266,7 @@ pub sound_end : (es : List Event) (e : Event) (c : ℕ) → Ends e c → IsSound
 sound_end es e c ends s some = record {
   once = λ x. omega (arith, begins_ends x c es e ends, s.once x);
   begun = λ x a.
-      elim (ended_cases es e x a) as (λ _. 0 < begins x (es ++ e ∷ [])) [
+      elim (ended_cases es e x a) [
         | inl before ↦ omega (arith, begins_ends x c es e ends, s.begun x before)
         | inr now ↦
             let same : c ≡ x = ends_one e c x ends now in
@@ -281,7 +278,7 @@ pub sound_none : IsSound []
 unfolding begins
 sound_none = record {
   once = λ x. omega arith;
-  begun = λ x a. elim a.1 as (λ _. 0 < begins x []) [
+  begun = λ x a. elim a.1 [
     | inl h ↦ absurd (cc)
     | inr h ↦ absurd (cc)
   ];

@@ -26,7 +26,7 @@ module _ {S : Type 0} (Step : S → ℕ → S → Type 0) where
     λ a b. b.3 history
         (frontier_explained Step front.links.items front.slots.items events olds front.configs.items
         a.0 a.1),
-    λ a b. elim (cases_order index other) as (λ _. index ≡ other) [
+    λ a b. elim (cases_order index other) [
       | inl same ↦ same
       | inr (inl less) ↦ absurd (not_before olds events index other history less a b)
       | inr (inr more) ↦ absurd (not_before olds events other index history more b a)

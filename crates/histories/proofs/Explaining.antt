@@ -1,5 +1,5 @@
 -- What explains a history, and one event more.
-use Rattle.std.proofs.Common.{◌≡◌, ℕ, suc, ◌+◌, ◌<◌, ◌≤◌, List, [], ◌∷◌, ◌++◌, length, get_or, refl, sym, ◌∙◌, subst, arith, inl, inr, Option, length-append, append-nil, append_assoc}
+use Rattle.std.proofs.Common.{◌≡◌, ℕ, suc, ◌+◌, ◌<◌, List, [], ◌∷◌, ◌++◌, length, get_or, refl, sym, ◌∙◌, subst, arith, inl, inr, Option, length-append, append-nil, append_assoc}
 use Rattle.std.specs.Prelude.{AllPairs}
 use Rattle.std.proofs.Math.ListN.{get_or-append}
 use Rattle.std.proofs.Math.Seq.{get_or-append_seam}
@@ -63,8 +63,7 @@ module _ {S : Type 0} (Step : S → ℕ → S → Type 0) where
       λ c. times-append c order (call ∷ []) in (
         record {
           once = λ c.
-              elim (cases_lt 0 (times c (call ∷ [])))
-              as (λ _. times c (order ++ call ∷ []) ≤ 1) [
+              elim (cases_lt 0 (times c (call ∷ []))) [
                 | inl here ↦
                     let same : call ≡ c = times_same c call here in
                     let none : times c order ≡ 0 = subst (λ x. times x order ≡ 0) same fresh in
@@ -74,7 +73,7 @@ module _ {S : Type 0} (Step : S → ℕ → S → Type 0) where
                 | inr away ↦ omega (arith, counts c, away, ex.once c)
               ];
           begun = λ c some.
-              elim (cases_lt 0 (times c (call ∷ []))) as (λ _. 0 < begins c es) [
+              elim (cases_lt 0 (times c (call ∷ []))) [
                 | inl here ↦ subst (λ x. 0 < begins x es) (times_same c call here) o.0
                 | inr away ↦ ex.begun c (omega (arith, some, counts c, away))
               ];
@@ -158,7 +157,7 @@ module _ {S : Type 0} (Step : S → ℕ → S → Type 0) where
             let other : times c (call ∷ []) ≡ 0 =
             times_other c call
             (λ e. absurd (omega (arith, begun, subst (λ x. begins x es ≡ 0) e fresh))) in
-            elim (cases_lt 0 (times c before)) as (λ _. 0 < times c before) [
+            elim (cases_lt 0 (times c before)) [
               | inl some ↦ some
               | inr none ↦
                   absurd
@@ -179,13 +178,12 @@ module _ {S : Type 0} (Step : S → ℕ → S → Type 0) where
   explains_begin es old new order call fresh ex = record {
     once = ex.once;
     begun = λ c some. omega (arith, ex.begun c some, begins_begin c call es);
-    answered = λ c a. elim (answered_cases es (Begin call) c a) as (λ _. 0 < times c order) [
+    answered = λ c a. elim (answered_cases es (Begin call) c a) [
       | inl before ↦ ex.answered c before
       | inr e ↦ absurd (cc)
     ];
     real_time = λ i j d less within over.
-        elim (over_cases es (Begin call) (get_or order j d) (get_or order i d) over)
-        as (λ _. ⊥) [
+        elim (over_cases es (Begin call) (get_or order j d) (get_or order i d) over) [
           | inl before ↦ ex.real_time i j d less within before
           | inr e ↦
               let same : call ≡ get_or order i d = cc in
@@ -203,7 +201,7 @@ module _ {S : Type 0} (Step : S → ℕ → S → Type 0) where
   explains_end es e old new order call ends made ex = record {
     once = ex.once;
     begun = λ c some. omega (arith, ex.begun c some, begins_ends c call es e ends);
-    answered = λ c a. elim (answered_cases es e c a) as (λ _. 0 < times c order) [
+    answered = λ c a. elim (answered_cases es e c a) [
       | inl before ↦ ex.answered c before
       | inr is ↦
           let same : c ≡ call = ends_one e c call (inl is) ends in
@@ -211,8 +209,7 @@ module _ {S : Type 0} (Step : S → ℕ → S → Type 0) where
           (made (subst (λ x. e ≡ End x) same is))
     ];
     real_time = λ i j d less within over.
-        elim (over_cases es e (get_or order j d) (get_or order i d) over)
-        as (λ _. ⊥) [
+        elim (over_cases es e (get_or order j d) (get_or order i d) over) [
           | inl before ↦ ex.real_time i j d less within before
           | inr is ↦ begin_no_end (get_or order i d) call (subst (λ x. Ends x call) is ends)
         ];

@@ -185,7 +185,7 @@ module _ {S : Type 0} (Step : S → ℕ → S → Type 0) where
         → Gathers (FromOne (IsDropped t) configs) done all
         → AreSound links more (es ++ Crash c ∷ []) olds all
     crash_sound links es olds configs done all c here table sound g d k has =
-        elim (d.sound k has) as (λ _. IsFollowed Step links more (es ++ Crash c ∷ []) olds k) [
+        elim (d.sound k has) [
           | inl closed ↦
               done_sound links es (Crash c) olds configs done c (inr refl) here table sound g k
               closed
@@ -196,7 +196,7 @@ module _ {S : Type 0} (Step : S → ℕ → S → Type 0) where
         → IsClosed Step slots configs t done → Gathers (FromOne (IsDropped t) configs) done all
         → (k : Config S) → Contains all k → bit_at k.waiting t ≡ 0
     crash_gone configs done all c here g d k has =
-        elim (d.sound k has) as (λ _. bit_at k.waiting t ≡ 0) [
+        elim (d.sound k has) [
           | inl closed ↦ (g.sound k closed).1
           | inr found ↦
               ap (λ w. bit_at w t) found.2.2
@@ -213,7 +213,7 @@ module _ {S : Type 0} (Step : S → ℕ → S → Type 0) where
         let h = slot_64 slots t c few here in
         let from = l.0 in
         let fewer = l.2.1 in
-        elim (bit_cases fewer t) as (λ _. LeadTo Step slots all new (cleared rest t)) [
+        elim (bit_cases fewer t) [
           | inl none ↦
               leads_kept Step slots (FromOne (IsDropped t) configs) done all new (cleared rest t) d
               (g.complete new (cleared rest t) (
@@ -260,8 +260,7 @@ module _ {S : Type 0} (Step : S → ℕ → S → Type 0) where
           let lead = f.complete old order new from
           (explains_open Step es (Crash c) old new order c (inr refl) ex) in
           let gone = crash_gone configs done all c here g d in
-          elim (bit_cases lead.0 t)
-          as (λ _. (rest : ℕ) × Leaves more order rest × LeadTo Step more all new rest) [
+          elim (bit_cases lead.0 t) [
             | inl none ↦ (
               lead.0,
               leaves_freed order lead.0 lead.1,
@@ -378,7 +377,7 @@ module _ {S : Type 0} (Step : S → ℕ → S → Type 0) where
       → Gathers (IsFirst olds) [] configs → IsFrontier Step links [] [] olds configs
   frontier_first links olds configs g =
       frontier_fresh links [] olds configs table_none
-      (λ k has. elim (g.sound k has) as (λ _. Contains olds k.state × (path_of k ≡ no_path)) [
+      (λ k has. elim (g.sound k has) [
         | inl none ↦ absurd (nothing_in Step [] k none)
         | inr found ↦ (found.0, found.2)
       ])

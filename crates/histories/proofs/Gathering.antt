@@ -9,7 +9,7 @@ use Rattle.std.proofs.lemmas.List.Quantifiers.{all_pairs_push}
 use Rattle.histories.specs.declared.front.Config.{Config}
 use Rattle.histories.specs.Histories.{AreAll}
 use Rattle.histories.specs.Frontier.{IsSame, IsWaiting, Path, cleared, no_path, path_more, path_of}
-use Rattle.histories.specs.Gathering.{FromOne, Gathers, IsAt, IsCopy, IsDone, IsDropped, IsFirst, IsKnown, IsNext, IsMadeIn, IsNextAt, IsNextBeside, IsNextIn, IsNextOther, Spot, spot_of}
+use Rattle.histories.specs.Gathering.{FromOne, Gathers, IsCopy, IsDone, IsDropped, IsFirst, IsKnown, IsNext, IsMadeIn, IsNextAt, IsNextBeside, IsNextIn, IsNextOther, Spot, spot_of}
 use Rattle.histories.proofs.Bits.{slot_once}
 
 spot_with : {S : Type 0} → S → ℕ → Path → Spot S
@@ -39,7 +39,7 @@ module _ {S : Type 0} where
       → ((k : Spot S) → P k → Q k) → ((k : Spot S) → Q k → P k) → Gathers P old new
       → Gathers Q old new
   gathers_as P Q old new there back g = record {
-    sound = λ k has. elim (g.sound k has) as (λ _. Contains old k ⊎ Q (spot_of k)) [
+    sound = λ k has. elim (g.sound k has) [
       | inl m ↦ inl m
       | inr p ↦ inr (there (spot_of k) p)
     ];
@@ -53,8 +53,8 @@ module _ {S : Type 0} where
       → ((k : Spot S) → R k → P k ⊎ Q k) → ((k : Spot S) → P k → R k)
       → ((k : Spot S) → Q k → R k) → Gathers P old mid → Gathers Q mid new → Gathers R old new
   gathers_then P Q R old mid new either first second f g = record {
-    sound = λ k has. elim (g.sound k has) as (λ _. Contains old k ⊎ R (spot_of k)) [
-      | inl m ↦ elim (f.sound k m) as (λ _. Contains old k ⊎ R (spot_of k)) [
+    sound = λ k has. elim (g.sound k has) [
+      | inl m ↦ elim (f.sound k m) [
         | inl n ↦ inl n
         | inr p ↦ inr (first (spot_of k) p)
       ]
@@ -62,7 +62,7 @@ module _ {S : Type 0} where
     ];
     kept = λ k has. g.kept k (f.kept k has);
     complete = λ k r.
-        elim (either k r) as (λ _. (known : Config S) × Contains new known × IsAt known k) [
+        elim (either k r) [
           | inl p ↦ let m = f.complete k p in (m.0, g.kept m.0 m.1, m.2)
           | inr q ↦ g.complete k q
         ];
@@ -84,11 +84,10 @@ module _ {S : Type 0} where
       → IsKnown configs config false
       → Gathers (IsCopy config) configs (configs ++ config ∷ [])
   gathers_new configs config is = record {
-    sound = λ k has. elim (Contains-push_cases configs config k has)
-        as (λ _. Contains configs k ⊎ IsCopy config (spot_of k)) [
-          | inl m ↦ inl m
-          | inr e ↦ inr (subst (λ (x : Config S). IsCopy config (spot_of x)) e (refl, refl, refl))
-        ];
+    sound = λ k has. elim (Contains-push_cases configs config k has) [
+      | inl m ↦ inl m
+      | inr e ↦ inr (subst (λ (x : Config S). IsCopy config (spot_of x)) e (refl, refl, refl))
+    ];
     kept = λ k has. Contains-append_left configs (config ∷ []) k has;
     complete = λ k copy. (config, Contains-push configs config, (sym copy.0, sym copy.1));
     once = λ a. all_pairs_push (λ x y. ¬ (IsSame x y)) configs config a (λ k d h. is k d h);
@@ -135,8 +134,7 @@ module _ {S : Type 0} where
   gathers_states from slot call states state old mid new f g =
       gathers_then (IsNextIn from slot call states) (IsNextIn from slot call (state ∷ []))
       (IsNextIn from slot call (states ++ state ∷ [])) old mid new
-      (λ k r. elim (Contains-push_cases states state k.state r.0)
-      as (λ _. IsNextIn from slot call states k ⊎ IsNextIn from slot call (state ∷ []) k) [
+      (λ k r. elim (Contains-push_cases states state k.state r.0) [
         | inl m ↦ inl (m, r.1, r.2)
         | inr e ↦ inr ((0, omega arith, e), r.1, r.2)
       ])
@@ -203,9 +201,7 @@ module _ {S : Type 0} where
         gathers_then (IsNextBeside Step slots from slot other)
         (IsNextOther Step slots from slot other)
         (IsNextBeside Step slots from slot (other + 1)) old mid new
-        (λ k r. elim (cases_order r.0 other)
-        as (λ _. IsNextBeside Step slots from slot other k
-        ⊎ IsNextOther Step slots from slot other k) [
+        (λ k r. elim (cases_order r.0 other) [
           | inl e ↦ inr (subst (λ i. IsNextOther Step slots from slot i k) e r.2)
           | inr (inl less) ↦ inl (r.0, less, r.2)
           | inr (inr more) ↦ absurd (omega (arith, r.1))
@@ -237,9 +233,7 @@ module _ {S : Type 0} where
     gathers_last from slot old mid new within f g =
         gathers_then (IsNextBeside Step slots from slot (length slots))
         (IsNextAt Step slots from slot) (IsNext Step slots from) old mid new
-        (λ k r. elim (cases_order r.0 slot)
-        as (λ _. IsNextBeside Step slots from slot (length slots) k
-        ⊎ IsNextAt Step slots from slot k) [
+        (λ k r. elim (cases_order r.0 slot) [
           | inl e ↦ inr (subst (λ i. IsNextAt Step slots from i k) e r.2)
           | inr (inl less) ↦ inl (r.0, r.1, ((λ e. absurd (omega (arith, less, e))), r.2))
           | inr (inr more) ↦ inl (r.0, r.1, ((λ e. absurd (omega (arith, more, e))), r.2))
@@ -252,8 +246,7 @@ module _ {S : Type 0} where
       → Gathers (Fact from) mid new → Gathers (FromOne Fact (layer ++ from ∷ [])) old new
   gathers_pushed Fact layer from old mid new f g =
       gathers_then (FromOne Fact layer) (Fact from) (FromOne Fact (layer ++ from ∷ [])) old mid new
-      (λ k r. elim (Contains-push_cases layer from r.0 r.1)
-      as (λ _. FromOne Fact layer k ⊎ Fact from k) [
+      (λ k r. elim (Contains-push_cases layer from r.0 r.1) [
         | inl m ↦ inl (r.0, m, r.2)
         | inr e ↦ inr (subst (λ (x : Config S). Fact x k) (sym e) r.2)
       ])
@@ -289,8 +282,7 @@ module _ {S : Type 0} where
       subst (λ l. Gathers (IsFirst l) old new) (sym one_more)
       (gathers_then (IsFirst (take at states)) (IsCopy config)
       (IsFirst (take at states ++ from ∷ [])) old mid new
-      (λ k r. elim (Contains-push_cases (take at states) from k.state r.0)
-      as (λ _. IsFirst (take at states) k ⊎ IsCopy config k) [
+      (λ k r. elim (Contains-push_cases (take at states) from k.state r.0) [
         | inl m ↦ inl (m, r.1, r.2)
         | inr e ↦ inr (sym e ∙ sym same, r.1 ∙ sym waits, r.2 ∙ sym made)
       ])
@@ -310,10 +302,10 @@ module _ {S : Type 0} where
   pub gathers_through : (Fact : Spot S → Type 0) (others old new : List (Config S))
       → Gathers Fact [] others → Gathers (FromOne IsCopy others) old new → Gathers Fact old new
   gathers_through Fact others old new f g = record {
-    sound = λ k has. elim (g.sound k has) as (λ _. Contains old k ⊎ Fact (spot_of k)) [
+    sound = λ k has. elim (g.sound k has) [
       | inl before ↦ inl before
       | inr copy ↦
-          elim (f.sound copy.0 copy.1) as (λ _. Contains old k ⊎ Fact (spot_of k)) [
+          elim (f.sound copy.0 copy.1) [
             | inl none ↦ absurd (omega (arith, none.1))
             | inr found ↦ inr
                 (subst (λ (s : Spot S). Fact s)

@@ -59,7 +59,7 @@ linked_more chain heads before number is within l =
     let end : get_or more last 0 ≡ head = get_or-append_seam before head [] 0 in
     record {
       reached = λ index h.
-          elim (cases_eq (chain index) number) as (λ _. index < get_or now (chain index) 0) [
+          elim (cases_eq (chain index) number) [
             | inl e ↦ subst (λ c. index < get_or now c 0) (sym e) (omega (arith, here, h, many))
             | inr ne ↦
                 let below : index < last =
@@ -67,8 +67,7 @@ linked_more chain heads before number is within l =
                 omega (arith, there (chain index) ne, l.reached index below)
           ];
       head = λ other index e.
-          elim (cases_eq other number)
-          as (λ _. (index < length more) × (chain index ≡ other)) [
+          elim (cases_eq other number) [
             | inl same ↦
                 let at : index ≡ last =
                 omega (arith, here, e, ap (λ c. get_or now c 0) same) in
@@ -78,7 +77,7 @@ linked_more chain heads before number is within l =
                 (omega (arith, before_.0, many), before_.1)
           ];
       kept = λ index at h below e.
-          elim (cases_eq at last) as (λ _. index < get_or more at 0) [
+          elim (cases_eq at last) [
             | inl same ↦
                 let chained : chain index ≡ number = e ∙ (ap chain same ∙ sym is) in
                 omega (
@@ -93,7 +92,7 @@ linked_more chain heads before number is within l =
                 omega (arith, was at less, l.kept index at h less e)
           ];
       link = λ at index below e.
-          elim (cases_eq at last) as (λ _. (index < at) × (chain index ≡ chain at)) [
+          elim (cases_eq at last) [
             | inl same ↦
                 let before_ = l.head number index
                 (sym end ∙ (ap (λ i. get_or more i 0) (sym same) ∙ e)) in
@@ -107,8 +106,7 @@ linked_more chain heads before number is within l =
 -- each of many copies of a number is that
 pub copies : (count index number : ℕ) → get_or (replicate count number) index number ≡ number
 copies count index number =
-    elim (cases_lt index count)
-    as (λ _. get_or (replicate count number) index number ≡ number) [
+    elim (cases_lt index count) [
       | inl within ↦ get_or-replicate count index number number within
       | inr past ↦
           get_or_past (replicate count number) index number
@@ -164,7 +162,7 @@ module _ {S : Type 0} where
       → AreChained configs heads before → IsFollowing configs before config left
   following_head configs heads before config left is c =
       let linked = c.1 config in record {
-        within = elim (cases_eq left 0) as (λ _. left ≤ length before) [
+        within = elim (cases_eq left 0) [
           | inl none ↦ omega (arith, none)
           | inr some ↦
               let at = linked.head (chain_of config.waiting) (left - 1) (omega (arith, is, some)) in
@@ -192,7 +190,7 @@ module _ {S : Type 0} where
       → IsFollowing configs before config next × (next < left)
   following_more configs heads before config known at left next one is item other c f =
       let below : at < length before = omega (arith, f.within, one) in
-      let less : next < left = elim (cases_eq next 0) as (λ _. next < left) [
+      let less : next < left = elim (cases_eq next 0) [
         | inl none ↦ omega (arith, none, one)
         | inr some ↦
             let to = (c.1 config).link at (next - 1) below (omega (arith, is, some)) in
@@ -203,7 +201,7 @@ module _ {S : Type 0} where
           here = λ index d e.
               ((c.1 d).link at index below (sym is ∙ e)).1 ∙ f.here at d one;
           others = λ index d from end same.
-              elim (cases_order index at) as (λ _. ⊥) [
+              elim (cases_order index at) [
                 | inl e ↦ other
                     (subst (λ (k : Config S). IsSame k config)
                     (ap (λ i. get_or configs i d) e
@@ -231,7 +229,7 @@ module _ {S : Type 0} where
       → All (λ known. ¬ (IsSame known config)) (drop from configs)
       → All (λ known. ¬ (IsSame known config)) configs
   all_other configs config from first rest index d below =
-      elim (cases_lt index from) as (λ _. ¬ (IsSame (get_or configs index d) config)) [
+      elim (cases_lt index from) [
         | inl less ↦ first index d (omega arith) less
         | inr past ↦
             let at : from + (index - from) ≡ index = omega (arith, past) in

@@ -11,7 +11,7 @@ pub record AreDone {X : Type 0} (R : X → X → Type 0) (olds now : List X) (at
 
 pub less_of : (i n : ℕ) → i < n + 1 → i ≢ n → i < n
 less_of i n h ne =
-    elim (cases_lt i n) as (λ _. i < n) [
+    elim (cases_lt i n) [
       | inl less ↦ less
       | inr past ↦ absurd (ne (omega (arith, h, past)))
     ]
@@ -31,8 +31,7 @@ pub done_more : {X : Type 0} (R : X → X → Type 0) (olds now : List X) (at : 
 done_more {X} R olds now at item one h is r a = record {
   many = length-set now at one ∙ a.many;
   done = λ index d less.
-      elim (cases_eq index at)
-      as (λ _. R (get_or olds index d) (get_or (set now at one) index d)) [
+      elim (cases_eq index at) [
         | inl e ↦
             subst (λ i. R (get_or olds i d) (get_or (set now at one) i d)) (sym e)
             (subst (λ (y : X). R (get_or olds at d) y) (sym (get_or-set_same now at one d h))

@@ -1,5 +1,5 @@
 -- Calls that wait and are made.
-use Rattle.std.proofs.Common.{◌≡◌, ◌≢◌, ◌⊎◌, ℕ, ◌+◌, ◌<◌, ◌≤◌, List, [], ◌∷◌, ◌++◌, length, refl, sym, ◌∙◌, ap, subst, arith, inl, inr, Option, append-nil, append_assoc}
+use Rattle.std.proofs.Common.{◌≡◌, ◌≢◌, ◌⊎◌, ℕ, ◌<◌, ◌≤◌, List, [], ◌∷◌, ◌++◌, length, refl, sym, ◌∙◌, ap, subst, arith, inl, inr, Option, append-nil, append_assoc}
 use Rattle.std.specs.Int.{bit_at}
 use Rattle.std.proofs.lemmas.Bool.{cases_eq}
 use Rattle.histories.specs.Histories.{times, Leads}
@@ -49,15 +49,11 @@ module _ {S : Type 0} (Step : S → ℕ → S → Type 0) where
     pub lighter_then : (few fewer waiting : ℕ) → IsLighter Step slots few fewer
         → IsLighter Step slots fewer waiting → IsLighter Step slots few waiting
     lighter_then few fewer waiting a b slot call has =
-        elim (a slot call has)
-        as (λ _. (bit_at few slot ≡ bit_at waiting slot)
-        ⊎ ((bit_at few slot ≡ 0) × IsIdle Step call)) [
-          | inl x ↦ elim (b slot call has)
-              as (λ _. (bit_at few slot ≡ bit_at waiting slot)
-              ⊎ ((bit_at few slot ≡ 0) × IsIdle Step call)) [
-                | inl y ↦ inl (x ∙ y)
-                | inr y ↦ inr (x ∙ y.0, y.1)
-              ]
+        elim (a slot call has) [
+          | inl x ↦ elim (b slot call has) [
+            | inl y ↦ inl (x ∙ y)
+            | inr y ↦ inr (x ∙ y.0, y.1)
+          ]
           | inr x ↦ inr x
         ]
 
@@ -66,18 +62,14 @@ module _ {S : Type 0} (Step : S → ℕ → S → Type 0) where
         → IsLighter Step slots fewer waiting
         → IsLighter Step slots (cleared fewer slot) (cleared waiting slot)
     lighter_cleared fewer waiting slot few h l other call has =
-        elim (cases_eq other slot)
-        as (λ _. (bit_at (cleared fewer slot) other ≡ bit_at (cleared waiting slot) other)
-        ⊎ ((bit_at (cleared fewer slot) other ≡ 0) × IsIdle Step call)) [
+        elim (cases_eq other slot) [
           | inl e ↦ inl
               (subst
               (λ x. bit_at (cleared fewer slot) x ≡ bit_at (cleared waiting slot) x) (sym e)
               (cleared_same fewer slot h ∙ sym (cleared_same waiting slot h)))
           | inr ne ↦
               let k = slot_64 slots other call few has in
-              elim (l other call has)
-              as (λ _. (bit_at (cleared fewer slot) other ≡ bit_at (cleared waiting slot) other)
-              ⊎ ((bit_at (cleared fewer slot) other ≡ 0) × IsIdle Step call)) [
+              elim (l other call has) [
                 | inl x ↦ inl
                     (cleared_other fewer slot other h k ne
                     ∙ (x ∙ sym (cleared_other waiting slot other h k ne)))
@@ -90,17 +82,13 @@ module _ {S : Type 0} (Step : S → ℕ → S → Type 0) where
         → bit_at fewer slot ≡ 0 → IsLighter Step slots fewer waiting
         → IsLighter Step slots fewer (cleared waiting slot)
     lighter_without fewer waiting slot few h none l other call has =
-        elim (cases_eq other slot)
-        as (λ _. (bit_at fewer other ≡ bit_at (cleared waiting slot) other)
-        ⊎ ((bit_at fewer other ≡ 0) × IsIdle Step call)) [
+        elim (cases_eq other slot) [
           | inl e ↦ inl
               (subst (λ x. bit_at fewer x ≡ bit_at (cleared waiting slot) x) (sym e)
               (none ∙ sym (cleared_same waiting slot h)))
           | inr ne ↦
               let k = slot_64 slots other call few has in
-              elim (l other call has)
-              as (λ _. (bit_at fewer other ≡ bit_at (cleared waiting slot) other)
-              ⊎ ((bit_at fewer other ≡ 0) × IsIdle Step call)) [
+              elim (l other call has) [
                 | inl x ↦ inl (x ∙ sym (cleared_other waiting slot other h k ne))
                 | inr x ↦ inr x
               ]
@@ -110,9 +98,7 @@ module _ {S : Type 0} (Step : S → ℕ → S → Type 0) where
     pub lighter_idle : (waiting slot call : ℕ) → length slots ≤ 64 → HasSlot slots slot call
         → IsIdle Step call → IsLighter Step slots (cleared waiting slot) waiting
     lighter_idle waiting slot call few here idle other c has =
-        elim (cases_eq other slot)
-        as (λ _. (bit_at (cleared waiting slot) other ≡ bit_at waiting other)
-        ⊎ ((bit_at (cleared waiting slot) other ≡ 0) × IsIdle Step c)) [
+        elim (cases_eq other slot) [
           | inl e ↦ inr (
             subst (λ x. bit_at (cleared waiting slot) x ≡ 0) (sym e)
                 (cleared_same waiting slot (slot_64 slots slot call few here)),
@@ -145,7 +131,7 @@ module _ {S : Type 0} (Step : S → ℕ → S → Type 0) where
         let mid = run.2.0 in
         let Goal : Type 0 = (less : List ℕ) × (last : ℕ)
         × Runs Step slots old fewer less new last × IsLighter Step slots last rest in
-        elim (bit_cases fewer slot) as (λ _. Goal) [
+        elim (bit_cases fewer slot) [
           | inr some ↦
               let more = runs_lighter mid new (cleared fewer slot) (cleared waiting slot) rest calls
               few (lighter_cleared fewer waiting slot few h l) run.2.2 in (
@@ -155,7 +141,7 @@ module _ {S : Type 0} (Step : S → ℕ → S → Type 0) where
                 more.3,
               )
           | inl none ↦
-              elim (l slot call here) as (λ _. Goal) [
+              elim (l slot call here) [
                 | inl same ↦ absurd (omega (arith, same, none, run.1.1))
                 | inr idle ↦
                     let is : mid ≡ old = idle.1 old mid run.2.1 in
@@ -170,7 +156,7 @@ module _ {S : Type 0} (Step : S → ℕ → S → Type 0) where
     waits_before : (waiting slot at call : ℕ) → length slots ≤ 64 → slot < 64
         → IsWaiting slots (cleared waiting slot) at call → bit_at waiting at ≡ 1
     waits_before waiting slot at call few h is =
-        elim (bit_cases waiting at) as (λ _. bit_at waiting at ≡ 1) [
+        elim (bit_cases waiting at) [
           | inr some ↦ some
           | inl none ↦ absurd
               (omega
@@ -192,9 +178,7 @@ module _ {S : Type 0} (Step : S → ℕ → S → Type 0) where
         let at = run.0 in
         let h = slot_64 slots slot call few here in
         let k = slot_64 slots at c few run.1.0 in
-        elim (cases_eq at slot)
-        as (λ _. (mid : S) × Step old call mid
-        × ((others : List ℕ) × Runs Step slots mid (cleared waiting slot) others new rest)) [
+        elim (cases_eq at slot) [
           | inl e ↦ (
             run.2.0,
             subst (λ x. Step old x run.2.0)
@@ -238,8 +222,7 @@ module _ {S : Type 0} (Step : S → ℕ → S → Type 0) where
         → Leaves slots (order ++ call ∷ []) (cleared waiting slot)
     leaves_made order waiting slot call few apart leaves is other c has =
         let h = slot_64 slots slot call few is.0 in
-        elim (cases_eq other slot)
-        as (λ _. times c (order ++ call ∷ []) + bit_at (cleared waiting slot) other ≡ 1) [
+        elim (cases_eq other slot) [
           | inl e ↦
               let same : call ≡ c =
               slot_once slots slot call c is.0 (subst (λ x. HasSlot slots x c) e has) in
@@ -333,7 +316,7 @@ module _ {S : Type 0} (Step : S → ℕ → S → Type 0) where
               (runs_in slots other run.2.0 new (cleared waiting slot) rest calls t change swaps
               keeps few
               (λ s c has some. still s c has
-              (elim (cases_eq s slot) as (λ _. bit_at waiting s ≡ 1) [
+              (elim (cases_eq s slot) [
                 | inl e ↦
                     absurd (omega (
                       arith,
@@ -408,9 +391,7 @@ module _ {S : Type 0} (A B : S → ℕ → S → Type 0) (slots : List (Option �
     pub lighter_as : (fewer waiting : ℕ) → IsLighter B slots fewer waiting
         → IsLighter A slots fewer waiting
     lighter_as fewer waiting l slot call has =
-        elim (l slot call has)
-        as (λ _. (bit_at fewer slot ≡ bit_at waiting slot)
-        ⊎ ((bit_at fewer slot ≡ 0) × IsIdle A call)) [
+        elim (l slot call has) [
           | inl same ↦ inl same
           | inr idle ↦ inr (idle.0, λ old new step. idle.1 old new (makes slot call has old new step))
         ]

@@ -108,9 +108,7 @@ module _ {S : Type 0} (Step : S → ℕ → S → Type 0) (slots : List (Option 
       → AreSettled Step slots configs new
   settled_once configs settled new each g = record {
     sound = λ k has.
-        elim (g.sound k has)
-        as (λ _. (config : Config S) × Contains configs config
-        × IsSettled Step slots config (spot_of k)) [
+        elim (g.sound k has) [
           | inl none ↦ absurd (nothing_in Step slots k none)
           | inr copy ↦
               let from = settled_from configs settled copy.0 each copy.1 in

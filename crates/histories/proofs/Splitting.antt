@@ -63,7 +63,7 @@ module _ {S : Type 0} (Step : S → ℕ → S → Type 0) where
           once = λ c. omega (arith, counts c, ex.once c);
           begun = parts.3;
           answered = λ c a.
-              elim (cases_lt 0 (times c front)) as (λ _. 0 < times c front) [
+              elim (cases_lt 0 (times c front)) [
                 | inl some ↦ some
                 | inr none ↦
                     let made : 0 < times c order = ex.answered c (answered_left es fs c a) in
@@ -86,7 +86,7 @@ module _ {S : Type 0} (Step : S → ℕ → S → Type 0) where
           once = λ c. omega (arith, counts c, ex.once c);
           begun = parts.4;
           answered = λ c a.
-              elim (cases_lt 0 (times c back)) as (λ _. 0 < times c back) [
+              elim (cases_lt 0 (times c back)) [
                 | inl some ↦ some
                 | inr none ↦
                     let made : 0 < times c order = ex.answered c (answered_right es fs c a) in
@@ -121,9 +121,9 @@ module _ {S : Type 0} (Step : S → ℕ → S → Type 0) where
       let counts : (c : ℕ) → times c (front ++ back) ≡ times c front + times c back =
       λ c. times-append c front back in record {
         once = λ c.
-            elim (cases_lt 0 (times c front)) as (λ _. times c (front ++ back) ≤ 1) [
+            elim (cases_lt 0 (times c front)) [
               | inl some ↦
-                  elim (cases_lt 0 (times c back)) as (λ _. times c (front ++ back) ≤ 1) [
+                  elim (cases_lt 0 (times c back)) [
                     | inl too ↦
                         absurd
                         (omega (
@@ -138,14 +138,14 @@ module _ {S : Type 0} (Step : S → ℕ → S → Type 0) where
               | inr none ↦ omega (arith, counts c, none, y.once c)
             ];
         begun = λ c h.
-            elim (cases_lt 0 (times c front)) as (λ _. 0 < begins c (es ++ fs)) [
+            elim (cases_lt 0 (times c front)) [
               | inl some ↦ omega (arith, x.begun c some, begins-append c es fs)
               | inr none ↦
                   let behind : 0 < times c back = omega (arith, h, counts c, none) in
                   omega (arith, y.begun c behind, begins-append c es fs)
             ];
         answered = λ c a.
-            elim (stands_either es fs a.0 (End c) a.1) as (λ _. 0 < times c (front ++ back)) [
+            elim (stands_either es fs a.0 (End c) a.1) [
               | inl b ↦ omega (arith, counts c, x.answered c (a.0, b))
               | inr r ↦ omega (arith, counts c, y.answered c (r.0, r.2))
             ];
@@ -263,33 +263,31 @@ module _ {S : Type 0} (Step : S → ℕ → S → Type 0) where
 ended_or_not : (es : List Event) (c : ℕ) → HasEnded es c ⊎ (¬ (HasEnded es c))
 ended_or_not [] c = inr (λ h. absurd (omega (arith, ends_within [] h.0 c h.1)))
 ended_or_not (e ∷ es) c =
-    elim (ended_or_not es c)
-    as (λ _. HasEnded (e ∷ es) c ⊎ (¬ (HasEnded (e ∷ es) c))) [
+    elim (ended_or_not es c) [
       | inl h ↦ inl (suc h.0, h.1)
-      | inr none ↦ elim (ends_or_not e c)
-          as (λ _. HasEnded (e ∷ es) c ⊎ (¬ (HasEnded (e ∷ es) c))) [
-            | inl here ↦ inl (0, here)
-            | inr not ↦ inr (λ h. neither h.0 h.1 none not)
-          ]
+      | inr none ↦ elim (ends_or_not e c) [
+        | inl here ↦ inl (0, here)
+        | inr not ↦ inr (λ h. neither h.0 h.1 none not)
+      ]
     ]
   where
     ends_or_not : (e : Event) (c : ℕ) → EndsAt (e ∷ es) 0 c ⊎ (¬ (EndsAt (e ∷ es) 0 c))
-    ends_or_not (Begin b) c = inr (λ at. elim at as (λ _. ⊥) [
+    ends_or_not (Begin b) c = inr (λ at. elim at [
       | inl x ↦ absurd (cc)
       | inr x ↦ absurd (cc)
     ])
     ends_or_not (End b) c =
-        elim (cases_eq b c) as (λ _. EndsAt (End b ∷ es) 0 c ⊎ (¬ (EndsAt (End b ∷ es) 0 c))) [
+        elim (cases_eq b c) [
           | inl same ↦ inl (inl (ap (λ n. Some (End n)) same))
-          | inr ne ↦ inr (λ at. elim at as (λ _. ⊥) [
+          | inr ne ↦ inr (λ at. elim at [
             | inl x ↦ ne (cc)
             | inr x ↦ absurd (cc)
           ])
         ]
     ends_or_not (Crash b) c =
-        elim (cases_eq b c) as (λ _. EndsAt (Crash b ∷ es) 0 c ⊎ (¬ (EndsAt (Crash b ∷ es) 0 c))) [
+        elim (cases_eq b c) [
           | inl same ↦ inl (inr (ap (λ n. Some (Crash n)) same))
-          | inr ne ↦ inr (λ at. elim at as (λ _. ⊥) [
+          | inr ne ↦ inr (λ at. elim at [
             | inl x ↦ absurd (cc)
             | inr x ↦ ne (cc)
           ])
@@ -303,7 +301,7 @@ ended_or_not (e ∷ es) c =
 pub quiet_empty : (es : List Event) (slots : List (Option ℕ)) → IsTable es slots
     → ((slot call : ℕ) → HasSlot slots slot call → ⊥) → IsQuiet es
 quiet_empty es slots table empty call begun =
-    elim (ended_or_not es call) as (λ _. HasEnded es call) [
+    elim (ended_or_not es call) [
       | inl h ↦ h
       | inr none ↦
           let at = table.all call (begun, none) in absurd (empty at.0 call at.1)

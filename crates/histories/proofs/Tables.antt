@@ -14,8 +14,7 @@ use Rattle.histories.proofs.Events.{open_begin_cases, open_begin_now, open_begin
 pub taken_cases : (slots new : List (Option ℕ)) (c t slot call : ℕ) → TakesSlot slots c t new
     → HasSlot new slot call → ((slot ≡ t) × (call ≡ c)) ⊎ ((slot ≢ t) × HasSlot slots slot call)
 taken_cases slots new c t slot call takes has =
-    elim (cases_eq slot t)
-    as (λ _. ((slot ≡ t) × (call ≡ c)) ⊎ ((slot ≢ t) × HasSlot slots slot call)) [
+    elim (cases_eq slot t) [
       | inl e ↦
           inl (e, slot_once new t call c (subst (λ s. HasSlot new s call) e has) takes.has)
       | inr ne ↦ inr (ne, sym (takes.others slot ne) ∙ has)
@@ -24,7 +23,7 @@ taken_cases slots new c t slot call takes has =
 pub taken_still : (slots new : List (Option ℕ)) (c t slot call : ℕ) → TakesSlot slots c t new
     → HasSlot slots slot call → HasSlot new slot call
 taken_still slots new c t slot call takes has =
-    elim (cases_eq slot t) as (λ _. HasSlot new slot call) [
+    elim (cases_eq slot t) [
       | inl e ↦
           let free : get_or slots slot None ≡ None = subst (λ s. get_or slots s None ≡ None) (sym
           e) takes.free in
@@ -43,7 +42,7 @@ taken_other slots new c t slot call takes has e =
 pub freed_before : (slots new : List (Option ℕ)) (t slot call : ℕ) → FreesSlot slots t new
     → HasSlot new slot call → (slot ≢ t) × HasSlot slots slot call
 freed_before slots new t slot call frees has =
-    elim (cases_eq slot t) as (λ _. (slot ≢ t) × HasSlot slots slot call) [
+    elim (cases_eq slot t) [
       | inl e ↦
           let free : get_or new slot None ≡ None = subst (λ s. get_or new s None ≡ None) (sym e)
           frees.free in
@@ -60,28 +59,27 @@ pub table_begin : (es : List Event) (slots new : List (Option ℕ)) (c t : ℕ) 
     → IsTable (es ++ Begin c ∷ []) new
 table_begin es slots new c t s fresh table takes = record {
   each = λ slot call has.
-      elim (taken_cases slots new c t slot call takes has)
-      as (λ _. IsOpen (es ++ Begin c ∷ []) call) [
+      elim (taken_cases slots new c t slot call takes has) [
         | inl now ↦ subst (λ x. IsOpen (es ++ Begin c ∷ []) x) (sym now.1)
             (open_begin_now es c s fresh)
         | inr before ↦ open_begin_still es c call (table.each slot call before.1)
       ];
   all = λ call is.
-      elim (open_begin_cases es c call is) as (λ _. (slot : ℕ) × HasSlot new slot call) [
+      elim (open_begin_cases es c call is) [
         | inl before ↦
             let at = table.all call before in
             (at.0, taken_still slots new c t at.0 call takes at.1)
         | inr e ↦ (t, subst (λ x. HasSlot new t x) e takes.has)
       ];
   apart = λ one other call a b.
-      elim (taken_cases slots new c t one call takes a) as (λ _. one ≡ other) [
-        | inl x ↦ elim (taken_cases slots new c t other call takes b) as (λ _. one ≡ other) [
+      elim (taken_cases slots new c t one call takes a) [
+        | inl x ↦ elim (taken_cases slots new c t other call takes b) [
           | inl y ↦ x.0 ∙ sym y.0
           | inr y ↦
               let was = table.each other call y.1 in
               absurd (omega (arith, was.0, fresh, ap (λ n. begins n es) x.1))
         ]
-        | inr x ↦ elim (taken_cases slots new c t other call takes b) as (λ _. one ≡ other) [
+        | inr x ↦ elim (taken_cases slots new c t other call takes b) [
           | inl y ↦
               let was = table.each one call x.1 in
               absurd (omega (arith, was.0, fresh, ap (λ n. begins n es) y.1))

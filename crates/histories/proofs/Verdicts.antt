@@ -1,5 +1,5 @@
 -- What is found of a whole history.
-use Rattle.std.proofs.Common.{◌≡◌, ◌≢◌, ◌⊎◌, ℕ, zero, suc, ◌+◌, ◌-◌, ◌<◌, ◌≤◌, List, [], ◌∷◌, ◌++◌, length, take, get_or, refl, sym, ◌∙◌, ap, subst, arith, inl, inr, Option, add-zero, take_all}
+use Rattle.std.proofs.Common.{◌≡◌, ◌≢◌, ℕ, zero, suc, ◌+◌, ◌-◌, ◌<◌, ◌≤◌, List, [], ◌∷◌, ◌++◌, length, take, get_or, refl, sym, ◌∙◌, ap, subst, arith, inl, inr, Option, add-zero, take_all}
 use Rattle.std.proofs.lemmas.Bool.{cases_lt, cases_order}
 use Rattle.std.proofs.lemmas.List.{take_more}
 use Rattle.std.proofs.lemmas.Option.{slice_get-get_or}
@@ -87,7 +87,7 @@ numbered_none c h = absurd (omega (arith, h, begins_none c))
 pub numbered_more : (es : List Event) (e : Event) → AreNumbered es → IsNext es e
     → AreNumbered (es ++ e ∷ [])
 numbered_more es (Begin b) n next c h =
-    elim (cases_lt 0 (begins c es)) as (λ _. c < begun (es ++ Begin b ∷ [])) [
+    elim (cases_lt 0 (begins c es)) [
       | inl before ↦ omega (arith, n c before, begun_begin es b)
       | inr none ↦
           let here : 0 < times c (b ∷ []) = omega (arith, h, none, begins_begin c b es) in
@@ -173,7 +173,7 @@ module _ {S : Type 0} (Step : S → ℕ → S → Type 0) where
   explained_before es (Crash call) olds s fresh x =
       (x.0, x.1, x.2, x.3, explains_open Step es (Crash call) x.0 x.2 x.1 call (inr refl) x.4)
   explained_before es (Begin call) olds s fresh x =
-      elim (cases_lt 0 (times call x.1)) as (λ _. IsExplained Step es olds) [
+      elim (cases_lt 0 (times call x.1)) [
         | inl some ↦
             let parts = split_times call x.1 some in
             let ex = subst (λ (o : List ℕ). Explains Step (es ++ Begin call ∷ []) x.0 o x.2) parts.2
@@ -252,7 +252,7 @@ stands_get es i d e h at =
 pub history_more : (es : List Event) (i : ℕ) (d : Event) → i < length es
     → MayFollow (take i es) (get_or es i d) → IsHistoryTo es i → IsHistoryTo es (i + 1)
 history_more es i d h may all index event less at =
-    elim (cases_order index i) as (λ _. MayFollow (take index es) event) [
+    elim (cases_order index i) [
       | inl e ↦ subst (λ k. MayFollow (take k es) event) (sym e)
           (subst (λ (x : Event). MayFollow (take i es) x)
           (sym (stands_get es i d event h (subst (λ k. StandsAt es k event) e at))) may)
@@ -339,13 +339,12 @@ module _ {S : Type 0} (Step : S → ℕ → S → Type 0) where
       → IsVerdict Step olds events (verdict.ManyConfigs at)
   judged_many new events olds at d h a = (
     h,
-    elim a as (λ _. HasManyOrders Step (take at events) olds
-        ⊎ HasManyOrders Step (take (at + 1) events) olds) [
-          | inl before ↦ inl before
-          | inr after ↦ inr
-              (subst (λ (l : List Event). HasManyOrders Step l olds) (sym (one_more events at d
-              h)) after)
-        ],
+    elim a [
+      | inl before ↦ inl before
+      | inr after ↦ inr
+          (subst (λ (l : List Event). HasManyOrders Step l olds) (sym (one_more events at d
+          h)) after)
+    ],
   )
 
   pub judged_open : (new : Front S) (events : List Event) (olds : List S) (at : ℕ) (d : Event)

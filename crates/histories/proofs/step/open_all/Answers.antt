@@ -1,4 +1,4 @@
-use Rattle.std.proofs.Common.{◌≡◌, ◌<◌, ◌∙◌, ap, arith, get_or, inl, inr, length, sym, true≢false}
+use Rattle.std.proofs.Common.{◌<◌, ◌∙◌, ap, arith, get_or, inl, inr, length, sym, true≢false}
 use Rattle.std.specs.Int.{bit_at}
 use Rattle.std.proofs.lemmas.Bool.{cases_eq}
 use Rattle.std.proofs.lemmas.List.{get_or_default}
@@ -30,7 +30,7 @@ loop-config-preserved g c =
       λ is index d less.
           elim c.if-open.branch [
             | then-open w ↦
-                elim (cases_eq index at) as (λ _. bit_at (get_or olds index d).waiting slot ≡ 0) [
+                elim (cases_eq index at) [
                   | inl e ↦
                       ap (λ (k : Config S). bit_at k.waiting slot)
                       (ap (λ i. get_or olds i d) e
