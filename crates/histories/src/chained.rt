@@ -60,6 +60,7 @@ pub fn is_in_chain<M: Machine>(
 }
 
 /// Puts one more configuration into its chain.
+#[tactic(auto, using(crate::proofs::Linking::chained_more))]
 fn link<S>(
     configs: &[Config<S>],
     heads: &mut [usize],

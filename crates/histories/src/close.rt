@@ -28,6 +28,7 @@ fn with_call(alloc: Global, calls: &[usize], call: usize) -> Result<Vec<usize>, 
 
 /// Adds the configuration in which the call in the slot was made and left this state. Where there
 /// is the same, its calls are not listed.
+#[tactic(auto, using(crate::proofs::Closing::path_is, crate::proofs::Gathering::gathers_state))]
 fn make_state<M: Machine>(
     alloc: Global,
     machine: &M,
@@ -73,6 +74,7 @@ fn make_states<M: Machine>(
 }
 
 /// Adds the configurations to which the call in the slot, which waits, leads.
+#[tactic(auto, using(crate::proofs::Gathering::gathers_call, crate::proofs::Gathering::gathers_no_state))]
 fn make_call<M: Machine>(
     alloc: Global,
     machine: &M,
@@ -118,6 +120,7 @@ fn make_slot<M: Machine>(
 }
 
 /// The same, unless it is this slot.
+#[tactic(auto, using(crate::proofs::Gathering::gathers_other))]
 fn make_other<M: Machine>(
     alloc: Global,
     machine: &M,
@@ -139,6 +142,7 @@ fn make_other<M: Machine>(
 }
 
 /// The same for the slot itself, whose call waits. It is made in place where it leaves one state.
+#[tactic(auto, using(crate::proofs::Gathering::gathers_made))]
 fn make_last<M: Machine>(
     alloc: Global,
     machine: &M,
@@ -205,6 +209,7 @@ fn moves_first<M: Machine>(machine: &M, slots: &[Option<usize>], waiting: u64, s
 
 /// Adds the configurations to which one more call leads, that in the slot last. Where this moves
 /// before all others that wait, it is made alone: they can be made after it.
+#[tactic(auto, using(crate::proofs::Closing::goes_first, crate::proofs::Gathering::gathers_no_slot, crate::proofs::Gathering::gathers_slot))]
 fn make_calls<M: Machine>(
     alloc: Global,
     machine: &M,
@@ -230,6 +235,7 @@ fn make_calls<M: Machine>(
 
 /// Adds the configuration to those that are done where the call in the slot has been made there.
 /// Else adds the configurations to which one more call leads to the next ones.
+#[tactic(auto, using(crate::proofs::Bits::bit_none, crate::proofs::Closing::goes_not, crate::proofs::Gathering::gathers_done, crate::proofs::Gathering::gathers_not_done))]
 fn close_one<M: Machine>(
     alloc: Global,
     machine: &M,
@@ -273,6 +279,7 @@ fn close_round<M: Machine>(
 }
 
 /// The same, where calls that change nothing are made at once in the next ones.
+#[tactic(auto, using(crate::proofs::Closing::layer_none, crate::proofs::Closing::none_same))]
 fn close_settled<M: Machine>(
     alloc: Global,
     machine: &M,
@@ -326,6 +333,7 @@ pub fn close<M: Machine>(
 }
 
 /// Adds the configuration in which the call in the slot is never made, where it waits.
+#[tactic(auto, using(crate::proofs::Gathering::gathers_dropped))]
 fn drop_one<M: Machine>(
     alloc: Global,
     machine: &M,
@@ -345,6 +353,7 @@ fn drop_one<M: Machine>(
 }
 
 /// The configurations in which the call in the slot, which waits there, is never made.
+#[tactic(auto, using(crate::proofs::Gathering::gathers_no_one, crate::proofs::Gathering::gathers_one))]
 pub fn dropped_all<M: Machine>(
     alloc: Global,
     machine: &M,

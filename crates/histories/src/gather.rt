@@ -134,6 +134,7 @@ pub fn has_same<M: Machine>(
 }
 
 /// Adds a configuration, where none is the same.
+#[tactic(auto, using(crate::proofs::Gathering::gathers_new))]
 pub fn add_new<S: Drop>(
     alloc: Global,
     gathered: &mut Gathered<S>,
@@ -147,6 +148,7 @@ pub fn add_new<S: Drop>(
 }
 
 /// Adds a configuration, unless there is the same.
+#[tactic(auto, using(crate::proofs::Gathering::gathers_known))]
 pub fn add<M: Machine>(
     alloc: Global,
     machine: &M,

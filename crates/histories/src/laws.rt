@@ -10,6 +10,7 @@ pub fn verdicts_exclude<M: Machine>(_machine: &M)
 
 /// Calls that overlap nothing are a run: one order alone explains them, that in which they were
 /// made, and it leads where they lead one after the other.
+#[tactic(auto, using(crate::proofs::Alone::calls_alone_are_runs))]
 pub fn calls_alone_are_runs<M: Machine>(_machine: &M)
     ensures { CallsAloneAreRuns (M.Step _machine.now) }
 {}

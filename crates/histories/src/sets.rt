@@ -12,6 +12,7 @@ pub fn has(set: u64, slot: usize) -> bool
 }
 
 /// The set without the slot.
+#[tactic(auto, unfolding(crate::specs::Frontier::cleared))]
 pub fn without(set: u64, slot: usize) -> u64
     requires { slot < 64 }
     ensures { result ≡ cleared set slot }
@@ -20,6 +21,7 @@ pub fn without(set: u64, slot: usize) -> u64
 }
 
 /// The set with the slot.
+#[tactic(auto, unfolding(crate::specs::Frontier::put))]
 pub fn with(set: u64, slot: usize) -> u64
     requires { slot < 64 }
     ensures { result ≡ put set slot }

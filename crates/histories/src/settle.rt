@@ -12,6 +12,7 @@ use std::mem;
 
 /// Makes the call in the slot, if it waits, can be made, and changes nothing. Returns whether it
 /// did.
+#[tactic(auto, using(crate::proofs::Closing::path_is, crate::proofs::Settlings::settled_call))]
 fn settle_slot<M: Machine>(
     machine: &M,
     slots: &[Option<usize>],
@@ -36,6 +37,7 @@ fn settle_slot<M: Machine>(
 }
 
 /// Makes the calls that can be made and change nothing. Returns whether there are any.
+#[tactic(auto, using(crate::proofs::Settlings::settled_none, crate::proofs::Settlings::settled_then))]
 fn settle<M: Machine>(
     machine: &M,
     slots: &[Option<usize>],

@@ -52,6 +52,7 @@ fn left<S>(configs: &[Config<S>]) -> Advance
 }
 
 /// The calls that were made go into the links. Returns what was done.
+#[tactic(auto, using(crate::proofs::Places::put_back))]
 fn lay<S>(front: &mut Front<S>) -> Result<Advance, AllocError>
     ensures { IfOk result (LaysOut front.old front.new) }
 {

@@ -1,21 +1,6 @@
-use Rattle.std.proofs.Common.{◌∷◌, []}
 use Rattle.std.proofs.lemmas.Result.{on_ok_weaker}
-use Rattle.histories.proofs.Gathering.{gathers_call, gathers_no_state}
+use Rattle.histories.proofs.Gathering.{gathers_call}
 use Rattle.histories.proofs.close.make_call.Goals as goal
-
-pub returns-in-Nothing : goal.returns-in-Nothing
-returns-in-Nothing g c =
-    gathers_call (g.M.Machine.Step c.args.machine.now) c.args.slots.now c.args.config.now
-    c.args.slot c.args.call [] _ _ c.requires.waits
-    (rw c.in-Nothing.is at c.in_ok-follow.ensures)
-    (gathers_no_state c.args.config.now c.args.slot c.args.call c.args.next.now)
-
-pub returns-in-One : goal.returns-in-One
-returns-in-One g c =
-    on_ok_weaker c.make_state.result
-    (gathers_call (g.M.Machine.Step c.args.machine.now) c.args.slots.now c.args.config.now
-    c.args.slot c.args.call (c.in-One.state ∷ []) _ _ c.requires.waits
-    (rw c.in-One.is at c.in_ok-follow.ensures)) c.make_state.ensures
 
 pub returns-in-All : goal.returns-in-All
 returns-in-All g c =

@@ -1,11 +1,8 @@
-use Rattle.std.proofs.Common.{rules, ◌≡◌, ◌≤◌, ◌+◌, ◌∷◌, [], List, ap, arith, get_or, length, length-append, refl, subst, sym, take, take_all, ℕ}
+use Rattle.std.proofs.Common.{rules, ◌≡◌, ◌+◌, ◌∷◌, [], List, ap, arith, get_or, length, length-append, refl, subst, sym, take}
 use Rattle.histories.specs.declared.front.Link.{Link}
 use Rattle.histories.specs.Gathering.{IsLaidOut}
-use Rattle.histories.proofs.Chains.{laid_out_more, laid_out_none}
+use Rattle.histories.proofs.Chains.{laid_out_more}
 use Rattle.histories.proofs.links.lay_calls.Goals as goal
-
-pub loop-call-init : goal.loop-call-init
-loop-call-init c = laid_out_none c.args.links.now.items c.args.base
 
 pub loop-call-preserved : goal.loop-call-preserved
 loop-call-preserved c =
@@ -22,11 +19,3 @@ loop-call-preserved c =
     (subst (λ (l : List Link). IsLaidOut links base (take (at + 1) calls) l (length mid + 1))
     (sym c.in_ok-push.ensures.items)
     (laid_out_more links mid base at calls link c.loop-call-test.true refl c.loop-call.invariant))
-
-pub returns : goal.returns
-returns c =
-    let calls = c.args.calls.now in
-    let all : length calls ≤ c.loop-call.call-index = search rules in
-    subst
-    (λ (l : List ℕ). IsLaidOut c.args.links.now.items c.args.base l c.loop-call.links.items
-    c.loop-call.last) (take_all c.loop-call.call-index calls all) c.loop-call.invariant
