@@ -20,7 +20,8 @@ use Rattle.histories.proofs.Events.{begins_none}
 use Rattle.history_windows.specs.declared.window.Cut.TheVariants as cut
 use Rattle.history_windows.specs.declared.window.Window.{Window}
 use Rattle.history_windows.specs.Goings.{AgreesOn, GoesTo, IsFrontAfter, IsMadeNext, Precedes}
-use Rattle.history_windows.proofs.Following.{follows_same, fresh_inside, goes_alone, goes_anew, goes_begin, goes_done, parts_more, parts_sound, split_more, take_stands}
+use Rattle.history_windows.proofs.Following.{follows_same, take_stands}
+use Rattle.history_windows.proofs.Growing.{fresh_inside, goes_alone, goes_anew, goes_begin, goes_done, parts_more, parts_sound, split_more}
 use Rattle.history_windows.proofs.Joins.{ended_left, open_inside, open_whole}
 
 -- a call that is open after some of the events was open before them, or begins in them
@@ -30,7 +31,7 @@ open_of past events at c is =
     let now = begins-append c past (take at events) in
     let all = begins-append c (take at events) (drop at events) in
     let split = ap (begins c) (take-append-drop at events) in
-    elim (cases_lt 0 (begins c past)) as (λ _. IsOpen past c ⊎ (0 < begins c events)) [
+    elim (cases_lt 0 (begins c past)) [
       | inl some ↦ inl (some, λ ended. is.1 (ended_left past (take at events) c ended))
       | inr none ↦ inr (omega (arith, is.0, none, now, all, split))
     ]

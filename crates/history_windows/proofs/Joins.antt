@@ -27,14 +27,14 @@ stands_either (y ∷ es) fs (suc k) x at = stands_either es fs k x at
 
 pub ended_left : (es fs : List Event) (c : ℕ) → HasEnded es c → HasEnded (es ++ fs) c
 ended_left es fs c h =
-    elim h.1 as (λ _. HasEnded (es ++ fs) c) [
+    elim h.1 [
       | inl x ↦ (h.0, inl (stands_left es fs h.0 (End c) x))
       | inr x ↦ (h.0, inr (stands_left es fs h.0 (Crash c) x))
     ]
 
 pub ended_right : (es fs : List Event) (c : ℕ) → HasEnded fs c → HasEnded (es ++ fs) c
 ended_right es fs c h =
-    elim h.1 as (λ _. HasEnded (es ++ fs) c) [
+    elim h.1 [
       | inl x ↦ let r = stands_right es fs h.0 (End c) x in (r.0, inl r.1)
       | inr x ↦ let r = stands_right es fs h.0 (Crash c) x in (r.0, inr r.1)
     ]
@@ -42,16 +42,15 @@ ended_right es fs c h =
 pub ended_either : (es fs : List Event) (c : ℕ) → HasEnded (es ++ fs) c
     → HasEnded es c ⊎ HasEnded fs c
 ended_either es fs c h =
-    elim h.1 as (λ _. HasEnded es c ⊎ HasEnded fs c) [
-      | inl x ↦ elim (stands_either es fs h.0 (End c) x) as (λ _. HasEnded es c ⊎ HasEnded fs c) [
+    elim h.1 [
+      | inl x ↦ elim (stands_either es fs h.0 (End c) x) [
         | inl y ↦ inl (h.0, inl y)
         | inr r ↦ inr (r.0, inl r.1)
       ]
-      | inr x ↦ elim (stands_either es fs h.0 (Crash c) x)
-          as (λ _. HasEnded es c ⊎ HasEnded fs c) [
-            | inl y ↦ inl (h.0, inr y)
-            | inr r ↦ inr (r.0, inr r.1)
-          ]
+      | inr x ↦ elim (stands_either es fs h.0 (Crash c) x) [
+        | inl y ↦ inl (h.0, inr y)
+        | inr r ↦ inr (r.0, inr r.1)
+      ]
     ]
 
 -- where both parts are sound, and none begins a call of the other, so is the whole
@@ -59,7 +58,7 @@ pub sound_back : (es fs gs : List Event) → IsSound fs → IsSound gs
     → IsSound (es ++ (fs ++ gs)) → IsSound (fs ++ gs)
 sound_back es fs gs f g whole = record {
   once = λ c. omega (arith, whole.once c, begins-append c es (fs ++ gs));
-  begun = λ c ended. elim (ended_either fs gs c ended) as (λ _. 0 < begins c (fs ++ gs)) [
+  begun = λ c ended. elim (ended_either fs gs c ended) [
     | inl x ↦ omega (arith, f.begun c x, begins-append c fs gs)
     | inr x ↦ omega (arith, g.begun c x, begins-append c fs gs)
   ];
@@ -68,7 +67,7 @@ sound_back es fs gs f g whole = record {
 -- no call is open after two parts after each of which none is
 pub quiet_both : (es fs : List Event) → IsQuiet es → IsQuiet fs → IsQuiet (es ++ fs)
 quiet_both es fs p q c begun =
-    elim (cases_lt 0 (begins c es)) as (λ _. HasEnded (es ++ fs) c) [
+    elim (cases_lt 0 (begins c es)) [
       | inl some ↦ ended_left es fs c (p c some)
       | inr none ↦
           ended_right es fs c (q c (omega (arith, begun, none, begins-append c es fs)))
@@ -78,7 +77,7 @@ quiet_both es fs p q c begun =
 pub open_inside : (es fs : List Event) (c : ℕ) → IsQuiet es → IsOpen (es ++ fs) c → IsOpen fs c
 open_inside es fs c quiet is =
     let late : 0 < begins c fs =
-    elim (cases_lt 0 (begins c es)) as (λ _. 0 < begins c fs) [
+    elim (cases_lt 0 (begins c es)) [
       | inl some ↦ absurd (is.1 (ended_left es fs c (quiet c some)))
       | inr none ↦ omega (arith, is.0, none, begins-append c es fs)
     ] in
@@ -89,7 +88,7 @@ pub open_whole : (es fs : List Event) (c : ℕ) → IsSound es → IsSound (es +
     → IsOpen (es ++ fs) c
 open_whole es fs c first whole is = (
   omega (arith, is.0, begins-append c es fs),
-  λ ended. elim (ended_either es fs c ended) as (λ _. ⊥) [
+  λ ended. elim (ended_either es fs c ended) [
     | inl x ↦
         absurd (omega (arith, first.begun c x, is.0, whole.once c, begins-append c es fs))
     | inr x ↦ is.1 x

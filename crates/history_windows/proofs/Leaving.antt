@@ -86,14 +86,14 @@ module _ (kept : ℕ → Bool) where
   pub ended_of : (es : List Event) (c : ℕ) → HasEnded (events_of kept es) c
       → HasEnded es c × (kept c ≡ true)
   ended_of es c h =
-      elim h.1 as (λ _. HasEnded es c × (kept c ≡ true)) [
+      elim h.1 [
         | inl x ↦ let r = stands_of es h.0 (End c) x in ((r.0, inl r.1), r.3)
         | inr x ↦ let r = stands_of es h.0 (Crash c) x in ((r.0, inr r.1), r.3)
       ]
 
   over_of : (es : List Event) (c d : ℕ) → IsOver (events_of kept es) c d → IsOver es c d
   over_of es c d o =
-      elim o.3 as (λ _. IsOver es c d) [
+      elim o.3 [
         | inl x ↦
             let r = both_of es o.0 o.1 (End c) (Begin d) o.2 x o.4 in
             (r.0, r.1, r.2, inl r.3, r.4)
@@ -105,7 +105,7 @@ module _ (kept : ℕ → Bool) where
   -- how often a call begins that is kept, and any call
   other_call : (b c : ℕ) → kept b ≡ false → kept c ≡ true → eqb b c ≡ false
   other_call b c f t =
-      elim (eqb_tells b c) as (λ _. eqb b c ≡ false) [
+      elim (eqb_tells b c) [
         | inl same ↦ absurd (let e : kept b ≡ kept c = ap kept same.1 in cc)
         | inr other ↦ other.0
       ]
@@ -180,7 +180,7 @@ module _ (kept : ℕ → Bool) where
   times_kept c (x ∷ xs) some =
       let rest = filter kept xs in
       cond_both (kept x) (x ∷ rest) rest (λ (l : List ℕ). 0 < times c l → kept c ≡ true)
-      (λ t h. elim (eqb_tells x c) as (λ _. kept c ≡ true) [
+      (λ t h. elim (eqb_tells x c) [
         | inl same ↦ subst (λ n. kept n ≡ true) same.1 t
         | inr other ↦
             times_kept c xs (omega (arith, h, times-cons c x rest, times_other c x other.1))

@@ -1,4 +1,5 @@
 pub mod Joins
+pub mod Growing
 pub mod Following
 pub mod Ordering
 pub mod Leaving

@@ -45,7 +45,7 @@ module _ {S : Type 0} (Step : S → ℕ → S → Type 0) (olds : List S) (es : 
       → IsRest Step olds es (is_kept calls) → IsRest Step olds es (is_kept (set calls call true))
   rest_more calls call idle none rest = record {
     refused = none;
-    others = λ c left. elim (cases_eq c call) as (λ _. IsIdle Step c) [
+    others = λ c left. elim (cases_eq c call) [
       | inl same ↦ subst (λ n. IsIdle Step n) (sym same) idle
       | inr other ↦ rest.others c
           (sym (ap not (get_or-set_other calls call c true false other)) ∙ left)
@@ -63,7 +63,7 @@ module _ {S : Type 0} (Step : S → ℕ → S → Type 0) (olds : List S) (es : 
 
 none_left : (n c : ℕ) → is_kept (replicate n false) c ≡ true
 none_left n c =
-    elim (cases_lt c n) as (λ _. is_kept (replicate n false) c ≡ true) [
+    elim (cases_lt c n) [
       | inl in_list ↦ ap not (get_or-replicate n c false false in_list)
       | inr after ↦ ap not (get_or_past (replicate n false) c false
           (omega (arith, after, length-replicate n false)))

@@ -81,7 +81,7 @@ sound_formed es formed =
 
 call_ends : (e : Event) (c : ℕ) → Ends e c → call_of e ≡ c
 call_ends e c ends =
-    elim ends as (λ _. call_of e ≡ c) [
+    elim ends [
       | inl is ↦ ap call_of is
       | inr is ↦ ap call_of is
     ]

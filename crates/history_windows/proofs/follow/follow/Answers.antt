@@ -1,5 +1,6 @@
-use Rattle.std.proofs.Common.{take}
-use Rattle.history_windows.proofs.Following.{follow_advance, follow_closed, follow_many, follow_open, follow_refused, follows_alone, follows_begin, follows_done, follows_end, follows_same, goes_explained}
+use Rattle.histories.specs.declared.front.Advance.TheVariants as advance
+use Rattle.history_windows.proofs.Following.{follows_alone, follows_begin, follows_done, follows_end, stopped}
+use Rattle.history_windows.proofs.Growing.{goes_explained}
 use Rattle.history_windows.proofs.follow.follow.Goals as goal
 
 pub loop-at-init : goal.loop-at-init
@@ -18,74 +19,39 @@ loop-at-preserved-then-branch g c =
 
 pub loop-at-preserved : goal.loop-at-preserved
 loop-at-preserved g c =
-    let is = rw c.if-branch.false at c.in_ok-make_at.ensures in
     follows_done g.M.Machine.Step c.args.machine.now c.args.states.now c.args.events.now
-    c.loop-at.at _ c.loop-at-test.true c.make_at.new.window c.advance.new.front c.requires.history
-    c.args.cut c.cut_at-in-loop-at.new.window
-    (follows_same (g.M.Machine.Step c.args.machine.now) c.args.states.now c.args.cut
-    (take c.loop-at.at c.args.events.now) c.loop-at.window c.make_at.new.window is.0 is.1
-    c.loop-at.invariant)
+    c.loop-at.at _ c.loop-at-test.true c.requires.history c.args.cut c.loop-at.window
+    c.make_at.new.window c.loop-at.invariant (rw c.if-branch.false at c.in_ok-make_at.ensures)
+    c.advance.new.front c.cut_at-in-loop-at.new.window
     (rw c.in-Done.is at c.in_ok-advance.ensures) c.cut_at-in-loop-at.ensures
 
 pub returns-in-Refused-clause-stop : goal.returns-in-Refused-clause-stop
 returns-in-Refused-clause-stop g c =
-    let Step = g.M.Machine.Step c.args.machine.now in
-    let is = rw c.if-branch.false at c.in_ok-make_at.ensures in
-    let kept = follows_same Step c.args.states.now c.args.cut
-    (take c.loop-at.at c.args.events.now) c.loop-at.window c.make_at.new.window is.0 is.1
-    c.loop-at.invariant in
-    follow_refused Step c.args.states.now c.args.events.now
-    c.loop-at.at _ c.loop-at-test.true c.make_at.new.window kept.goes c.advance.new.front
-    c.requires.history
-    (rw c.in-Refused.is at
-    (follow_advance g.M.Machine.Step c.args.machine.now c.args.states.now c.args.events.now
-    c.loop-at.at _ c.loop-at-test.true c.make_at.new.window kept.goes c.advance.new.front
-    c.in_ok-advance.field-0 c.requires.history c.in_ok-advance.ensures))
+    stopped g.M.Machine.Step c.args.machine.now c.args.states.now c.args.events.now c.loop-at.at _
+    c.loop-at-test.true c.requires.history c.args.cut c.loop-at.window c.make_at.new.window
+    c.loop-at.invariant (rw c.if-branch.false at c.in_ok-make_at.ensures) c.advance.new.front
+    advance.Refused (rw c.in-Refused.is at c.in_ok-advance.ensures)
 
 pub returns-in-ManyConfigs-clause-stop : goal.returns-in-ManyConfigs-clause-stop
 returns-in-ManyConfigs-clause-stop g c =
-    let Step = g.M.Machine.Step c.args.machine.now in
-    let is = rw c.if-branch.false at c.in_ok-make_at.ensures in
-    let kept = follows_same Step c.args.states.now c.args.cut
-    (take c.loop-at.at c.args.events.now) c.loop-at.window c.make_at.new.window is.0 is.1
-    c.loop-at.invariant in
-    follow_many Step c.args.states.now c.args.events.now
-    c.loop-at.at _ c.loop-at-test.true c.make_at.new.window kept.goes c.advance.new.front
-    c.requires.history
-    (rw c.in-ManyConfigs.is at
-    (follow_advance g.M.Machine.Step c.args.machine.now c.args.states.now c.args.events.now
-    c.loop-at.at _ c.loop-at-test.true c.make_at.new.window kept.goes c.advance.new.front
-    c.in_ok-advance.field-0 c.requires.history c.in_ok-advance.ensures))
+    stopped g.M.Machine.Step c.args.machine.now c.args.states.now c.args.events.now c.loop-at.at _
+    c.loop-at-test.true c.requires.history c.args.cut c.loop-at.window c.make_at.new.window
+    c.loop-at.invariant (rw c.if-branch.false at c.in_ok-make_at.ensures) c.advance.new.front
+    advance.ManyConfigs (rw c.in-ManyConfigs.is at c.in_ok-advance.ensures)
 
 pub returns-in-ManyOpen-clause-stop : goal.returns-in-ManyOpen-clause-stop
 returns-in-ManyOpen-clause-stop g c =
-    let Step = g.M.Machine.Step c.args.machine.now in
-    let is = rw c.if-branch.false at c.in_ok-make_at.ensures in
-    let kept = follows_same Step c.args.states.now c.args.cut
-    (take c.loop-at.at c.args.events.now) c.loop-at.window c.make_at.new.window is.0 is.1
-    c.loop-at.invariant in
-    follow_open Step c.args.states.now c.args.events.now
-    c.loop-at.at _ c.loop-at-test.true c.make_at.new.window kept.goes c.advance.new.front
-    c.requires.history
-    (rw c.in-ManyOpen.is at
-    (follow_advance g.M.Machine.Step c.args.machine.now c.args.states.now c.args.events.now
-    c.loop-at.at _ c.loop-at-test.true c.make_at.new.window kept.goes c.advance.new.front
-    c.in_ok-advance.field-0 c.requires.history c.in_ok-advance.ensures))
+    stopped g.M.Machine.Step c.args.machine.now c.args.states.now c.args.events.now c.loop-at.at _
+    c.loop-at-test.true c.requires.history c.args.cut c.loop-at.window c.make_at.new.window
+    c.loop-at.invariant (rw c.if-branch.false at c.in_ok-make_at.ensures) c.advance.new.front
+    advance.ManyOpen (rw c.in-ManyOpen.is at c.in_ok-advance.ensures)
 
 pub unreachable-requires : goal.unreachable-requires
 unreachable-requires g c =
-    let Step = g.M.Machine.Step c.args.machine.now in
-    let is = rw c.if-branch.false at c.in_ok-make_at.ensures in
-    let kept = follows_same Step c.args.states.now c.args.cut
-    (take c.loop-at.at c.args.events.now) c.loop-at.window c.make_at.new.window is.0 is.1
-    c.loop-at.invariant in
-    follow_closed Step c.args.states.now c.args.events.now
-    c.loop-at.at _ c.loop-at-test.true c.make_at.new.window kept.goes c.advance.new.front
-    c.requires.history
-    (rw c.in-NoEvent.is at
-    (follow_advance g.M.Machine.Step c.args.machine.now c.args.states.now c.args.events.now
-    c.loop-at.at _ c.loop-at-test.true c.make_at.new.window kept.goes c.advance.new.front
-    c.in_ok-advance.field-0 c.requires.history c.in_ok-advance.ensures))
+    stopped g.M.Machine.Step c.args.machine.now c.args.states.now c.args.events.now c.loop-at.at _
+    c.loop-at-test.true c.requires.history c.args.cut c.loop-at.window c.make_at.new.window
+    c.loop-at.invariant (rw c.if-branch.false at c.in_ok-make_at.ensures) c.advance.new.front
+    advance.NoEvent (rw c.in-NoEvent.is at c.in_ok-advance.ensures)
 
 pub returns-clause-all : goal.returns-clause-all
 returns-clause-all g c =
