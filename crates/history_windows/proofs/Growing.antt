@@ -12,7 +12,6 @@ use Rattle.histories.proofs.Events.{begins_none, open_begin_now, sound_end, soun
 use Rattle.histories.proofs.Explaining.{explains_begin, explains_end}
 use Rattle.histories.proofs.Cutting.{begins-append}
 use Rattle.histories.proofs.Verdicts.{ends_of, frontier_explained, frontier_refused, frontier_some, next_fresh, next_of, numbered_more, numbered_none, sound_more}
-use Rattle.history_windows.specs.declared.window.Cut.TheVariants as cut
 use Rattle.history_windows.specs.declared.window.Window.{Window}
 use Rattle.history_windows.specs.Goings.{GoesTo}
 use Rattle.history_windows.specs.Windows.{BeginsWindow, LeadsTooFar}

@@ -1,5 +1,3 @@
-use Rattle.std.proofs.Common.{Ok, Err, List, ℕ, Result}
-use Rattle.std.specs.Prelude.{IfOk}
 use Rattle.history_windows.proofs.Goings.{any_machine}
 use Rattle.history_windows.proofs.going.first_front.Goals as goal
 
