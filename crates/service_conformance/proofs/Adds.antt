@@ -108,8 +108,7 @@ position_for {T} (e ∷ es) slot rises free =
     let R : Entry T → Entry T → Type 0 = λ v w. v.slot < w.slot in
     let rest = position_for es slot (AllPairs-tail R e es rises)
     (All-tail (λ (e : Entry T). e.slot ≢ slot) e es free) in
-    elim (cases_order e.slot slot) as
-    (λ _. (position : ℕ) × IsFreePosition (e ∷ es) slot position) [
+    elim (cases_order e.slot slot) [
       | inl same ↦ absurd (All-head (λ (e : Entry T). e.slot ≢ slot) e es free same)
       | inr (inl less) ↦ (
         suc rest.0,

@@ -107,8 +107,9 @@ deregister_goes s h _ m e gone = λ w so. absurd so
 
 -- a service with another registry of one kind of ports
 abbrev pub at_side : Side → Service → RegistryState PortDetails → Service
-at_side First s m = at_rest s.pattern s.nodes.registry m s.ports.second.registry
-at_side Second s m = at_rest s.pattern s.nodes.registry s.ports.first.registry m
+at_side side s m =
+    at_rest s.pattern s.nodes.registry (of_side side m s.ports.first.registry)
+    (of_side side s.ports.second.registry m)
 
 -- the ports of one kind have changed, and no node came or went
 pub by_ports : (side : Side) (s w : Service) (m : RegistryState PortDetails)

@@ -11,7 +11,7 @@ filter_twice : {X : Type 0} (p : X → Bool) (xs : List X) → filter p (filter 
 filter_twice p [] = refl
 filter_twice {X} p (x ∷ xs) =
     let rest = filter_twice p xs in
-    elim (cases_Bool (p x)) as (λ _. filter p (filter p (x ∷ xs)) ≡ filter p (x ∷ xs)) [
+    elim (cases_Bool (p x)) [
       | inl t ↦ rw t (rw t (ap (λ (l : List X). x ∷ l) rest))
       | inr f ↦ rw f rest
     ]

@@ -136,7 +136,7 @@ apart a b (inr l) = λ e. omega arith
 not_last : (n m : ℕ) (b : Bool) → (n ≡ 1 → m ≡ 1) → (nat_eq m 1 && b) ≡ false
     → (nat_eq n 1 && b) ≡ false
 not_last n m b one e =
-    elim (cases_order n 1) as (λ _. (nat_eq n 1 && b) ≡ false) [
+    elim (cases_order n 1) [
       | inl v ↦ ap (λ q. q && b) (eq-eqb n 1 v ∙ sym (eq-eqb m 1 (one v))) ∙ e
       | inr v ↦ ap (λ q. q && b) (ne_eqb n 1 (apart n 1 v))
     ]
@@ -186,8 +186,7 @@ node_losses_swap h k s mid t i a b0 =
       counts_one y.details y.details refl,
     )) more_second in
     let last : is_last_of_ports x.details (with_nodes s w.mid) ≡ false =
-    elim (cases_order y.details x.details) as
-    (λ _. is_last_of_ports x.details (with_nodes s w.mid) ≡ false) [
+    elim (cases_order y.details x.details) [
       | inl v ↦
           not_last (counted (of x.details) w.mid.entries) (counted (of x.details) n.entries) _
           (λ one. omega (

@@ -9,7 +9,7 @@ use Rattle.iox2_dynamic.specs.Details.{node_of, role_of}
 use Rattle.iox2_dynamic.specs.Service.{Service, IsService, entries_of_node}
 use Rattle.iox2_dynamic.specs.Steps.{IsOpenFor, is_last_of_ports}
 use Rattle.service_conformance.proofs.MovingNodes.{GainsNode, LosesNode, NodeAddition, NodeRemoval, fewer_ports, loses_again, not_its_last, opened_before, opened_before_loss, opens_more}
-use Rattle.service_conformance.proofs.MovingParts.{Exchange, nodes_first, nodes_stay, others_first, ports_first, with_nodes}
+use Rattle.service_conformance.proofs.MovingParts.{Exchange, exchanged, nodes_first, nodes_stay, others_first, ports_first, with_nodes}
 use Rattle.service_conformance.proofs.MovingPorts.{GainsPort, LosesPort, PortAddition, PortRemoval, others_stay, ports_fewer}
 
 -- a service with the same nodes is open for the same ones
@@ -27,15 +27,10 @@ module _ (h k : Handle) (old mid new : Service) where
       b.changes in
       let before : LosesPort k old w.between = record { state = b.state; changes = w.before } in
       let stay = nodes_stay k.role (PortRemoval k b.state) old w.between w.before in
-      record {
-        between = w.between;
-        before = before;
-        after = loses_again h old mid a w.between new stay
-            (λ id last has. fewer_ports old w.between id stay
-            (ports_fewer k old w.between before id) last) w.after;
-        first = w.first;
-        second = w.second;
-      }
+      exchanged w before
+      (loses_again h old mid a w.between new stay
+      (λ id last has. fewer_ports old w.between id stay
+      (ports_fewer k old w.between before id) last) w.after)
 
   module _ (id : ℕ) where
     pub release_before_register : GainsNode id h old mid → LosesPort k mid new
@@ -43,26 +38,14 @@ module _ (h k : Handle) (old mid new : Service) where
     release_before_register a b =
         let w = ports_first (NodeAddition id h) k.role (PortRemoval k b.state) old mid new a
         b.changes in
-        record {
-          between = w.between;
-          before = record { state = b.state; changes = w.before };
-          after = w.after;
-          first = w.first;
-          second = w.second;
-        }
+        exchanged w (record { state = b.state; changes = w.before }) w.after
 
     pub register_before_release : LosesPort h old mid → GainsNode id k mid new
         → Exchange (LosesPort h) (GainsNode id k) old mid new
     register_before_release a b =
         let w = nodes_first (NodeAddition id k) h.role (PortRemoval h a.state) old mid new a.changes
         b in
-        record {
-          between = w.between;
-          before = w.before;
-          after = record { state = a.state; changes = w.after };
-          first = w.first;
-          second = w.second;
-        }
+        exchanged w w.before (record { state = a.state; changes = w.after })
 
   module _ (d : PortDetails) where
     pub release_before_add : role_of d ≢ k.role → GainsPort d h old mid → LosesPort k mid new
@@ -71,17 +54,11 @@ module _ (h k : Handle) (old mid new : Service) where
         let w = others_first (role_of d) k.role differ (PortAddition d h) (PortRemoval k b.state)
         old new mid a.changes b.changes in
         let stay = nodes_stay k.role (PortRemoval k b.state) old w.between w.before in
-        record {
-          between = w.between;
-          before = record { state = b.state; changes = w.before };
-          after =
-              record {
-                opens = still_open w.between old (node_of d) stay a.opens;
-                changes = w.after;
-              };
-          first = w.first;
-          second = w.second;
-        }
+        exchanged w (record { state = b.state; changes = w.before })
+        (record {
+          opens = still_open w.between old (node_of d) stay a.opens;
+          changes = w.after;
+        })
 
     pub add_before_release : h.role ≢ role_of d → LosesPort h old mid → GainsPort d k mid new
         → Exchange (LosesPort h) (GainsPort d k) old mid new
@@ -89,17 +66,11 @@ module _ (h k : Handle) (old mid new : Service) where
         let w = others_first h.role (role_of d) differ (PortRemoval h a.state) (PortAddition d k)
         old new mid a.changes b.changes in
         let stay = nodes_stay h.role (PortRemoval h a.state) old mid a.changes in
-        record {
-          between = w.between;
-          before =
-              record {
-                opens = still_open old mid (node_of d) (sym stay) b.opens;
-                changes = w.before;
-              };
-          after = record { state = a.state; changes = w.after };
-          first = w.first;
-          second = w.second;
-        }
+        exchanged w
+        (record {
+          opens = still_open old mid (node_of d) (sym stay) b.opens;
+          changes = w.before;
+        }) (record { state = a.state; changes = w.after })
 
     pub add_before_add : (e : PortDetails) → role_of e ≢ role_of d → GainsPort e h old mid
         → GainsPort d k mid new → Exchange (GainsPort e h) (GainsPort d k) old mid new
@@ -108,21 +79,12 @@ module _ (h k : Handle) (old mid new : Service) where
         old new mid a.changes b.changes in
         let was = nodes_stay (role_of e) (PortAddition e h) old mid a.changes in
         let stay = nodes_stay (role_of d) (PortAddition d k) old w.between w.before in
-        record {
-          between = w.between;
-          before =
-              record {
-                opens = still_open old mid (node_of d) (sym was) b.opens;
-                changes = w.before;
-              };
-          after =
-              record {
-                opens = still_open w.between old (node_of e) stay a.opens;
-                changes = w.after;
-              };
-          first = w.first;
-          second = w.second;
-        }
+        exchanged w
+        (record { opens = still_open old mid (node_of d) (sym was) b.opens; changes = w.before })
+        (record {
+          opens = still_open w.between old (node_of e) stay a.opens;
+          changes = w.after;
+        })
 
     pub register_before_add : (id : ℕ) → GainsPort d h old mid → GainsNode id k mid new
         → Exchange (GainsPort d h) (GainsNode id k) old mid new
@@ -131,17 +93,11 @@ module _ (h k : Handle) (old mid new : Service) where
         b in
         let opens : IsOpenFor (with_nodes old w.before.nodes) (node_of d) =
         opens_more old.nodes.registry w.before.nodes id (node_of d) k w.before.step a.opens in
-        record {
-          between = w.between;
-          before = w.before;
-          after =
-              record {
-                opens = subst (λ (x : Service). IsOpenFor x (node_of d)) (sym w.before.left) opens;
-                changes = w.after;
-              };
-          first = w.first;
-          second = w.second;
-        }
+        exchanged w w.before
+        (record {
+          opens = subst (λ (x : Service). IsOpenFor x (node_of d)) (sym w.before.left) opens;
+          changes = w.after;
+        })
 
     pub add_before_register : (id : ℕ) → id ≢ node_of d → GainsNode id h old mid
         → GainsPort d k mid new → Exchange (GainsNode id h) (GainsPort d k) old mid new
@@ -150,18 +106,11 @@ module _ (h k : Handle) (old mid new : Service) where
         b.changes in
         let opens : IsOpenFor (with_nodes old a.nodes) (node_of d) =
         subst (λ (x : Service). IsOpenFor x (node_of d)) a.left b.opens in
-        record {
-          between = w.between;
-          before =
-              record {
-                opens = opened_before old.nodes.registry a.nodes id (node_of d) h a.step other
-                    opens.1;
-                changes = w.before;
-              };
-          after = w.after;
-          first = w.first;
-          second = w.second;
-        }
+        exchanged w
+        (record {
+          opens = opened_before old.nodes.registry a.nodes id (node_of d) h a.step other opens.1;
+          changes = w.before;
+        }) w.after
 
     pub add_before_deregister : IsService old → LosesNode h old mid → GainsPort d k mid new
         → Exchange (LosesNode h) (GainsPort d k) old mid new
@@ -179,8 +128,7 @@ module _ (h k : Handle) (old mid new : Service) where
         let stay = nodes_stay (role_of d) (PortAddition d k) old w.between w.before in
         let more : (id : ℕ) → is_last_of_ports id old ≡ false → HasEntry old.nodes.registry h id
         → is_last_of_ports id w.between ≡ false =
-        λ id last has. elim (cases_order (node_of d) id) as
-        (λ _. is_last_of_ports id w.between ≡ false) [
+        λ id last has. elim (cases_order (node_of d) id) [
           | inl v ↦
               not_its_last old w.between n id h i a.changes.step has
               (subst (λ q. 0 < entries_of_node q n) v opens.1) stay
@@ -188,13 +136,7 @@ module _ (h k : Handle) (old mid new : Service) where
               fewer_ports old w.between id stay
               (λ t. sym (others_stay d k old w.between before id (apart (node_of d) id v)) ∙ t) last
         ] in
-        record {
-          between = w.between;
-          before = before;
-          after = loses_again h old mid a w.between new stay more w.after;
-          first = w.first;
-          second = w.second;
-        }
+        exchanged w before (loses_again h old mid a w.between new stay more w.after)
       where
         apart : (a b : ℕ) → (a < b) ⊎ (b < a) → a ≢ b
         apart a b (inl l) = λ e. omega arith

@@ -52,25 +52,22 @@ pub record Exchange (First Second : Service → Service → Type 0) (old mid new
     pub first : IsBetween old mid new
     pub second : IsBetween old between new
 
+-- an exchange of the same steps, said in another way
+pub exchanged : {A B First Second : Service → Service → Type 0} {old mid new : Service}
+    (w : Exchange A B old mid new) → Second old w.between → First w.between new
+    → Exchange First Second old mid new
+exchanged w before after = record {
+  between = w.between;
+  before = before;
+  after = after;
+  first = w.first;
+  second = w.second;
+}
+
 pub same_ports : (side : Side) (s : Service) (n : RegistryState ℕ)
     → (ports_at (with_nodes s n) side).registry ≡ (ports_at s side).registry
 same_ports First s n = refl
 same_ports Second s n = refl
-
-pub same_nodes : (side : Side) (s : Service) (p : RegistryState PortDetails)
-    → (at_side side s p).nodes.registry ≡ s.nodes.registry
-same_nodes First s p = refl
-same_nodes Second s p = refl
-
-same_pattern : (side : Side) (s : Service) (p : RegistryState PortDetails)
-    → (at_side side s p).pattern ≡ s.pattern
-same_pattern First s p = refl
-same_pattern Second s p = refl
-
-both_ways : (side : Side) (s : Service) (n : RegistryState ℕ) (p : RegistryState PortDetails)
-    → at_side side (with_nodes s n) p ≡ with_nodes (at_side side s p) n
-both_ways First s n p = refl
-both_ways Second s n p = refl
 
 same_at : (side : Side) (s : Service) (m : ContainerState PortDetails)
     → quiet (record s { ports = with_ports_at side s.ports m }) ≡ at_side side s m.registry
@@ -110,7 +107,7 @@ module _ (role : Role) (Step : RegistryState PortDetails → RegistryState PortD
     ports_left = same_at a.side s (container a.ports (ports_at s a.side).touches) ∙ sym a.left
 
     pub nodes_stay : t.nodes.registry ≡ s.nodes.registry
-    nodes_stay = ap (λ (x : Service). x.nodes.registry) a.left ∙ same_nodes a.side s a.ports
+    nodes_stay = ap (λ (x : Service). x.nodes.registry) a.left
 
   -- with other nodes it takes the same step
   pub with_other_nodes : (s : Service) (n : RegistryState ℕ) (t : Service)
@@ -128,8 +125,8 @@ module _ (role : Role) (Step : RegistryState PortDetails → RegistryState PortD
       whole = a.whole;
       left = refl;
     },
-    a.left ∙ both_ways a.side s n a.ports,
-    same_nodes a.side s a.ports,
+    a.left,
+    refl,
   )
 
   pub onto_other_nodes : (s : Service) (n : RegistryState ℕ) (t : Service)
@@ -141,7 +138,7 @@ module _ (role : Role) (Step : RegistryState PortDetails → RegistryState PortD
     step = subst (λ (r : RegistryState PortDetails). Step r a.ports) (sym (same_ports a.side s n))
         a.step;
     whole = a.whole;
-    left = ap (λ (x : Service). with_nodes x n) a.left ∙ sym (both_ways a.side s n a.ports);
+    left = ap (λ (x : Service). with_nodes x n) a.left;
   }
 
 -- nodes change first, and then ports

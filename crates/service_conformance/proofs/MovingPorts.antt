@@ -1,5 +1,5 @@
 -- Ports that go, and ports that come.
-use Rattle.std.proofs.Common.{◌≡◌, ◌≢◌, inl, inr, ℕ, zero, suc, ◌≤◌, true, false, Option, Some, None, Result, Ok, Err, List, map, refl, sym, ◌∙◌, ap, subst, arith}
+use Rattle.std.proofs.Common.{◌≡◌, ◌≢◌, ◌⊎◌, inl, inr, ℕ, zero, suc, ◌≤◌, true, false, Option, Some, None, Result, Ok, Err, List, map, refl, sym, ◌∙◌, ap, subst, arith}
 use Rattle.std.specs.Prelude.{◌==◌, ◌||◌, nat_lt}
 use Rattle.std.proofs.lemmas.Bool.{lt-ltb, ne_eqb}
 use Rattle.iox2_container.specs.declared.container.refusal.ContainerRemoveError.{ContainerRemoveError}
@@ -29,8 +29,8 @@ use Rattle.service_conformance.specs.Sides.{ports_at}
 use Rattle.service_conformance.proofs.Following.{at_side}
 use Rattle.service_conformance.proofs.MovingEntries.{in_whole, removals_swap}
 use Rattle.service_conformance.proofs.MovingLooks.{LosesIds, loses_between}
-use Rattle.service_conformance.proofs.MovingParts.{ChangesPorts, Exchange, ports_after, ports_changed, ports_left, ports_step}
-use Rattle.service_conformance.proofs.Sides.{has_role, ports_are}
+use Rattle.service_conformance.proofs.MovingParts.{ChangesPorts, Exchange, exchanged, others_first, ports_after, ports_changed, ports_left, ports_step}
+use Rattle.service_conformance.proofs.Sides.{has_role, one_side, ports_are}
 
 -- a port is removed
 abbrev pub PortRemoval : Handle → ReleaseState → RegistryState PortDetails
@@ -125,127 +125,105 @@ lost_id r m h state step id e =
 lost_at : (side : Side) (s : Service) (m : RegistryState PortDetails) (h : Handle)
     (state : ReleaseState) → PortRemoval h state (ports_at s side).registry m
     → LosesIds s (at_side side s m)
-lost_at First s m h state step part.Nodes id e = e
 lost_at First s m h state step part.First id e =
     lost_id s.ports.first.registry m h state step id e
-lost_at First s m h state step part.Second id e = e
-lost_at Second s m h state step part.Nodes id e = e
-lost_at Second s m h state step part.First id e = e
+lost_at First s m h state step _ id e = e
 lost_at Second s m h state step part.Second id e =
     lost_id s.ports.second.registry m h state step id e
+lost_at Second s m h state step _ id e = e
 
 port_loss_loses : (h : Handle) (s t : Service) → LosesPort h s t → LosesIds s t
 port_loss_loses h s t a =
     subst (λ (x : Service). LosesIds s x) (sym a.changes.left)
     (lost_at a.changes.side s a.changes.ports h a.state a.changes.step)
 
--- of two removals the second can be made first
-module _ (h k : Handle) (s t : Service) (i : IsService s) (n m : RegistryState PortDetails)
-    (one two : ReleaseState) where
-  swap_at : (side other : Side) → h.role ≡ role_at s.pattern side
-      → PortRemoval h one (ports_at s side).registry n → IsRegistry n
-      → k.role ≡ role_at (at_side side s n).pattern other
-      → PortRemoval k two (ports_at (at_side side s n) other).registry m
-      → IsRegistry m → t ≡ at_side other (at_side side s n) m
-      → (x : Service) × LosesPort k s x × LosesPort h x t
-  swap_at First First r a u q b v e =
-      let w = removals_swap s.ports.first.registry n m h k Default one two
-      (ports_are s First i).is_registry a b in (
-        at_side First s w.mid,
-        record {
-          state = one;
-          changes =
-              record {
-                side = First;
-                role_is = q;
-                ports = w.mid;
-                step = w.before;
-                whole = w.kept;
-                left = refl;
-              };
-        },
-        record {
-          state = two;
-          changes =
-              record {
-                side = First;
-                role_is = r;
-                ports = m;
-                step = w.after;
-                whole = v;
-                left = e;
-              };
-        },
-      )
-  swap_at Second Second r a u q b v e =
-      let w = removals_swap s.ports.second.registry n m h k Default one two
-      (ports_are s Second i).is_registry a b in (
-        at_side Second s w.mid,
-        record {
-          state = one;
-          changes =
-              record {
-                side = Second;
-                role_is = q;
-                ports = w.mid;
-                step = w.before;
-                whole = w.kept;
-                left = refl;
-              };
-        },
-        record {
-          state = two;
-          changes =
-              record {
-                side = Second;
-                role_is = r;
-                ports = m;
-                step = w.after;
-                whole = v;
-                left = e;
-              };
-        },
-      )
-  swap_at First Second r a u q b v e = (
-    at_side Second s m,
-    record {
-      state = two;
-      changes =
-          record { side = Second; role_is = q; ports = m; step = b; whole = v; left = refl };
-    },
-    record {
-      state = one;
-      changes = record { side = First; role_is = r; ports = n; step = a; whole = u; left = e };
-    },
-  )
-  swap_at Second First r a u q b v e = (
-    at_side First s m,
-    record {
-      state = two;
-      changes = record { side = First; role_is = q; ports = m; step = b; whole = v; left = refl };
-    },
-    record {
-      state = one;
-      changes = record { side = Second; role_is = r; ports = n; step = a; whole = u; left = e };
-    },
-  )
+its_ports : (side : Side) (s : Service) (n : RegistryState PortDetails)
+    → (ports_at (at_side side s n) side).registry ≡ n
+its_ports First s n = refl
+its_ports Second s n = refl
 
-pub port_losses_swap : (h k : Handle) (s mid t : Service) → IsService s → LosesPort h s mid
-    → LosesPort k mid t → Exchange (LosesPort h) (LosesPort k) s mid t
-port_losses_swap h k s mid t i a b0 =
-    let n : RegistryState PortDetails = a.changes.ports in
-    let b : LosesPort k (at_side a.changes.side s n) t =
-    subst (λ (x : Service). LosesPort k x t) a.changes.left b0 in
-    let w = swap_at h k s t i n b.changes.ports a.state b.state a.changes.side b.changes.side
-    a.changes.role_is a.changes.step a.changes.whole b.changes.role_is b.changes.step
-    b.changes.whole b.changes.left in
-    record {
-      between = w.0;
-      before = w.1;
-      after = w.2;
-      first = loses_between s mid t (port_loss_loses h s mid a) (port_loss_loses k mid t b0);
-      second = loses_between s w.0 t (port_loss_loses k s w.0 w.1) (port_loss_loses h w.0 t w.2);
-    }
+again : (side : Side) (s : Service) (n m : RegistryState PortDetails)
+    → at_side side (at_side side s n) m ≡ at_side side s m
+again First s n m = refl
+again Second s n m = refl
+
+side_cases : (side other : Side) → (other ≡ side) ⊎ (other ≢ side)
+side_cases First First = inl refl
+side_cases First Second = inr (λ e. (cc))
+side_cases Second First = inr (λ e. (cc))
+side_cases Second Second = inl refl
+
+-- of two removals the second can be made first
+module _ (h k : Handle) (s mid t : Service) (i : IsService s) (a : LosesPort h s mid)
+    (b : LosesPort k mid t) where
+  of_pattern : k.role ≡ role_at s.pattern b.changes.side
+  of_pattern =
+      b.changes.role_is ∙ ap (λ (x : Service). role_at x.pattern b.changes.side) a.changes.left
+
+  -- from one registry
+  swap_at : b.changes.side ≡ a.changes.side → (x : Service) × LosesPort k s x × LosesPort h x t
+  swap_at same =
+      let side = a.changes.side in
+      let n : RegistryState PortDetails = a.changes.ports in
+      let m : RegistryState PortDetails = b.changes.ports in
+      let there : (ports_at mid b.changes.side).registry ≡ n =
+      ap (λ q. (ports_at mid q).registry) same
+      ∙ (ap (λ (x : Service). (ports_at x side).registry) a.changes.left ∙ its_ports side s n) in
+      let w = removals_swap (ports_at s side).registry n m h k Default a.state b.state
+      (ports_are s side i).is_registry a.changes.step
+      (subst (λ (r : RegistryState PortDetails). PortRemoval k b.state r m) there b.changes.step)
+      in (
+        at_side side s w.mid,
+        record {
+          state = a.state;
+          changes =
+              record {
+                side = side;
+                role_is = of_pattern ∙ ap (role_at s.pattern) same;
+                ports = w.mid;
+                step = w.before;
+                whole = w.kept;
+                left = refl;
+              };
+        },
+        record {
+          state = b.state;
+          changes =
+              record {
+                side = side;
+                role_is = a.changes.role_is;
+                ports = m;
+                step = subst (λ (r : RegistryState PortDetails). PortRemoval h b.state r m)
+                    (sym (its_ports side s w.mid)) w.after;
+                whole = b.changes.whole;
+                left = b.changes.left
+                    ∙ (ap (λ q. at_side q mid m) same
+                    ∙ (ap (λ (x : Service). at_side side x m) a.changes.left
+                    ∙ (again side s n m ∙ sym (again side s w.mid m))));
+              };
+        },
+      )
+
+  pub port_losses_swap : Exchange (LosesPort h) (LosesPort k) s mid t
+  port_losses_swap = elim (side_cases a.changes.side b.changes.side) [
+    | inl same ↦
+        let w = swap_at same in
+        record {
+          between = w.0;
+          before = w.1;
+          after = w.2;
+          first = loses_between s mid t (port_loss_loses h s mid a) (port_loss_loses k mid t b);
+          second = loses_between s w.0 t (port_loss_loses k s w.0 w.1)
+              (port_loss_loses h w.0 t w.2);
+        }
+    | inr other ↦
+        let w = others_first h.role k.role
+        (λ e. other (one_side s.pattern a.changes.side b.changes.side h.role a.changes.role_is
+        (e ∙ of_pattern))) (PortRemoval h a.state) (PortRemoval k b.state) s t mid a.changes
+        b.changes in
+        exchanged w (record { state = b.state; changes = w.before })
+        (record { state = a.state; changes = w.after })
+  ]
 
 -- whether some port has a node, where others had it before
 more_some : (a before b more : ℕ) → a ≤ before → b ≤ more → (nat_lt 0 a || nat_lt 0 b) ≡ true

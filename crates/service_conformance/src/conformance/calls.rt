@@ -45,6 +45,7 @@ impl<'a> Machine for Calls<'a> {
 
     ghost Step = { λ m old call new. WindowStep m.first m.calls.now old call new };
 
+    #[tactic(auto, using(crate::proofs::Judged::window_followed))]
     fn follow(
         &self,
         state: &WatchedService,
@@ -56,6 +57,7 @@ impl<'a> Machine for Calls<'a> {
         }
     }
 
+    #[tactic(auto, using(crate::proofs::Judged::window_made))]
     fn make(&self, state: &mut WatchedService, call: usize) -> Result<bool, AllocError> {
         match call_at(self.calls, self.first, call) {
             Some(made) => made.make(self.alloc, call, state),
@@ -63,6 +65,7 @@ impl<'a> Machine for Calls<'a> {
         }
     }
 
+    #[tactic(auto, using(crate::proofs::Judged::window_idle))]
     fn is_idle(&self, state: &WatchedService, call: usize) -> bool {
         match call_at(self.calls, self.first, call) {
             Some(made) => made.is_idle(self.alloc, call, state),

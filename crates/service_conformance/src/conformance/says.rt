@@ -56,6 +56,7 @@ fn are_ids<T: Printed>(items: &[T], ids: &[u128]) -> bool
 }
 
 /// Whether the reply is a list of these ids.
+#[tactic(auto, using(crate::proofs::Seen::ports_list))]
 fn is_list(reply: &LineReply, ids: &[u128]) -> bool
     ensures { IsTrue result ↔ (text_of (reply_in reply.now) ≡ list_words ids.now) }
 {

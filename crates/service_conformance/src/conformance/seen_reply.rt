@@ -104,6 +104,7 @@ fn word_in(words: &[u8]) -> Option<ReplyWord>
 }
 
 /// The count in the words.
+#[tactic(auto, using(crate::proofs::Seen::uncounted))]
 fn count_in(words: &[u8]) -> Option<usize>
     ensures some { IfSome result (λ n. (count_words n ≡ words.now) × (n < 2 ^ 64)) }
     ensures none { IfNone result ((n : ℕ) → n < 2 ^ 64 → count_words n ≢ words.now) }
@@ -135,6 +136,7 @@ fn ids_in(alloc: Global, words: &[u8]) -> Result<Option<Vec<u128>>, AllocError>
 
 /// What the words of a reply to a command that has a line say, or `None` where they are the words
 /// of no such reply.
+#[tactic(auto, using(crate::proofs::Seen::none_replied))]
 pub fn read_reply(alloc: Global, words: &[u8]) -> Result<Option<SeenReply>, AllocError>
     ensures some { IfOk result (λ found. IfSome found
         (λ r. (seen_text r ≡ words.now) × IsSeen r)) }
