@@ -2,21 +2,21 @@
 use Rattle.std.proofs.Common.{◌≡◌, ℕ, suc, ◌<◌, ◌≤◌, List, [], ◌∷◌, ◌++◌, length, get_or, refl, sym, ap, subst, arith, inl, inr, Option, Some, None}
 use Rattle.std.proofs.lemmas.Bool.{cases_lt}
 use Rattle.histories.specs.declared.event.Event.{Event}
-use Rattle.histories.specs.declared.event.Event.TheVariants.{Begin}
+use Rattle.histories.specs.declared.event.Event.TheVariants.{Begin, End}
 use Rattle.histories.specs.declared.front.Advance.{Advance}
 use Rattle.histories.specs.declared.front.Advance.TheVariants as advance
 use Rattle.histories.specs.declared.front.Config.{Config}
 use Rattle.histories.specs.declared.front.Front.{Front}
 use Rattle.histories.specs.declared.front.Link.{Link}
 use Rattle.histories.specs.Histories.{begins, times, IsOpen}
-use Rattle.histories.specs.Advances.{AdvancesIn, Agrees, Ends, EndsOpen}
+use Rattle.histories.specs.Advances.{AdvancesIn, Agrees, Ends, EndsOpen, IsSameFront}
 use Rattle.histories.specs.Frontier.{HasManyOpen, HasSlot, IsFrontOf, IsFrontier, IsSound, IsTable}
-use Rattle.histories.specs.Gathering.{AreLaidIn, AreTaken, Finishes, FreesSlot, HasMany, IsLeft, spot_of}
+use Rattle.histories.specs.Gathering.{AreLaidIn, AreTaken, Finishes, FreesSlot, HasMany, IsClosed, IsLeft, spot_of}
 use Rattle.histories.proofs.Chains.{frontier_laid}
-use Rattle.histories.proofs.Closing.{HaveSameSteps, made_as}
+use Rattle.histories.proofs.Closing.{HaveSameSteps, closed_as, made_as}
 use Rattle.histories.proofs.Counting.{times-cons, times_none, times_one, times_other, times_same}
 use Rattle.histories.proofs.Events.{begin_no_end, ends_one, open_begin_now, open_begin_still}
-use Rattle.histories.proofs.Frontiers.{front_many}
+use Rattle.histories.proofs.Frontiers.{front_many, frontier_end}
 
 -- by the configurations that are left
 pub advanced : {S : Type 0} (Step : S → ℕ → S → Type 0) (events : List Event) (olds : List S)
@@ -79,6 +79,35 @@ pub agrees_slots : {S : Type 0} (Made Step : S → ℕ → S → Type 0) (events
     → HaveSameSteps Made Step slots
 agrees_slots Made Step events slots table agrees slot call has =
     agrees call (table.each slot call has)
+
+-- the call in the slot was made in each, and ends
+pub call_ended : {S : Type 0} (Made Step : S → ℕ → S → Type 0) (events : List Event)
+    (olds : List S) (front new : Front S) (slot call : ℕ) (closed : List (Config S))
+    (result : Advance) → Agrees Made Step events → HasSlot front.slots.items slot call
+    → IsClosed Made front.slots.items front.configs.items slot closed
+    → IsFrontOf Step front events olds → Finishes front slot closed new result
+    → AdvancesIn Step events olds (End call) new result
+call_ended Made Step events olds front new slot call closed result agrees here is f =
+    let slots = front.slots.items in
+    finished Step events olds (End call) front new slot closed result
+    (λ more frees.
+    frontier_end Step slots more slot frees f.table.few front.links.items events olds
+    front.configs.items closed call here f
+    (closed_as Made Step slots (agrees_slots Made Step events slots f.table agrees)
+    front.configs.items closed slot is))
+    (slot_ends events (End call) slots slot call (inl refl) f.table here)
+
+-- the same slots, configurations and links
+pub front_same : {S : Type 0} (Step : S → ℕ → S → Type 0) (events : List Event) (olds : List S)
+    (old new : Front S) → IsSameFront old new → IsFrontOf Step old events olds
+    → IsFrontOf Step new events olds
+front_same {S} Step events olds old new is front =
+    subst (λ (l : List Link). IsFrontier Step l new.slots.items events olds new.configs.items)
+    (sym is.2)
+    (subst (λ (l : List (Option ℕ)). IsFrontier Step old.links.items l events olds
+    new.configs.items) (sym is.0)
+    (subst (λ (l : List (Config S)). IsFrontier Step old.links.items old.slots.items events olds l)
+    (sym is.1) front))
 
 pub many_as : {S : Type 0} (A B : S → ℕ → S → Type 0) (slots : List (Option ℕ))
     → HaveSameSteps A B slots → (configs : List (Config S)) → HasMany A slots configs → HasMany B slots configs

@@ -116,7 +116,7 @@ module _ {S : Type 0} (Step : S → ℕ → S → Type 0) (slots : List (Option 
     ),
   )
 
-  made_next : (configs : List (Config S)) (config : Config S) (next : Spot S)
+  pub made_next : (configs : List (Config S)) (config : Config S) (next : Spot S)
       → IsNext Step slots config next → IsMadeFrom Step slots configs (spot_of config)
       → IsMadeFrom Step slots configs next
   made_next configs config next is m =
@@ -141,7 +141,7 @@ module _ {S : Type 0} (Step : S → ℕ → S → Type 0) (slots : List (Option 
     made = path_more (path_of config) (call ∷ []);
   }
 
-  only_one : (config k : Config S) → Contains (config ∷ []) k → k ≡ config
+  pub only_one : (config k : Config S) → Contains (config ∷ []) k → k ≡ config
   only_one config k has = elim (Contains-push_cases [] config k has) [
     | inl none ↦ absurd (nothing_in k none)
     | inr e ↦ sym e
@@ -261,7 +261,7 @@ module _ {S : Type 0} (Step : S → ℕ → S → Type 0) (slots : List (Option 
   }
 
   -- a slot that is in no set in the end
-  lighter_gone : (fewer rest slot call : ℕ) → HasSlot slots slot call
+  pub lighter_gone : (fewer rest slot call : ℕ) → HasSlot slots slot call
       → IsLighter Step slots fewer rest → bit_at rest slot ≡ 0 → bit_at fewer slot ≡ 0
   lighter_gone fewer rest slot call here light over =
       elim (light slot call here) [

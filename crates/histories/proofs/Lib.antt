@@ -8,6 +8,7 @@ pub mod Running
 pub mod Explaining
 pub mod Gathering
 pub mod Closing
+pub mod InPlace
 pub mod Settlings
 pub mod Chains
 pub mod Frontiers

@@ -183,6 +183,17 @@ MovesFirst Step slots slot waiting =
     (call : ℕ) × HasSlot slots slot call
     × ((at : ℕ) → MovesBeforeAt Step slots waiting slot call at)
 
+-- the call in the slot waited, moves before all others that did, and was made, and could leave no
+-- other state; or nothing changed
+abbrev pub IsMadeFirst : {S : Type 0} → (S → ℕ → S → Type 0) → List (Option ℕ) → ℕ → ℕ → Config S
+    → Config S → Bool → Type 0
+IsMadeFirst Step slots slot call old new true =
+    (bit_at old.waiting slot ≡ 1) × MovesFirst Step slots slot old.waiting
+    × IsMade (Step old.state call) old.state new.state true
+    × (path_of new ≡ path_more (path_of old) (call ∷ []))
+    × (new.waiting ≡ cleared old.waiting slot)
+IsMadeFirst Step slots slot call old new false = new ≡ old
+
 -- it is true of one of these and of that
 abbrev pub FromOne : {S : Type 0} → (Config S → Spot S → Type 0) → List (Config S) → Spot S → Type 0
 FromOne {S} Fact configs spot =
@@ -244,6 +255,12 @@ pub record IsClosed {S : Type 0} (Step : S → ℕ → S → Type 0) (slots : Li
   pub complete : (new : S) (rest : ℕ) → LeadTo Step slots configs new rest → bit_at rest slot ≡ 0
       → LeadTo Step slots done new rest
   pub once : AllPairs (λ a b. ¬ (IsSame a b)) done
+
+-- the call in the slot is made in each, or nothing changed
+abbrev pub IsClosedInPlace : {S : Type 0} → (S → ℕ → S → Type 0) → List (Option ℕ) → ℕ
+    → List (Config S) → List (Config S) → Bool → Type 0
+IsClosedInPlace Step slots slot old new true = IsClosed Step slots old slot new
+IsClosedInPlace Step slots slot old new false = new ≡ old
 
 -- of those to which one more call leads, where it goes on so, each is settled
 abbrev pub IsNextLayer : {S : Type 0} → (S → ℕ → S → Type 0) → List (Option ℕ) → ℕ

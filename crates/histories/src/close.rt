@@ -2,7 +2,7 @@
 ghost use Rattle.std.specs.Prelude.{◌≡◌, ◌<◌, ◌≤◌, ◌++◌, ◌∷◌, [], ℕ, IfOk, IsTrue, OnOk, length};
 ghost use Rattle.std.specs.Int.{bit_at};
 ghost use Rattle.histories.specs.Frontier.{HasSlot, IsWaiting, cleared};
-ghost use Rattle.histories.specs.Gathering.{FromOne, Gathers, GoesOn, IsCloseOutcome, IsDone, IsDropped, IsNextAt, IsNextIn, IsNextLayer, IsNextOther, MovesBeforeAt, MovesFirst, spot_of};
+ghost use Rattle.histories.specs.Gathering.{FromOne, Gathers, GoesOn, IsCloseOutcome, IsClosedInPlace, IsDone, IsDropped, IsMadeFirst, IsNextAt, IsNextIn, IsNextLayer, IsNextOther, MovesBeforeAt, MovesFirst, spot_of};
 
 use super::front::{Config, MAX_CONFIGS};
 use super::gather::{Gathered, add, add_new, copy_of, has_same};
@@ -10,7 +10,7 @@ use super::in_place::make_in;
 use super::left::Left;
 use super::machine::Machine;
 use super::sets::{has, without};
-use super::settle::settle_all;
+use super::settle::{settle, settle_all};
 use std::alloc::{AllocError, Global};
 
 /// The capacity that is left for calls that are made later in the same step.
@@ -205,6 +205,52 @@ fn moves_first<M: Machine>(machine: &M, slots: &[Option<usize>], waiting: u64, s
         }
     }
     true
+}
+
+/// Makes the call in the slot in place, where it waits, moves before all others that wait, and can
+/// leave one state alone. Returns whether it did; else nothing changed.
+fn make_first<M: Machine>(
+    machine: &M,
+    slots: &[Option<usize>],
+    config: &mut Config<M::State>,
+    slot: usize,
+    call: usize,
+) -> Result<bool, AllocError>
+    requires few { length slots.now ≤ 64 }
+    requires within { slot < length slots.now }
+    ensures { IfOk result (IsMadeFirst (M.Step machine.now) slots.now slot call config.old
+        config.new) }
+{
+    if !has(config.waiting, slot) || !moves_first(machine, slots, config.waiting, slot) {
+        return Ok(false);
+    }
+    if !make_in(machine, config, call)? {
+        return Ok(false);
+    }
+    config.waiting = without(config.waiting, slot);
+    Ok(true)
+}
+
+/// Makes the call in the slot so in the only configuration, and then those that change nothing.
+/// Returns whether it did; else nothing changed, and `close` goes on.
+pub fn close_in_place<M: Machine>(
+    machine: &M,
+    slots: &[Option<usize>],
+    configs: &mut [Config<M::State>],
+    slot: usize,
+    call: usize,
+) -> Result<bool, AllocError>
+    requires few { length slots.now ≤ 64 }
+    requires within { slot < length slots.now }
+    requires has { HasSlot slots.now slot call }
+    ensures { IfOk result (IsClosedInPlace (M.Step machine.now) slots.now slot configs.old
+        configs.new) }
+{
+    if configs.len() != 1 || !make_first(machine, slots, &mut configs[0], slot, call)? {
+        return Ok(false);
+    }
+    settle(machine, slots, &mut configs[0])?;
+    Ok(true)
 }
 
 /// Adds the configurations to which one more call leads, that in the slot last. Where this moves

@@ -38,7 +38,7 @@ fn settle_slot<M: Machine>(
 
 /// Makes the calls that can be made and change nothing. Returns whether there are any.
 #[tactic(auto, using(crate::proofs::Settlings::settled_none, crate::proofs::Settlings::settled_then))]
-fn settle<M: Machine>(
+pub fn settle<M: Machine>(
     machine: &M,
     slots: &[Option<usize>],
     config: &mut Config<M::State>,

@@ -2,10 +2,11 @@
 ghost use Rattle.std.specs.Prelude.{◌≡◌, ◌<◌, ◌≤◌, IfOk, IsTrue, length};
 ghost use Rattle.std.specs.Int.{bit_at};
 ghost use Rattle.histories.specs.declared.event.Event.TheVariants.{Begin, End, Crash};
-ghost use Rattle.histories.specs.Advances.{IsAdvance};
+ghost use Rattle.histories.specs.Advances.{EndsInPlace, IsAdvance};
+ghost use Rattle.histories.specs.Frontier.{HasSlot};
 ghost use Rattle.histories.specs.Gathering.{AreOpened, Finishes, IsLeft, IsOpened, LaysOut, WaitsInNone};
 
-use super::close::{close, dropped_all};
+use super::close::{close, close_in_place, dropped_all};
 use super::event::Event;
 use super::front::{Advance, Config, Front, MAX_CONFIGS};
 use super::gather::joined;
@@ -95,6 +96,26 @@ fn finish<S: Drop>(
     lay(front)
 }
 
+/// The call in the slot ends, and is made in place, where that can be. Returns what was done then;
+/// else nothing changed.
+fn end_in_place<M: Machine>(
+    machine: &M,
+    front: &mut Front<M::State>,
+    slot: usize,
+    call: usize,
+) -> Result<Option<Advance>, AllocError>
+    requires few { length front.old.slots.items ≤ 64 }
+    requires has { HasSlot front.old.slots.items slot call }
+    ensures { IfOk result (EndsInPlace (M.Step machine.now) front.old slot front.new) }
+{
+    if !close_in_place(machine, &front.slots, &mut front.configs, slot, call)? {
+        return Ok(None);
+    }
+    free(&mut front.slots, slot);
+    let done = lay(front)?;
+    Ok(Some(done))
+}
+
 /// A call ends: it is made in each configuration.
 fn end<M: Machine>(
     alloc: Global,
@@ -108,6 +129,9 @@ fn end<M: Machine>(
     let Some(slot) = slot_of(&front.slots, call) else {
         return Ok(Advance::NoEvent);
     };
+    if let Some(done) = end_in_place(machine, front, slot, call)? {
+        return Ok(done);
+    }
     let configs = mem::replace(&mut front.configs, Vec::new(alloc));
     match close(alloc, machine, &front.slots, configs, slot)? {
         Some(closed) => finish(front, slot, closed),

@@ -12,6 +12,7 @@ use Rattle.histories.specs.declared.front.Link.{Link}
 use Rattle.histories.specs.Advances.{AdvancesIn, IsAdvance, IsMadeAlone, IsSameFront}
 use Rattle.histories.specs.Histories.{begins, IsExplained, IsHistory, MayFollow, StandsAt}
 use Rattle.histories.specs.Frontier.{HasManyOpen, IsFrontOf, IsFrontier, IsSound}
+use Rattle.histories.proofs.Advancing.{front_same}
 use Rattle.histories.proofs.Events.{stands_within}
 use Rattle.histories.proofs.Verdicts.{agrees_same, explained_take, next_fresh, next_of, one_more}
 use Rattle.history_windows.specs.declared.window.Cut.{Cut}
@@ -106,13 +107,7 @@ pub follows_same : {S : Type 0} (Step : S → ℕ → S → Type 0) (olds : List
 follows_same {S} Step olds c es w same begins is f =
     let front_of : (events : List Event) (states : List S) → IsFrontOf Step w.front events states
     → IsFrontOf Step same.front events states =
-    λ events states front.
-    subst (λ (l : List Link). IsFrontier Step l same.front.slots.items events states
-    same.front.configs.items) (sym is.2)
-    (subst (λ (l : List (Option ℕ)). IsFrontier Step w.front.links.items l events states
-    same.front.configs.items) (sym is.0)
-    (subst (λ (l : List (Config S)). IsFrontier Step w.front.links.items w.front.slots.items events
-    states l) (sym is.1) front)) in record {
+    λ events states. front_same Step events states w.front same.front is in record {
       goes = record {
         is = record {
           past = f.goes.is.past;

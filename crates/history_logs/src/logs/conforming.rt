@@ -16,7 +16,8 @@ use line_streams::before_byte;
 use service_conformance::conformance::WatchedService;
 use std::alloc::{AllocError, Global};
 
-/// What was seen settles once in so many lines.
+/// What was seen settles once in so many lines, or once in as many as there were events left, if
+/// these were more: to look at them again costs each line the same.
 const LINES_A_SETTLING: usize = 4096;
 
 /// Each of so many services has a front, or none yet.
@@ -53,11 +54,21 @@ fn settle_all(
     Ok(true)
 }
 
-/// Settles what was seen of each service, once in some lines. Returns whether orders explain what
-/// is settled.
+/// How many events of the services are kept, or the greatest number, if they are more.
+fn count_kept(services: &[LogService]) -> usize {
+    let mut count = 0usize;
+    for service in services {
+        count = count.saturating_add(service.events().len());
+    }
+    count
+}
+
+/// Settles what was seen of each service from the due line on, and says when that is due again.
+/// Returns whether orders explain what is settled.
 fn settle_at(
     alloc: Global,
     line: usize,
+    due: &mut usize,
     services: &mut [LogService],
     fronts: &mut Vec<Option<Front<WatchedService>>>,
 ) -> Result<bool, AllocError>
@@ -65,10 +76,12 @@ fn settle_at(
     ensures { IfOk result (λ yes. IsTrue yes
         → StayAll services.old fronts.old.items services.new fronts.new.items) }
 {
-    if line % LINES_A_SETTLING != 0 {
+    if line < *due {
         return Ok(true);
     }
-    settle_all(alloc, services, fronts)
+    let is_explained = settle_all(alloc, services, fronts)?;
+    *due = line.saturating_add(LINES_A_SETTLING.max(count_kept(services)));
+    Ok(is_explained)
 }
 
 /// Whether orders explain all that was seen of each service, where no more comes.
@@ -107,12 +120,13 @@ pub(super) fn find_conforming<P: Progress>(
     let mut fronts = Vec::new(alloc);
     let mut rest = log;
     let mut line = 1;
+    let mut due = LINES_A_SETTLING;
     while let Some((text, after)) = before_byte(rest, b'\n') {
         let None = reading.read(alloc, text, line)? else {
             return Ok(None);
         };
         progress.count(line);
-        if !settle_at(alloc, line, &mut reading.services, &mut fronts)? {
+        if !settle_at(alloc, line, &mut due, &mut reading.services, &mut fronts)? {
             return Ok(None);
         }
         rest = after;

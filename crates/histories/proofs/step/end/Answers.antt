@@ -1,57 +1,71 @@
-use Rattle.std.proofs.Common.{inl, refl, subst, sym}
+use Rattle.std.proofs.Common.{◌∙◌, inl, refl, subst, sym}
 use Rattle.std.proofs.lemmas.Result.{IfOk-weaker}
 use Rattle.histories.specs.declared.event.Event.TheVariants.{End}
+use Rattle.histories.specs.Advances.{IsSameFront}
 use Rattle.histories.specs.Frontier.{HasSlot}
 use Rattle.histories.specs.Gathering.{HasMany, IsClosed}
-use Rattle.histories.proofs.Advancing.{agrees_slots, finished, many_as, no_slot, slot_ends}
-use Rattle.histories.proofs.Closing.{closed_as}
-use Rattle.histories.proofs.Frontiers.{frontier_end, many_orders}
+use Rattle.histories.proofs.Advancing.{agrees_slots, call_ended, front_same, many_as, no_slot}
+use Rattle.histories.proofs.Frontiers.{many_orders}
 use Rattle.histories.proofs.step.end.Goals as goal
-
-pub returns-in-Some-2 : goal.returns-in-Some-2
-returns-in-Some-2 g c =
-    IfOk-weaker c.finish.result _ _ (λ r is whole events olds before after sound fresh f.
-    let Made = g.M.Machine.Step c.args.machine.now in
-    let Step = g.M.Machine.Step whole in
-    let call = c.args.call in
-    let front = c.args.front.now in
-    let slots = front.slots.items in
-    let configs = front.configs.items in
-    let slot = c.in-Some.slot in
-    let closed = c.in-Some-2.closed.items in
-    let here : HasSlot slots slot call = (rw c.deref.ensures.value at c.in-Some.ensures.some).1 in
-    let made : IsClosed Made slots configs slot closed =
-    rw c.in-Some-2.is at (rw c.deref-2.ensures.value at (rw c.replace-configs.ensures.value at
-    c.in_ok-closed.ensures)) in
-    finished Step events olds (End call) front c.finish.new.front slot closed r
-    (λ more frees.
-    frontier_end Step slots more slot frees f.table.few front.links.items events olds configs closed
-    call here f
-    (closed_as Made Step slots (agrees_slots Made Step events slots f.table before) configs closed
-    slot made))
-    (slot_ends events (End call) slots slot call (inl refl) f.table here) is) c.finish.ensures
 
 pub returns-in_default : goal.returns-in_default
 returns-in_default g c whole events olds before after sound fresh f =
     no_slot events (End c.args.call) c.args.front.now.slots.items c.args.call (inl refl) f.table
     (rw c.deref.ensures.value at (rw c.in_default.is at c.slot_of.ensures.none))
 
-pub returns-in-None : goal.returns-in-None
-returns-in-None g c whole events olds before after sound fresh f =
+pub end_in_place-requires-clause-has : goal.end_in_place-requires-clause-has
+end_in_place-requires-clause-has g c = (rw c.deref.ensures.value at c.in-Some.ensures.some).1
+
+pub returns-in-Some-2 : goal.returns-in-Some-2
+returns-in-Some-2 g c whole events olds before after sound fresh f =
+    let Made = g.M.Machine.Step c.args.machine.now in
+    let front = c.args.front.now in
+    let here : HasSlot front.slots.items c.in-Some.slot c.args.call =
+    (rw c.deref.ensures.value at c.in-Some.ensures.some).1 in
+    let ends = rw c.in-Some-2.is at c.in_ok-done.ensures in
+    call_ended Made (g.M.Machine.Step whole) events olds front c.end_in_place.new.front
+    c.in-Some.slot c.args.call ends.0 c.in-Some-2.done before here ends.1 f ends.2
+
+pub close-requires-clause-taken : goal.close-requires-clause-taken
+close-requires-clause-taken g c =
+    let same : IsSameFront c.args.front.now c.end_in_place.new.front =
+    rw c.in_default-2.is at c.in_ok-done.ensures in (
+      c.args.call,
+      subst (λ l. HasSlot l c.in-Some.slot c.args.call)
+          (sym (c.deref-2.ensures.value ∙ same.0))
+          (rw c.deref.ensures.value at c.in-Some.ensures.some).1,
+    )
+
+pub returns-in-Some-3 : goal.returns-in-Some-3
+returns-in-Some-3 g c =
+    IfOk-weaker c.finish.result _ _ (λ r is whole events olds before after sound fresh f.
     let Made = g.M.Machine.Step c.args.machine.now in
     let Step = g.M.Machine.Step whole in
-    let front = c.args.front.now in
+    let old = c.args.front.now in
+    let front = c.end_in_place.new.front in
+    let same : IsSameFront old front = rw c.in_default-2.is at c.in_ok-done.ensures in
+    let here : HasSlot front.slots.items c.in-Some.slot c.args.call =
+    subst (λ l. HasSlot l c.in-Some.slot c.args.call) (sym same.0)
+    (rw c.deref.ensures.value at c.in-Some.ensures.some).1 in
+    let made : IsClosed Made front.slots.items front.configs.items c.in-Some.slot
+    c.in-Some-3.closed.items =
+    rw c.in-Some-3.is at (rw c.deref-2.ensures.value at (rw c.replace-configs.ensures.value at
+    c.in_ok-closed.ensures)) in
+    call_ended Made Step events olds front c.finish.new.front c.in-Some.slot c.args.call
+    c.in-Some-3.closed.items r before here made (front_same Step events olds old front same f) is)
+    c.finish.ensures
+
+pub returns-in-None : goal.returns-in-None
+returns-in-None g c whole events olds before after sound fresh first =
+    let Made = g.M.Machine.Step c.args.machine.now in
+    let Step = g.M.Machine.Step whole in
+    let front = c.end_in_place.new.front in
     let slots = front.slots.items in
+    let f = front_same Step events olds c.args.front.now front
+    (rw c.in_default-2.is at c.in_ok-done.ensures) first in
     let many : HasMany Made slots front.configs.items =
     rw c.in-None.is at (rw c.deref-2.ensures.value at (rw c.replace-configs.ensures.value at
     c.in_ok-closed.ensures)) in
     inl (many_orders Step front.links.items slots events olds front.configs.items f
     (many_as Made Step slots (agrees_slots Made Step events slots f.table before)
     front.configs.items many))
-
-pub close-requires-clause-taken : goal.close-requires-clause-taken
-close-requires-clause-taken g c = (
-  c.args.call,
-  subst (λ l. HasSlot l c.in-Some.slot c.args.call) (sym c.deref-2.ensures.value)
-      (rw c.deref.ensures.value at c.in-Some.ensures.some).1,
-)

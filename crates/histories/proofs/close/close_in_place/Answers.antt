@@ -1,0 +1,30 @@
+use Rattle.std.proofs.Common.{rules, ◌≡◌, ◌∷◌, [], List, ap, get_or, length, slice_set, subst, sym, true}
+use Rattle.histories.specs.declared.front.Config.{Config}
+use Rattle.histories.specs.Gathering.{IsClosed, IsMadeFirst, IsSettled, spot_of}
+use Rattle.histories.proofs.Alone.{one_of_one}
+use Rattle.histories.proofs.InPlace.{closed_in_place}
+use Rattle.histories.proofs.close.close_in_place.Goals as goal
+
+pub returns : goal.returns
+returns g c =
+    let Step = g.M.Machine.Step c.args.machine.now in
+    let slots = c.args.slots.now in
+    let configs = c.args.configs.now in
+    let config : Config g.row.M-State.Denot = c.index-configs-0.result in
+    let made : Config g.row.M-State.Denot = c.make_first.new.config in
+    let settled : Config g.row.M-State.Denot = c.settle.new.config in
+    let one : length configs ≡ 1 = search rules in
+    let parts = one_of_one configs config made one c.index-configs-0.is in
+    let first : IsMadeFirst Step slots c.args.slot c.args.call config made true =
+    subst (λ (x : Config g.row.M-State.Denot). IsMadeFirst Step slots c.args.slot c.args.call x made
+    true) (sym c.index-configs-0.is) (rw c.if-not-branch.false at c.in_ok-make_first.ensures) in
+    let idle : IsSettled Step slots made (spot_of settled) =
+    subst (λ (x : Config g.row.M-State.Denot). IsSettled Step slots x (spot_of settled))
+    (ap (λ (l : List (Config g.row.M-State.Denot)). get_or l 0 c.index-configs-0-2.result) parts.1)
+    c.in_ok-settle.ensures.settled in
+    subst (λ l. IsClosed Step slots l c.args.slot (slice_set (slice_set configs 0 made) 0 settled))
+    (sym parts.0)
+    (subst (λ l. IsClosed Step slots (config ∷ []) c.args.slot (slice_set l 0 settled))
+    (sym parts.1)
+    (closed_in_place Step slots c.requires.few c.args.slot c.args.call c.requires.has config made
+    settled first idle))
