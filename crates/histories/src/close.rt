@@ -9,7 +9,7 @@ use super::gather::{Gathered, add, add_new, copy_of, has_same};
 use super::in_place::make_in;
 use super::left::Left;
 use super::machine::Machine;
-use super::sets::{has, without};
+use super::sets::{ALL, has, without};
 use super::settle::{settle, settle_all};
 use std::alloc::{AllocError, Global};
 
@@ -249,7 +249,7 @@ pub fn close_in_place<M: Machine>(
     if configs.len() != 1 || !make_first(machine, slots, &mut configs[0], slot, call)? {
         return Ok(false);
     }
-    settle(machine, slots, &mut configs[0])?;
+    settle(machine, slots, ALL, &mut configs[0])?;
     Ok(true)
 }
 
@@ -343,7 +343,7 @@ fn close_settled<M: Machine>(
         return Ok(layer);
     }
     let mut next = close_round(alloc, machine, slots, layer, slot, done)?;
-    settle_all(alloc, machine, slots, &mut next, true)?;
+    settle_all(alloc, machine, slots, ALL, &mut next, true)?;
     Ok(next)
 }
 

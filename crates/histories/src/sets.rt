@@ -3,6 +3,9 @@ ghost use Rattle.std.specs.Prelude.{◌≡◌, ◌<◌, ◌↔◌, IsTrue};
 ghost use Rattle.std.specs.Int.{bit_at};
 ghost use Rattle.histories.specs.Frontier.{cleared, put};
 
+/// The set of all slots.
+pub const ALL: u64 = u64::MAX;
+
 /// Whether the slot is in the set.
 pub fn has(set: u64, slot: usize) -> bool
     requires { slot < 64 }

@@ -10,12 +10,13 @@ use super::sets::{has, without};
 use std::alloc::{AllocError, Global};
 use std::mem;
 
-/// Makes the call in the slot, if it waits, can be made, and changes nothing. Returns whether it
-/// did.
+/// Makes the call in the slot, if it is tried, waits, can be made, and changes nothing. Returns
+/// whether it did.
 #[tactic(auto, using(crate::proofs::Closing::path_is, crate::proofs::Settlings::settled_call))]
 fn settle_slot<M: Machine>(
     machine: &M,
     slots: &[Option<usize>],
+    tried: u64,
     slot: usize,
     config: &mut Config<M::State>,
 ) -> Result<bool, AllocError>
@@ -25,6 +26,9 @@ fn settle_slot<M: Machine>(
         (spot_of config.new)) }
     ensures same { IfOk result (λ made. IsFalse made → config.new ≡ config.old) }
 {
+    if !has(tried, slot) {
+        return Ok(false);
+    }
     let Some(call) = slots[slot] else {
         return Ok(false);
     };
@@ -36,11 +40,13 @@ fn settle_slot<M: Machine>(
     Ok(false)
 }
 
-/// Makes the calls that can be made and change nothing. Returns whether there are any.
+/// Makes those of the calls in the slots of the set that can be made and change nothing. Returns
+/// whether there are any.
 #[tactic(auto, using(crate::proofs::Settlings::settled_none, crate::proofs::Settlings::settled_then))]
 pub fn settle<M: Machine>(
     machine: &M,
     slots: &[Option<usize>],
+    tried: u64,
     config: &mut Config<M::State>,
 ) -> Result<bool, AllocError>
     requires few { length slots.now ≤ 64 }
@@ -50,7 +56,7 @@ pub fn settle<M: Machine>(
 {
     let mut any = false;
     for slot in 0..slots.len() {
-        any = settle_slot(machine, slots, slot, config)? || any;
+        any = settle_slot(machine, slots, tried, slot, config)? || any;
     }
     Ok(any)
 }
@@ -59,6 +65,7 @@ pub fn settle<M: Machine>(
 fn settle_each<M: Machine>(
     machine: &M,
     slots: &[Option<usize>],
+    tried: u64,
     configs: &mut [Config<M::State>],
 ) -> Result<bool, AllocError>
     requires few { length slots.now ≤ 64 }
@@ -68,7 +75,7 @@ fn settle_each<M: Machine>(
 {
     let mut any = false;
     for config in configs.iter_mut() {
-        any = settle(machine, slots, config)? || any;
+        any = settle(machine, slots, tried, config)? || any;
     }
     Ok(any)
 }
@@ -79,6 +86,7 @@ pub fn settle_all<M: Machine>(
     alloc: Global,
     machine: &M,
     slots: &[Option<usize>],
+    tried: u64,
     configs: &mut Vec<Config<M::State>>,
     are_apart: bool,
 ) -> Result<(), AllocError>
@@ -87,7 +95,7 @@ pub fn settle_all<M: Machine>(
         → AllPairs (λ a b. ¬ (IsSame a b)) configs.old.items)
         → AreSettled (M.Step machine.now) slots.now configs.old.items configs.new.items) }
 {
-    let any = settle_each(machine, slots, configs)?;
+    let any = settle_each(machine, slots, tried, configs)?;
     if are_apart && !any {
         return Ok(());
     }

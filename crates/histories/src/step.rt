@@ -75,7 +75,16 @@ fn begin<M: Machine>(
         return Ok(Advance::ManyOpen);
     };
     let is_new = open_all(&mut front.configs, slot);
-    settle_all(alloc, machine, &front.slots, &mut front.configs, is_new)?;
+    // The states are as they were, and the other calls were tried in them.
+    let own = with(0, slot);
+    settle_all(
+        alloc,
+        machine,
+        &front.slots,
+        own,
+        &mut front.configs,
+        is_new,
+    )?;
     lay(front)
 }
 
