@@ -1,5 +1,5 @@
 -- What an event does to a front.
-use Rattle.std.specs.Prelude.{◌≡◌, ℕ, ◌<◌, ◌⊎◌, ◌↔◌, List, [], ◌∷◌, ◌++◌, length, Bool, true, false, Option, Some, None}
+use Rattle.std.specs.Prelude.{◌≡◌, ℕ, ◌<◌, ◌⊎◌, ◌↔◌, AllPairs, List, [], ◌∷◌, ◌++◌, length, Bool, true, false, Option, Some, None}
 use Rattle.histories.specs.declared.event.Event.{Event}
 use Rattle.histories.specs.declared.event.Event.TheVariants.{Begin, End, Crash}
 use Rattle.histories.specs.declared.front.Advance.{Advance}
@@ -7,7 +7,7 @@ use Rattle.histories.specs.declared.front.Advance.TheVariants as advance
 use Rattle.histories.specs.declared.front.Config.{Config}
 use Rattle.histories.specs.declared.front.Front.{Front}
 use Rattle.histories.specs.Histories.{IsOpen, begins}
-use Rattle.histories.specs.Frontier.{HasManyOpen, HasManyOrders, IsFrontOf, IsSound}
+use Rattle.histories.specs.Frontier.{HasManyOpen, HasManyOrders, IsFrontOf, IsSame, IsSound}
 use Rattle.histories.specs.Gathering.{Finishes, IsClosed}
 
 -- of the calls that are open, the machine makes each as the history has it
@@ -59,12 +59,15 @@ IsSameFront old new =
     (new.slots.items ≡ old.slots.items) × (new.configs.items ≡ old.configs.items)
     × (new.links.items ≡ old.links.items)
 
--- the call in the slot was made, and this was done; or nothing changed
+-- the call in the slot was made, where each configuration was there once, and this was done; or
+-- nothing changed
 abbrev pub EndsInPlace : {S : Type 0} → (S → ℕ → S → Type 0) → Front S → ℕ → Front S
     → Option Advance → Type 0
 EndsInPlace {S} Step old slot new (Some done) =
     (closed : List (Config S))
-    × IsClosed Step old.slots.items old.configs.items slot closed × Finishes old slot closed new done
+    × (AllPairs (λ a b. ¬ (IsSame a b)) old.configs.items
+    → IsClosed Step old.slots.items old.configs.items slot closed)
+    × Finishes old slot closed new done
 EndsInPlace Step old slot new None = IsSameFront old new
 
 -- A call overlaps nothing: it begins, and is answered next. It was made, and the configurations are

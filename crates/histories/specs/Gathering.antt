@@ -183,12 +183,29 @@ MovesFirst Step slots slot waiting =
     (call : ℕ) × HasSlot slots slot call
     × ((at : ℕ) → MovesBeforeAt Step slots waiting slot call at)
 
--- the call in the slot waited, moves before all others that did, and was made, and could leave no
--- other state; or nothing changed
+-- a call in the slot that waits cannot be made, if it is not in the other one
+abbrev pub IsBlockedAt : {S : Type 0} → (S → ℕ → S → Type 0) → List (Option ℕ) → Config S → ℕ → ℕ
+    → Type 0
+IsBlockedAt {S} Step slots config slot at =
+    (other : ℕ) (new : S) → (at ≡ slot → ⊥) → IsWaiting slots config.waiting at other
+    → ¬ (Step config.state other new)
+
+-- no call that waits can be made but that in the slot
+abbrev pub IsAlone : {S : Type 0} → (S → ℕ → S → Type 0) → List (Option ℕ) → Config S → ℕ → Type 0
+IsAlone Step slots config slot = (at : ℕ) → IsBlockedAt Step slots config slot at
+
+-- the call in the slot is made first of those that wait, or moves before them
+abbrev pub ComesFirst : {S : Type 0} → (S → ℕ → S → Type 0) → List (Option ℕ) → Config S → ℕ
+    → Type 0
+ComesFirst Step slots config slot =
+    MovesFirst Step slots slot config.waiting ⊎ IsAlone Step slots config slot
+
+-- the call in the slot waited and came first, and was made, and could leave no other state; or
+-- nothing changed
 abbrev pub IsMadeFirst : {S : Type 0} → (S → ℕ → S → Type 0) → List (Option ℕ) → ℕ → ℕ → Config S
     → Config S → Bool → Type 0
 IsMadeFirst Step slots slot call old new true =
-    (bit_at old.waiting slot ≡ 1) × MovesFirst Step slots slot old.waiting
+    (bit_at old.waiting slot ≡ 1) × ComesFirst Step slots old slot
     × IsMade (Step old.state call) old.state new.state true
     × (path_of new ≡ path_more (path_of old) (call ∷ []))
     × (new.waiting ≡ cleared old.waiting slot)
@@ -256,10 +273,11 @@ pub record IsClosed {S : Type 0} (Step : S → ℕ → S → Type 0) (slots : Li
       → LeadTo Step slots done new rest
   pub once : AllPairs (λ a b. ¬ (IsSame a b)) done
 
--- the call in the slot is made in each, or nothing changed
+-- the call in the slot is made in each, where each was there once, or nothing changed
 abbrev pub IsClosedInPlace : {S : Type 0} → (S → ℕ → S → Type 0) → List (Option ℕ) → ℕ
     → List (Config S) → List (Config S) → Bool → Type 0
-IsClosedInPlace Step slots slot old new true = IsClosed Step slots old slot new
+IsClosedInPlace Step slots slot old new true =
+    AllPairs (λ a b. ¬ (IsSame a b)) old → IsClosed Step slots old slot new
 IsClosedInPlace Step slots slot old new false = new ≡ old
 
 -- of those to which one more call leads, where it goes on so, each is settled

@@ -2,7 +2,7 @@
 ghost use Rattle.std.specs.Prelude.{◌≡◌, ◌<◌, ◌≤◌, ◌++◌, ◌∷◌, [], ℕ, IfOk, IsTrue, OnOk, length};
 ghost use Rattle.std.specs.Int.{bit_at};
 ghost use Rattle.histories.specs.Frontier.{HasSlot, IsWaiting, cleared};
-ghost use Rattle.histories.specs.Gathering.{FromOne, Gathers, GoesOn, IsCloseOutcome, IsClosedInPlace, IsDone, IsDropped, IsMadeFirst, IsNextAt, IsNextIn, IsNextLayer, IsNextOther, MovesBeforeAt, MovesFirst, spot_of};
+ghost use Rattle.histories.specs.Gathering.{FromOne, Gathers, GoesOn, ComesFirst, IsAlone, IsBlockedAt, IsCloseOutcome, IsClosedInPlace, IsDone, IsDropped, IsMadeFirst, IsNextAt, IsNextIn, IsNextLayer, IsNextOther, MovesBeforeAt, MovesFirst, WaitsInNone, spot_of};
 
 use super::front::{Config, MAX_CONFIGS};
 use super::gather::{Gathered, add, add_new, copy_of, has_same};
@@ -207,8 +207,63 @@ fn moves_first<M: Machine>(machine: &M, slots: &[Option<usize>], waiting: u64, s
     true
 }
 
-/// Makes the call in the slot in place, where it waits, moves before all others that wait, and can
-/// leave one state alone. Returns whether it did; else nothing changed.
+/// Whether the call in the slot cannot be made in the configuration, if it waits and is not this
+/// one.
+fn is_blocked_at<M: Machine>(
+    machine: &M,
+    slots: &[Option<usize>],
+    config: &Config<M::State>,
+    slot: usize,
+    at: usize,
+) -> bool
+    requires few { length slots.now ≤ 64 }
+    requires within { at < length slots.now }
+    ensures { IsTrue result → IsBlockedAt (M.Step machine.now) slots.now config.now slot at }
+{
+    if at == slot || !has(config.waiting, at) {
+        return true;
+    }
+    match slots[at] {
+        Some(other) => machine.is_blocked(&config.state, other),
+        None => true,
+    }
+}
+
+/// Whether no call that waits but that in the slot can be made in the configuration.
+fn is_alone<M: Machine>(
+    machine: &M,
+    slots: &[Option<usize>],
+    config: &Config<M::State>,
+    slot: usize,
+) -> bool
+    requires few { length slots.now ≤ 64 }
+    ensures { IsTrue result → IsAlone (M.Step machine.now) slots.now config.now slot }
+{
+    for at in 0..slots.len() {
+        if !is_blocked_at(machine, slots, config, slot, at) {
+            return false;
+        }
+    }
+    true
+}
+
+/// Whether the call in the slot is known to be made first of those that wait in the configuration,
+/// or to move before all others.
+fn comes_first<M: Machine>(
+    machine: &M,
+    slots: &[Option<usize>],
+    config: &Config<M::State>,
+    slot: usize,
+) -> bool
+    requires few { length slots.now ≤ 64 }
+    requires within { slot < length slots.now }
+    ensures { IsTrue result → ComesFirst (M.Step machine.now) slots.now config.now slot }
+{
+    moves_first(machine, slots, config.waiting, slot) || is_alone(machine, slots, config, slot)
+}
+
+/// Makes the call in the slot in place, where it waits, comes first, and can leave one state alone.
+/// Returns whether it did; else nothing changed.
 fn make_first<M: Machine>(
     machine: &M,
     slots: &[Option<usize>],
@@ -221,7 +276,7 @@ fn make_first<M: Machine>(
     ensures { IfOk result (IsMadeFirst (M.Step machine.now) slots.now slot call config.old
         config.new) }
 {
-    if !has(config.waiting, slot) || !moves_first(machine, slots, config.waiting, slot) {
+    if !has(config.waiting, slot) || !comes_first(machine, slots, config, slot) {
         return Ok(false);
     }
     if !make_in(machine, config, call)? {
@@ -231,8 +286,22 @@ fn make_first<M: Machine>(
     Ok(true)
 }
 
-/// Makes the call in the slot so in the only configuration, and then those that change nothing.
-/// Returns whether it did; else nothing changed, and `close` goes on.
+/// Whether the call in the slot waits in none of the configurations.
+fn waits_in_none<S>(configs: &[Config<S>], slot: usize) -> bool
+    requires { slot < 64 }
+    ensures { IsTrue result → WaitsInNone slot configs.now }
+{
+    for config in configs {
+        if has(config.waiting, slot) {
+            return false;
+        }
+    }
+    true
+}
+
+/// Closes the configurations in place, where that can be: the call in the slot waits in none of
+/// them, or there is one, in which it comes first. Calls that change nothing are made then. Returns
+/// whether it did; else nothing changed, and `close` goes on.
 pub fn close_in_place<M: Machine>(
     machine: &M,
     slots: &[Option<usize>],
@@ -246,6 +315,9 @@ pub fn close_in_place<M: Machine>(
     ensures { IfOk result (IsClosedInPlace (M.Step machine.now) slots.now slot configs.old
         configs.new) }
 {
+    if waits_in_none(configs, slot) {
+        return Ok(true);
+    }
     if configs.len() != 1 || !make_first(machine, slots, &mut configs[0], slot, call)? {
         return Ok(false);
     }

@@ -31,6 +31,12 @@ pub trait Machine {
         ensures { IsTrue result → Step self.now state.now call state.now
             × IsIdle (Step self.now) call };
 
+    /// Whether the call cannot be made in this state. An answer of no is always right: then more
+    /// orders are followed.
+    fn is_blocked(&self, state: &Self::State, call: usize) -> bool
+        ensures { IsTrue result
+            → (new : Self.State) → ¬ (Step self.now state.now call new) };
+
     /// Whether the first call, wherever it can be made right after the second, can be made right
     /// before it, and both leave the same: whether it is a left mover. An answer of no is always
     /// right: then more orders are followed.

@@ -71,6 +71,16 @@ fn reads(access: &Access, value: u64) -> bool
     }
 }
 
+/// Whether the call reads another value.
+fn reads_other(access: &Access, value: u64) -> bool
+    ensures { IsTrue result → (new : ℕ) → ¬ (Makes access.now value new) }
+{
+    match access {
+        Access::Read(seen) => *seen != value,
+        _ => false,
+    }
+}
+
 /// Whether both write one value.
 fn write_alike(access: &Access, other: &Access) -> bool
     ensures { IsTrue result → (old mid new : ℕ) → Makes other.now old mid
@@ -105,6 +115,13 @@ impl Machine for Recorded {
     fn is_idle(&self, value: &u64, call: usize) -> bool {
         match self.calls.get(call) {
             Some(access) => reads(access, *value),
+            None => false,
+        }
+    }
+
+    fn is_blocked(&self, value: &u64, call: usize) -> bool {
+        match self.calls.get(call) {
+            Some(access) => reads_other(access, *value),
             None => false,
         }
     }

@@ -73,6 +73,13 @@ impl<'a> Machine for Calls<'a> {
         }
     }
 
+    fn is_blocked(&self, state: &WatchedService, call: usize) -> bool {
+        match call_at(self.calls, self.first, call) {
+            Some(made) => made.is_blocked(self.alloc, state),
+            None => false,
+        }
+    }
+
     fn moves_before(&self, call: usize, other: usize) -> bool {
         let Some(change) = change_at(self.calls, self.first, call) else {
             return false;

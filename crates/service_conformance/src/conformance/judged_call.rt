@@ -7,7 +7,7 @@ ghost use Rattle.service_conformance.specs.Judged.{AreJudgedReplies, IsIdleJudge
 ghost use Rattle.service_conformance.specs.Judged.{MayStop, StartsLook, ids_seen, judged_answered};
 ghost use Rattle.service_conformance.specs.Judged.{shown, stopped};
 ghost use Rattle.service_conformance.specs.Judged.Judged.{call, starts, stops};
-ghost use Rattle.service_conformance.specs.Looks.{watched};
+ghost use Rattle.service_conformance.specs.Looks.{Watched, watched};
 ghost use Rattle.service_conformance.specs.Movers.{MakesChange};
 
 use super::mover::Change;
@@ -261,6 +261,17 @@ impl JudgedCall {
             What::Call(made) => made.is_idle(alloc, state.service()),
             What::Starts(_, reply) => reply.is_none(),
             What::Stops(start, reply) => may_stop(state, *start, reply),
+        }
+    }
+
+    /// Whether it cannot be made in this state. A no says nothing.
+    pub(super) fn is_blocked(&self, alloc: Global, state: &WatchedService) -> bool
+        ensures { IsTrue result
+            → (number : ℕ) (new : Watched) → ¬ (JudgedStep number self.now state.now new) }
+    {
+        match &self.what {
+            What::Call(made) => made.is_blocked(alloc, state.service()),
+            What::Starts(_, _) | What::Stops(_, _) => false,
         }
     }
 

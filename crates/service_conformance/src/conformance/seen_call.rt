@@ -9,6 +9,7 @@ ghost use Rattle.service_conformance.specs.Movers.{IsChange};
 ghost use Rattle.service_conformance.specs.Possible.{ArePossible, IsCovered, reply_in};
 ghost use Rattle.service_conformance.specs.Quiet.{CanServe, LeadsTo};
 ghost use Rattle.service_conformance.specs.Seen.{changes_nothing, seen_text};
+ghost use Rattle.iox2_dynamic.specs.Service.{Service};
 ghost use Rattle.service_descriptions.specs.Lines.{command_of};
 ghost use Rattle.service_conformance.specs.declared.conformance.possible.Possible.TheVariants as possible;
 
@@ -249,6 +250,29 @@ impl SeenCall {
             Some(seen) => self.is_idle_with(alloc, state, seen),
             None => false,
         }
+    }
+
+    /// Whether the reply cannot be given in this state. A no says nothing.
+    fn is_blocked_with(&self, alloc: Global, state: &ServiceCheck, seen: &SeenReply) -> bool
+        ensures { IsTrue result → (new : Service)
+            → ¬ (CallStep (answered self.now (seen_text seen.now)) state.now new) }
+    {
+        // For the proof: what is true of every check.
+        let _pattern = state.kind();
+        let Ok(possible) = self.possible(alloc, state) else {
+            return false;
+        };
+        state.reply_seen(possible, seen).is_none()
+    }
+
+    /// Whether a reply was seen, and the call cannot be made in this state. A no says nothing.
+    pub(super) fn is_blocked(&self, alloc: Global, state: &ServiceCheck) -> bool
+        ensures { IsTrue result → (new : Service) → ¬ (CallStep self.now state.now new) }
+    {
+        let Some(seen) = &self.seen else {
+            return false;
+        };
+        self.is_blocked_with(alloc, state, seen)
     }
 
     /// Whether the reply that was seen says that nothing changed. Such a call changes nothing, in

@@ -2,11 +2,11 @@ use Rattle.std.proofs.Common.{rules, ◌≡◌, ◌∷◌, [], List, ap, get_or,
 use Rattle.histories.specs.declared.front.Config.{Config}
 use Rattle.histories.specs.Gathering.{IsClosed, IsMadeFirst, IsSettled, spot_of}
 use Rattle.histories.proofs.Alone.{one_of_one}
-use Rattle.histories.proofs.InPlace.{closed_in_place}
+use Rattle.histories.proofs.InPlace.{closed_already, closed_in_place}
 use Rattle.histories.proofs.close.close_in_place.Goals as goal
 
 pub returns : goal.returns
-returns g c =
+returns g c apart =
     let Step = g.M.Machine.Step c.args.machine.now in
     let slots = c.args.slots.now in
     let configs = c.args.configs.now in
@@ -28,3 +28,8 @@ returns g c =
     (sym parts.1)
     (closed_in_place Step slots c.requires.few c.args.slot c.args.call c.requires.has config made
     settled first idle))
+
+pub returns-then-waits_in_none : goal.returns-then-waits_in_none
+returns-then-waits_in_none g c apart =
+    closed_already (g.M.Machine.Step c.args.machine.now) c.args.slots.now c.args.slot
+    c.args.configs.now (c.waits_in_none.ensures c.if-waits_in_none.true) apart

@@ -24,7 +24,7 @@ returns-in-Some-2 g c whole events olds before after sound fresh f =
     (rw c.deref.ensures.value at c.in-Some.ensures.some).1 in
     let ends = rw c.in-Some-2.is at c.in_ok-done.ensures in
     call_ended Made (g.M.Machine.Step whole) events olds front c.end_in_place.new.front
-    c.in-Some.slot c.args.call ends.0 c.in-Some-2.done before here ends.1 f ends.2
+    c.in-Some.slot c.args.call ends.0 c.in-Some-2.done before here (ends.1 f.once) f ends.2
 
 pub close-requires-clause-taken : goal.close-requires-clause-taken
 close-requires-clause-taken g c =

@@ -1,0 +1,15 @@
+use Rattle.std.proofs.Common.{◌≡◌, refl, subst, sym}
+use Rattle.service_conformance.specs.Calls.{CallStep}
+use Rattle.service_conformance.specs.Judged.{CallLeaves, JudgedStep}
+use Rattle.service_conformance.specs.Judged.Judged.{call}
+use Rattle.service_conformance.proofs.conformance.judged_call.JudgedCall.is_blocked.Goals as goal
+
+pub returns-in-Call : goal.returns-in-Call
+returns-in-Call c t number new step =
+    let w = c.args.state.now in
+    let same : call c.in-Call.made ≡ c.args.self.now =
+    rw (← c.self.view_is, c.in-Call.is) refl in
+    let leaves : CallLeaves c.in-Call.made w new =
+    subst (λ j. JudgedStep number j w new) (sym same) step in
+    c.is_blocked.ensures t new.service
+    (subst (λ s. CallStep c.in-Call.made s new.service) (sym c.service.ensures.service) leaves.1)
