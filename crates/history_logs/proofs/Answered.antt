@@ -426,10 +426,18 @@ module _ (text : List ℕ) (count : ℕ) where
   placed_step old new (crash name) kept all g is there =
       placed_dies old.services new.services (old.callers name) all g.1
   placed_step old new (given number what) kept all g is there =
-      set_next old.services new.services g.0 (started g.1 g.2) all
-      (placed_started g.1 g.2
-      (later g.1 (all_at Now old.services g.0 g.1 all g.4.there)))
-      (ap (λ (x : Log). x.services) g.6)
+      elim g.5 as (λ _. All Next new.services) [
+        | inl first ↦
+            set_next old.services new.services g.0 (started g.1 g.2) all
+            (placed_started g.1 g.2
+            (later g.1 (all_at Now old.services g.0 g.1 all g.4.there)))
+            (ap (λ (x : Log). x.services) first.1)
+        | inr anew ↦
+            let t = started (unseen g.1.line) g.2 in
+            subst (λ (x : Log). All Next x.services) (sym anew.1)
+            (All-push Next old.services t (all_later old.services all)
+            (placed_started (unseen g.1.line) g.2 (placed_new text (count + 1) g.1.line)))
+      ]
 
 -- what is kept from line to line
 record ReadOn (text : List ℕ) (count : ℕ) (log : Log) : Type 0 where

@@ -1,15 +1,16 @@
 -- What callers do.
-use Rattle.std.proofs.Common.{◌≡◌, ◌≢◌, ℕ, zero, suc, ◌+◌, ◌<◌, List, [], ◌∷◌, ◌++◌, Bool, bytes_eq, true, false, Option, Some, None, length, get_or, set, take, refl, sym, ◌∙◌, ap, subst, arith, if◌then◌else◌}
+use Rattle.std.proofs.Common.{◌≡◌, ◌≢◌, ℕ, zero, suc, ◌+◌, ◌<◌, ◌≤◌, ◌⊎◌, List, [], ◌∷◌, ◌++◌, Bool, bytes_eq, true, false, Option, Some, None, drop, length, get_or, set, take, refl, sym, ◌∙◌, ap, subst, arith, if◌then◌else◌, inl, inr, take_all}
 use Rattle.std.specs.Prelude.{◌==◌, ◌&&◌}
 use Rattle.std.specs.List.{slice_get}
 use Rattle.std.proofs.lemmas.Bool.Decides.{nat_tests}
-use Rattle.std.proofs.lemmas.List.{take_more}
+use Rattle.std.proofs.lemmas.List.{take-append-drop, take_more}
 use Rattle.std.proofs.lemmas.Slice.Eq.{bytes_eq-Decides}
 use Rattle.std.proofs.lemmas.List.Elements.{All-head, All-push, All-tail}
 use Rattle.history_logs.specs.declared.logs.callers.Caller.{Caller}
 use Rattle.history_logs.specs.declared.logs.callers.CallerState.{CallerState}
-use Rattle.history_logs.specs.Fields.{HasName, IsUnknown, is_name, state_in}
-use Rattle.history_logs.specs.Reading.{Sets}
+use Rattle.history_logs.specs.declared.logs.callers.CallerState.TheVariants as caller
+use Rattle.history_logs.specs.Fields.{HasName, IsOn, IsUnknown, is_name, state_in}
+use Rattle.history_logs.specs.Reading.{NoneCalls, Sets}
 
 same_name : (a : List ℕ) → is_name a a ≡ true
 same_name [] = refl
@@ -176,3 +177,78 @@ unknown_more known name at d h none is ne =
     subst (λ (l : List Caller). IsUnknown l name) (sym (take_more known at d h))
     (All-push (λ (c : Caller). c.name.items ≢ name) (take at known) (get_or known at d) none
     (λ e. ne (ap (λ (x : Caller). x.name.items) is ∙ e)))
+
+-- what a caller does that is one of the first ones
+state_more : (known others : List Caller) (name : List ℕ) (state : CallerState)
+    → state_in known name ≡ Some state → state_in (known ++ others) name ≡ Some state
+state_more [] others name state is = absurd (cc)
+state_more (c ∷ known) others name state is =
+    cases (is_name c.name.items name) is (λ rest. state_more known others name state rest)
+  where
+    cases : (b : Bool) → (if b then Some c.state else state_in known name) ≡ Some state
+        → (state_in known name ≡ Some state → state_in (known ++ others) name ≡ Some state)
+        → (if b then Some c.state else state_in (known ++ others) name) ≡ Some state
+    cases true own more = own
+    cases false rest more = more rest
+
+-- one caller more: it does this, or one of those before it did
+state_cases : (known : List Caller) (c : Caller) (name : List ℕ) (state : CallerState)
+    → state_in (known ++ c ∷ []) name ≡ Some state
+    → (state_in known name ≡ Some state) ⊎ ((c.name.items ≡ name) × (c.state ≡ state))
+state_cases [] c name state is = cases (is_name c.name.items name) refl is
+  where
+    same_state : (a b : CallerState) → Some a ≡ Some b → a ≡ b
+    same_state a b e = cc
+
+    cases : (b : Bool) → is_name c.name.items name ≡ b
+        → (if b then Some c.state else None) ≡ Some state
+        → (state_in [] name ≡ Some state) ⊎ ((c.name.items ≡ name) × (c.state ≡ state))
+    cases true e own = inr (is_same c.name.items name e, same_state c.state state own)
+    cases false e rest = absurd (cc)
+state_cases (d ∷ known) c name state is =
+    cases (is_name d.name.items name) is (λ rest. state_cases known c name state rest)
+  where
+    cases : (b : Bool)
+        → (if b then Some d.state else state_in (known ++ c ∷ []) name) ≡ Some state
+        → (state_in (known ++ c ∷ []) name ≡ Some state
+        → (state_in known name ≡ Some state) ⊎ ((c.name.items ≡ name) × (c.state ≡ state)))
+        → ((if b then Some d.state else state_in known name) ≡ Some state)
+        ⊎ ((c.name.items ≡ name) × (c.state ≡ state))
+    cases true own more = inl own
+    cases false rest more = more rest
+
+-- no caller calls
+pub none_yet : (at : ℕ) → NoneCalls (state_in []) at
+none_yet at name number is = absurd (cc)
+
+-- one caller more, that has no call open there, or does not do what its name does
+pub none_on : (known : List Caller) (i at : ℕ) (c : Caller) → i < length known
+    → c ≡ get_or known i c → NoneCalls (state_in (take i known)) at
+    → (IsOn at (Some c.state) → IsOn at (state_in known c.name.items) → ⊥)
+    → NoneCalls (state_in (take (i + 1) known)) at
+none_on known i at c h is none not name number does =
+    let more : take (i + 1) known ≡ take i known ++ c ∷ [] =
+    take_more known i c h ∙ ap (λ (d : Caller). take i known ++ d ∷ []) (sym is) in
+    let here : state_in (take i known ++ c ∷ []) name ≡ Some (caller.Calls at number) =
+    subst (λ (l : List Caller). state_in l name ≡ Some (caller.Calls at number)) more does in
+    elim (state_cases (take i known) c name (caller.Calls at number) here) as (λ _. ⊥) [
+      | inl before ↦ none name number before
+      | inr last ↦
+          let on = state_more (take (i + 1) known) (drop (i + 1) known) name
+          (caller.Calls at number) does in
+          let all : state_in known name ≡ Some (caller.Calls at number) =
+          subst (λ (l : List Caller). state_in l name ≡ Some (caller.Calls at number))
+          (take-append-drop (i + 1) known) on in
+          not
+          (number, ap (λ (s : CallerState). Some s) last.1)
+          (number, ap (λ (n : List ℕ). state_in known n) last.0 ∙ all)
+    ]
+
+pub none_all : (known : List Caller) (i at : ℕ) → length known ≤ i
+    → NoneCalls (state_in (take i known)) at → NoneCalls (state_in known) at
+none_all known i at h none =
+    subst (λ (l : List Caller). NoneCalls (state_in l) at) (take_all i known h) none
+
+pub some_on : (known : List Caller) (at : ℕ) (name : List ℕ) → IsOn at (state_in known name)
+    → ¬ (NoneCalls (state_in known) at)
+some_on known at name on none = none name on.0 on.1

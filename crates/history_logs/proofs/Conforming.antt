@@ -20,7 +20,7 @@ use Rattle.service_conformance.specs.Looks.{Watched, unwatched}
 use Rattle.history_logs.specs.declared.logs.service.LogCall.{LogCall}
 use Rattle.history_logs.specs.Good.{IsAbove, IsOrderly, IsReadTo, Takes}
 use Rattle.history_logs.specs.Judging.{end_verdict}
-use Rattle.history_logs.specs.Logs.{IsSeenRightly, Judged, StepOf, news}
+use Rattle.history_logs.specs.Logs.{IsSeenRightly, Judged, StepOf, news, services_in}
 use Rattle.history_logs.specs.Reading.{IsSane, Log}
 use Rattle.history_logs.specs.Seen.{Service}
 use Rattle.history_logs.specs.Settling.{AreRightShort, AreSameFronts, GoesShort, HasShort, HaveShort, IsRightShort, IsShortAbove, StayAll, Stays}
@@ -28,7 +28,7 @@ use Rattle.history_logs.specs.Shortened.{AreShort, IsShort, IsShortLog, front_at
 use Rattle.history_logs.proofs.Above.{above_more, above_room, read_whole}
 use Rattle.history_logs.proofs.Judgements.{judged_conforms}
 use Rattle.history_logs.proofs.Kept.{all_get, get_within}
-use Rattle.history_logs.proofs.Named.{same_some}
+use Rattle.history_logs.proofs.Named.{same_count, same_some}
 use Rattle.history_logs.proofs.Settled.{events_split}
 use Rattle.history_logs.proofs.ShortLogs.{all_of, goes_line, set_other, set_same, short_sane}
 
@@ -313,7 +313,9 @@ module _ (bytes : List ℕ) (live : Log) (fronts : List (Option (Front Watched))
             → Judged bytes (end_verdict live.services None)
         judged_short right =
             judged_conforms bytes h.log.services
-            (sum_by (λ (s : Service). length s.commands) live.services) (length live.services)
+            (sum_by (λ (s : Service). length s.commands) live.services)
+            (services_in live.services)
             read_short (right h.log.services h.above.kept.orderly h.short.services)
             (calls_same h.log.services live.services fronts h.short.services)
-            h.short.services.0
+            (same_count h.log.services live.services h.short.services.0
+            (λ at s t e f. ap (λ (x : Service). x.line.number) (h.short.services.2 at s t e f).is))

@@ -1,5 +1,5 @@
 -- What is given of an empty service.
-use Rattle.std.proofs.Common.{◌≡◌, ℕ, Bool, false, List, sym, ◌∙◌, ap, refl}
+use Rattle.std.proofs.Common.{◌≡◌, ◌⊎◌, ◌++◌, ◌∷◌, [], ℕ, Bool, false, List, sym, ◌∙◌, ap, inl, inr, refl}
 use Rattle.std.specs.List.{slice_set}
 use Rattle.iox2_container.specs.State.{RegistryState}
 use Rattle.iox2_dynamic.specs.declared.dynamic_config.port_details.PortDetails.{PortDetails}
@@ -9,9 +9,9 @@ use Rattle.log_lines.specs.States.State.{nodes, ports, entry}
 use Rattle.service_conformance.specs.Given.{IsUnused, with_nodes, with_ports, with_used}
 use Rattle.service_conformance.specs.Sides.{ports_at}
 use Rattle.service_conformance.proofs.Given.{same_ports}
-use Rattle.history_logs.specs.Laws.{EmptyStatesChangeNothing, IsEmptyState}
-use Rattle.history_logs.specs.Reading.{StartsAs}
-use Rattle.history_logs.specs.Seen.{Service, started}
+use Rattle.history_logs.specs.Laws.{EmptyStatesChangeNothing, IsAnew, IsEmptyState}
+use Rattle.history_logs.specs.Reading.{Gives}
+use Rattle.history_logs.specs.Seen.{Service, started, unseen}
 use Rattle.history_logs.proofs.Named.{set_back}
 
 unchanged : {T : Type 0} (r : RegistryState T) (used : ℕ) (locked : Bool) → IsUnused r → used ≡ 0
@@ -20,27 +20,43 @@ unchanged r used locked u none free =
     ap (λ n. with_used r n locked) (none ∙ sym u.used)
     ∙ ap (λ b. with_used r r.used b) (free ∙ sym u.locked)
 
-start_same : (s : Service) (what : State) (start : dynamic.Service) → IsEmptyState what
-    → StartsAs s what start → start ≡ s.start
-start_same s (nodes used locked) start none g =
-    g.1.1 ∙ ap (λ (r : RegistryState ℕ). with_nodes s.start r)
-    (unchanged s.start.nodes.registry used locked g.1.0 none.0 none.1)
-start_same s (ports r used) start none g =
-    g.1.3
-    ∙ (ap (λ (x : RegistryState PortDetails). with_ports g.1.0 s.start x)
-    (unchanged (ports_at s.start g.1.0).registry used false g.1.2 none refl)
-    ∙ same_ports s.start g.1.0)
-start_same s (entry slot ticket c) start none g = absurd none
+start_same : (old : dynamic.Service) (what : State) (start : dynamic.Service) → IsEmptyState what
+    → Gives old what start → start ≡ old
+start_same old (nodes used locked) start none g =
+    g.1 ∙ ap (λ (r : RegistryState ℕ). with_nodes old r)
+    (unchanged old.nodes.registry used locked g.0 none.0 none.1)
+start_same old (ports r used) start none g =
+    g.3
+    ∙ (ap (λ (x : RegistryState PortDetails). with_ports g.0 old x)
+    (unchanged (ports_at old g.0).registry used false g.2 none refl)
+    ∙ same_ports old g.0)
+start_same old (entry slot ticket c) start none g = absurd none
 
 pub empty_none : EmptyStatesChangeNothing
 empty_none old new k number what none g =
-    let same : started g.1 g.2 ≡ g.1 =
-    ap (λ (x : dynamic.Service). started g.1 x) (start_same g.1 what g.2 none g.5) in
-    g.6
-    ∙ ap (λ (l : List Service). record {
-      services = l;
-      callers = old.callers;
-      waits = old.waits;
-    })
-    (ap (λ (x : Service). slice_set old.services g.0 x) same
-    ∙ set_back old.services g.0 g.1 g.4.there)
+    elim g.5 as (λ _. (new ≡ old) ⊎ IsAnew old number new) [
+      | inl first ↦
+          let same : started g.1 g.2 ≡ g.1 =
+          ap (λ (x : dynamic.Service). started g.1 x)
+          (start_same g.1.start what g.2 none first.0.1) in
+          inl (first.1
+          ∙ ap (λ (l : List Service). record {
+            services = l;
+            callers = old.callers;
+            waits = old.waits;
+          })
+          (ap (λ (x : Service). slice_set old.services g.0 x) same
+          ∙ set_back old.services g.0 g.1 g.4.there))
+      | inr anew ↦
+          let new_one = unseen g.1.line in
+          let same : started new_one g.2 ≡ new_one =
+          ap (λ (x : dynamic.Service). started new_one x)
+          (start_same new_one.start what g.2 none anew.0.2) in
+          inr (
+            g.0,
+            g.1,
+            g.4,
+            anew.0.0,
+            anew.1 ∙ ap (λ (x : Service). record old { services = old.services ++ x ∷ [] }) same,
+          )
+    ]

@@ -1,5 +1,5 @@
--- What is found of services, in the first line in which something is.
-use Rattle.std.proofs.Common.{◌≡◌, ℕ, zero, suc, ◌+◌, ◌-◌, ◌<◌, ◌≤◌, All, AllPairs, Bool, true, false, cond, List, [], ◌∷◌, ◌++◌, Option, Some, None, Result, Ok, Err, filter, get_or, if◌then◌else◌, length, ltb, slice_get, take, inl, inr, refl, sym, ◌∙◌, ap, subst, arith, take_all}
+-- What is found of services before all else.
+use Rattle.std.proofs.Common.{◌≡◌, ℕ, zero, suc, ◌+◌, ◌-◌, ◌<◌, ◌≤◌, All, AllPairs, Bool, true, false, cond, not, ◌&&◌, ◌||◌, List, [], ◌∷◌, ◌++◌, Option, Some, None, Result, Ok, Err, filter, get_or, if◌then◌else◌, length, ltb, slice_get, take, inl, inr, refl, sym, ◌∙◌, ap, subst, arith, take_all}
 use Rattle.std.proofs.lemmas.Bool.{cases_lt, ltb-false, ltb-true, le-ltb}
 use Rattle.std.proofs.lemmas.List.Elements.{All-nil, All-push, All-take, Contains-append_left, Contains-push}
 use Rattle.std.proofs.lemmas.List.{take_more}
@@ -8,6 +8,7 @@ use Rattle.histories.specs.declared.event.Event.{Event}
 use Rattle.histories.specs.Histories.{IsExplained}
 use Rattle.histories.proofs.Verdicts.{explained_take}
 use Rattle.history_windows.specs.declared.window.Stop.{Stop}
+use Rattle.history_windows.specs.declared.window.Stop.TheVariants as stop
 use Rattle.history_windows.specs.declared.window.Verdict.{Verdict as WindowVerdict}
 use Rattle.history_windows.specs.declared.window.Cut.{Cut}
 use Rattle.history_windows.specs.declared.window.Cut.TheVariants as cut
@@ -19,8 +20,8 @@ use Rattle.history_logs.specs.declared.logs.verdict.Verdict.{Verdict}
 use Rattle.history_logs.specs.declared.logs.verdict.Verdict.TheVariants.{Conforms, Refused, ManyConfigs, ManyOpen, BadLine}
 use Rattle.history_logs.specs.Good.{IsOrderly}
 use Rattle.history_logs.specs.EventLines.{HasEventLines}
-use Rattle.history_logs.specs.Judging.{Explores, IsFirstFound, IsFound, IsFoundOf, IsReportOf, StopsIn, earlier}
-use Rattle.history_logs.specs.Logs.{IsRightAbove, IsSeenRightly, StepOf, count_above, news}
+use Rattle.history_logs.specs.Judging.{Explores, IsFirstFound, IsFound, IsFoundOf, IsNotBefore, IsReportOf, comes_before, earlier, is_refused}
+use Rattle.history_logs.specs.Logs.{IsRightAbove, IsSeenRightly, NoneRefused, NoneRefusedAbove, PassesBound, StepOf, StopsIn, count_above, news}
 use Rattle.history_logs.specs.Seen.{Service}
 
 -- how many of the numbers are below
@@ -118,6 +119,127 @@ module _ (bytes : List ℕ) (s : Service) (o : IsOrderly s) (p : HasEventLines b
   right_found j k (ManyOpen line) h x = right_stop j k x.1.0 _ h x.1.1
   right_found j k (BadLine line e) h x = absurd x
 
+  -- a bound that is passed is above the line, or all above that is explained
+  none_passed : (k line : ℕ) → PassesBound s line → NoneRefusedAbove k s
+  none_passed k line x =
+      elim (cases_lt line k) as (λ _. NoneRefusedAbove k s) [
+        | inl above ↦ inr (line, above, x)
+        | inr below ↦ inl (right_stop k line x.0 x.1 below x.3)
+      ]
+
+  -- where no reply is refused, none is above a line
+  none_above : (k : ℕ) → NoneRefused s → NoneRefusedAbove k s
+  none_above k (inl all) = inl (right_all k all)
+  none_above k (inr x) = none_passed k x.0 x.1
+
+  none_less : (j k : ℕ) → j ≤ k → NoneRefusedAbove k s → NoneRefusedAbove j s
+  none_less j k h (inl right) = inl (right_less j k h right)
+  none_less j k h (inr x) = none_passed j x.0 x.2
+
+  -- a bound is passed in this line
+  passed : (k : ℕ) (v : Verdict) → is_refused v ≡ false → IsFound s k v → PassesBound s k
+  passed k (Conforms n m) not x = absurd x
+  passed k (Refused reported) not x = absurd (cc)
+  passed k (ManyConfigs line) not x = (x.1.0, stop.ManyConfigs, (λ e. absurd (cc)), x.1.1)
+  passed k (ManyOpen line) not x = (x.1.0, stop.ManyOpen, (λ e. absurd (cc)), x.1.1)
+  passed k (BadLine line e) not x = absurd x
+
+  -- what does not come before something, by what it is
+  before_refused : (k : ℕ) (v : Verdict) → is_refused v ≡ true → NoneRefusedAbove k s
+      → IsNotBefore k v s
+  before_refused k (Conforms n m) is x = absurd (cc)
+  before_refused k (Refused reported) is x = x
+  before_refused k (ManyConfigs line) is x = absurd (cc)
+  before_refused k (ManyOpen line) is x = absurd (cc)
+  before_refused k (BadLine line e) is x = absurd (cc)
+
+  before_bound : (k : ℕ) (v : Verdict) → is_refused v ≡ false → IsRightAbove k s → NoneRefused s
+      → IsNotBefore k v s
+  before_bound k (Conforms n m) is right none = (right, none)
+  before_bound k (Refused reported) is right none = absurd (cc)
+  before_bound k (ManyConfigs line) is right none = (right, none)
+  before_bound k (ManyOpen line) is right none = (right, none)
+  before_bound k (BadLine line e) is right none = (right, none)
+
+  of_refused : (k : ℕ) (v : Verdict) → is_refused v ≡ true → IsNotBefore k v s
+      → NoneRefusedAbove k s
+  of_refused k (Conforms n m) is x = absurd (cc)
+  of_refused k (Refused reported) is x = x
+  of_refused k (ManyConfigs line) is x = absurd (cc)
+  of_refused k (ManyOpen line) is x = absurd (cc)
+  of_refused k (BadLine line e) is x = absurd (cc)
+
+  of_bound : (k : ℕ) (v : Verdict) → is_refused v ≡ false → IsNotBefore k v s
+      → IsRightAbove k s × NoneRefused s
+  of_bound k (Conforms n m) is x = x
+  of_bound k (Refused reported) is x = absurd (cc)
+  of_bound k (ManyConfigs line) is x = x
+  of_bound k (ManyOpen line) is x = x
+  of_bound k (BadLine line e) is x = x
+
+  -- where all is explained, nothing comes before
+  all_before : (k : ℕ) (v : Verdict) → IsSeenRightly s → IsNotBefore k v s
+  all_before k v all = cases (is_refused v) refl
+    where
+      cases : (b : Bool) → is_refused v ≡ b → IsNotBefore k v s
+      cases true e = before_refused k v e (inl (right_all k all))
+      cases false e = before_bound k v e (right_all k all) (inl all)
+
+  -- what is found does not come before itself
+  own_before : (k : ℕ) (v : Verdict) → IsFound s k v → IsNotBefore k v s
+  own_before k v x = cases (is_refused v) refl
+    where
+      right : IsRightAbove k s
+      right = right_found k k v (omega arith) x
+
+      cases : (b : Bool) → is_refused v ≡ b → IsNotBefore k v s
+      cases true e = before_refused k v e (inl right)
+      cases false e = before_bound k v e right (inr (k, passed k v e x))
+
+  -- what does not come before one does not come before another that comes before that
+  less_before : (one other : ℕ × Verdict) → comes_before other one ≡ true
+      → IsNotBefore one.0 one.1 s → IsNotBefore other.0 other.1 s
+  less_before one other before x =
+      cases (is_refused other.1) (is_refused one.1) (ltb other.0 one.0) refl refl refl before
+    where
+      cases : (b c t : Bool) → is_refused other.1 ≡ b → is_refused one.1 ≡ c
+          → ltb other.0 one.0 ≡ t → (if b then (not c || t) else (not c && t)) ≡ true
+          → IsNotBefore other.0 other.1 s
+      cases true true true e f g is =
+          before_refused other.0 other.1 e
+          (none_less other.0 one.0 (omega (arith, ltb-true other.0 one.0 g))
+          (of_refused one.0 one.1 f x))
+      cases true true false e f g is = absurd (cc)
+      cases true false t e f g is =
+          before_refused other.0 other.1 e (none_above other.0 (of_bound one.0 one.1 f x).1)
+      cases false true t e f g is = absurd (cc)
+      cases false false true e f g is =
+          let both = of_bound one.0 one.1 f x in
+          before_bound other.0 other.1 e
+          (right_less other.0 one.0 (omega (arith, ltb-true other.0 one.0 g)) both.0) both.1
+      cases false false false e f g is = absurd (cc)
+
+  -- what is found and comes behind something does not come before it
+  found_behind : (one other : ℕ × Verdict) → comes_before other one ≡ false
+      → IsFound s other.0 other.1 → IsNotBefore one.0 one.1 s
+  found_behind one other behind x =
+      cases (is_refused other.1) (is_refused one.1) (ltb other.0 one.0) refl refl refl behind
+    where
+      right : ltb other.0 one.0 ≡ false → IsRightAbove one.0 s
+      right g = right_found one.0 other.0 other.1 (ltb-false other.0 one.0 g) x
+
+      cases : (b c t : Bool) → is_refused other.1 ≡ b → is_refused one.1 ≡ c
+          → ltb other.0 one.0 ≡ t → (if b then (not c || t) else (not c && t)) ≡ false
+          → IsNotBefore one.0 one.1 s
+      cases true true true e f g is = absurd (cc)
+      cases true true false e f g is = before_refused one.0 one.1 f (inl (right g))
+      cases true false t e f g is = absurd (cc)
+      cases false true t e f g is =
+          before_refused one.0 one.1 f (none_passed one.0 other.0 (passed other.0 other.1 e x))
+      cases false false true e f g is = absurd (cc)
+      cases false false false e f g is =
+          before_bound one.0 one.1 f (right g) (inr (other.0, passed other.0 other.1 e x))
+
 module _ (bytes : List ℕ) (ss : List Service) (os : All IsOrderly ss)
     (ps : All (HasEventLines bytes) ss) (s : Service) (o : IsOrderly s) (p : HasEventLines bytes s)
   where
@@ -125,56 +247,53 @@ module _ (bytes : List ℕ) (ss : List Service) (os : All IsOrderly ss)
     both = ss ++ s ∷ []
 
     other_first : (first : Option (ℕ × Verdict)) (other : ℕ × Verdict) → IsFirstFound ss first
-        → ((one : ℕ × Verdict) → first ≡ Some one → other.0 < one.0)
+        → ((one : ℕ × Verdict) → first ≡ Some one → comes_before other one ≡ true)
         → IsFound s other.0 other.1 → IsFirstFound both (Some other)
     other_first None other f h x = (
       s,
       Contains-push ss s,
       x,
-      All-push (IsRightAbove other.0) ss s
-          (λ i d lt. right_all bytes (get_or ss i d) (os i d lt) (ps i d lt) other.0 (f i d lt))
-          (right_found bytes s o p other.0 other.0 other.1 (omega arith) x),
+      All-push (IsNotBefore other.0 other.1) ss s
+          (λ i d lt. all_before bytes (get_or ss i d) (os i d lt) (ps i d lt) other.0 other.1
+          (f i d lt))
+          (own_before bytes s o p other.0 other.1 x),
     )
     other_first (Some one) other f h x = (
       s,
       Contains-push ss s,
       x,
-      All-push (IsRightAbove other.0) ss s
-          (λ i d lt. right_less bytes (get_or ss i d) (os i d lt) (ps i d lt) other.0 one.0
-          (omega (arith, h one refl)) (f.3 i d lt))
-          (right_found bytes s o p other.0 other.0 other.1 (omega arith) x),
+      All-push (IsNotBefore other.0 other.1) ss s
+          (λ i d lt. less_before bytes (get_or ss i d) (os i d lt) (ps i d lt) one other
+          (h one refl) (f.3 i d lt))
+          (own_before bytes s o p other.0 other.1 x),
     )
 
-    one_first : (one : ℕ × Verdict) → IsFirstFound ss (Some one) → IsRightAbove one.0 s
+    one_first : (one : ℕ × Verdict) → IsFirstFound ss (Some one) → IsNotBefore one.0 one.1 s
         → IsFirstFound both (Some one)
     one_first one f right = (
       f.0,
       Contains-append_left ss (s ∷ []) f.0 f.1,
       f.2,
-      All-push (IsRightAbove one.0) ss s f.3 right,
+      All-push (IsNotBefore one.0 one.1) ss s f.3 right,
     )
 
     pub first_more : (first found : Option (ℕ × Verdict)) → IsFirstFound ss first
         → IsFoundOf s found → IsFirstFound both (earlier first found)
     first_more None None f x = All-push IsSeenRightly ss s f x
     first_more None (Some other) f x = other_first None other f (λ one e. absurd (cc)) x
-    first_more (Some one) None f x = one_first one f (right_all bytes s o p one.0 x)
-    first_more (Some one) (Some other) f x = cases (ltb other.0 one.0) refl
+    first_more (Some one) None f x = one_first one f (all_before bytes s o p one.0 one.1 x)
+    first_more (Some one) (Some other) f x = cases (comes_before other one) refl
       where
-        same_one : (a b : ℕ × Verdict) → Some a ≡ Some b → a.0 ≡ b.0
-        same_one a b e = ap (λ p. p.0) (some_is a b e)
-          where
-            some_is : (a b : ℕ × Verdict) → Some a ≡ Some b → a ≡ b
-            some_is a b e = cc
+        same_one : (a b : ℕ × Verdict) → Some a ≡ Some b → a ≡ b
+        same_one a b e = cc
 
-        cases : (t : Bool) → ltb other.0 one.0 ≡ t
-            → IsFirstFound both (if ltb other.0 one.0 then Some other else Some one)
+        cases : (t : Bool) → comes_before other one ≡ t
+            → IsFirstFound both (if t then Some other else Some one)
         cases true e =
-            rw e (other_first (Some one) other f
-            (λ a is. omega (arith, ltb-true other.0 one.0 e, same_one one a is)) x)
-        cases false e =
-            rw e (one_first one f
-            (right_found bytes s o p one.0 other.0 other.1 (ltb-false other.0 one.0 e) x))
+            other_first (Some one) other f
+            (λ a is. subst (λ (y : ℕ × Verdict). comes_before other y ≡ true)
+            (same_one one a is) e) x
+        cases false e = one_first one f (found_behind bytes s o p one other e x)
 
 -- what holds of all items holds of one
 pub item_of : {X : Type 0} (P : X → Type 0) (xs : List X) (i : ℕ) (d : X) → All P xs

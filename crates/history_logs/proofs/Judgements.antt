@@ -1,5 +1,6 @@
 -- What logs are judged to be.
 use Rattle.std.proofs.Common.{◌≡◌, ℕ, ◌+◌, ◌<◌, ◌≤◌, All, Contains, List, Option, Some, None, length, get_or, sum_by, take, refl, sym, ◌∙◌, ap, subst}
+use Rattle.std.proofs.lemmas.List.Elements.{All-weaker}
 use Rattle.std.proofs.lemmas.List.Sums.{sum_by_more, sum_by_more_le}
 use Rattle.history_windows.specs.declared.window.Stop.{Stop}
 use Rattle.history_windows.specs.declared.window.Stop.TheVariants as stop
@@ -8,42 +9,56 @@ use Rattle.history_logs.specs.declared.logs.verdict.Refusal.{Refusal}
 use Rattle.history_logs.specs.declared.logs.verdict.Verdict.{Verdict}
 use Rattle.history_logs.specs.declared.logs.verdict.Verdict.TheVariants.{Conforms, Refused, ManyConfigs, ManyOpen, BadLine}
 use Rattle.history_logs.specs.Good.{IsReadTo}
-use Rattle.history_logs.specs.Judging.{AreJudged, IsRefusedIn, StopsIn, end_verdict}
-use Rattle.history_logs.specs.Logs.{HasGood, IsRefusal, IsRightAbove, IsSeenRightly, Judged, StopsAt}
+use Rattle.history_logs.specs.Judging.{AreJudged, IsNotBefore, IsRefusedIn, end_verdict}
+use Rattle.history_logs.specs.Logs.{HasGood, IsRefusal, IsRightAbove, IsSeenRightly, Judged, NoneRefused, NoneRefusedAbove, StopsAt, StopsIn, services_in}
 use Rattle.history_logs.specs.Seen.{Service}
+use Rattle.history_logs.proofs.Named.{some_service}
 
 some_is : (a b : ℕ) → Some a ≡ Some b → a ≡ b
 some_is a b e = cc
 
+-- of each service nothing comes before
+each_first : (P : Service → Type 0) (k : ℕ) (v : Verdict) (services : List Service)
+    → ((s : Service) → IsNotBefore k v s → P s) → All (IsNotBefore k v) services → All P services
+each_first P k v services does all = All-weaker (IsNotBefore k v) P does services all
+
 stops_at : (services : List Service) (k line : ℕ) (s : Service) (index : ℕ) (why : Stop)
     → Contains services s → StopsIn s k index why → line ≡ k → All (IsRightAbove k) services
-    → StopsAt services line s index why
-stops_at services k line s index why has stops same above = record {
+    → All NoneRefused services → StopsAt services line s index why
+stops_at services k line s index why has stops same above others = record {
   is = has;
   stops = stops.stops;
   there = stops.there ∙ ap Some (sym same);
   above = subst (λ n. All (IsRightAbove n) services) (sym same) above;
+  others = others;
 }
 
 refusal_of : (services : List Service) (k : ℕ) (s : Service) (reported : Refusal)
-    → Contains services s → IsRefusedIn s k reported → All (IsRightAbove k) services
+    → Contains services s → IsRefusedIn s k reported → All (NoneRefusedAbove k) services
     → IsRefusal services reported
-refusal_of services k s reported has r above = record {
-  s = s;
-  index = r.index;
-  stops = stops_at services k reported.line s r.index stop.Refused has r.stops
-      (some_is reported.line k (sym r.is_reported.ended ∙ r.stops.there)) above;
-  number = r.number;
-  ended = r.ended;
-  call = r.call;
-  called = r.called;
-  words = r.words;
-  window = r.window;
-  is_window = r.is_window;
-  begins = r.is_reported.opened;
-  needed = r.needed;
-  configurations = r.is_reported.configurations;
-}
+refusal_of services k s reported has r above =
+    let same : reported.line ≡ k =
+    some_is reported.line k (sym r.is_reported.ended ∙ r.stops.there) in
+    record {
+      s = s;
+      index = r.index;
+      stops = record {
+        is = has;
+        stops = r.stops.stops;
+        there = r.is_reported.ended;
+        above = subst (λ n. All (NoneRefusedAbove n) services) (sym same) above;
+      };
+      number = r.number;
+      ended = r.ended;
+      call = r.call;
+      called = r.called;
+      words = r.words;
+      window = r.window;
+      is_window = r.is_window;
+      begins = r.is_reported.opened;
+      needed = r.needed;
+      configurations = r.is_reported.configurations;
+    }
 
 -- something was found
 pub judged_found : (bytes : List ℕ) (services : List Service) (bad : Option (ℕ × Expected))
@@ -67,7 +82,9 @@ judged_found bytes services bad (ManyConfigs line) r f = (
     f.1.0,
     f.1.2.1.0,
     subst (λ (ss : List Service). StopsAt ss line f.1.0 f.1.2.1.0 stop.ManyConfigs) (sym r.same)
-        (stops_at services f.0 line f.1.0 f.1.2.1.0 stop.ManyConfigs f.1.1 f.1.2.1.1 f.1.2.0 f.1.3),
+        (stops_at services f.0 line f.1.0 f.1.2.1.0 stop.ManyConfigs f.1.1 f.1.2.1.1 f.1.2.0
+        (each_first (IsRightAbove f.0) f.0 (ManyConfigs line) services (λ s x. x.0) f.1.3)
+        (each_first NoneRefused f.0 (ManyConfigs line) services (λ s x. x.1) f.1.3)),
   ),
 )
 judged_found bytes services bad (ManyOpen line) r f = (
@@ -79,7 +96,9 @@ judged_found bytes services bad (ManyOpen line) r f = (
     f.1.0,
     f.1.2.1.0,
     subst (λ (ss : List Service). StopsAt ss line f.1.0 f.1.2.1.0 stop.ManyOpen) (sym r.same)
-        (stops_at services f.0 line f.1.0 f.1.2.1.0 stop.ManyOpen f.1.1 f.1.2.1.1 f.1.2.0 f.1.3),
+        (stops_at services f.0 line f.1.0 f.1.2.1.0 stop.ManyOpen f.1.1 f.1.2.1.1 f.1.2.0
+        (each_first (IsRightAbove f.0) f.0 (ManyOpen line) services (λ s x. x.0) f.1.3)
+        (each_first NoneRefused f.0 (ManyOpen line) services (λ s x. x.1) f.1.3)),
   ),
 )
 judged_found bytes services bad (BadLine line e) r f = absurd f.1.2
@@ -87,7 +106,7 @@ judged_found bytes services bad (BadLine line e) r f = absurd f.1.2
 -- nothing was found, and no line is bad
 pub judged_conforms : (bytes : List ℕ) (services : List Service) (n m : ℕ)
     → IsReadTo bytes services None → AreJudged services None
-    → n ≡ sum_by (λ (s : Service). length s.commands) services → m ≡ length services
+    → n ≡ sum_by (λ (s : Service). length s.commands) services → m ≡ services_in services
     → Judged bytes (Conforms n m)
 unfolding Judged
 judged_conforms bytes services n m r all calls count = (
@@ -97,8 +116,9 @@ judged_conforms bytes services n m r all calls count = (
   r.ends.1,
   subst (λ (ss : List Service). All IsSeenRightly ss) (sym r.same) all,
   calls ∙ ap (λ (ss : List Service). sum_by (λ (s : Service). length s.commands) ss) (sym r.same),
-  count ∙ ap (λ (ss : List Service). length ss) (sym r.same),
-  subst (λ x. 0 < x) (ap (λ (ss : List Service). length ss) r.same ∙ sym count) r.ends.2,
+  count ∙ ap services_in (sym r.same),
+  subst (λ x. 0 < x) (sym count) (some_service services
+      (subst (λ (ss : List Service). 0 < length ss) r.same r.ends.2)),
 )
 
 -- nothing was found above a line that is bad
@@ -122,7 +142,7 @@ pub judged_end : (bytes : List ℕ) (services : List Service) (bad : Option (ℕ
     → Judged bytes (end_verdict services bad)
 judged_end bytes services None r all =
     judged_conforms bytes services (sum_by (λ (s : Service). length s.commands) services)
-    (length services) r all refl refl
+    (services_in services) r all refl refl
 judged_end bytes services (Some bad) r all = judged_bad bytes services bad.0 bad.1 r all
 
 -- no more calls were read than the log has bytes

@@ -14,16 +14,14 @@ use Rattle.log_lines.specs.Commands.Begun.{command, weak}
 use Rattle.log_lines.specs.Lines.{Line}
 use Rattle.log_lines.specs.Lines.Line.{service, call, reply, begin, end, crash, given}
 use Rattle.service_conformance.specs.Judged.{Judged, stopped}
-use Rattle.service_descriptions.specs.declared.replay.lines.service_line.ServiceLine.{ServiceLine}
 use Rattle.history_logs.specs.declared.logs.callers.CallerState.{CallerState}
 use Rattle.history_logs.specs.declared.logs.callers.CallerState.TheVariants as caller
 use Rattle.history_logs.specs.declared.logs.service.LogCall.{LogCall}
-use Rattle.history_logs.specs.Good.{Apart, IsKept, IsOpenOn, IsOrderly, number_of}
+use Rattle.history_logs.specs.Good.{IsKept, IsOpenOn, IsOrderly}
 use Rattle.history_logs.specs.Logs.{calls_in}
-use Rattle.history_logs.specs.Reading.{Dies, GoesOn, IsNew, IsSane, Log, Sets, StopsKept}
+use Rattle.history_logs.specs.Reading.{Dies, GoesOn, IsSane, Log, Sets, StopsKept}
 use Rattle.history_logs.specs.Seen.{Begins, HasHandles, IsKeptCall, Service, start_of, started, unseen, with_begin, with_crash, with_end}
 use Rattle.history_logs.proofs.Callers.{other_bytes, same_bytes}
-use Rattle.history_logs.proofs.Named.{numbers, numbers_new, numbers_set}
 use Rattle.history_logs.proofs.Orderly.{begun_of, open_alone, open_crashed, open_ended, orderly_alone, orderly_crash, orderly_end, orderly_new, orderly_started}
 
 cases_name : (a b : List ℕ) → (a ≡ b) ⊎ (a ≢ b)
@@ -93,27 +91,23 @@ none_waits : (log : Log) → log.waits ≡ None → (at : ℕ) (c : LogCall)
     → log.waits ≡ Some (at, c) → at < length log.services
 none_waits log none at c e = absurd (cc)
 
-kept_service : (old : Log) (line : ServiceLine) → IsKept old → old.waits ≡ None
-    → IsNew line.number old.services → IsKept (record old {
-      services = old.services ++ unseen
-          line ∷ [];
-    })
-kept_service old line k none new = record {
-  orderly = All-push IsOrderly old.services (unseen line) k.orderly (orderly_new line);
-  numbers = numbers_new old.services line k.numbers new;
+-- one service more
+kept_push : (old : Log) (t : Service) → IsKept old → old.waits ≡ None → IsOrderly t
+    → IsKept (record old { services = old.services ++ t ∷ [] })
+kept_push old t k none orderly = record {
+  orderly = All-push IsOrderly old.services t k.orderly orderly;
   opened = λ name at number e.
       let o = k.opened name at number e in
-      (o.0, get_push old.services (unseen line) at o.0 o.1, o.2);
+      (o.0, get_push old.services t at o.0 o.1, o.2);
   apart = k.apart;
   waits = λ at c e. absurd (cc);
-  none = λ e name. absurd (push_some old.services (unseen line) e);
+  none = λ e name. absurd (push_some old.services t e);
 }
 
 kept_call : (old : Log) (at : ℕ) (s : Service) (c : LogCall) → IsKept old
     → slice_get old.services at ≡ Some s → IsKept (record old { waits = Some (at, c) })
 kept_call old at s c k there = record {
   orderly = k.orderly;
-  numbers = k.numbers;
   opened = k.opened;
   apart = k.apart;
   waits = λ b d e.
@@ -122,20 +116,12 @@ kept_call old at s c k there = record {
   none = k.none;
 }
 
--- the services have numbers of their own, where one of them keeps its own
-numbers_kept : (ss : List Service) (at : ℕ) (s t : Service) → slice_get ss at ≡ Some s
-    → number_of t ≡ number_of s → Apart (numbers ss)
-    → Apart (numbers (slice_set ss at t))
-numbers_kept ss at s t there same apart =
-    subst (λ (l : List ℕ). Apart l) (sym (numbers_set ss at s t there same)) apart
-
 kept_alone : (old : Log) (at : ℕ) (s t : Service) → IsKept old
-    → slice_get old.services at ≡ Some s → IsOrderly t → number_of t ≡ number_of s
+    → slice_get old.services at ≡ Some s → IsOrderly t
     → ((m : ℕ) → IsOpen s.events m → IsOpen t.events m)
     → IsKept (record old { services = slice_set old.services at t; waits = None })
-kept_alone old at s t k there orderly own keeps = record {
+kept_alone old at s t k there orderly keeps = record {
   orderly = All-set IsOrderly old.services at t orderly k.orderly;
-  numbers = numbers_kept old.services at s t there own k.numbers;
   opened = λ name b m e.
       opened_set old.services at s t there b m (λ _ o. keeps m o) (k.opened name b m e);
   apart = k.apart;
@@ -147,7 +133,6 @@ kept_alone old at s t k there orderly own keeps = record {
 module _ (old new : Log) (at : ℕ) (s t : Service) (name : List ℕ) (st : CallerState)
     (k : IsKept old)
     (there : slice_get old.services at ≡ Some s) (orderly : IsOrderly t)
-    (same_number : number_of t ≡ number_of s)
     (services : new.services ≡ slice_set old.services at t)
     (sets : Sets old.callers name st new.callers) (waits : new.waits ≡ None)
     (own : (b m : ℕ) → st ≡ caller.Calls b m
@@ -213,8 +198,6 @@ module _ (old new : Log) (at : ℕ) (s t : Service) (name : List ℕ) (st : Call
     kept_sets = record {
       orderly = subst (λ (l : List Service). All IsOrderly l) (sym services)
           (All-set IsOrderly old.services at t orderly k.orderly);
-      numbers = subst (λ (l : List Service). Apart (numbers l)) (sym services)
-          (numbers_kept old.services at s t there same_number k.numbers);
       opened = opened;
       apart = apart;
       waits = none_waits new waits;
@@ -239,7 +222,6 @@ kept_idle old new name k services sets waits was =
     ] in
     record {
       orderly = subst (λ (l : List Service). All IsOrderly l) (sym services) k.orderly;
-      numbers = subst (λ (l : List Service). Apart (numbers l)) (sym services) k.numbers;
       opened = λ one b m e.
           subst (λ (l : List Service). IsOpenOn l b m) (sym services)
           (k.opened one b m (did one b m e));
@@ -264,7 +246,7 @@ kept_dies old new k name (Some (caller.Calls at number)) kept is dies sets waits
     let live = subst (λ (x : Service). IsOpen x.events number) same o.2 in
     let orderly = all_get IsOrderly old.services at s kept.orderly dies.1 in
     kept_sets old new at s (with_crash s number k) name caller.Dead kept dies.1
-    (orderly_crash s number k orderly live) refl dies.2 sets waits
+    (orderly_crash s number k orderly live) dies.2 sets waits
     (λ b m e. absurd (cc))
     (λ other m ne does here. open_crashed s number k m here
     (λ e. ne (kept.apart other name at m does
@@ -273,11 +255,9 @@ kept_dies old new k name (Some (caller.Calls at number)) kept is dies sets waits
 -- a service began otherwise
 kept_given : (old : Log) (at : ℕ) (s t : Service) → IsKept old → old.waits ≡ None
     → slice_get old.services at ≡ Some s → IsOrderly t → t.events ≡ s.events
-    → number_of t ≡ number_of s
     → IsKept (record old { services = slice_set old.services at t })
-kept_given old at s t k none there orderly events own = record {
+kept_given old at s t k none there orderly events = record {
   orderly = All-set IsOrderly old.services at t orderly k.orderly;
-  numbers = numbers_kept old.services at s t there own k.numbers;
   opened = λ name b m e.
       opened_set old.services at s t there b m
       (λ _ o. subst (λ (l : List Event). IsOpen l m) (sym events) o) (k.opened name b m e);
@@ -288,7 +268,7 @@ kept_given old at s t k none there orderly events own = record {
 
 pub kept_step : (old new : Log) (k : ℕ) (l : Line) → IsKept old → GoesOn old k l new → IsKept new
 kept_step old new k (service line) kept g =
-    subst IsKept (sym g.2) (kept_service old line kept g.0 g.1)
+    subst IsKept (sym g.2) (kept_push old (unseen line) kept g.0 (orderly_new line))
 kept_step old new k (call number c) kept g =
     subst IsKept (sym g.4) (kept_call old g.0 g.1 _ kept g.3.there)
 kept_step old new k (reply words) kept g =
@@ -296,7 +276,7 @@ kept_step old new k (reply words) kept g =
     let orderly = all_get IsOrderly old.services g.0 s kept.orderly g.5 in
     subst IsKept (sym g.7)
     (kept_alone old g.0 s (with_end (with_begin s g.1 k) (length s.calls) g.3 k) kept g.5
-    (orderly_alone s g.1 g.3 k orderly) refl (λ m o. open_alone s g.1 g.3 k m orderly o))
+    (orderly_alone s g.1 g.3 k orderly) (λ m o. open_alone s g.1 g.3 k m orderly o))
 kept_step old new k (begin number name begun) kept g =
     let s = g.1 in
     let t = g.5.0 in
@@ -304,7 +284,7 @@ kept_step old new k (begin number name begun) kept g =
     let orderly = all_get IsOrderly old.services g.0 s kept.orderly g.3.there in
     let is = begun_of s t begun k current orderly g.5.2 in
     kept_sets old new g.0 s t name (caller.Calls g.0 current) kept
-    g.3.there is.orderly is.number g.5.3 g.5.4 g.5.5
+    g.3.there is.orderly g.5.3 g.5.4 g.5.5
     (λ b m e.
     let at : g.0 ≡ b = cc in
     let same : current ≡ m = cc in (
@@ -321,7 +301,7 @@ kept_step old new k (end name words) kept g =
     let live = subst (λ (x : Service). IsOpen x.events number) same o.2 in
     let orderly = all_get IsOrderly old.services g.0 s kept.orderly g.6 in
     kept_sets old new g.0 s (with_end s number g.3 k) name caller.Idle kept g.6
-    (orderly_end s number g.3 k orderly live) refl g.8 g.9 g.10
+    (orderly_end s number g.3 k orderly live) g.8 g.9 g.10
     (λ b m e. absurd (cc))
     (λ other m ne does here. open_ended s number g.3 k m here
     (λ e. ne (kept.apart other name g.0 m does
@@ -332,8 +312,15 @@ kept_step old new k (given number what) kept g =
     let s = g.1 in
     let there = g.4.there in
     let orderly = all_get IsOrderly old.services g.0 s kept.orderly there in
-    subst IsKept (sym g.6)
-    (kept_given old g.0 s (started s g.2) kept g.3 there (orderly_started s g.2 orderly) refl refl)
+    elim g.5 as (λ _. IsKept new) [
+      | inl first ↦
+          subst IsKept (sym first.1)
+          (kept_given old g.0 s (started s g.2) kept g.3 there (orderly_started s g.2 orderly) refl)
+      | inr anew ↦
+          subst IsKept (sym anew.1)
+          (kept_push old (started (unseen s.line) g.2) kept g.3
+          (orderly_started (unseen s.line) g.2 (orderly_new s.line)))
+    ]
 
 -- how many calls were read after one line more
 abbrev calls_of : Service → ℕ
@@ -364,11 +351,9 @@ begins_few s t (weak r) k current (inl looks) =
 begins_few s t (weak r) k current (inr lists) =
     omega (arith, ap calls_of lists.1, length-append s.commands (length s.calls ∷ []))
 
-sum_push : (ss : List Service) (line : ServiceLine)
-    → sum_by calls_of (ss ++ unseen line ∷ []) ≡ sum_by calls_of ss
-sum_push ss line =
-    let none : calls_of (unseen line) ≡ 0 = refl in
-    omega (arith, none, sum_by_push calls_of ss (unseen line))
+sum_push : (ss : List Service) (t : Service) → calls_of t ≡ 0
+    → sum_by calls_of (ss ++ t ∷ []) ≡ sum_by calls_of ss
+sum_push ss t none = omega (arith, none, sum_by_push calls_of ss t)
 
 sum_dies : (ss new : List Service) (k : ℕ) (state : Option CallerState) → Dies ss k state new
     → sum_by calls_of new ≤ sum_by calls_of ss + 1
@@ -386,7 +371,11 @@ sum_dies ss new k (Some (caller.Calls at number)) dies =
 sum_step : (old new : Log) (k : ℕ) (l : Line) → GoesOn old k l new
     → sum_by calls_of new.services ≤ sum_by calls_of old.services + 1
 sum_step old new k (service line) g =
-    omega (arith, ap (λ (x : Log). sum_by calls_of x.services) g.2, sum_push old.services line)
+    omega (
+      arith,
+      ap (λ (x : Log). sum_by calls_of x.services) g.2,
+      sum_push old.services (unseen line) refl,
+    )
 sum_step old new k (call number c) g =
     omega (arith, ap (λ (x : Log). sum_by calls_of x.services) g.4)
 sum_step old new k (reply words) g =
@@ -414,11 +403,20 @@ sum_step old new k (end name words) g =
     )
 sum_step old new k (crash name) g = sum_dies old.services new.services k (old.callers name) g.1
 sum_step old new k (given number what) g =
-    omega (
-      arith,
-      ap (λ (x : Log). sum_by calls_of x.services) g.6,
-      sum_set old.services g.0 g.1 (started g.1 g.2) g.4.there (omega arith),
-    )
+    elim g.5 as (λ _. sum_by calls_of new.services ≤ sum_by calls_of old.services + 1) [
+      | inl first ↦
+          omega (
+            arith,
+            ap (λ (x : Log). sum_by calls_of x.services) first.1,
+            sum_set old.services g.0 g.1 (started g.1 g.2) g.4.there (omega arith),
+          )
+      | inr anew ↦
+          omega (
+            arith,
+            ap (λ (x : Log). sum_by calls_of x.services) anew.1,
+            sum_push old.services (started (unseen g.1.line) g.2) refl,
+          )
+    ]
 
 pub few_step : (old new : Log) (k : ℕ) (l : Line) → GoesOn old k l new
     → calls_in new ≤ calls_in old + 1
@@ -429,8 +427,6 @@ pub kept_new : (log : Log) → log.services ≡ [] → ((name : List ℕ) → lo
     → log.waits ≡ None → IsKept log
 kept_new log services callers waits = record {
   orderly = subst (λ (l : List Service). All IsOrderly l) (sym services) (All-nil IsOrderly);
-  numbers = subst (λ (l : List Service). Apart (numbers l)) (sym services)
-      (λ i j d less within. absurd (omega (arith, within)));
   opened = λ name at number e. let bars = callers name in absurd (cc);
   apart = λ one other at number e f. let bars = callers one in absurd (cc);
   waits = none_waits log waits;

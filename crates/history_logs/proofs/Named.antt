@@ -1,96 +1,214 @@
 -- Services that are named.
-use Rattle.std.proofs.Common.{◌≡◌, ◌≢◌, ℕ, zero, suc, ◌<◌, List, [], ◌∷◌, ◌++◌, Option, Some, None, get_or, length, map, refl, sym, ◌∙◌, ap, subst, arith, inl, inr}
+use Rattle.std.proofs.Common.{◌≡◌, ◌≢◌, ℕ, zero, suc, ◌+◌, ◌<◌, ◌≤◌, ◌-◌, List, [], ◌∷◌, ◌++◌, All, Bool, true, false, ◌||◌, Option, Some, None, IfNone, IfSome, add-one, cond, drop, drop-cons, eqb, get_or, length, length-drop, map, refl, sym, ◌∙◌, ap, subst, arith, eq-eqb, inl, inr, ne_eqb, take, take_all}
 use Rattle.std.specs.Prelude.{slice_get}
-use Rattle.std.specs.List.{slice_set}
-use Rattle.std.proofs.lemmas.Bool.{cases_order}
-use Rattle.std.proofs.lemmas.List.Elements.{All-map}
-use Rattle.std.proofs.lemmas.List.Quantifiers.{all_pairs_push}
-use Rattle.std.proofs.lemmas.Option.{slice_get_within}
-use Rattle.service_descriptions.specs.declared.replay.lines.service_line.ServiceLine.{ServiceLine}
-use Rattle.history_logs.specs.Good.{Apart, number_of}
-use Rattle.history_logs.specs.Reading.{IsNamed, IsNew}
-use Rattle.history_logs.specs.Seen.{Service, unseen}
-
-pub only_service : (ss : List Service) → length ss ≡ 1 → (s : Service) × IsNamed None ss 0 s
-only_service [] one = absurd (omega (arith, one))
-only_service (s ∷ ss) one = (s, record { there = refl; named = inr (refl, one) })
+use Rattle.std.specs.List.{list_any, slice_set}
+use Rattle.std.specs.Option.{is_some}
+use Rattle.std.specs.Set.{unique_keys}
+use Rattle.std.proofs.lemmas.Bool.{cases_eq, cases_order}
+use Rattle.std.proofs.lemmas.List.Elements.{All-head, All-tail}
+use Rattle.std.proofs.lemmas.Option.{get_or_from_slice_get, slice_get-get_or, slice_get_within}
+use Rattle.history_logs.specs.Logs.{services_in}
+use Rattle.history_logs.specs.Reading.{HaveNumber, IsNamed, IsNameless, IsNew, IsNewBehind}
+use Rattle.history_logs.specs.Seen.{Service}
 
 pub same_some : {X : Type 0} (a b : X) → Some a ≡ Some b → a ≡ b
 same_some a b e = cc
 
--- the numbers of services
-abbrev pub numbers : List Service → List ℕ
-numbers ss = map number_of ss
+-- the number of a service
+abbrev number_of : Service → ℕ
+number_of s = s.line.number
 
--- a service that keeps its number leaves them
-pub numbers_set : (ss : List Service) (at : ℕ) (s t : Service) → slice_get ss at ≡ Some s
-    → number_of t ≡ number_of s → numbers (slice_set ss at t) ≡ numbers ss
-numbers_set [] at s t there same = absurd (cc)
-numbers_set (x ∷ ss) zero s t there same =
-    ap (λ n. n ∷ numbers ss) (same ∙ ap number_of (sym (same_some x s there)))
-numbers_set (x ∷ ss) (suc at) s t there same =
-    ap (λ (l : List ℕ). number_of x ∷ l) (numbers_set ss at s t there same)
+-- no service from a place on has the number
+abbrev pub NoneFrom : ℕ → List Service → ℕ → Type 0
+NoneFrom number ss at =
+    (later : ℕ) (t : Service) → at ≤ later → slice_get ss later ≡ Some t → number_of t ≢ number
 
-numbers_push : (ss : List Service) (t : Service)
-    → numbers (ss ++ t ∷ []) ≡ numbers ss ++ number_of t ∷ []
-numbers_push [] t = refl
-numbers_push (x ∷ ss) t = ap (λ (l : List ℕ). number_of x ∷ l) (numbers_push ss t)
+pub none_past : (number : ℕ) (ss : List Service) (at : ℕ) → length ss ≤ at
+    → NoneFrom number ss at
+none_past number ss at past later t from there =
+    absurd (omega (arith, past, from, slice_get_within ss later t there))
 
-pub numbers_new : (ss : List Service) (line : ServiceLine) → Apart (numbers ss)
-    → IsNew line.number ss → Apart (numbers (ss ++ unseen line ∷ []))
-numbers_new ss line apart new =
-    subst (λ (l : List ℕ). Apart l) (sym (numbers_push ss (unseen line)))
-    (all_pairs_push (λ (one other : ℕ). one ≢ other) (numbers ss) line.number apart
-    (All-map (λ n. n ≢ line.number) number_of ss new))
-
-number_at : (ss : List Service) (at : ℕ) (s : Service) (d : ℕ) → slice_get ss at ≡ Some s
-    → (get_or (numbers ss) at d ≡ number_of s) × (at < length (numbers ss))
-number_at [] at s d there = absurd (cc)
-number_at (x ∷ ss) zero s d there = (ap number_of (same_some x s there), omega arith)
-number_at (x ∷ ss) (suc at) s d there =
-    let rest = number_at ss at s d there in (rest.0, omega (arith, rest.1))
-
--- services apart have other numbers
-apart_at : (ss : List Service) (at bt : ℕ) (s t : Service) → Apart (numbers ss)
-    → slice_get ss at ≡ Some s → slice_get ss bt ≡ Some t → at < bt
-    → number_of s ≢ number_of t
-apart_at ss at bt s t apart there here less same =
-    let a = number_at ss at s 0 there in
-    let b = number_at ss bt t 0 here in
-    apart at bt 0 less b.1 (a.0 ∙ (same ∙ sym b.0))
-
--- one service has a number
-one_number : (ss : List Service) (at bt : ℕ) (s t : Service) → Apart (numbers ss)
-    → slice_get ss at ≡ Some s → slice_get ss bt ≡ Some t → number_of s ≡ number_of t → at ≡ bt
-one_number ss at bt s t apart there here same =
-    elim (cases_order at bt) as (λ _. at ≡ bt) [
-      | inl e ↦ e
-      | inr (inl less) ↦ absurd (apart_at ss at bt s t apart there here less same)
-      | inr (inr more) ↦ absurd (apart_at ss bt at t s apart here there more (sym same))
+-- one service more
+pub none_more : (number : ℕ) (ss : List Service) (at : ℕ) (d : Service) → at < length ss
+    → d ≡ get_or ss at d → number_of d ≢ number → NoneFrom number ss (at + 1)
+    → NoneFrom number ss at
+none_more number ss at d h is other rest later t from there =
+    elim (cases_eq later at) as (λ _. number_of t ≢ number) [
+      | inl same ↦
+          let here : get_or ss at d ≡ t =
+          get_or_from_slice_get ss at t d
+          (subst (λ i. slice_get ss i ≡ Some t) same there) in
+          subst (λ (x : Service). number_of x ≢ number) (is ∙ here) other
+      | inr behind ↦ rest later t (omega (arith, from, behind)) there
     ]
 
+pub none_at_all : (number : ℕ) (ss : List Service) → NoneFrom number ss 0 → IsNew number ss
+none_at_all number ss none i d h =
+    none i (get_or ss i d) (omega arith) (slice_get-get_or ss i d h)
+
+pub none_behind : (number : ℕ) (ss : List Service) (at : ℕ) → NoneFrom number ss (at + 1)
+    → IsNewBehind number ss at
+none_behind number ss at none later t less there =
+    none later t (omega (arith, less)) there
+
+-- what holds of all holds of the one at an index
+number_at : (number : ℕ) (ss : List Service) (at : ℕ) (s : Service) → HaveNumber number ss
+    → slice_get ss at ≡ Some s → number_of s ≡ number
+number_at number ss at s have there =
+    subst (λ (x : Service). number_of x ≡ number) (get_or_from_slice_get ss at s s there)
+    (have at s (slice_get_within ss at s there))
+
+no_some : (n : ℕ) → Some n ≡ None → ⊥
+no_some n e = absurd (cc)
+
+-- all services have one number
+pub only_named : (ss : List Service) (at : ℕ) (d : Service) → at + 1 ≡ length ss
+    → d ≡ get_or ss at d → HaveNumber (number_of d) ss → (s : Service) × IsNamed None ss at s
+only_named ss at d last is have = (
+  d,
+  record {
+    there = slice_get-get_or ss at d (omega (arith, last))
+        ∙ ap (λ (x : Service). Some x) (sym is);
+    named = inr (refl, have);
+    last = λ later t less there.
+        absurd (omega (arith, last, less, slice_get_within ss later t there));
+  },
+)
+
+pub none_named : (ss : List Service) (at : ℕ) (d : Service) → at < length ss
+    → d ≡ get_or ss at d → ¬ (HaveNumber (number_of d) ss) → IsNameless None ss
+none_named ss at d h is others bt s n =
+    elim n.named as (λ _. ⊥) [
+      | inl own ↦ no_some (number_of s) (sym own)
+      | inr have ↦
+          let there = slice_get-get_or ss at d h ∙ ap (λ (x : Service). Some x) (sym is) in
+          others (subst (λ k. HaveNumber k ss) (sym (number_at (number_of s) ss at d have.1 there))
+          have.1)
+    ]
+
+pub empty_named : (ss : List Service) → length ss ≡ 0 → IsNameless None ss
+empty_named ss none at s n = omega (arith, none, slice_get_within ss at s n.there)
+
 -- one service is named
-pub one_named : (number : Option ℕ) (ss : List Service) (at bt : ℕ) (s t : Service)
-    → Apart (numbers ss) → IsNamed number ss at s → IsNamed number ss bt t → s ≡ t
-one_named number ss at bt s t apart p q =
-    let same : at ≡ bt = elim p.named as (λ _. at ≡ bt) [
-      | inl a ↦ elim q.named as (λ _. at ≡ bt) [
-        | inl b ↦ one_number ss at bt s t apart p.there q.there
-            (same_some (number_of s) (number_of t) (sym a ∙ b))
+pub one_place : (number : Option ℕ) (ss : List Service) (at bt : ℕ) (s t : Service)
+    → IsNamed number ss at s → IsNamed number ss bt t → at ≡ bt
+one_place number ss at bt s t p q =
+    let same : number_of s ≡ number_of t =
+    elim p.named as (λ _. number_of s ≡ number_of t) [
+      | inl a ↦ elim q.named as (λ _. number_of s ≡ number_of t) [
+        | inl b ↦ same_some (number_of s) (number_of t) (sym a ∙ b)
         | inr b ↦ absurd (no_some (number_of s) (sym a ∙ b.0))
       ]
-      | inr a ↦
-          omega (
-            arith,
-            a.1,
-            slice_get_within ss at s p.there,
-            slice_get_within ss bt t q.there,
-          )
+      | inr a ↦ sym (number_at (number_of s) ss bt t a.1 q.there)
     ] in
-    same_some s t (sym p.there ∙ (ap (λ i. slice_get ss i) same ∙ q.there))
+    elim (cases_order at bt) as (λ _. at ≡ bt) [
+      | inl e ↦ e
+      | inr (inl less) ↦ absurd (p.last bt t less q.there (sym same))
+      | inr (inr more) ↦ absurd (q.last at s more p.there same)
+    ]
+
+pub one_named : (number : Option ℕ) (ss : List Service) (at bt : ℕ) (s t : Service)
+    → IsNamed number ss at s → IsNamed number ss bt t → s ≡ t
+one_named number ss at bt s t p q =
+    same_some s t (sym p.there ∙ (ap (λ i. slice_get ss i) (one_place number ss at bt s t p q)
+    ∙ q.there))
+
+drop_one : (xs : List Service) (at : ℕ) (d : Service) → at < length xs → d ≡ get_or xs at d
+    → drop at xs ≡ d ∷ drop (at + 1) xs
+drop_one xs at d h is =
+    drop-cons xs at d h
+    ∙ (ap (λ (x : Service). x ∷ drop (suc at) xs) (sym is)
+    ∙ ap (λ (n : ℕ). d ∷ drop n xs) (sym (add-one at)))
+
+-- how many services there are, with one more above the others
+module _ (d : Service) where
+  abbrev numbers : List Service → List ℕ
+  numbers ss = map (λ (s : Service). s.line.number) ss
+
+  is_new : (ss : List Service) → IsNew (number_of d) ss
+      → list_any (eqb (number_of d)) (numbers ss) ≡ false
+  is_new [] new = refl
+  is_new (s ∷ ss) new =
+      let other : eqb (number_of d) (number_of s) ≡ false =
+      ne_eqb (number_of d) (number_of s)
+      (λ e. All-head (λ (x : Service). number_of x ≢ number_of d) s ss new (sym e)) in
+      rw other (is_new ss (All-tail (λ (x : Service). number_of x ≢ number_of d) s ss new))
+
+  is_known : (ss : List Service) (at : ℕ) (t : Service) → slice_get ss at ≡ Some t
+      → number_of t ≡ number_of d → list_any (eqb (number_of d)) (numbers ss) ≡ true
+  is_known [] at t there same = absurd (cc)
+  is_known (s ∷ ss) zero t there same =
+      let own : eqb (number_of d) (number_of s) ≡ true =
+      eq-eqb (number_of d) (number_of s)
+      (sym same ∙ ap number_of (sym (same_some s t there))) in
+      rw own refl
+  is_known (s ∷ ss) (suc at) t there same =
+      cases (eqb (number_of d) (number_of s)) (is_known ss at t there same)
+    where
+      cases : (b : Bool) → list_any (eqb (number_of d)) (numbers ss) ≡ true
+          → (b || list_any (eqb (number_of d)) (numbers ss)) ≡ true
+      cases true rest = refl
+      cases false rest = rest
+
+  pub count_new : (ss : List Service) → IsNew (number_of d) ss
+      → services_in (d ∷ ss) ≡ services_in ss + 1
+  count_new ss new = rw (is_new ss new) (omega arith)
+
+  pub count_known : (ss : List Service) → (at : ℕ) × (t : Service) × (slice_get ss at ≡ Some t)
+      × (number_of t ≡ number_of d) → services_in (d ∷ ss) ≡ services_in ss
+  count_known ss k = rw (is_known ss k.0 k.1 k.2 k.3) refl
+
+-- the services behind a place
+abbrev pub behind : List Service → ℕ → List Service
+behind xs at = take (length xs - (at + 1)) (drop (at + 1) xs)
+
+behind_is : (xs : List Service) (at : ℕ) → behind xs at ≡ drop (at + 1) xs
+behind_is xs at =
+    take_all (length xs - (at + 1)) (drop (at + 1) xs) (omega (arith, length-drop (at + 1) xs))
+
+-- one service less is left, which is another if none behind it has its number
+pub count_left : (xs : List Service) (at count number : ℕ) (d : Service) (found : Option ℕ)
+    (known : Bool) → at < length xs → d ≡ get_or xs at d → number ≡ number_of d
+    → is_some found ≡ known
+    → IfSome found (λ i. (t : Service) × (slice_get (behind xs at) i ≡ Some t)
+    × (number_of t ≡ number) × IsNewBehind number (behind xs at) i)
+    → IfNone found (IsNew number (behind xs at))
+    → count + services_in (drop at xs) ≡ services_in xs
+    → count + cond known 0 1 + services_in (drop (at + 1) xs) ≡ services_in xs
+count_left xs at count number d None known h is own says some none so =
+    let new = subst (λ (l : List Service). IsNew (number_of d) l) (behind_is xs at)
+    (subst (λ n. IsNew n (behind xs at)) own none) in
+    let no : known ≡ false = sym says in
+    rw no (omega (
+      arith,
+      so,
+      count_new d (drop (at + 1) xs) new,
+      ap services_in (drop_one xs at d h is),
+    ))
+count_left xs at count number d (Some i) known h is own says some none so =
+    let there = subst (λ (l : List Service). slice_get l i ≡ Some some.0) (behind_is xs at)
+    some.1 in
+    let no : known ≡ true = sym says in
+    rw no (omega (
+      arith,
+      so,
+      count_known d (drop (at + 1) xs) (i, some.0, there, some.2 ∙ own),
+      ap services_in (drop_one xs at d h is),
+    ))
+
+-- there is one, where there is any
+pub some_service : (ss : List Service) → 0 < length ss → 0 < services_in ss
+some_service [] some = absurd (omega (arith, some))
+some_service (s ∷ []) some = omega arith
+some_service (s ∷ t ∷ ss) some =
+    let rest = some_service (t ∷ ss) (omega arith) in
+    cases (list_any (eqb (number_of s)) (map (λ (x : Service). x.line.number) (t ∷ ss))) rest
   where
-    no_some : (n : ℕ) → Some n ≡ None → ⊥
-    no_some n e = absurd (cc)
+    cases : (b : Bool) → 0 < services_in (t ∷ ss)
+        → 0 < length (cond b (unique_keys eqb (map (λ (x : Service). x.line.number) (t ∷ ss)))
+        (number_of s ∷ unique_keys eqb (map (λ (x : Service). x.line.number) (t ∷ ss))))
+    cases true rest = rest
+    cases false rest = omega arith
 
 -- what is put back leaves all as they were
 pub set_back : (ss : List Service) (at : ℕ) (s : Service) → slice_get ss at ≡ Some s
@@ -99,3 +217,22 @@ set_back [] at s there = absurd (cc)
 set_back (x ∷ ss) zero s there = ap (λ (y : Service). y ∷ ss) (sym (same_some x s there))
 set_back (x ∷ ss) (suc at) s there =
     ap (λ (l : List Service). x ∷ l) (set_back ss at s there)
+
+-- services at each index with the same number
+same_numbers : (ss ts : List Service) → length ts ≡ length ss
+    → ((at : ℕ) (s t : Service) → slice_get ss at ≡ Some s → slice_get ts at ≡ Some t
+    → number_of t ≡ number_of s)
+    → map (λ (s : Service). s.line.number) ts ≡ map (λ (s : Service). s.line.number) ss
+same_numbers [] [] long same = refl
+same_numbers [] (t ∷ ts) long same = absurd (omega (arith, long))
+same_numbers (s ∷ ss) [] long same = absurd (omega (arith, long))
+same_numbers (s ∷ ss) (t ∷ ts) long same =
+    let rest = same_numbers ss ts (omega (arith, long)) (λ at a b e f. same (suc at) a b e f) in
+    ap (λ (n : ℕ). n ∷ map (λ (x : Service). x.line.number) ts) (same 0 s t refl refl)
+    ∙ ap (λ (ns : List ℕ). number_of s ∷ ns) rest
+
+pub same_count : (ss ts : List Service) → length ts ≡ length ss
+    → ((at : ℕ) (s t : Service) → slice_get ss at ≡ Some s → slice_get ts at ≡ Some t
+    → number_of t ≡ number_of s) → services_in ts ≡ services_in ss
+same_count ss ts long same =
+    ap (λ (ns : List ℕ). length (unique_keys eqb ns)) (same_numbers ss ts long same)

@@ -1,5 +1,5 @@
 -- The lines of calls, in the order in which they took effect.
-use Rattle.std.proofs.Common.{◌≡◌, ℕ, ◌+◌, ◌<◌, ◌≤◌, All, Bool, true, false, IfNone, List, [], ◌∷◌, ◌++◌, Option, Some, None, get_or, length, ltb, take, refl, sym, ◌∙◌, ap, subst, arith, take_all}
+use Rattle.std.proofs.Common.{◌≡◌, ℕ, ◌+◌, ◌<◌, ◌≤◌, All, Bool, true, false, IfNone, List, [], ◌∷◌, ◌++◌, Option, Some, None, get_or, length, take, refl, sym, ◌∙◌, ap, subst, arith, take_all}
 use Rattle.std.specs.List.{AllZip}
 use Rattle.std.proofs.lemmas.List.Elements.{All-cons, All-nil}
 use Rattle.std.proofs.lemmas.List.{take_more}
@@ -14,7 +14,7 @@ use Rattle.history_logs.specs.declared.logs.verdict.Order.{Order}
 use Rattle.history_logs.specs.declared.logs.verdict.Verdict.{Verdict}
 use Rattle.history_logs.specs.declared.logs.verdict.Verdict.TheVariants.{Conforms, Refused, ManyConfigs, ManyOpen, BadLine}
 use Rattle.history_logs.specs.Good.{IsOrderly, IsReadTo}
-use Rattle.history_logs.specs.Judging.{AreJudged, AreOrdered, IsFirstFound, IsFoundOf, earlier, end_verdict}
+use Rattle.history_logs.specs.Judging.{AreJudged, AreOrdered, IsFirstFound, IsFoundOf, comes_before, earlier, end_verdict}
 use Rattle.history_logs.specs.Logs.{BeginsAt, HasGood, IsSeenRightly, StepOf, news}
 use Rattle.history_logs.specs.Orders.{HasOrders, IsOrderOf}
 use Rattle.history_logs.specs.EventLines.{HasEventLines}
@@ -91,7 +91,7 @@ pub orders_all : (services : List Service) (i : ℕ) (orders : List Order) → l
 orders_all services i orders h all =
     subst (λ (l : List Service). AllZip IsOrderOf l orders) (take_all i services h) all
 
--- Of the first services this is found in the first line; where nothing is, each has an order.
+-- Of the first services this is found before all else; where nothing is, each has an order.
 pub record OrdersTo (services : List Service) (i : ℕ) (first : Option (ℕ × Verdict))
     (orders : List Order) : Type 0 where
   pub found : IsFirstFound (take i services) first
@@ -108,9 +108,9 @@ earlier_none : (one other : Option (ℕ × Verdict)) → earlier one other ≡ N
     → (one ≡ None) × (other ≡ None)
 earlier_none None other is = (refl, is)
 earlier_none (Some one) None is = absurd (cc)
-earlier_none (Some one) (Some other) is = cases (ltb other.0 one.0) refl
+earlier_none (Some one) (Some other) is = cases (comes_before other one) refl
   where
-    cases : (t : Bool) → ltb other.0 one.0 ≡ t → (Some one ≡ None) × (Some other ≡ None)
+    cases : (t : Bool) → comes_before other one ≡ t → (Some one ≡ None) × (Some other ≡ None)
     cases true e = let x = rw e at is in absurd (cc)
     cases false e = let x = rw e at is in absurd (cc)
 

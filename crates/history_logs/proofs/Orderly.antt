@@ -16,7 +16,7 @@ use Rattle.log_lines.specs.Commands.{Begun}
 use Rattle.log_lines.specs.Commands.Begun.{command, weak}
 use Rattle.service_descriptions.specs.declared.replay.lines.service_line.ServiceLine.{ServiceLine}
 use Rattle.history_logs.specs.declared.logs.service.LogCall.{LogCall}
-use Rattle.history_logs.specs.Good.{IsOrderly, number_of}
+use Rattle.history_logs.specs.Good.{IsOrderly}
 use Rattle.history_logs.specs.Seen.{Begins, Service, called, calls_answered, calls_shown, changed, start_of, started, starting, stopping, unseen, with_begin, with_crash, with_end, with_look, with_over, with_part}
 
 -- one more in both lists
@@ -223,7 +223,6 @@ open_alone s c r k x o live =
 -- what begins makes an orderly service, in which it is open, and keeps what is open
 pub record IsBegun (s t : Service) (current : ℕ) : Type 0 where
   pub orderly : IsOrderly t
-  pub number : number_of t ≡ number_of s
   pub now : IsOpen t.events current
   pub fresh : ¬ (IsOpen s.events current)
   pub still : (x : ℕ) → IsOpen s.events x → IsOpen t.events x
@@ -233,7 +232,6 @@ begun_call : (s : Service) (c : LogCall) (k : ℕ) → IsOrderly s
     → IsBegun s (with_begin s c k) (length s.calls)
 begun_call s c k o = record {
   orderly = orderly_begin s c k o;
-  number = refl;
   now = open_new s c k o;
   fresh = not_open s o;
   still = λ x live. open_begun s c k x live;
@@ -255,7 +253,6 @@ begun_look s p k o =
     let long : length two.calls ≡ n + 1 = length-append s.calls ((starting p).seen ∷ []) in
     record {
       orderly = orderly_part two (stopping n) k second;
-      number = refl;
       now = subst (λ m. IsOpen (with_look s p k).events m) long
           (open_new two (stopping n) k second);
       fresh = above_fresh s o (n + 1) (omega arith);

@@ -16,9 +16,9 @@ use Rattle.history_logs.specs.declared.logs.verdict.Expected.{Expected}
 use Rattle.history_logs.specs.declared.logs.verdict.Expected.TheVariants as expected
 use Rattle.history_logs.specs.Good.{HasNoNext, IsBadLine, IsKept, Takes, TakesLine, TakesNext, TakesReply, is_service, waiting}
 use Rattle.history_logs.specs.Logs.{EndsInReturn, IsBadText, IsWrong}
-use Rattle.history_logs.specs.Reading.{Dies, Does, GoesOn, IsNamed, IsNew, IsRefused, IsSane, Log, MayBegin, RefusesBegin, RefusesDeath, RefusesEnd, Says, StartsAs}
+use Rattle.history_logs.specs.Reading.{Dies, Does, GoesOn, IsNamed, IsNew, IsRefused, IsSane, Log, MayBegin, RefusesBegin, RefusesDeath, RefusesEnd, Says, StartsAnewAs, StartsAs}
 use Rattle.history_logs.specs.Seen.{Service}
-use Rattle.history_logs.proofs.Named.{one_named}
+use Rattle.history_logs.proofs.Named.{one_named, one_place}
 
 -- what was read, where no call waits any more
 pub sane_taken : (log : Log) → IsSane log → IsSane (record log { waits = None })
@@ -125,12 +125,20 @@ refused_not log k (given a what) (given b other) new e kept none bars same g =
           (subst (λ (x : Option ℕ). IsNamed x log.services g.0 g.1) (sym same.0) g.4)
       | inr h ↦
           let f = h.1 in
-          let is : g.1 ≡ f.1 =
-          one_named a log.services g.0 f.0 g.1 f.1 kept.numbers
-          (subst (λ (x : Option ℕ). IsNamed x log.services g.0 g.1) (sym same.0) g.4) f.2 in
-          f.3 g.2
-          (subst (λ (x : State). StartsAs f.1 x g.2) (sym same.1)
-          (subst (λ (x : Service). StartsAs x other g.2) is g.5))
+          let own = subst (λ (x : Option ℕ). IsNamed x log.services g.0 g.1) (sym same.0) g.4 in
+          let is : g.1 ≡ f.1 = one_named a log.services g.0 f.0 g.1 f.1 own f.2 in
+          let at : g.0 ≡ f.0 = one_place a log.services g.0 f.0 g.1 f.1 own f.2 in
+          elim g.5 as (λ _. ⊥) [
+            | inl first ↦
+                f.3 g.2
+                (subst (λ (x : State). StartsAs f.1 x g.2) (sym same.1)
+                (subst (λ (x : Service). StartsAs x other g.2) is first.0))
+            | inr anew ↦
+                f.4 g.2
+                (subst (λ (x : State). StartsAnewAs log f.0 f.1 x g.2) (sym same.1)
+                (subst (λ (x : Service). StartsAnewAs log f.0 x other g.2) is
+                (subst (λ (i : ℕ). StartsAnewAs log i g.1 other g.2) at anew.0)))
+          ]
     ]
 refused_not _ _ _ _ _ _ kept none bars same g = absurd same
 

@@ -26,7 +26,7 @@ use Rattle.history_logs.specs.declared.logs.callers.CallerState.{CallerState}
 use Rattle.history_logs.specs.declared.logs.callers.CallerState.TheVariants as caller
 use Rattle.history_logs.specs.declared.logs.service.LogCall.{LogCall}
 use Rattle.history_logs.specs.Good.{IsKept, IsOrderly}
-use Rattle.history_logs.specs.Reading.{Dies, GoesOn, IsNamed, IsSane, Log, MayBegin, Sets, StartsAs}
+use Rattle.history_logs.specs.Reading.{Dies, Gives, GoesOn, HaveNumber, IsNamed, IsSane, Log, MayBegin, Sets, StartsAnewAs, StartsAs}
 use Rattle.history_logs.specs.Seen.{Begins, HasHandles, IsKeptCall, Service, called, started, starting, stopping, unseen, with_begin, with_crash, with_end, with_look, with_over}
 use Rattle.history_logs.specs.Shortened.{AreShort, HasFront, IsShort, IsShortLog, Keeps, Kept, front_at, shortened}
 use Rattle.history_logs.proofs.Kept.{all_get, get_within}
@@ -170,8 +170,10 @@ module _ (s : Service) (kept : Kept) (upto : ℕ) (front : Option (Front Watched
         start_front None is none = is
         start_front (Some f) is none = absurd (omega (arith, is.some, none))
 
-pub short_unseen : (line : ServiceLine) → IsShort (unseen line) (unseen line) None
-short_unseen line = record {
+-- a service that begins
+short_new : (line : ServiceLine) (start : dynamic.Service)
+    → IsShort (started (unseen line) start) (started (unseen line) start) None
+short_new line start = record {
   kept = record { first = 0; calls = []; begins = []; events = []; event_lines = [] };
   upto = 0;
   within = omega arith;
@@ -183,6 +185,9 @@ short_unseen line = record {
     has = (refl, refl);
   };
 }
+
+pub short_unseen : (line : ServiceLine) → IsShort (unseen line) (unseen line) None
+short_unseen line = short_new line (unseen line).start
 
 -- services at an index
 pub set_same : {X : Type 0} (xs : List X) (i : ℕ) (a b : X) → slice_get xs i ≡ Some b
@@ -252,33 +257,32 @@ get_push_at (z ∷ xs) y (suc i) x e =
     ]
 
 short_push : (services live : List Service) (fronts : List (Option (Front Watched)))
-    (line : ServiceLine) → AreShort services live fronts
-    → AreShort (services ++ unseen line ∷ []) (live ++ unseen line ∷ []) fronts
-short_push services live fronts line a = (
+    (new : Service) → IsShort new new None → AreShort services live fronts
+    → AreShort (services ++ new ∷ []) (live ++ new ∷ []) fronts
+short_push services live fronts new short a = (
   omega (
     arith,
     a.0,
-    length-append services (unseen line ∷ []),
-    length-append live (unseen line ∷ []),
+    length-append services (new ∷ []),
+    length-append live (new ∷ []),
   ),
-  omega (arith, a.1, length-append services (unseen line ∷ [])),
-  λ i x y ex ey. elim (get_push_at services (unseen line) i x ex)
+  omega (arith, a.1, length-append services (new ∷ [])),
+  λ i x y ex ey. elim (get_push_at services new i x ex)
       as (λ _. IsShort x y (front_at fronts i)) [
-        | inl before ↦ elim (get_push_at live (unseen line) i y ey)
+        | inl before ↦ elim (get_push_at live new i y ey)
             as (λ _. IsShort x y (front_at fronts i)) [
               | inl beside ↦ a.2 i x y before beside
               | inr last ↦
                   absurd (omega (arith, slice_get_within services i x before, last.0, a.0))
             ]
-        | inr last ↦ elim (get_push_at live (unseen line) i y ey)
+        | inr last ↦ elim (get_push_at live new i y ey)
             as (λ _. IsShort x y (front_at fronts i)) [
               | inl beside ↦ absurd (omega (arith, slice_get_within live i y beside, last.0, a.0))
               | inr both ↦
                   subst (λ (f : Option (Front Watched)). IsShort x y f)
                   (sym (get_or_past fronts i None (omega (arith, a.1, last.0))))
                   (subst (λ (v : Service). IsShort v y None) last.1
-                  (subst (λ (v : Service). IsShort (unseen line) v None) both.1
-                  (short_unseen line)))
+                  (subst (λ (v : Service). IsShort new v None) both.1 short))
             ]
       ],
 )
@@ -288,20 +292,45 @@ line_same : (s t : Service) (front : Option (Front Watched)) → IsShort s t fro
     → t.line ≡ s.line
 line_same s t front h = ap (λ (x : Service). x.line) h.is
 
+-- the number of a service is kept at each index
+numbers_same : (services live : List Service) (fronts : List (Option (Front Watched))) (at : ℕ)
+    (x : Service) → AreShort services live fronts → slice_get services at ≡ Some x
+    → (y : Service) × (slice_get live at ≡ Some y) × (y.line.number ≡ x.line.number)
+numbers_same services live fronts at x a there =
+    let y = get_within live at (omega (arith, a.0, slice_get_within services at x there)) in (
+      y.0,
+      y.1,
+      ap (λ (l : ServiceLine). l.number)
+          (line_same x y.0 (front_at fronts at) (a.2 at x y.0 there y.1)),
+    )
+
 named_same : (number : Option ℕ) (services live : List Service)
     (fronts : List (Option (Front Watched))) (at : ℕ) (s t : Service)
     → AreShort services live fronts → IsShort s t (front_at fronts at)
     → slice_get services at ≡ Some s → IsNamed number live at t → IsNamed number services at s
-named_same number services live fronts at s t a short there n = record {
-  there = there;
-  named = elim n.named
-      as (λ _. (number ≡ Some s.line.number) ⊎ ((number ≡ None) × (length services ≡ 1))) [
-        | inl own ↦
-            inl (own ∙ ap (λ (l : ServiceLine). Some l.number)
-            (line_same s t (front_at fronts at) short))
-        | inr alone ↦ inr (alone.0, sym a.0 ∙ alone.1)
-      ];
-}
+named_same number services live fronts at s t a short there n =
+    let own : t.line.number ≡ s.line.number =
+    ap (λ (l : ServiceLine). l.number) (line_same s t (front_at fronts at) short) in
+    record {
+      there = there;
+      named = elim n.named
+          as (λ _. (number ≡ Some s.line.number)
+          ⊎ ((number ≡ None) × HaveNumber s.line.number services)) [
+            | inl is ↦ inl (is ∙ ap (λ (k : ℕ). Some k) own)
+            | inr alone ↦
+                inr (
+                  alone.0,
+                  all_of (λ (x : Service). x.line.number ≡ s.line.number) services (λ i x e.
+                      let y = numbers_same services live fronts i x a e in
+                      sym y.2
+                      ∙ (all_get (λ (z : Service). z.line.number ≡ t.line.number) live i y.0
+                      alone.1 y.1 ∙ own)),
+                )
+          ];
+      last = λ later x less e same.
+          let y = numbers_same services live fronts later x a e in
+          n.last later y.0 less y.1 (y.2 ∙ (same ∙ sym own));
+    }
 
 -- one line more
 module _ (log live new : Log) (fronts : List (Option (Front Watched))) (k : ℕ)
@@ -329,7 +358,8 @@ module _ (log live new : Log) (fronts : List (Option (Front Watched))) (k : ℕ)
       ),
       subst (λ (x : Log). IsShortLog (record log { services = log.services ++ unseen l ∷ [] }) x
           fronts) (sym g.2) (record {
-            services = short_push log.services live.services fronts l h.services;
+            services = short_push log.services live.services fronts (unseen l) (short_unseen l)
+                h.services;
             callers = h.callers;
             waits = h.waits;
             starts = h.starts;
@@ -529,37 +559,94 @@ module _ (log live new : Log) (fronts : List (Option (Front Watched))) (k : ℕ)
           goes_sets at s dies.0 t (with_crash dies.0 number k) f.1 dies.1 short dies.2 none,
         )
 
-    goes_given : (number : Option ℕ) (what : State) → GoesOn live k (given number what) new
+    -- the service at the index that is kept so
+    given_first : (number : Option ℕ) (what : State) (at : ℕ) (x : Service)
+        (start : dynamic.Service) → live.waits ≡ None → IsNamed number live.services at x
+        → StartsAs x what start
+        → new ≡ record live { services = slice_set live.services at (started x start) }
         → Goes (given number what)
-    goes_given number what g =
-        let at = g.0 in
-        let f = found_at log.services live.services fronts at g.1 h.services g.4.there in
+    given_first number what at x start waits named starts more_is =
+        let f = found_at log.services live.services fronts at x h.services named.there in
         let s = f.0 in
-        let t = started s g.2 in
+        let t = started s start in
         let is = short_started s f.2.kept f.2.upto (front_at fronts at) f.2.keeps f.2.within what
-        g.2
-        (subst (λ (x : Service). StartsAs x what g.2) f.2.is g.5) in
-        let short : IsShort t (started g.1 g.2) (front_at fronts at) =
-        subst (λ (x : Service). IsShort t (started x g.2) (front_at fronts at)) (sym f.2.is) is.1 in
+        start
+        (subst (λ (x : Service). StartsAs x what start) f.2.is starts) in
+        let short : IsShort t (started x start) (front_at fronts at) =
+        subst (λ (x : Service). IsShort t (started x start) (front_at fronts at)) (sym f.2.is)
+        is.1 in
         let more : Log = record log { services = slice_set log.services at t } in (
           more,
           (
             at,
             s,
-            g.2,
-            no_waits g.3,
-            named_same number log.services live.services fronts at s g.1 h.services f.2 f.1 g.4,
-            is.0,
-            refl,
+            start,
+            no_waits waits,
+            named_same number log.services live.services fronts at s x h.services f.2 f.1 named,
+            inl (is.0, refl),
           ),
-          subst (λ (x : Log). IsShortLog more x fronts) (sym g.6) (record {
-            services = short_set log.services live.services fronts at s g.1 t (started g.1 g.2)
-                h.services f.1 g.4.there short;
+          subst (λ (x : Log). IsShortLog more x fronts) (sym more_is) (record {
+            services = short_set log.services live.services fronts at s x t (started x start)
+                h.services f.1 named.there short;
             callers = h.callers;
             waits = h.waits;
             starts = h.starts;
           }),
         )
+
+    -- a service that begins anew
+    given_anew : (number : Option ℕ) (what : State) (at : ℕ) (x : Service)
+        (start : dynamic.Service) → live.waits ≡ None → IsNamed number live.services at x
+        → StartsAnewAs live at x what start
+        → new ≡ record live { services = live.services ++ started (unseen x.line) start ∷ [] }
+        → Goes (given number what)
+    given_anew number what at x start waits named anew more_is =
+        let f = found_at log.services live.services fronts at x h.services named.there in
+        let s = f.0 in
+        let line : x.line ≡ s.line = line_same s x (front_at fronts at) f.2 in
+        let t = started (unseen s.line) start in
+        let same : started (unseen x.line) start ≡ t =
+        ap (λ (l : ServiceLine). started (unseen l) start) line in
+        let more : Log = record log { services = log.services ++ t ∷ [] } in (
+          more,
+          (
+            at,
+            s,
+            start,
+            no_waits waits,
+            named_same number log.services live.services fronts at s x h.services f.2 f.1 named,
+            inr (
+              (
+                λ none. anew.0 (nil_of x.calls (omega (
+                  arith,
+                  ap (λ (y : Service). length y.calls) f.2.is,
+                  f.2.keeps.count,
+                  ap (λ (l : List Judged). length l) none,
+                ))),
+                λ name n does. anew.1 name n (does_same name ∙ does),
+                subst (λ (l : ServiceLine). Gives (unseen l).start what start) line anew.2,
+              ),
+              refl,
+            ),
+          ),
+          subst (λ (x : Log). IsShortLog more x fronts) (sym more_is) (record {
+            services = subst (λ (y : Service). AreShort (log.services ++ t ∷ [])
+                (live.services ++ y ∷ []) fronts) (sym same)
+                (short_push log.services live.services fronts t (short_new s.line start)
+                h.services);
+            callers = h.callers;
+            waits = h.waits;
+            starts = h.starts;
+          }),
+        )
+
+    goes_given : (number : Option ℕ) (what : State) → GoesOn live k (given number what) new
+        → Goes (given number what)
+    goes_given number what g =
+        elim g.5 as (λ _. Goes (given number what)) [
+          | inl first ↦ given_first number what g.0 g.1 g.2 g.3 g.4 first.0 first.1
+          | inr anew ↦ given_anew number what g.0 g.1 g.2 g.3 g.4 anew.0 anew.1
+        ]
 
     pub goes_line : (l : Line) → GoesOn live k l new → Goes l
     goes_line (service l) g = goes_service l g

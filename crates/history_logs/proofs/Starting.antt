@@ -1,17 +1,21 @@
 -- What is given of services that were in use.
-use Rattle.std.proofs.Common.{◌≡◌, ℕ, Bool, true, false, [], Option, Some, None, refl, sym, ◌∙◌, ap, subst, inr}
-use Rattle.std.specs.Prelude.{slice_get}
+use Rattle.std.proofs.Common.{◌≡◌, ◌≢◌, ◌<◌, ℕ, Bool, true, false, List, [], ◌∷◌, ◌++◌, IfOk, Option, Some, None, Result, Ok, Err, get_or, length, refl, sym, ◌∙◌, ap, subst, arith, inl, inr}
+use Rattle.std.specs.Prelude.{◌↔◌, IsTrue, slice_get}
 use Rattle.std.specs.List.{slice_set}
+use Rattle.std.proofs.lemmas.Bool.{cases_lt}
+use Rattle.std.proofs.lemmas.Option.{slice_get-get_or}
 use Rattle.iox2_dynamic.specs.Service as dynamic
 use Rattle.log_lines.specs.Lines.Line.{given}
 use Rattle.log_lines.specs.States.{State}
 use Rattle.service_conformance.specs.Given.{Becomes}
+use Rattle.service_conformance.specs.Judged.{Judged}
 use Rattle.history_logs.specs.declared.logs.verdict.Expected.{Expected}
 use Rattle.history_logs.specs.declared.logs.verdict.Expected.TheVariants as expected
-use Rattle.history_logs.specs.Good.{Starts}
-use Rattle.history_logs.specs.Reading.{Does, Gives, IsNamed, Log}
-use Rattle.history_logs.specs.Seen.{Service, started}
+use Rattle.history_logs.specs.Good.{GivesAnew, Starts}
+use Rattle.history_logs.specs.Reading.{Does, Gives, IsNamed, Log, NoneCalls}
+use Rattle.history_logs.specs.Seen.{Service, started, unseen}
 use Rattle.history_logs.proofs.Named.{same_some, set_back}
+use Rattle.history_logs.proofs.Refused.{nil_of}
 
 -- what becomes of the start becomes of the service
 pub starts_of : (old : Service) (what : State) (start : dynamic.Service) (yes : Bool)
@@ -26,29 +30,117 @@ abbrev pub expected_if : Bool → Option Expected
 expected_if true = None
 expected_if false = Some expected.State
 
--- what is given of a service that is named
+-- what is given of a service that is named, on which there are no calls
 pub gives_on : (old new : Log) (k : ℕ) (number : Option ℕ) (what : State) (at : ℕ)
-    (s d t : Service) (yes : Bool) → old.waits ≡ None → IsNamed number old.services at s
+    (s d t : Service) (yes : Bool) → d.calls ≡ [] → old.waits ≡ None
+    → IsNamed number old.services at s
     → slice_get old.services at ≡ Some d → Starts d what yes t
     → new ≡ record old { services = slice_set old.services at t }
     → Does old k (given number what) (expected_if yes) new
-gives_on old new k number what at s d t true none named there st is =
+gives_on old new k number what at s d t true few none named there st is =
     let same : s ≡ d = same_some s d (sym named.there ∙ there) in (
       at,
       d,
       st.0,
       none,
       subst (λ (x : Service). IsNamed number old.services at x) same named,
-      st.1,
-      is ∙ ap (λ (x : Service). record old { services = slice_set old.services at x }) st.2,
+      inl (
+        st.1,
+        is ∙ ap (λ (x : Service). record old { services = slice_set old.services at x }) st.2,
+      ),
     )
-gives_on old new k number what at s d t false none named there st is =
+gives_on old new k number what at s d t false few none named there st is =
     let same : s ≡ d = same_some s d (sym named.there ∙ there) in (
       inr (
         refl,
-        (at, d, subst (λ (x : Service). IsNamed number old.services at x) same named, st.0),
+        (
+          at,
+          d,
+          subst (λ (x : Service). IsNamed number old.services at x) same named,
+          st.0,
+          λ start anew. anew.0 few,
+        ),
       ),
       ap (λ (x : Log). x.services) is
           ∙ (ap (λ (x : Service). slice_set old.services at x) st.1
           ∙ set_back old.services at d there),
     )
+
+-- what stands at an index is one service
+pub same_item : (ss : List Service) (at : ℕ) (s d : Service) → at < length ss
+    → s ≡ get_or ss at s → d ≡ get_or ss at d → s ≡ d
+same_item ss at s d h one other =
+    same_some s d (ap (λ (x : Service). Some x) one ∙ (sym (slice_get-get_or ss at s h)
+    ∙ (slice_get-get_or ss at d h ∙ ap (λ (x : Service). Some x) (sym other))))
+
+-- whether a service has calls
+pub no_calls : (s : Service) (may : Bool) → (IsTrue may ↔ (0 < length s.calls)) → may ≡ false
+    → s.calls ≡ []
+no_calls s may says not =
+    elim (cases_lt 0 (length s.calls)) as (λ _. s.calls ≡ []) [
+      | inl some ↦ let is = says.1 some in absurd (cc)
+      | inr none ↦ nil_of s.calls (omega (arith, none))
+    ]
+
+pub some_calls : (s : Service) → 0 < length s.calls → s.calls ≢ []
+some_calls s some none = omega (arith, some, ap (λ (l : List Judged). length l) none)
+
+-- what is given below calls
+pub gives_anew : (old new : Log) (at : ℕ) (s d : Service) (what : State) (yes : Bool)
+    (t : Service) → slice_get old.services at ≡ Some d → s ≡ d → d.calls ≢ []
+    → NoneCalls old.callers at → Starts (unseen s.line) what yes t
+    → (yes ≡ true → new ≡ record old { services = old.services ++ t ∷ [] })
+    → (yes ≡ false → new.services ≡ old.services)
+    → GivesAnew old at d what (expected_if yes) new
+gives_anew old new at s d what true t there same some none st more still = (
+  st.0,
+  (some, none, subst (λ (x : Service). Gives (unseen x.line).start what st.0) same st.1.1),
+  more refl ∙ (ap (λ (x : Service). record old { services = old.services ++ x ∷ [] }) st.2
+      ∙ ap (λ (x : Service). record old {
+        services = old.services ++ started (unseen x.line) st.0 ∷ [];
+      }) same),
+)
+gives_anew old new at s d what false t there same some none st more still = (
+  refl,
+  λ start anew.
+      st.0 start
+      (refl, subst (λ (x : Service). Gives (unseen x.line).start what start) (sym same) anew.2),
+  still refl,
+)
+
+-- where a call is open
+pub gives_open : (old : Log) (at : ℕ) (d : Service) (what : State)
+    → ¬ (NoneCalls old.callers at) → GivesAnew old at d what (Some expected.State) old
+gives_open old at d what bars = (refl, (λ start anew. bars anew.1), refl)
+
+-- the same of the line
+pub gives_below : (old new : Log) (k : ℕ) (number : Option ℕ) (what : State) (at : ℕ)
+    (s : Service) (found : Option Expected) → old.waits ≡ None → IsNamed number old.services at s
+    → 0 < length s.calls → GivesAnew old at s what found new
+    → Does old k (given number what) found new
+gives_below old new k number what at s None none named some g =
+    (at, s, g.0, none, named, inr (g.1, g.2))
+gives_below old new k number what at s (Some e) none named some g = (
+  inr (
+    g.0,
+    (
+      at,
+      s,
+      named,
+      (λ start first.
+          omega (arith, some, ap (λ (l : List Judged). length l) first.0)),
+      g.1,
+    ),
+  ),
+  g.2,
+)
+
+pub ok_below : {E : Type 0} (result : Result (Option Expected) E) (old new : Log)
+    (number : Option ℕ) (what : State) (at : ℕ) (s : Service) → old.waits ≡ None
+    → IsNamed number old.services at s → 0 < length s.calls
+    → IfOk result (λ found. (t : Service) → slice_get old.services at ≡ Some t
+    → GivesAnew old at t what found new)
+    → IfOk result (λ found. (j : ℕ) → Does old j (given number what) found new)
+ok_below (Ok found) old new number what at s none named some h =
+    λ j. gives_below old new j number what at s found none named some (h s named.there)
+ok_below (Err e) old new number what at s none named some h = h

@@ -2,6 +2,7 @@
 use Rattle.std.specs.Prelude.{◌≡◌, ◌≢◌, ◌==◌, ◌&&◌, ℕ, All, Bool, true, false, List, [], ◌∷◌, Option, Some, None, if◌then◌else◌, slice_get, take}
 use Rattle.history_logs.specs.declared.logs.callers.Caller.{Caller}
 use Rattle.history_logs.specs.declared.logs.callers.CallerState.{CallerState}
+use Rattle.history_logs.specs.declared.logs.callers.CallerState.TheVariants as caller
 use Rattle.history_logs.specs.declared.logs.callers.Callers.{Callers}
 use Rattle.history_logs.specs.declared.logs.reading.Reading.{Reading}
 use Rattle.history_logs.specs.Reading.{Log}
@@ -33,6 +34,10 @@ pub record HasName (known : List Caller) (name : List ℕ) (at : ℕ) : Type 0 w
   pub there : slice_get known at ≡ Some c
   pub named : c.name.items ≡ name
   pub first : IsUnknown (take at known) name
+
+-- a caller that does this has a call open on the service at the index
+abbrev pub IsOn : ℕ → Option CallerState → Type 0
+IsOn at state = (number : ℕ) × (state ≡ Some (caller.Calls at number))
 
 -- what was read, as its fields tell it
 abbrev pub log_of : Reading → Log

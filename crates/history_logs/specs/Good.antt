@@ -1,5 +1,5 @@
 -- What reading a log finds.
-use Rattle.std.specs.Prelude.{◌≡◌, ◌≢◌, ◌⊎◌, ℕ, ◌+◌, ◌<◌, ◌≤◌, List, [], ◌++◌, All, AllPairs, Bool, true, false, Option, Some, None, IsTrue, codes, length, map, slice_get}
+use Rattle.std.specs.Prelude.{◌≡◌, ◌≢◌, ◌⊎◌, ℕ, ◌+◌, ◌<◌, ◌≤◌, List, [], ◌∷◌, ◌++◌, All, Bool, true, false, Option, Some, None, IsTrue, codes, length, slice_get}
 use Rattle.histories.specs.Frontier.{IsSound}
 use Rattle.histories.specs.Histories.{IsHistory, IsOpen, begins, begun}
 use Rattle.iox2_dynamic.specs.Service as dynamic
@@ -12,8 +12,8 @@ use Rattle.history_logs.specs.declared.logs.service.LogCall.{LogCall}
 use Rattle.history_logs.specs.declared.logs.verdict.Expected.TheVariants as expected
 use Rattle.history_logs.specs.declared.logs.verdict.Expected.{Expected}
 use Rattle.history_logs.specs.Logs.{HasGood, IsBad, IsBadText, IsWrong, LacksReply, calls_in}
-use Rattle.history_logs.specs.Reading.{GoesOn, HasRead, Log, Says, StartsAs}
-use Rattle.history_logs.specs.Seen.{HasAll, Service, started}
+use Rattle.history_logs.specs.Reading.{GoesOn, HasRead, Log, Says, StartsAnewAs, StartsAs}
+use Rattle.history_logs.specs.Seen.{HasAll, Service, started, unseen}
 
 -- Each call of the service has its role, its handle and its line, and each event its line. What
 -- happened is a history, in which so many calls begin as the service has.
@@ -29,20 +29,10 @@ abbrev pub IsOpenOn : List Service → ℕ → ℕ → Type 0
 IsOpenOn services at number =
     (s : Service) × (slice_get services at ≡ Some s) × IsOpen s.events number
 
--- the number of a service
-abbrev pub number_of : Service → ℕ
-number_of s = s.line.number
-
--- no two of them are the same
-abbrev pub Apart : List ℕ → Type 0
-Apart numbers = AllPairs (λ (one other : ℕ). one ≢ other) numbers
-
--- What holds of all that is read: the services have numbers of their own, the calls that callers
--- have open are open, each is that of one caller, a call that waits for its reply is on a service,
--- and without one no caller is known.
+-- What holds of all that is read: the calls that callers have open are open, each is that of one
+-- caller, a call that waits for its reply is on a service, and without one no caller is known.
 pub record IsKept (log : Log) : Type 0 where
   pub orderly : All IsOrderly log.services
-  pub numbers : Apart (map number_of log.services)
   pub opened : (name : List ℕ) (at number : ℕ)
       → log.callers name ≡ Some (caller.Calls at number) → IsOpenOn log.services at number
   pub apart : (one other : List ℕ) (at number : ℕ)
@@ -144,3 +134,14 @@ Starts old what true new =
     (start : dynamic.Service) × StartsAs old what start × (new ≡ started old start)
 Starts old what false new =
     ((start : dynamic.Service) → ¬ (StartsAs old what start)) × (new ≡ old)
+
+-- What is given of the service at the index, below calls on it, does this to what was read.
+-- None: it begins anew.
+-- Some: it may not, and a state is expected that it can have.
+abbrev pub GivesAnew : Log → ℕ → Service → State → Option Expected → Log → Type 0
+GivesAnew old at s what None new =
+    (start : dynamic.Service) × StartsAnewAs old at s what start
+    × (new ≡ record old { services = old.services ++ started (unseen s.line) start ∷ [] })
+GivesAnew old at s what (Some e) new =
+    (e ≡ expected.State) × ((start : dynamic.Service) → ¬ (StartsAnewAs old at s what start))
+    × (new.services ≡ old.services)

@@ -1,5 +1,5 @@
 -- What is found of a service of a log, and what is told of it.
-use Rattle.std.specs.Prelude.{◌≡◌, ℕ, ◌<◌, List, All, Contains, Option, Some, None, Result, Ok, Err, if◌then◌else◌, length, ltb, slice_get, sum_by, take}
+use Rattle.std.specs.Prelude.{◌≡◌, ◌&&◌, ◌||◌, ℕ, ◌<◌, List, All, Bool, Contains, Option, Some, None, Result, Ok, Err, false, if◌then◌else◌, length, ltb, not, slice_get, sum_by, take, true}
 use Rattle.std.specs.List.{AllZip}
 use Rattle.std.specs.Int.{bit_at}
 use Rattle.histories.specs.declared.event.Event.{Event}
@@ -10,10 +10,9 @@ use Rattle.history_windows.specs.declared.window.Cut.{Cut}
 use Rattle.history_windows.specs.declared.window.Cut.TheVariants as cut
 use Rattle.history_windows.specs.declared.window.Verdict.{Verdict as FoundOf}
 use Rattle.history_windows.specs.declared.window.Verdict.TheVariants as found
-use Rattle.history_windows.specs.declared.window.Stop.{Stop}
 use Rattle.history_windows.specs.declared.window.Stop.TheVariants as stop
 use Rattle.history_windows.specs.declared.window.Window.{Window}
-use Rattle.history_windows.specs.Windows.{IsStop, IsWindowOf}
+use Rattle.history_windows.specs.Windows.{IsWindowOf}
 use Rattle.service_conformance.specs.Judged.{Judged, words_of}
 use Rattle.service_conformance.specs.Looks.{Watched}
 use Rattle.history_logs.specs.declared.logs.verdict.Expected.{Expected}
@@ -21,7 +20,7 @@ use Rattle.history_logs.specs.declared.logs.verdict.Order.{Order}
 use Rattle.history_logs.specs.declared.logs.verdict.Refusal.{Refusal}
 use Rattle.history_logs.specs.declared.logs.verdict.Verdict.{Verdict}
 use Rattle.history_logs.specs.declared.logs.verdict.Verdict.TheVariants as verdict
-use Rattle.history_logs.specs.Logs.{AreNeededLines, IsRightAbove, IsSeenRightly, IsReported, StepOf, news}
+use Rattle.history_logs.specs.Logs.{AreNeededLines, IsReported, IsRightAbove, IsSeenRightly, NoneRefused, NoneRefusedAbove, StepOf, StopsIn, news, services_in}
 use Rattle.history_logs.specs.Orders.{IsOrderOf}
 use Rattle.history_logs.specs.Seen.{Service}
 
@@ -66,11 +65,6 @@ pub record IsReportedAt (s : Service) (index : ℕ) (call : Judged) (window : Wi
   pub configurations : AllZip (IsReported s call window.front.slots.items)
       window.front.configs.items reported.configurations.items
 
--- what is seen of the service stops in this line
-pub record StopsIn (s : Service) (k index : ℕ) (why : Stop) : Type 0 where
-  pub stops : IsStop (StepOf s) (news s) s.events index why
-  pub there : slice_get s.event_lines index ≡ Some k
-
 -- a reply in this line is refused, and this is told of it
 pub record IsRefusedIn (s : Service) (k : ℕ) (reported : Refusal) : Type 0 where
   pub index : ℕ
@@ -114,24 +108,41 @@ Explores s where_cut (Ok window) =
     × (where_cut ≡ cut.Never → IsFrontOf (StepOf s) window.front s.events (news s))
 Explores s where_cut (Err reported) = IsFound s reported.0 reported.1
 
--- what is found of one of the services in the first line; none where orders explain all
+-- what is found of the service, if anything is, does not come before this, found in this line
+abbrev pub IsNotBefore : ℕ → Verdict → Service → Type 0
+IsNotBefore k (verdict.Refused reported) s = NoneRefusedAbove k s
+IsNotBefore k _ s = IsRightAbove k s × NoneRefused s
+
+-- what is found of one of the services before all else; none where orders explain all
 abbrev pub IsFirstFound : List Service → Option (ℕ × Verdict) → Type 0
 IsFirstFound services None = All IsSeenRightly services
 IsFirstFound services (Some found) =
     (s : Service) × Contains services s × IsFound s found.0 found.1
-    × All (IsRightAbove found.0) services
+    × All (IsNotBefore found.0 found.1) services
 
--- what is found in the first of two lines
+-- whether a reply is refused
+abbrev pub is_refused : Verdict → Bool
+is_refused (verdict.Refused reported) = true
+is_refused _ = false
+
+-- whether something that is found comes before another: a refused reply before a bound that is
+-- passed, and else that in the line above
+abbrev pub comes_before : ℕ × Verdict → ℕ × Verdict → Bool
+comes_before one other =
+    if is_refused one.1 then (not (is_refused other.1) || ltb one.0 other.0)
+    else (not (is_refused other.1) && ltb one.0 other.0)
+
+-- what is found before the other
 abbrev pub earlier : Option (ℕ × Verdict) → Option (ℕ × Verdict) → Option (ℕ × Verdict)
 earlier None other = other
 earlier (Some one) None = Some one
-earlier (Some one) (Some other) = if ltb other.0 one.0 then Some other else Some one
+earlier (Some one) (Some other) = if comes_before other one then Some other else Some one
 
 -- for each service an order of the calls on it explains what was seen of it
 abbrev pub AreOrdered : List Service → List Order → Type 0
 AreOrdered services orders = AllZip IsOrderOf services orders
 
--- this is found of the services, in the first line in which something is
+-- this is found of the services before all else
 abbrev pub AreJudged : List Service → Option Verdict → Type 0
 AreJudged services None = All IsSeenRightly services
 AreJudged services (Some v) = (k : ℕ) × IsFirstFound services (Some (k, v))
@@ -139,5 +150,5 @@ AreJudged services (Some v) = (k : ℕ) × IsFirstFound services (Some (k, v))
 -- the verdict where orders explain all that was seen of the services
 abbrev pub end_verdict : List Service → Option (ℕ × Expected) → Verdict
 end_verdict services None =
-    verdict.Conforms (sum_by (λ (s : Service). length s.commands) services) (length services)
+    verdict.Conforms (sum_by (λ (s : Service). length s.commands) services) (services_in services)
 end_verdict services (Some bad) = verdict.BadLine bad.0 bad.1

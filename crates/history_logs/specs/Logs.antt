@@ -1,7 +1,8 @@
 -- What a log is judged to be.
-use Rattle.std.specs.Prelude.{◌≡◌, ◌≢◌, ◌⊎◌, ℕ, ◌+◌, ◌<◌, List, [], ◌∷◌, ◌++◌, All, Bool, Contains, Option, Some, None, IsTrue, codes, drop, eqb, filter, get_or, length, ltb, slice_get, sum_by, take, true}
+use Rattle.std.specs.Prelude.{◌≡◌, ◌≢◌, ◌⊎◌, ℕ, ◌+◌, ◌<◌, List, [], ◌∷◌, ◌++◌, All, Bool, Contains, Option, Some, None, IsTrue, codes, drop, eqb, filter, get_or, length, ltb, map, slice_get, sum_by, take, true}
 use Rattle.std.specs.List.{AllZip, dedup, flat_map}
 use Rattle.std.specs.Int.{bit_at}
+use Rattle.std.specs.Set.{distinct_count}
 use Rattle.histories.specs.declared.event.Event.{Event}
 use Rattle.histories.specs.declared.event.Event.TheVariants.{Begin, Crash, End}
 use Rattle.histories.specs.declared.front.Config.{Config}
@@ -65,13 +66,40 @@ count_above k s = length (filter (λ index. ltb index k) s.event_lines)
 abbrev pub IsRightAbove : ℕ → Service → Type 0
 IsRightAbove k s = IsExplained (StepOf s) (take (count_above k s) s.events) (news s)
 
--- what is seen of one of the services stops at this line, and that of each is explained above it
+-- what is seen of the service stops in this line
+pub record StopsIn (s : Service) (k index : ℕ) (why : Stop) : Type 0 where
+  pub stops : IsStop (StepOf s) (news s) s.events index why
+  pub there : slice_get s.event_lines index ≡ Some k
+
+-- what is seen of the service stops in this line, since a bound is passed
+abbrev pub PassesBound : Service → ℕ → Type 0
+PassesBound s k = (index : ℕ) × (why : Stop) × (why ≢ stop.Refused) × StopsIn s k index why
+
+-- no reply of the service is refused above a line: what was seen above it is explained, or a bound
+-- is passed above it
+abbrev pub NoneRefusedAbove : ℕ → Service → Type 0
+NoneRefusedAbove k s = IsRightAbove k s ⊎ ((line : ℕ) × (line < k) × PassesBound s line)
+
+-- no reply of the service is refused: all that was seen is explained, or a bound is passed
+abbrev pub NoneRefused : Service → Type 0
+NoneRefused s = IsSeenRightly s ⊎ ((line : ℕ) × PassesBound s line)
+
+-- a reply of one of the services is refused in this line, and none of any above it
+pub record RefusesAt (services : List Service) (k : ℕ) (s : Service) (index : ℕ) : Type 0 where
+  pub is : Contains services s
+  pub stops : IsStop (StepOf s) (news s) s.events index stop.Refused
+  pub there : slice_get s.event_lines index ≡ Some k
+  pub above : All (NoneRefusedAbove k) services
+
+-- What is seen of one of the services stops at this line, and that of each is explained above it.
+-- Of none a reply is refused, also below it.
 pub record StopsAt (services : List Service) (k : ℕ) (s : Service) (index : ℕ) (why : Stop)
     : Type 0 where
   pub is : Contains services s
   pub stops : IsStop (StepOf s) (news s) s.events index why
   pub there : slice_get s.event_lines index ≡ Some k
   pub above : All (IsRightAbove k) services
+  pub others : All NoneRefused services
 
 -- by the lines in which calls begin, the one of this number begins in this line
 abbrev pub BeginsAt : List ℕ → ℕ → ℕ → Type 0
@@ -130,7 +158,7 @@ pub record AreNeededLines (s : Service) (begin index refused : ℕ) (lines : Lis
 pub record IsRefusal (services : List Service) (reported : Refusal) : Type 0 where
   pub s : Service
   pub index : ℕ
-  pub stops : StopsAt services reported.line s index stop.Refused
+  pub stops : RefusesAt services reported.line s index
   pub number : ℕ
   pub ended : StandsAt s.events index (End number)
   pub call : Call
@@ -188,18 +216,24 @@ IsBad log rest e =
 abbrev pub calls_in : Log → ℕ
 calls_in log = sum_by (λ (s : Service). length s.commands) log.services
 
+-- how many services there are, of which one that began anew is one
+abbrev pub services_in : List Service → ℕ
+services_in services =
+    distinct_count eqb (map (λ (s : Service). s.line.number) services)
+
 -- The log may be judged so.
 -- Conforms: all its lines are good, no call waits for its reply, there is a service, and of each an
 -- order of the calls explains what was seen.
 -- Refused: of the good lines, what is seen of a service is explained above this line, and not with
--- it; that of the others is explained above it.
--- ManyConfigs, ManyOpen: so it is above this line, with which a bound is passed.
+-- it; that of each of the others is explained above it, or passes a bound there.
+-- ManyConfigs, ManyOpen: what is seen of all services is explained above this line, with which a
+-- bound is passed; in the good lines no reply is refused.
 -- BadLine: what is seen of all services in the good lines is explained, and the line after them is
 -- not what is expected there.
 unfoldable pub Judged : List ℕ → Verdict → Type 0
 Judged bytes (verdict.Conforms n m) =
     (count : ℕ) × (log : Log) × HasGood bytes count log [] × (log.waits ≡ None)
-    × All IsSeenRightly log.services × (n ≡ calls_in log) × (m ≡ length log.services) × (0 < m)
+    × All IsSeenRightly log.services × (n ≡ calls_in log) × (m ≡ services_in log.services) × (0 < m)
 Judged bytes (verdict.Refused reported) =
     (count : ℕ) × (log : Log) × (rest : List ℕ) × HasGood bytes count log rest
     × IsRefusal log.services reported

@@ -30,12 +30,25 @@ pub record Log : Type 0 where
 abbrev pub IsNew : ℕ → List Service → Type 0
 IsNew number services = All (λ (s : Service). s.line.number ≢ number) services
 
--- with this before a call, it is one on the service at the index: its number, or nothing where
--- there is no other service
+-- each of them has this number
+abbrev pub HaveNumber : ℕ → List Service → Type 0
+HaveNumber number services = All (λ (s : Service). s.line.number ≡ number) services
+
+-- none of them that stands behind the index has this number
+abbrev pub IsNewBehind : ℕ → List Service → ℕ → Type 0
+IsNewBehind number services at =
+    (later : ℕ) (t : Service) → at < later → slice_get services later ≡ Some t
+    → t.line.number ≢ number
+
+-- With this before a call, it is one on the service at the index: its number, or nothing where no
+-- service has another number. A service that began anew stands there again, and the last one is
+-- meant.
 pub record IsNamed (number : Option ℕ) (services : List Service) (at : ℕ) (s : Service) : Type 0
   where
     pub there : slice_get services at ≡ Some s
-    pub named : (number ≡ Some s.line.number) ⊎ ((number ≡ None) × (length services ≡ 1))
+    pub named : (number ≡ Some s.line.number)
+        ⊎ ((number ≡ None) × HaveNumber s.line.number services)
+    pub last : IsNewBehind s.line.number services at
 
 -- the caller does this from now on, and the others what they did
 pub record Sets (old : List ℕ → Option CallerState) (name : List ℕ) (state : CallerState)
@@ -79,8 +92,29 @@ Gives old (entry slot ticket _) new = ⊥
 abbrev pub StartsAs : Service → State → dynamic.Service → Type 0
 StartsAs s what start = (s.calls ≡ []) × Gives s.start what start
 
+-- no caller has a call open on the service at the index
+abbrev pub NoneCalls : (List ℕ → Option CallerState) → ℕ → Type 0
+NoneCalls callers at =
+    (name : List ℕ) (number : ℕ) → callers name ≢ Some (caller.Calls at number)
+
+-- Calls on the service at the index were seen, and none is open. With this given it begins anew,
+-- and is so before the next one.
+abbrev pub StartsAnewAs : Log → ℕ → Service → State → dynamic.Service → Type 0
+StartsAnewAs log at s what start =
+    (s.calls ≢ []) × NoneCalls log.callers at × Gives (unseen s.line).start what start
+
+-- what is given of the service at the index, which is so then, adds this to what was read
+abbrev pub AddsState : Log → ℕ → Service → State → dynamic.Service → Log → Type 0
+AddsState old at s what start new =
+    (StartsAs s what start
+    × (new ≡ record old { services = slice_set old.services at (started s start) }))
+    ⊎ (StartsAnewAs old at s what start
+    × (new ≡ record old { services = old.services ++ started (unseen s.line) start ∷ [] }))
+
 -- A line, which has this number, may come next, and leads to what was read then. Below a call alone
--- its reply comes. A caller begins a call where it has none open, and ends the one that is.
+-- its reply comes. A caller begins a call where it has none open, and ends the one that is. What is
+-- given of a service stands above its calls, or below them, where none is open, and then it begins
+-- anew: what was seen of it above stays for itself.
 abbrev pub GoesOn : Log → ℕ → Line → Log → Type 0
 GoesOn old k (service line) new =
     (old.waits ≡ None) × IsNew line.number old.services
@@ -112,8 +146,7 @@ GoesOn old k (crash name) new =
     × Sets old.callers name caller.Dead new.callers × (new.waits ≡ None)
 GoesOn old k (given number what) new =
     (at : ℕ) × (s : Service) × (start : dynamic.Service) × (old.waits ≡ None)
-    × IsNamed number old.services at s × StartsAs s what start
-    × (new ≡ record old { services = slice_set old.services at (started s start) })
+    × IsNamed number old.services at s × AddsState old at s what start new
 
 -- the first lines of a log, so many, are this text, and this was read of them
 pub data HasRead : List ℕ → ℕ → Log → Type 0 where
@@ -150,10 +183,11 @@ RefusesDeath (Some caller.Dead) e = e ≡ expected.LiveCaller
 RefusesDeath _ e = ⊥
 
 -- on one of them, no service is so that this may be given of it
-abbrev pub NoneStarts : Option ℕ → List Service → State → Type 0
-NoneStarts number services what =
-    (at : ℕ) × (s : Service) × IsNamed number services at s
+abbrev pub NoneStarts : Log → Option ℕ → State → Type 0
+NoneStarts log number what =
+    (at : ℕ) × (s : Service) × IsNamed number log.services at s
     × ((start : dynamic.Service) → ¬ (StartsAs s what start))
+    × ((start : dynamic.Service) → ¬ (StartsAnewAs log at s what start))
 
 -- The line may not come next, and this is expected in its place: where it is a service with the
 -- number of another, or one on none of the services, a line of these; else what its caller is to
@@ -169,7 +203,7 @@ IsRefused log (end name words) e = RefusesEnd words (log.callers name) e
 IsRefused log (crash name) e = RefusesDeath (log.callers name) e
 IsRefused log (given number what) e =
     ((e ≡ expected.Call) × IsNameless number log.services)
-    ⊎ ((e ≡ expected.State) × NoneStarts number log.services what)
+    ⊎ ((e ≡ expected.State) × NoneStarts log number what)
 
 -- None: the line comes next. Some: it may not, and what was seen of the services stays.
 abbrev pub Does : Log → ℕ → Line → Option Expected → Log → Type 0

@@ -18,7 +18,8 @@ pub fn expected_goes_by_variant(
 }
 
 /// A line that gives an empty registry, of which no ticket was used, leaves what was read as it
-/// was. So a log with such lines is judged as one without.
+/// was, but that a service with calls begins anew. So a log with such lines above its calls is
+/// judged as one without.
 pub fn empty_states_change_nothing()
     ensures { EmptyStatesChangeNothing }
 {}

@@ -25,7 +25,7 @@ use conforming::find_conforming;
 use judging::judge_services;
 use ordering::order_services;
 pub use progress::{Counts, NoProgress, Progress};
-use reading::read_log;
+use reading::{count_services, read_log};
 use report::{append_orders, append_report};
 use service::LogService;
 use std::alloc::{AllocError, Global};
@@ -51,7 +51,7 @@ fn end_verdict(services: &[LogService], bad: Option<(usize, Expected)>) -> Verdi
 {
     match bad {
         Some((line, expected)) => Verdict::BadLine(line, expected),
-        None => Verdict::Conforms(count_calls(services), services.len()),
+        None => Verdict::Conforms(count_calls(services), count_services(services)),
     }
 }
 
@@ -100,6 +100,12 @@ fn check_with<P: Progress>(
 /// or not. `7: ` before a command or a begin says that it is on the service with that number; it
 /// may be left out where no other service is above. Lines that are empty or begin with `#` may
 /// stand anywhere. Every line ends with a newline.
+///
+/// A line `state ..` gives what is there of a service that was in use. Above all calls on it, it
+/// says how the service begins. Below calls, where no caller has a call open on it, it begins the
+/// service anew: what was seen above is judged by itself, its number names the new one from then
+/// on, calls are numbered from 0 again, and it counts as one service. A bound that is passed ends
+/// the judging of a service only until it begins anew.
 ///
 /// `A> list? ROLE` and `A> nodes?` begin a weak listing, which need not be a snapshot: it has each
 /// id that was there all through it, and none that never was during it.
@@ -165,7 +171,8 @@ fn order_read(
 }
 
 /// Judges a log, as `check_log` does. Where it conforms, there is an order for each service, by
-/// their lines: one of those that explain what was seen of it. Else there is none.
+/// their lines, and for each time that one begins anew: one of those that explain what was seen of
+/// it. Else there is none.
 ///
 /// What is read is kept whole, also of a log that conforms, and memory grows by one link for each
 /// call in each configuration in which it was made.
@@ -197,7 +204,8 @@ fn witness_read(
 
 /// Judges a log, as `order_log` does: the verdict, and the text that reports it. Where the log
 /// conforms, the orders are below that: for each service its line, `service N`, and then the lines
-/// in which its calls begin, in the order in which they took effect, one a line.
+/// in which its calls begin, in the order in which they took effect, one a line. A service that
+/// began anew is there once more for each time.
 pub fn witness_log(alloc: Global, log: &[u8]) -> Result<(Verdict, Vec<u8>), AllocError>
     ensures judged { IfOk result (λ found. Judged log.now found.0) }
     ensures text { IfOk result (λ found. IsWitness log.now found.0 found.1.items) }

@@ -6,7 +6,7 @@ use std::process::Abort;
 use std::test::Fail;
 
 /// A log in which so many callers each begin a call, and then end it.
-fn open_calls(alloc: Global, count: usize) -> Result<String, AllocError> {
+pub(super) fn open_calls(alloc: Global, count: usize) -> Result<String, AllocError> {
     let mut log = String::from_str(alloc, "service event 7 3 2 2\n")?;
     for caller in 0..count {
         writeln!(log, "c{caller}> nodes")?;
@@ -31,7 +31,7 @@ fn at_most_64_calls_are_open(rt: HostRuntime) -> Result<(), Fail> {
 
 /// A log of 14 nodes, of which so many die while another one is registered: its reply does not say
 /// which had died before, so it leads to a configuration for each set of them.
-fn deaths(alloc: Global, count: usize) -> Result<String, AllocError> {
+pub(super) fn deaths(alloc: Global, count: usize) -> Result<String, AllocError> {
     let mut log = String::from_str(alloc, "service event 7 20 0 0\n")?;
     for node in 1..15usize {
         let slot = node.saturating_sub(1);

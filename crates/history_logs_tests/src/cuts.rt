@@ -7,7 +7,7 @@ use std::test::Fail;
 
 /// A log that conforms, with all kinds of lines but notes.
 const LOG: &str =
-    "service event 7 3 2 2\nregister 1.0.0.1\n= handle 0 0\nA> register 2.0.0.2\nB> add listener 1.0.0.10 1.0.0.1\nB< handle 1 0\n7: B> release listener 1 0\nA< handle 2 1\nC> deregister 0\nB!\nnodes\n= list 1000000000000000000000001 2000000000000000000000002\nC< has-owners\nservice event 8 1 0 0\n8: A> nodes\nA< list\n";
+    "service event 7 3 2 2\nregister 1.0.0.1\n= handle 0 0\nA> register 2.0.0.2\nB> add listener 1.0.0.10 1.0.0.1\nB< handle 1 0\n7: B> release listener 1 0\nA< handle 2 1\nC> deregister 0\nB!\nnodes\n= list 1000000000000000000000001 2000000000000000000000002\nC< has-owners\nservice event 8 1 0 0\n8: A> nodes\nA< list\n7: state nodes 20\n7: state 1 3 register 3.0.0.3\n7: nodes\n= list 3000000000000000000000003\n";
 
 /// Whether a line of the log is that of a service.
 fn is_service(line: &str) -> bool {
@@ -22,7 +22,7 @@ fn is_begin(line: &str) -> bool {
 /// Whether a line of the log is a call alone, whose reply stands below it.
 fn is_alone(line: &str) -> bool {
     let is_end = line.contains("< ") || line.ends_with("!") || line.starts_with("= ");
-    !is_service(line) && !is_begin(line) && !is_end
+    !is_service(line) && !is_begin(line) && !is_end && !line.contains("state ")
 }
 
 /// What the lines of a log, all of them whole, are judged to be where no reply is refused.

@@ -6,12 +6,12 @@ use std::process::Abort;
 use std::test::Fail;
 use test_support::memory::may_be_refused;
 
-/// A log in which a caller reads the old state after the new one.
+/// A log in which a caller reads the old state after the new one, of a service that began anew.
 const LOG: &str =
-    "service event 7 3 2 2\nregister 1.0.0.1\n= handle 0 0\nregister 2.0.0.2\n= handle 1 1\nA> register 3.0.0.3\nB> nodes\nB< list 1000000000000000000000001 2000000000000000000000002 3000000000000000000000003\nB> nodes\nB< list 1000000000000000000000001 2000000000000000000000002\nA!\n";
+    "service event 7 3 2 2\nnodes\n= list\nstate nodes 0\nregister 1.0.0.1\n= handle 0 0\nregister 2.0.0.2\n= handle 1 1\nA> register 3.0.0.3\nB> nodes\nB< list 1000000000000000000000001 2000000000000000000000002 3000000000000000000000003\nB> nodes\nB< list 1000000000000000000000001 2000000000000000000000002\nA!\n";
 
 const REPORT: &str =
-    "line 10: no order of the calls explains this reply\nseen: list 1000000000000000000000001 2000000000000000000000002\nwindow: from line 6\nneeded: lines 6 7 9\nmade: lines 6\npossible: list 1000000000000000000000001 2000000000000000000000002 3000000000000000000000003\nnodes: 1000000000000000000000001 2000000000000000000000002 3000000000000000000000003\nports:\n";
+    "line 13: no order of the calls explains this reply\nseen: list 1000000000000000000000001 2000000000000000000000002\nwindow: from line 9\nneeded: lines 9 10 12\nmade: lines 9\npossible: list 1000000000000000000000001 2000000000000000000000002 3000000000000000000000003\nnodes: 1000000000000000000000001 2000000000000000000000002 3000000000000000000000003\nports:\n";
 
 #[test]
 fn a_log_is_judged_whole_or_not_at_all(rt: HostRuntime) -> Result<(), Fail> {

@@ -31,7 +31,7 @@ fn verdict_between(
 }
 
 /// The first part of a log, the second one, and the last one, and what it must be judged to be.
-static PARTS: [(&str, &str, Row); 8] = [
+static PARTS: [(&str, &str, Row); 11] = [
     // A call is open over several settlings, and its reply comes later.
     (
         "A> register 1.0.0.1\n",
@@ -85,6 +85,25 @@ static PARTS: [(&str, &str, Row); 8] = [
             "release 2501\n= released\nnodes\n= list 1000000000000000000000001\n",
             Said::Conforms(5004, 1),
         ),
+    ),
+    // The service begins anew.
+    (
+        "register 1.0.0.1\n= handle 0 0\n",
+        "state nodes 20\n",
+        ("register 1.0.0.2\n= handle 0 20\n", Said::Conforms(5002, 1)),
+    ),
+    (
+        "register 1.0.0.1\n= handle 0 0\n",
+        "state nodes 20\n",
+        (
+            "register 1.0.0.2\n= handle 0 1\n",
+            Said::Refused(10006, 10006, 1),
+        ),
+    ),
+    (
+        "A> register 1.0.0.1\nA!\n",
+        "state nodes 20\nstate 0 1 register 1.0.0.2\n",
+        ("deregister 0 1\n= no-owners\n", Said::Conforms(5002, 1)),
     ),
 ];
 

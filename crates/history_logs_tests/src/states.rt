@@ -61,7 +61,7 @@ static GIVEN: [Row; 12] = [
 ];
 
 /// What cannot be so.
-static REFUSED: [Row; 18] = [
+static REFUSED: [Row; 17] = [
     // A slot twice, one before another, and one that the service does not have.
     (
         "state nodes 20\nstate 0 17 register 1.0.0.1\nstate 0 18 register 1.0.0.2\n",
@@ -99,11 +99,7 @@ static REFUSED: [Row; 18] = [
         "state nodes 3\nstate nodes 3\n",
         Said::BadLine(3, Expected::State),
     ),
-    // Below a call, and in place of its reply.
-    (
-        "nodes\n= list\nstate nodes 3\n",
-        Said::BadLine(4, Expected::State),
-    ),
+    // Where a call is open, and in place of a reply.
     (
         "A> nodes\nstate nodes 3\n",
         Said::BadLine(3, Expected::State),

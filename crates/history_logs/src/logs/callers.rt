@@ -1,7 +1,7 @@
 //! The callers of a log.
-ghost use Rattle.std.specs.Prelude.{◌≡◌, ℕ, List, None, IfNone, IfSome, OnOk};
-ghost use Rattle.history_logs.specs.Fields.{HasName, IsUnknown, callers_of};
-ghost use Rattle.history_logs.specs.Reading.{MayBegin, RefusesBegin, Sets};
+ghost use Rattle.std.specs.Prelude.{◌≡◌, ◌↔◌, ℕ, List, None, Some, IfNone, IfSome, IsFalse, IsTrue, OnOk};
+ghost use Rattle.history_logs.specs.Fields.{HasName, IsOn, IsUnknown, callers_of};
+ghost use Rattle.history_logs.specs.Reading.{MayBegin, NoneCalls, RefusesBegin, Sets};
 
 use super::verdict::Expected;
 use std::alloc::{AllocError, Global};
@@ -43,6 +43,16 @@ pub(super) struct Callers {
     pub(super) known: Vec<Caller>,
 }
 
+/// Whether a call on the service at this index is open.
+fn is_on(state: Option<CallerState>, at: usize) -> bool
+    ensures { IsTrue result ↔ IsOn at state }
+{
+    match state {
+        Some(CallerState::Calls(on, _)) => on == at,
+        _ => false,
+    }
+}
+
 impl Callers {
     /// None yet.
     pub(super) fn new(alloc: Global) -> Self
@@ -61,6 +71,28 @@ impl Callers {
             Some(at) => Some(self.known[at].state),
             None => None,
         }
+    }
+
+    /// Whether the caller has a call open on the service at this index.
+    fn is_open_on(&self, caller: &Caller, at: usize) -> bool
+        ensures yes { IsTrue result → IsOn at (callers_of self.now caller.now.name.items) }
+        ensures no { IsFalse result → IsOn at (Some caller.now.state)
+            → ¬ (IsOn at (callers_of self.now caller.now.name.items)) }
+    {
+        is_on(Some(caller.state), at) && is_on(self.state_of(&caller.name), at)
+    }
+
+    /// Whether a caller has a call open on the service at this index.
+    pub(super) fn has_open_on(&self, at: usize) -> bool
+        ensures yes { IsTrue result → ¬ (NoneCalls (callers_of self.now) at) }
+        ensures no { IsFalse result → NoneCalls (callers_of self.now) at }
+    {
+        for caller in &self.known {
+            if self.is_open_on(caller, at) {
+                return true;
+            }
+        }
+        false
     }
 
     /// The caller does this from now on.

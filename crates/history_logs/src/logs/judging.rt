@@ -11,7 +11,8 @@ ghost use Rattle.log_lines.specs.Lines.{IsLine, Line, line_seen, line_text};
 ghost use Rattle.service_conformance.specs.Judged.{Judged};
 ghost use Rattle.history_logs.specs.Good.{IsOrderly};
 ghost use Rattle.history_logs.specs.Judging.{AreBelow, AreJudged, AreLines, AreLinesTo, Explores};
-ghost use Rattle.history_logs.specs.Judging.{IsFoundOf, IsRefusedIn, IsReportedAt, IsReportOf, earlier};
+ghost use Rattle.history_logs.specs.Judging.{IsFoundOf, IsRefusedIn, IsReportedAt, IsReportOf};
+ghost use Rattle.history_logs.specs.Judging.{comes_before, earlier, is_refused};
 ghost use Rattle.history_logs.specs.Logs.{IsReported, StepOf, news};
 ghost use Rattle.history_logs.specs.EventLines.{Answers, IsLineAt, HasEventLines};
 
@@ -318,7 +319,26 @@ fn judge_service(
     }
 }
 
-/// What was found in the first of two lines.
+/// Whether a reply is refused.
+fn is_refused(verdict: &Verdict) -> bool
+    ensures { result ≡ is_refused verdict.now }
+{
+    matches!(verdict, Verdict::Refused(_))
+}
+
+/// Whether something that was found comes before another: a refused reply before a bound that is
+/// passed, and else that in the line above.
+fn comes_before(one: &(usize, Verdict), other: &(usize, Verdict)) -> bool
+    ensures { result ≡ comes_before one.now other.now }
+{
+    if is_refused(&one.1) {
+        !is_refused(&other.1) || one.0 < other.0
+    } else {
+        !is_refused(&other.1) && one.0 < other.0
+    }
+}
+
+/// What was found before the other.
 pub(super) fn earlier(
     one: Option<(usize, Verdict)>,
     other: Option<(usize, Verdict)>,
@@ -329,7 +349,7 @@ pub(super) fn earlier(
         (None, other) => other,
         (Some(one), None) => Some(one),
         (Some(one), Some(other)) => {
-            if other.0 < one.0 {
+            if comes_before(&other, &one) {
                 Some(other)
             } else {
                 Some(one)
@@ -338,7 +358,7 @@ pub(super) fn earlier(
     }
 }
 
-/// Judges what was seen of each service: what was found in the first line, unless orders explain
+/// Judges what was seen of each service: what was found before all else, unless orders explain
 /// all.
 pub(super) fn judge_services(
     alloc: Global,

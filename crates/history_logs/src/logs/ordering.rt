@@ -73,7 +73,7 @@ fn order_service(
 }
 
 /// For each service an order of the calls on it that explains what was seen of it, or what was
-/// found in the first line, where there is not one for each.
+/// found before all else, where there is not one for each.
 pub(super) fn order_services(
     alloc: Global,
     log: &[u8],

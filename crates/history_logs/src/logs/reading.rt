@@ -1,5 +1,5 @@
 //! Reading a log line by line.
-ghost use Rattle.std.specs.Prelude.{◌≡◌, ◌≢◌, ◌<◌, ℕ, List, [], None, Some, IfNone, IfOk, IfSome, IsTrue, length, slice_get};
+ghost use Rattle.std.specs.Prelude.{◌≡◌, ◌≢◌, ◌<◌, ℕ, List, [], None, Some, IfNone, IfOk, IfSome, IsFalse, IsTrue, length, slice_get};
 ghost use Rattle.log_lines.specs.Commands.{HasBegun, HasText, begun_in, named as named_command};
 ghost use Rattle.log_lines.specs.Lines.Line.{service as service_line, call as call_line};
 ghost use Rattle.log_lines.specs.Lines.Line.{begin as begin_line, end as end_line, crash as crash_line};
@@ -7,11 +7,13 @@ ghost use Rattle.log_lines.specs.Lines.Line.{given as given_line};
 ghost use Rattle.log_lines.specs.States.{state_seen};
 ghost use Rattle.history_logs.specs.Fields.{callers_of, log_of};
 ghost use Rattle.log_lines.specs.Lines.{IsLine, Line, line_seen, line_text};
-ghost use Rattle.history_logs.specs.Good.{IsReadTo, SaysIn, Takes, TakesLine};
+ghost use Rattle.history_logs.specs.Good.{GivesAnew, IsReadTo, SaysIn, Takes, TakesLine};
 ghost use Rattle.history_logs.specs.Good.{TakesNext, TakesReply, is_service};
 ghost use Rattle.history_logs.specs.Logs.{EndsInReturn, IsMissing, IsWrong, LacksReply};
+ghost use Rattle.history_logs.specs.Logs.{services_in};
 ghost use Rattle.history_logs.specs.Progress.{AddsCounts};
-ghost use Rattle.history_logs.specs.Reading.{Does, IsNameless, IsNew, IsNamed, IsSane, StopsKept};
+ghost use Rattle.history_logs.specs.Reading.{Does, HaveNumber, IsNameless, IsNamed, IsNew};
+ghost use Rattle.history_logs.specs.Reading.{IsNewBehind, IsSane, StopsKept};
 ghost use Rattle.history_logs.specs.Seen.{Service};
 
 use super::callers::{CallerState, Callers, refuses_begin};
@@ -35,18 +37,47 @@ pub(super) struct Reading {
     pub(super) waits: Option<(usize, LogCall)>,
 }
 
-/// The index of the service with this number.
+/// The index of the last service with this number.
 fn position_of(services: &[LogService], number: u64) -> Option<usize>
-    ensures some { IfSome result (λ at. (s : Service)
-        × (slice_get services.now at ≡ Some s) × (s.line.number ≡ number)) }
+    ensures some { IfSome result (λ at. (s : Service) × (slice_get services.now at ≡ Some s)
+        × (s.line.number ≡ number) × IsNewBehind number services.now at) }
     ensures none { IfNone result (IsNew number services.now) }
 {
-    for at in 0..services.len() {
+    let mut at = services.len();
+    while at > 0 {
+        at -= 1;
         if services[at].line().number == number {
             return Some(at);
         }
     }
     None
+}
+
+/// Whether each service has this number.
+fn have_number(services: &[LogService], number: u64) -> bool
+    ensures yes { IsTrue result → HaveNumber number services.now }
+    ensures no { IsFalse result → ¬ (HaveNumber number services.now) }
+{
+    for service in services {
+        if service.line().number != number {
+            return false;
+        }
+    }
+    true
+}
+
+/// How many services there are, of which one that began anew is one.
+pub(super) fn count_services(services: &[LogService]) -> usize
+    ensures { result ≡ services_in services.now }
+{
+    let mut count = 0usize;
+    for at in 0..services.len() {
+        let number = services[at].line().number;
+        if position_of(&services[at + 1..], number).is_none() {
+            count += 1;
+        }
+    }
+    count
 }
 
 /// Whether a carriage return stands at the end of the line.
@@ -75,6 +106,21 @@ fn is_service(read: &LogLine<'_>) -> bool
     matches!(read, LogLine::Service(_))
 }
 
+/// The index of the last service, where all have one number.
+fn only_service(services: &[LogService]) -> Option<usize>
+    ensures some { IfSome result (λ at. (s : Service) × IsNamed None services.now at s) }
+    ensures none { IfNone result (IsNameless None services.now) }
+{
+    if services.is_empty() {
+        return None;
+    }
+    let last = services.len() - 1;
+    if !have_number(services, services[last].line().number) {
+        return None;
+    }
+    Some(last)
+}
+
 /// The index of the service that a call is on, before which this number stands, or none.
 fn service_named(services: &[LogService], number: Option<u64>) -> Option<usize>
     ensures some { IfSome result (λ at. (s : Service) × IsNamed number services.now at s) }
@@ -82,8 +128,7 @@ fn service_named(services: &[LogService], number: Option<u64>) -> Option<usize>
 {
     match number {
         Some(number) => position_of(services, number),
-        None if services.len() == 1 => Some(0),
-        None => None,
+        None => only_service(services),
     }
 }
 
@@ -114,10 +159,37 @@ impl Reading {
         Ok(None)
     }
 
+    /// What is given of the service at this index, below calls on it. Returns what is expected
+    /// instead, if it may not begin anew.
+    fn give_anew(
+        &mut self,
+        alloc: Global,
+        at: usize,
+        given: LogState,
+    ) -> Result<Option<Expected>, AllocError>
+        requires within { at < length self.old.services.items }
+        requires calls { (s : Service) → slice_get self.old.services.items at ≡ Some s
+            → 0 < length s.calls }
+        ensures { IfOk result (λ found. (s : Service)
+            → slice_get self.old.services.items at ≡ Some s
+            → GivesAnew (log_of self.old) at s (state_seen given) found (log_of self.new)) }
+    {
+        if self.callers.has_open_on(at) {
+            return Ok(Some(Expected::State));
+        }
+        let mut anew = LogService::new(alloc, *self.services[at].line());
+        if !anew.give(given)? {
+            return Ok(Some(Expected::State));
+        }
+        self.services.push(anew)?;
+        Ok(None)
+    }
+
     /// What is given of a service that was in use. Returns what is expected instead, if it may not
     /// come.
     fn given(
         &mut self,
+        alloc: Global,
         number: Option<u64>,
         given: LogState,
     ) -> Result<Option<Expected>, AllocError>
@@ -128,6 +200,9 @@ impl Reading {
         let Some(at) = service_named(&self.services, number) else {
             return Ok(Some(Expected::Call));
         };
+        if self.services[at].has_calls() {
+            return self.give_anew(alloc, at, given);
+        }
         let may = self.services[at].give(given)?;
         if may {
             return Ok(None);
@@ -282,7 +357,7 @@ impl Reading {
             }
             LogLine::End(caller, words) => self.end(alloc, caller, words, line),
             LogLine::Crash(caller) => self.crash(alloc, caller, line),
-            LogLine::State(number, given) => self.given(number, given),
+            LogLine::State(number, given) => self.given(alloc, number, given),
         }
     }
 

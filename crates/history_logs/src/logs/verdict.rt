@@ -20,7 +20,8 @@ pub enum Expected {
     LiveCaller,
     /// A caller that has begun a call.
     KnownCaller,
-    /// A state that the service can have before its first call.
+    /// A state that the service can have before its first call, or with which it can begin anew
+    /// where no call on it is open.
     State,
     /// A newline at the end of the line.
     Newline,
@@ -65,12 +66,14 @@ pub struct Refusal {
 pub enum Verdict {
     /// Orders of the calls explain all replies: so many calls, on so many services.
     Conforms(usize, usize),
-    /// Orders explain what is above this reply, and none explains it.
+    /// Orders explain what is above this reply, and none explains it. It is the first one, also
+    /// where a bound was passed above it on another service, or before its own one began anew.
     Refused(Refusal),
     /// At this line more than `histories::MAX_CONFIGS` configurations were to be followed: not
-    /// decided.
+    /// decided. No reply is refused on another service, or below it, where the service began anew.
     ManyConfigs(usize),
     /// From this line on more than `histories::MAX_OPEN` calls of a service are open: not decided.
+    /// No reply is refused on another service, or below it, where the service began anew.
     ManyOpen(usize),
     /// Orders explain what is above the line of this number, and it is not what it should be, or
     /// the log ends before it.

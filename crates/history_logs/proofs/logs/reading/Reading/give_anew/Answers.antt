@@ -1,0 +1,44 @@
+use Rattle.std.proofs.Common.{rules, ◌≡◌, ◌∙◌, List, false, true, ap, refl, subst}
+use Rattle.std.proofs.lemmas.Option.{get_or_from_slice_get}
+use Rattle.log_lines.specs.States.{state_seen}
+use Rattle.history_logs.specs.Fields.{callers_of, log_of}
+use Rattle.history_logs.specs.Good.{Starts}
+use Rattle.history_logs.specs.Reading.{Log}
+use Rattle.history_logs.specs.Seen.{Service, unseen}
+use Rattle.history_logs.proofs.Starting.{gives_anew, some_calls}
+use Rattle.history_logs.proofs.logs.reading.Reading.give_anew.Goals as goal
+
+pub returns-then-not-branch : goal.returns-then-not-branch
+returns-then-not-branch c s there =
+    let d = c.index.result.now in
+    let same : d ≡ s =
+    c.index.ensures ∙ get_or_from_slice_get c.args.self.now.services.items c.args.at s d there in
+    let bars : c.in_ok-give.field-0 ≡ false = search rules in
+    let made : c.new-anew.result ≡ unseen d.line = c.new-anew.ensures ∙ ap unseen c.line.ensures in
+    gives_anew (log_of c.args.self.now) (log_of c.args.self.now) c.args.at d s
+    (state_seen c.args.given) false c.give.new.self there same
+    (some_calls s (c.requires.calls s there)) (c.has_open_on.ensures.no c.if-has_open_on.false)
+    (subst (λ (x : Service). Starts x (state_seen c.args.given) false c.give.new.self) made
+    (rw bars at c.in_ok-give.ensures)) (λ e. absurd (cc)) (λ e. refl)
+
+pub returns : goal.returns
+returns c s there =
+    let d = c.index.result.now in
+    let same : d ≡ s =
+    c.index.ensures ∙ get_or_from_slice_get c.args.self.now.services.items c.args.at s d there in
+    let may : c.in_ok-give.field-0 ≡ true = search rules in
+    let made : c.new-anew.result ≡ unseen d.line = c.new-anew.ensures ∙ ap unseen c.line.ensures in
+    let callers = callers_of c.args.self.now.callers in
+    let waits = c.args.self.now.waits in
+    let new : Log = record {
+      services = c.push.new.self.items;
+      callers = callers;
+      waits = waits;
+    } in
+    gives_anew (log_of c.args.self.now) new c.args.at d s (state_seen c.args.given) true
+    c.give.new.self there same (some_calls s (c.requires.calls s there))
+    (c.has_open_on.ensures.no c.if-has_open_on.false)
+    (subst (λ (x : Service). Starts x (state_seen c.args.given) true c.give.new.self) made
+    (rw may at c.in_ok-give.ensures))
+    (λ e. ap (λ (l : List Service). record { services = l; callers = callers; waits = waits })
+    c.in_ok-push.ensures.items) (λ e. absurd (cc))
