@@ -110,7 +110,8 @@ front_same {S} Step events olds old new is front =
     (sym is.1) front))
 
 pub many_as : {S : Type 0} (A B : S → ℕ → S → Type 0) (slots : List (Option ℕ))
-    → HaveSameSteps A B slots → (configs : List (Config S)) → HasMany A slots configs → HasMany B slots configs
+    → HaveSameSteps A B slots → (configs : List (Config S)) → HasMany A slots configs
+    → HasMany B slots configs
 many_as A B slots same configs many = (
   many.0,
   many.1,

@@ -16,7 +16,8 @@ loop-at-preserved c =
     λ known says.
     count_left xs c.loop-at.at c.loop-at.count c.line.result.now.number c.index-services-at.result
     c.position_of.result known c.loop-at-test.true c.index-services-at.is
-    (ap (λ (l : ServiceLine). l.number) c.line.ensures) says c.position_of.ensures.some c.position_of.ensures.none
+    (ap (λ (l : ServiceLine). l.number) c.line.ensures) says c.position_of.ensures.some
+    c.position_of.ensures.none
     c.loop-at.invariant.0 in
     let few = c.loop-at.invariant.1 in
     elim c.if-is_none.branch
