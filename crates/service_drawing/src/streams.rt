@@ -113,6 +113,7 @@ fn text_of(alloc: Global, text: &str) -> Result<Written, Fault>
 }
 
 /// Does what is requested, and returns the status unless a stream fails.
+#[tactic(auto, using(crate::proofs::Answered::reported_where_written))]
 fn run<R: Source, W: Sink, E: Sink>(
     alloc: Global,
     arguments: io::Result<Args>,

@@ -75,6 +75,7 @@ fn service_in(line: &[u8]) -> Result<Service, Reason>
 }
 
 /// The line of a service.
+#[tactic(auto, using(crate::proofs::Reasons::no_line_reason, crate::proofs::Reasons::service_reason))]
 pub(super) fn service_before(bytes: &[u8]) -> Result<(Service, &[u8]), Expected<'_>>
     ensures spelled { MatchResult result
         (λ found. HasService found.0.kind found.0.name found.1.now bytes.now)
