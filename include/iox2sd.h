@@ -164,7 +164,7 @@ enum iox2sd_status_number {
     IOX2SD_STATUS_NO_NEWLINE = 100,    /* The last line has no newline. */
     /* A line that is not what is expected ends in a carriage return. */
     IOX2SD_STATUS_CARRIAGE_RETURN = 101,
-    /* A line gives a state that the service cannot have before its first call. */
+    /* A line gives a state with which the service cannot begin, or a call on it is open. */
     IOX2SD_STATUS_NO_STATE_LINE = 102
 };
 typedef uint32_t iox2sd_status;

@@ -32,7 +32,7 @@ class Expected(Choice):
     NO_CARRIAGE_RETURN = Status.CARRIAGE_RETURN.value
     """No carriage return before the newline."""
     STATE = Status.NO_STATE_LINE.value
-    """A state that the service can have before its first call."""
+    """A state with which the service can begin, or begin anew where no call on it is open."""
 
 
 @dataclass(frozen=True, slots=True)

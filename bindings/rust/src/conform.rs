@@ -148,7 +148,7 @@ choices! {
         Newline = IOX2SD_STATUS_NO_NEWLINE;
         /// No carriage return before the newline.
         NoCarriageReturn = IOX2SD_STATUS_CARRIAGE_RETURN;
-        /// A state that the service can have before its first call.
+        /// A state with which the service can begin, or begin anew where no call on it is open.
         State = IOX2SD_STATUS_NO_STATE_LINE;
     }
 }

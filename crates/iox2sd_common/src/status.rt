@@ -148,7 +148,7 @@ pub enum Status {
     NoNewline = 100,
     /// A carriage return stands before the newline of a line of a log.
     CarriageReturn = 101,
-    /// A line of a log gives a state that its service cannot have before its first call.
+    /// A line of a log gives a state with which its service cannot begin, or a call on it is open.
     NoStateLine = 102,
 }
 

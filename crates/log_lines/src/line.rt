@@ -87,7 +87,42 @@ fn number_front(line: &[u8]) -> Option<(u64, &[u8])>
     Some((number, rest))
 }
 
-/// The call whose text this is, alone or the begin of one, after the number of its service.
+/// Whether no command begins as the line does. A no says nothing.
+fn begins_otherwise(line: &[u8]) -> bool {
+    match line {
+        [] => true,
+        [first, ..] => !first.is_ascii_lowercase(),
+    }
+}
+
+/// The begin of a call whose text this is, after the number of its service.
+fn begin_of<'a>(
+    alloc: Global,
+    number: Option<u64>,
+    rest: &'a [u8],
+) -> Result<Option<LogLine<'a>>, AllocError>
+    requires { HasNumber number }
+    ensures some { IfOk result (λ found. IfSome found (λ line. IsLineOf number rest.now
+        (line_seen line))) }
+    ensures begun { IfOk result (λ found. IfNone found ((caller : List ℕ)
+        (begun : Begun) → IsCaller caller → HasBegun begun
+        → rest.now ≢ begin_text caller begun)) }
+{
+    let (caller, after) = split_name(rest);
+    let Some(text) = after_word(after, b"> ") else {
+        return Ok(None);
+    };
+    if !is_caller(caller) {
+        return Ok(None);
+    }
+    match read_begun(alloc, text)? {
+        Some(begun) => Ok(Some(LogLine::Begin(number, caller, begun))),
+        None => Ok(None),
+    }
+}
+
+/// The call whose text this is, alone or the begin of one, after the number of its service. What is
+/// more likely is tried first.
 #[inline(always)]
 fn call_of<'a>(
     alloc: Global,
@@ -103,20 +138,15 @@ fn call_of<'a>(
         (begun : Begun) → IsCaller caller → HasBegun begun
         → rest.now ≢ begin_text caller begun)) }
 {
+    if begins_otherwise(rest) {
+        if let Some(begin) = begin_of(alloc, number, rest)? {
+            return Ok(Some(begin));
+        }
+    }
     if let Some(command) = read_command(alloc, rest)? {
         return Ok(Some(LogLine::Call(number, command)));
     }
-    let (caller, after) = split_name(rest);
-    let Some(text) = after_word(after, b"> ") else {
-        return Ok(None);
-    };
-    if !is_caller(caller) {
-        return Ok(None);
-    }
-    match read_begun(alloc, text)? {
-        Some(begun) => Ok(Some(LogLine::Begin(number, caller, begun))),
-        None => Ok(None),
-    }
+    begin_of(alloc, number, rest)
 }
 
 /// The state or the call whose text this is, after the number of its service.
@@ -204,6 +234,11 @@ pub fn read_log_line(alloc: Global, line: &[u8]) -> Result<Option<LogLine<'_>>, 
 {
     if let Some(words) = after_word(line, b"= ") {
         return Ok(Some(LogLine::Reply(words)));
+    }
+    if begins_otherwise(line) {
+        if let Some(found) = end_of(line) {
+            return Ok(Some(found));
+        }
     }
     if let Some(found) = on_service(alloc, None, line)? {
         return Ok(Some(found));

@@ -14,7 +14,7 @@ pub returns-in-None-2 : goal.returns-in-None-2
 returns-in-None-2 c =
     plain_none c.args.line.now c.in_default.ensures.none
     (rw c.in-None-2.is at c.in_ok-service.ensures) c.in_default-number_front.ensures.none
-    c.in_default-end_of.ensures.ended c.in_default-end_of.ensures.died
+    c.in_default-end_of-2.ensures.ended c.in_default-end_of-2.ensures.died
     (rw c.in_default-2.is at c.in_ok-found.ensures.alone)
     (rw c.in_default-2.is at c.in_ok-found.ensures.begun)
     (rw c.in_default-2.is at c.in_ok-found.ensures.given)
