@@ -6,8 +6,9 @@ use Rattle.std.specs.declared.cmp.Ordering.{Ordering}
 use Rattle.iox2_config.specs.Defaults.{IsDefaultConfig}
 use Rattle.iox2_config.specs.declared.config.Config.{Config}
 use Rattle.iox2_config_file.specs.Answers.{IsConfigOf}
-use Rattle.iox2_config_file.specs.Read.{faults_in}
-use Rattle.iox2_config_file.specs.Unknown.{unknown_in}
+use Rattle.iox2_config_file.specs.Read.{fault_view, faults_in}
+use Rattle.iox2_config_file.specs.Unknown.{unknown_in, unknown_view}
+use Rattle.iox2_config_file.specs.declared.read.FileContents.{FileContents}
 use Rattle.config_report.specs.Contradictions.{contradiction_note, contradictions_in}
 use Rattle.config_report.specs.Notes.{Note, Topic, fault, finding_view, unknown, note_in, note_text}
 use Rattle.config_report.specs.Unread.{IsNoFile, IsText}
@@ -39,6 +40,12 @@ pub record IsInOrder (found listed : List Finding) : Type 0 where
 abbrev pub Lists : List Note → List Finding → Type 0
 Lists notes listed =
     (found : List Finding) × (map finding_view found ≡ notes) × IsInOrder found listed
+
+-- what there is to say something of in a file, by what is read of it
+abbrev pub topics_of : FileContents → List Topic
+topics_of contents =
+    map fault (map fault_view contents.faults.items)
+    ++ map unknown (map unknown_view contents.unknown.items)
 
 -- what there is to say something of in a file, by its tables: its faults, and then its unknown keys
 abbrev pub topics_in : Config → Members → List Topic

@@ -4,8 +4,8 @@ use Rattle.std.specs.Str.{IsValidUpTo}
 use Rattle.iox2_config_file.specs.Depth.{too_deep}
 use Rattle.config_report.specs.Notes.{Note, finding_view, note}
 use Rattle.config_report.specs.declared.finding.Severity.TheVariants.{Error}
-use Rattle.config_report.specs.declared.unread.Unread.{Unread}
-use Rattle.config_report.specs.declared.unread.Unread.TheVariants.{NotUtf8, TooDeep, NotToml, NoMemory}
+use Rattle.config_report.specs.declared.check.Unread.{Unread}
+use Rattle.config_report.specs.declared.check.Unread.TheVariants.{NotUtf8, TooDeep, NotToml, NoMemory}
 use Rattle.toml.specs.Parse.{parse_document}
 use Rattle.toml_positions.specs.Position.{position_after}
 

@@ -1,25 +1,27 @@
-//! What is found in a file of settings.
-ghost use Rattle.std.specs.Prelude.{◌≡◌, ◌++◌, List, ℕ, IfOk, IsSome, OnOk, map, option_copied};
+//! What is found in a file of settings, or why bytes are none.
+ghost use Rattle.std.specs.Prelude.{◌≡◌, ◌++◌, ◌≤◌, ℕ, List, IfErr, IfOk, IsSome, IsUtf8, OnOk, Some, None};
+ghost use Rattle.std.specs.Prelude.{length, map};
+ghost use Rattle.std.specs.Str.{IsValidUpTo};
 ghost use Rattle.iox2_config_file.specs.Answers.{ReadsAll};
+ghost use Rattle.iox2_config_file.specs.Depth.{too_deep};
 ghost use Rattle.config_report.specs.Contradictions.{contradiction_note, contradiction_view};
 ghost use Rattle.config_report.specs.Contradictions.{contradictions_in};
-ghost use Rattle.config_report.specs.Findings.{Checks, FindsInFile, FindsNoFile};
-ghost use Rattle.config_report.specs.Findings.{IsInOrder, Lists};
-ghost use Rattle.config_report.specs.Notes.{finding_view, note_in, topic_position};
+ghost use Rattle.config_report.specs.Findings.{Checks, FindsInFile, FindsNoFile, Lists, topics_of};
+ghost use Rattle.config_report.specs.Notes.{finding_view, note, note_in, topic_position};
 ghost use Rattle.config_report.specs.Subjects.{subject_view};
-ghost use Rattle.config_report.specs.Unread.{IsText, IsUnread};
+ghost use Rattle.config_report.specs.Unread.{IsNoFile, IsText, IsUnread};
+ghost use Rattle.config_report.specs.declared.finding.Severity.TheVariants as severity;
 ghost use Rattle.toml.specs.Parse.{parse_document};
+ghost use Rattle.toml_positions.specs.Position.{position_after};
 
 use crate::contradiction::{Contradiction, contradiction_finding};
 use crate::contradictions::contradictions_in;
-use crate::finding::{Finding, Findings, place};
-use crate::positions::{position_at, subject_positions};
-use crate::subject::{Subject, subjects_of};
-use crate::unread::{Unread, contents_of, text_of};
-use iox2_config::config::Config;
-use iox2_config_file::FileContents;
+use crate::finding::{Finding, Findings, Severity, in_line, place};
+use crate::subject::{Subject, position_at, subject_positions, subjects_of};
+use iox2_config_file::{ConfigFileError, FileContents, read_config, too_deep};
 use std::alloc::{AllocError, Global};
-use toml_positions::Position;
+use std::str;
+use toml_positions::{Position, position_after};
 
 /// All that is found in a file of settings, in the order of the file: that it is no UTF-8, that its
 /// tables and arrays are more than 32 deep in one another, or that it is no TOML; or else each
@@ -30,18 +32,10 @@ pub fn check_file(alloc: Global, bytes: &[u8]) -> Result<Findings, AllocError>
     ensures { IfOk result (Checks bytes.now) }
 {
     match text_of(alloc, bytes) {
-        Ok(text) => check_text(alloc, text),
-        Err(unread) => alone(alloc, unread),
-    }
-}
-
-/// All that is found in a text whose tables and arrays are not too deep in one another.
-fn check_text(alloc: Global, text: &str) -> Result<Findings, AllocError>
-    requires { IsText text.now }
-    ensures { IfOk result (Checks text.now) }
-{
-    match contents_of(alloc, text) {
-        Ok(contents) => list_all(alloc, text, contents),
+        Ok(text) => match contents_of(alloc, text) {
+            Ok(contents) => list_all(alloc, text, contents),
+            Err(unread) => alone(alloc, unread),
+        },
         Err(unread) => alone(alloc, unread),
     }
 }
@@ -60,34 +54,31 @@ fn list_all(alloc: Global, text: &str, contents: FileContents) -> Result<Finding
     requires { IsText text.now }
     ensures { ReadsAll text.now contents → IfOk result (FindsInFile text.now) }
 {
-    let FileContents {
-        config,
-        faults,
-        unknown,
-    } = contents;
-    let subjects = subjects_of(alloc, faults.as_slice(), unknown.as_slice())?;
-    let list = list_of(alloc, text, subjects.as_slice(), config.as_ref())?;
-    Ok(Findings { config, list })
+    let list = list_of(alloc, text, &contents)?;
+    Ok(Findings {
+        config: contents.config,
+        list,
+    })
 }
 
-/// What is said of some subjects and of the settings, if there are any, in the order of the file.
-fn list_of(
-    alloc: Global,
-    text: &str,
-    subjects: &[Subject<'_>],
-    config: Option<&Config>,
-) -> Result<Vec<Finding>, AllocError>
+/// What is said of all that a text says, in the order of the file.
+fn list_of(alloc: Global, text: &str, contents: &FileContents) -> Result<Vec<Finding>, AllocError>
     ensures { IfOk result (λ list. IsSome (parse_document text.now)
-        → Lists (map (note_in text.now) (map subject_view subjects.now)
-        ++ map (contradiction_note text.now) (contradictions_in (option_copied config.entry)))
+        → Lists (map (note_in text.now) (topics_of contents.now)
+        ++ map (contradiction_note text.now) (contradictions_in contents.now.config))
         list.items) }
 {
-    let positions = subject_positions(alloc, text, subjects)?;
-    let contradictions = contradictions_in(alloc, config)?;
+    let subjects = subjects_of(
+        alloc,
+        contents.faults.as_slice(),
+        contents.unknown.as_slice(),
+    )?;
+    let positions = subject_positions(alloc, text, subjects.as_slice())?;
+    let contradictions = contradictions_in(alloc, contents.config.as_ref())?;
     let mut list = Vec::new(alloc);
-    add_findings(&mut list, alloc, subjects, positions.as_slice())?;
+    add_findings(&mut list, alloc, subjects.as_slice(), positions.as_slice())?;
     add_contradictions(&mut list, alloc, text, contradictions.as_slice())?;
-    put_in_order(&mut list)?;
+    list.sort_by_key(|finding| place(finding))?;
     Ok(list)
 }
 
@@ -129,10 +120,123 @@ fn add_contradictions(
     Ok(())
 }
 
-/// Puts findings in the order of the file.
-fn put_in_order(list: &mut Vec<Finding>) -> Result<(), AllocError>
-    ensures { OnOk result (IsInOrder list.old.items list.new.items) }
+/// Why bytes are no file of settings, with the one thing that is found in them: an error, and where
+/// it is.
+#[derive(Debug, Drop)]
+pub enum Unread {
+    /// They are no UTF-8.
+    NotUtf8(Finding),
+    /// Tables and arrays are more than 32 deep in one another.
+    TooDeep(Finding),
+    /// They are no TOML.
+    NotToml(Finding),
+    /// Memory was refused.
+    NoMemory(AllocError),
+}
+
+impl Unread {
+    /// What is found in the bytes, unless memory was refused.
+    pub(crate) fn finding(self) -> Result<Finding, AllocError>
+        ensures { (bytes : List ℕ) → IsUnread bytes self
+            → IfOk result (λ finding. IsNoFile bytes (finding_view finding)) }
+    {
+        match self {
+            Unread::NotUtf8(finding) => Ok(finding),
+            Unread::TooDeep(finding) => Ok(finding),
+            Unread::NotToml(finding) => Ok(finding),
+            Unread::NoMemory(error) => Err(error),
+        }
+    }
+}
+
+/// The text that bytes are, whose tables and arrays are at most 32 deep in one another, or why they
+/// are none. Nothing is built of them before.
+pub fn text_of(alloc: Global, bytes: &[u8]) -> Result<&str, Unread>
+    ensures same { IfOk result (λ text. text.now ≡ bytes.now) }
+    ensures ok { IfOk result (λ text. IsText bytes.now) }
+    ensures err { IfErr result (IsUnread bytes.now) }
 {
-    list.sort_by_key(|finding| place(finding))?;
-    Ok(())
+    let text = match str::from_utf8(bytes) {
+        Ok(text) => text,
+        Err(error) => return Err(no_utf8(alloc, bytes, error.valid_up_to())),
+    };
+    match too_deep(text.as_bytes()) {
+        Some(before) => Err(deep(alloc, text, before)),
+        None => Ok(text),
+    }
+}
+
+/// All that such a text says, or why it is no file of settings.
+pub fn contents_of(alloc: Global, text: &str) -> Result<FileContents, Unread>
+    requires { IsText text.now }
+    ensures ok { IfOk result (ReadsAll text.now) }
+    ensures err { IfErr result (IsUnread text.now) }
+{
+    match read_config(alloc, text) {
+        Ok(contents) => Ok(contents),
+        Err(ConfigFileError::Syntax(error)) => Err(no_toml(alloc, text, &error)),
+        Err(ConfigFileError::NoMemory(error)) => Err(Unread::NoMemory(error)),
+    }
+}
+
+/// An error behind some first bytes, of no key.
+fn error_behind(alloc: Global, before: &[u8], message: &str) -> Result<Finding, AllocError>
+    ensures { IfOk result (λ finding. finding_view finding
+        ≡ note (Some (position_after before.now)) severity.Error None message.now) }
+{
+    Ok(Finding {
+        position: Some(position_after(before)),
+        severity: Severity::Error,
+        key: None,
+        message: in_line(alloc, String::from_str(alloc, message)?)?,
+    })
+}
+
+/// That bytes are no UTF-8 behind so many.
+fn no_utf8(alloc: Global, bytes: &[u8], valid: usize) -> Unread
+    requires { IsValidUpTo bytes.now valid }
+    ensures { ¬ IsUtf8 bytes.now → IsUnread bytes.now result }
+{
+    match error_behind(alloc, &bytes[..valid], "the file is no UTF-8") {
+        Ok(finding) => Unread::NotUtf8(finding),
+        Err(error) => Unread::NoMemory(error),
+    }
+}
+
+/// That the tables and arrays of a text are too deep in one another behind so many bytes.
+fn deep(alloc: Global, text: &str, before: usize) -> Unread
+    requires { before ≤ length text.now }
+    ensures { too_deep text.now ≡ Some before → IsUnread text.now result }
+{
+    match error_behind(
+        alloc,
+        &text.as_bytes()[..before],
+        "tables and arrays are more than 32 deep in one another",
+    ) {
+        Ok(finding) => Unread::TooDeep(finding),
+        Err(error) => Unread::NoMemory(error),
+    }
+}
+
+/// That a text is no TOML, and why.
+fn no_toml(alloc: Global, text: &str, error: &toml::de::Error) -> Unread
+    requires { IsText text.now }
+    ensures { parse_document text.now ≡ None → IsUnread text.now result }
+{
+    let bytes = text.as_bytes();
+    let start = start_of(error, bytes);
+    match error_behind(alloc, &bytes[..start], error.message()) {
+        Ok(finding) => Unread::NotToml(finding),
+        Err(error) => Unread::NoMemory(error),
+    }
+}
+
+/// How many bytes stand before the one at which a text is found to be no TOML.
+fn start_of(error: &toml::de::Error, bytes: &[u8]) -> usize
+    ensures { result ≤ length bytes.now }
+{
+    match error.span() {
+        Some(span) => span.start.min(bytes.len()),
+        None => 0,
+    }
 }

@@ -9,7 +9,7 @@ ghost use Rattle.toml.specs.Parse.{parse_document};
 ghost use Rattle.toml_positions.specs.Written.{path_view};
 
 use crate::finding::{Finding, Severity, in_line};
-use crate::positions::{key_path, position_of};
+use crate::subject::{key_path, position_of};
 use iox2_config_file::{Section, SettingValue};
 use std::alloc::{AllocError, Global};
 use std::fmt;

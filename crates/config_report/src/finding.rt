@@ -2,9 +2,9 @@
 ghost use Rattle.std.specs.Prelude.{◌≡◌, Some, IfOk, string_bytes};
 ghost use Rattle.config_report.specs.Findings.{place_of};
 ghost use Rattle.config_report.specs.Lines.{has_no_control, in_line};
+ghost use Rattle.config_report.specs.Positions.{at_text};
 ghost use Rattle.config_report.specs.Notes.{severity_text, note_text, finding_view};
 
-use crate::positions::At;
 use iox2_config::config::Config;
 use std::alloc::{AllocError, Global};
 use std::fmt;
@@ -27,6 +27,21 @@ impl fmt::Display for Severity {
             Severity::Error => "error",
             Severity::Warning => "warning",
         })
+    }
+}
+
+/// The position of something reported, in front of it, if it is known.
+#[derive(Clone, Copy)]
+struct At(Option<Position>);
+
+impl fmt::Display for At {
+    ghost output = { λ at. Some (at_text at.0) };
+
+    fn fmt<W: fmt::Write>(&self, f: &mut fmt::Formatter<W>) -> fmt::Result {
+        match self.0 {
+            Some(Position { line, column }) => write!(f, "{line}:{column}: "),
+            None => Ok(()),
+        }
     }
 }
 

@@ -5,8 +5,7 @@ ghost use Rattle.iox2_config_file.specs.Unknown.{unknown_view};
 ghost use Rattle.config_report.specs.Notes.{fault_position, unknown_position};
 ghost use Rattle.toml.specs.Parse.{parse_document};
 
-use crate::positions::subject_positions;
-use crate::subject::subjects_of;
+use crate::subject::{subject_positions, subjects_of};
 use iox2_config_file::{SettingFault, UnknownKey};
 use std::alloc::{AllocError, Global};
 use toml_positions::Position;

@@ -16,21 +16,17 @@ mod keys;
 pub mod laws;
 mod meant;
 mod named;
-mod positions;
 mod report;
 mod subject;
 mod text;
-mod unread;
 
-pub use check::check_file;
+pub use check::{Unread, check_file, contents_of, text_of};
 pub use chunks::{requests, responses, samples};
 pub use finding::{Finding, Findings, Severity};
 pub use keys::{fault_positions, unknown_positions};
-pub use positions::position_at;
 pub use report::{
     FileConfig, Report, ReportError, default_file, read_file, report_file, settings_text,
 };
-pub use subject::Subject;
+pub use subject::{Subject, position_at};
 pub use text::is_same;
 pub use toml_positions::Position;
-pub use unread::{Unread, contents_of, text_of};

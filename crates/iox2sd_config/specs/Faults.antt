@@ -1,8 +1,8 @@
 -- What is wrong with a file of settings, as plain values.
 use Rattle.std.specs.Prelude.{ℕ, List, [], ◌++◌, length, take, replicate, Option, Some, None}
 use Rattle.config_report.specs.Notes.{Note, fault, fault_position, finding_view, topic_note}
-use Rattle.config_report.specs.declared.unread.Unread.{Unread}
-use Rattle.config_report.specs.declared.unread.Unread.TheVariants.{NotUtf8, TooDeep, NotToml, NoMemory}
+use Rattle.config_report.specs.declared.check.Unread.{Unread}
+use Rattle.config_report.specs.declared.check.Unread.TheVariants.{NotUtf8, TooDeep, NotToml, NoMemory}
 use Rattle.iox2_config_file.specs.Read.{Located}
 use Rattle.iox2_config_file.specs.Rows.{prefix_of}
 use Rattle.iox2_config_file.specs.declared.kind.Fault.{Fault}

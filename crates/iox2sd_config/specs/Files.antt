@@ -1,7 +1,7 @@
 -- The text of a file of settings: its settings, or what is wrong with it.
 use Rattle.std.specs.Prelude.{◌≡◌, ◌⊎◌, ◌≤◌, ◌<◌, ℕ, List, [], ◌∷◌, ◌++◌, map, drop, length, Option, Some, None}
 use Rattle.config_report.specs.Unread.{IsText, IsUnread}
-use Rattle.config_report.specs.declared.unread.Unread.{Unread}
+use Rattle.config_report.specs.declared.check.Unread.{Unread}
 use Rattle.iox2_config.specs.declared.config.Config.{Config}
 use Rattle.iox2_config_file.specs.Answers.{ReadsAll}
 use Rattle.iox2_config_file.specs.Read.{fault_view}

@@ -2,7 +2,7 @@
 use Rattle.std.specs.Prelude.{◌≡◌, ◌⊎◌, ◌≤◌, ◌<◌, ℕ, List, [], ◌++◌, map, flat_map, drop, length, Option, Some, None, string_bytes}
 use Rattle.config_report.specs.Notes.{Note, topic_note, unknown, unknown_position}
 use Rattle.config_report.specs.Unread.{IsText, IsUnread}
-use Rattle.config_report.specs.declared.unread.Unread.{Unread}
+use Rattle.config_report.specs.declared.check.Unread.{Unread}
 use Rattle.iox2_config_file.specs.Answers.{ReadsAll}
 use Rattle.iox2_config_file.specs.Proposals.{Proposed}
 use Rattle.iox2_config_file.specs.Unknown.{Unknown, unknown_view}

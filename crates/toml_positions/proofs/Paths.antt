@@ -3,6 +3,7 @@ use Rattle.std.proofs.Common.{◌≡◌, ◌≤◌, ◌<◌, ◌⊎◌, inl, inr
 use Rattle.std.specs.Borrow.{Bor}
 use Rattle.std.specs.declared.alloc.Global.{Global}
 use Rattle.std.specs.Prelude.{nat_le}
+use Rattle.std.proofs.lemmas.Bool.{false≢true}
 use Rattle.std.proofs.lemmas.Bool.Decides.{nat_tests}
 use Rattle.std.proofs.lemmas.List.{map-append}
 use Rattle.toml_parser.specs.Reading.{path_view as keys_view}
@@ -78,19 +79,49 @@ all_by_index f (x ∷ xs) (y ∷ ys) same each =
 too_long : (n m : ℕ) → m < n → nat_le n m ≡ false
 too_long n m h = grind (arith, nat_tests)
 
-either : (a pair : Bool) → (a && (pair || false)) ≡ (pair && a)
-either true true = refl
-either true false = refl
-either false true = refl
-either false false = refl
+in_length : (n m : ℕ) → n ≤ m → nat_le n m ≡ true
+in_length n m h = grind (arith, nat_tests)
 
--- a path that may lead through that of an expression
-pub writes_below : (start : List ℕ) (ks ls : List (List ℕ)) (l : List ℕ) (pair : Bool)
-    → length ks ≤ length ls
-    → (pair && agree ks ls) ≡ writes (written start ks pair) (ls ++ l ∷ [])
-writes_below start ks ls l pair h =
+or_false : (b : Bool) → (b || false) ≡ b
+or_false true = refl
+or_false false = refl
+
+and_or_true : (a b : Bool) → (a && (b || true)) ≡ a
+and_or_true true true = refl
+and_or_true true false = refl
+and_or_true false b = refl
+
+apart_from : (b x y : Bool) → (x ≡ false → y ≡ false) → (b && x) ≡ false → (b && y) ≡ false
+apart_from true x y more apart = more apart
+apart_from false x y more apart = refl
+
+-- a path is not led through where its front is not
+agree_apart : (ks ls : List (List ℕ)) (l : List ℕ) → agree ks ls ≡ false
+    → agree ks (ls ++ l ∷ []) ≡ false
+agree_apart [] ls l apart = apart
+agree_apart (k ∷ ks) [] l apart = absurd (false≢true (sym apart))
+agree_apart (k ∷ ks) (m ∷ ls) l apart =
+    apart_from (bytes_eq k m) (agree ks ls) (agree ks (ls ++ l ∷ [])) (agree_apart ks ls l) apart
+
+-- a path whose table agrees with that of an expression, and one whose table does not
+pub writes_short : (start : List ℕ) (ks ls : List (List ℕ)) (l : List ℕ) (pair : Bool)
+    → length ks ≤ length ls → agree ks ls ≡ true
+    → pair ≡ writes (written start ks pair) (ls ++ l ∷ [])
+writes_short start ks ls l pair h same =
     let many : length ks < length (ls ++ l ∷ []) = omega (arith, length-append ls (l ∷ [])) in
-    rw (too_long _ _ many, agree_short ks ls l h) (sym (either (agree ks ls) pair))
+    rw (agree_short ks ls l h, same, too_long _ _ many) (sym (or_false pair))
+
+pub writes_more : (start : List ℕ) (ks ls : List (List ℕ)) (l : List ℕ) (pair : Bool)
+    → length ls < length ks → agree ks ls ≡ true
+    → bytes_eq (get_or ks (length ls) []) l ≡ writes (written start ks pair) (ls ++ l ∷ [])
+writes_more start ks ls l pair h same =
+    let few : length (ls ++ l ∷ []) ≤ length ks = omega (arith, length-append ls (l ∷ [])) in
+    rw (agree_more ks ls l [] h, same, in_length _ _ few)
+    (sym (and_or_true (bytes_eq (get_or ks (length ls) []) l) pair))
+
+pub writes_apart : (start : List ℕ) (ks ls : List (List ℕ)) (l : List ℕ) (pair : Bool)
+    → agree ks ls ≡ false → writes (written start ks pair) (ls ++ l ∷ []) ≡ false
+writes_apart start ks ls l pair apart = rw (agree_apart ks ls l apart) refl
 
 pub key_at : (xs : List (String Global)) (i : ℕ) (x : String Global) → i < length xs
     → x ≡ get_or xs i x → get_or (keys_view xs) i [] ≡ string_bytes x

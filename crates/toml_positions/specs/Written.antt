@@ -6,7 +6,7 @@ use Rattle.toml.specs.Tables.{Definition, Expression, key_value}
 use Rattle.toml.specs.Parse.{line, skip_bom}
 use Rattle.toml_positions.specs.Position.{position_of}
 use Rattle.toml_positions.specs.declared.position.Position.{Position}
-use Rattle.toml_positions.specs.declared.positions.KeyPath.{KeyPath}
+use Rattle.toml_positions.specs.declared.position.KeyPath.{KeyPath}
 
 -- all parts of a key
 abbrev pub parts : Key → List (List ℕ)

@@ -1,15 +1,18 @@
-//! Expressions: headers, and pairs of a key and a value.
-ghost use Rattle.std.specs.Prelude.{◌≡◌, ◌≢◌, option_map, IfOk, length, ◌≤◌};
+//! Expressions: headers, and pairs of a key and a value, of which only the end is looked for.
+ghost use Rattle.std.specs.Prelude.{◌≡◌, ℕ, ◌<◌, ◌≤◌, true, length, option_map, IfSome, IfOk};
 ghost use Rattle.toml_parser.specs.Lexical.{first, left_bracket};
 ghost use Rattle.toml_parser.specs.Reading.{key_view};
+ghost use Rattle.toml_parser.specs.Strings.{key, quoted, starts_string};
+ghost use Rattle.toml_parser.specs.Numbers.{unquoted};
+ghost use Rattle.toml.specs.Data.{no_items};
+ghost use Rattle.toml.specs.Tables.{no_nodes};
 ghost use Rattle.toml.specs.Parse as spec;
 ghost use Rattle.toml_positions.specs.Reading.{Agrees, Shortens, head_view, seen_view};
 ghost use Rattle.toml_positions.specs.Written.{past_brackets};
 
-use crate::value::{after_value, key_equals, read_key};
 use std::alloc::{AllocError, Global};
-use toml_parser::text::{byte_at, first, skip, skip_ws};
-use toml_parser::{Key, RECURSION_LIMIT};
+use toml_parser::text::{byte_at, first, skip, skip_blank, skip_ws};
+use toml_parser::{Key, ParseError, RECURSION_LIMIT, dotted_key, quoted, starts_string, unquoted};
 
 /// An expression without its value.
 #[derive(Drop)]
@@ -20,63 +23,15 @@ pub(crate) struct Head {
     pub(crate) pair: bool,
 }
 
-/// The expression that a line begins with, and what follows it.
+/// The expression that a line begins with, a header or a pair, and what follows it.
+#[tactic(auto, unfolding(toml::specs::Parse::expression))]
 pub(crate) fn read_expression(alloc: Global, s: &str) -> Result<Option<(Head, &str)>, AllocError>
     ensures value { Agrees head_view result (option_map seen_view (spec.expression s.now)) }
     ensures shorter { Shortens (λ p. p.1.now) s.now result }
 {
     if first(s) == b'[' {
-        header(alloc, s)
-    } else {
-        pair(alloc, s)
+        return header(alloc, s);
     }
-}
-
-/// A header, and what follows it.
-#[tactic(auto, unfolding(toml::specs::Parse::expression))]
-fn header(alloc: Global, s: &str) -> Result<Option<(Head, &str)>, AllocError>
-    requires { first s.now ≡ left_bracket }
-    ensures value { Agrees head_view result (option_map seen_view (spec.expression s.now)) }
-    ensures shorter { Shortens (λ p. p.1.now) s.now result }
-{
-    let twice = byte_at(s, 1) == b'[';
-    let inner = if twice { skip(s, 2) } else { skip(s, 1) };
-    let Some((key, rest)) = header_key(alloc, inner)? else {
-        return Ok(None);
-    };
-    let head = Head { key, pair: false };
-    if !twice {
-        return Ok(Some((head, rest)));
-    }
-    if first(rest) != b']' {
-        return Ok(None);
-    }
-    Ok(Some((head, skip(rest, 1))))
-}
-
-/// The key of a header, with what follows its first closing bracket.
-#[tactic(auto, unfolding(toml::specs::Parse::header_key))]
-fn header_key(alloc: Global, s: &str) -> Result<Option<(Key, &str)>, AllocError>
-    ensures value { IfOk result (λ o.
-        option_map (λ p. (key_view p.0, p.1.now)) o ≡ spec.header_key s.now) }
-    ensures shorter { Shortens (λ p. p.1.now) s.now result }
-{
-    let Some((key, rest)) = read_key(alloc, skip_ws(s))? else {
-        return Ok(None);
-    };
-    if first(rest) != b']' {
-        return Ok(None);
-    }
-    Ok(Some((key, skip(rest, 1))))
-}
-
-/// A pair, and what follows it.
-#[tactic(auto, unfolding(toml::specs::Parse::expression))]
-fn pair(alloc: Global, s: &str) -> Result<Option<(Head, &str)>, AllocError>
-    requires { first s.now ≢ left_bracket }
-    ensures value { Agrees head_view result (option_map seen_view (spec.expression s.now)) }
-    ensures shorter { Shortens (λ p. p.1.now) s.now result }
-{
     let Some((key, at_value)) = key_equals(alloc, s)? else {
         return Ok(None);
     };
@@ -84,6 +39,32 @@ fn pair(alloc: Global, s: &str) -> Result<Option<(Head, &str)>, AllocError>
         return Ok(None);
     };
     Ok(Some((Head { key, pair: true }, rest)))
+}
+
+/// A header, and what follows it.
+#[tactic(auto, unfolding(toml::specs::Parse::expression, toml::specs::Parse::header_key))]
+fn header(alloc: Global, s: &str) -> Result<Option<(Head, &str)>, AllocError>
+    requires { first s.now ≡ left_bracket }
+    ensures value { Agrees head_view result (option_map seen_view (spec.expression s.now)) }
+    ensures shorter { Shortens (λ p. p.1.now) s.now result }
+{
+    let twice = byte_at(s, 1) == b'[';
+    let inner = if twice { skip(s, 2) } else { skip(s, 1) };
+    let Some((key, rest)) = read_key(alloc, skip_ws(inner))? else {
+        return Ok(None);
+    };
+    if first(rest) != b']' {
+        return Ok(None);
+    }
+    let head = Head { key, pair: false };
+    let rest = skip(rest, 1);
+    if !twice {
+        return Ok(Some((head, rest)));
+    }
+    if first(rest) != b']' {
+        return Ok(None);
+    }
+    Ok(Some((head, skip(rest, 1))))
 }
 
 /// A line from the key of its expression on, past the brackets of a header.
@@ -98,4 +79,158 @@ pub(crate) fn past_brackets(s: &str) -> &str
         return skip_ws(skip(s, 2));
     }
     skip_ws(skip(s, 1))
+}
+
+/// A key, and the white space after it.
+fn read_key(alloc: Global, s: &str) -> Result<Option<(Key, &str)>, AllocError>
+    ensures value { IfOk result (λ o. option_map (λ p. (key_view p.0, p.1.now)) o ≡ key s.now) }
+    ensures shorter { Shortens (λ p. p.1.now) s.now result }
+{
+    match dotted_key(alloc, s) {
+        Ok(read) => Ok(Some(read)),
+        Err(ParseError::OutOfMemory) => Err(AllocError),
+        Err(_) => Ok(None),
+    }
+}
+
+/// What follows a string.
+fn after_string(alloc: Global, s: &str) -> Result<Option<&str>, AllocError>
+    requires { starts_string s.now ≡ true }
+    ensures value { IfOk result (λ o.
+        option_map (λ r. r.now) o ≡ option_map (λ p. p.1) (quoted s.now)) }
+    ensures shorter { Shortens (λ r. r.now) s.now result }
+{
+    match quoted(alloc, s) {
+        Ok((_text, rest)) => Ok(Some(rest)),
+        Err(ParseError::OutOfMemory) => Err(AllocError),
+        Err(_) => Ok(None),
+    }
+}
+
+/// What follows a scalar.
+fn after_scalar(alloc: Global, s: &str) -> Result<Option<&str>, AllocError>
+    ensures value { IfOk result (λ o.
+        option_map (λ r. r.now) o ≡ option_map (λ p. p.1) (unquoted s.now)) }
+    ensures shorter { Shortens (λ r. r.now) s.now result }
+{
+    match unquoted(alloc, s) {
+        Ok((_scalar, rest)) => Ok(Some(rest)),
+        Err(ParseError::OutOfMemory) => Err(AllocError),
+        Err(_) => Ok(None),
+    }
+}
+
+/// What follows a value with arrays and inline tables at most `depth` deep.
+#[cycle(value)]
+fn after_value(alloc: Global, s: &str, depth: usize) -> Result<Option<&str>, AllocError>
+    ensures value { Agrees (λ r. r.now) result (option_map (λ p. p.1) (spec.val depth s.now)) }
+    ensures shorter { Shortens (λ r. r.now) s.now result }
+{
+    let byte = first(s);
+    if byte != b'[' && byte != b'{' {
+        return after_atom(alloc, s);
+    }
+    if depth == 0 {
+        return Ok(None);
+    }
+    if byte == b'[' {
+        after_array(alloc, skip(s, 1), depth - 1)
+    } else {
+        after_table(alloc, skip(s, 1), depth - 1)
+    }
+}
+
+/// What follows a string or a scalar.
+#[tactic(auto, unfolding(toml::specs::Parse::atom))]
+fn after_atom(alloc: Global, s: &str) -> Result<Option<&str>, AllocError>
+    ensures value { IfOk result (λ o.
+        option_map (λ r. r.now) o ≡ option_map (λ p. p.1) (spec.atom s.now)) }
+    ensures shorter { Shortens (λ r. r.now) s.now result }
+{
+    if starts_string(s) {
+        after_string(alloc, s)
+    } else {
+        after_scalar(alloc, s)
+    }
+}
+
+/// What follows the elements of an array and its closing bracket.
+#[cycle(value)]
+fn after_array(alloc: Global, s: &str, depth: usize) -> Result<Option<&str>, AllocError>
+    ensures value { (n : ℕ) → length s.now < n → Agrees (λ r. r.now) result
+        (option_map (λ p. p.1) (spec.items (spec.val depth) n no_items s.now)) }
+    ensures shorter { Shortens (λ r. r.now) s.now result }
+{
+    let mut rest = s;
+    'items: loop {
+        let start = skip_blank(rest, true);
+        if first(start) == b']' {
+            return Ok(Some(skip(start, 1)));
+        }
+        let Some(after) = after_value(alloc, start, depth)? else {
+            return Ok(None);
+        };
+        let Some(next) = after_element(after, b']') else {
+            return Ok(None);
+        };
+        rest = next;
+    }
+}
+
+/// What follows the pairs of an inline table and its closing brace.
+#[cycle(value)]
+fn after_table(alloc: Global, s: &str, depth: usize) -> Result<Option<&str>, AllocError>
+    ensures value { (n : ℕ) → length s.now < n → Agrees (λ r. r.now) result
+        (option_map (λ p. p.1) (spec.members (spec.val depth) n no_nodes s.now)) }
+    ensures shorter { Shortens (λ r. r.now) s.now result }
+{
+    let mut rest = s;
+    'members: loop {
+        let start = skip_blank(rest, true);
+        if first(start) == b'}' {
+            return Ok(Some(skip(start, 1)));
+        }
+        let Some((_key, at_value)) = key_equals(alloc, start)? else {
+            return Ok(None);
+        };
+        let Some(after) = after_value(alloc, at_value, depth)? else {
+            return Ok(None);
+        };
+        let Some(next) = after_element(after, b'}') else {
+            return Ok(None);
+        };
+        rest = next;
+    }
+}
+
+/// What follows an element: past a comma, or at the closing bracket.
+#[tactic(auto, unfolding(toml::specs::Parse::after_element))]
+fn after_element(s: &str, closing: u8) -> Option<&str>
+    ensures value { option_map (λ r. r.now) result ≡ spec.after_element closing s.now }
+    ensures within { IfSome result (λ r. length r.now ≤ length s.now) }
+{
+    let rest = skip_blank(s, true);
+    if first(rest) == b',' {
+        Some(skip(rest, 1))
+    } else if first(rest) == closing {
+        Some(rest)
+    } else {
+        None
+    }
+}
+
+/// A key, with what follows its `=` and the white space after that.
+#[tactic(auto, unfolding(toml::specs::Parse::key_equals))]
+fn key_equals(alloc: Global, s: &str) -> Result<Option<(Key, &str)>, AllocError>
+    ensures value { IfOk result (λ o.
+        option_map (λ p. (key_view p.0, p.1.now)) o ≡ spec.key_equals s.now) }
+    ensures shorter { Shortens (λ p. p.1.now) s.now result }
+{
+    let Some((key, rest)) = read_key(alloc, s)? else {
+        return Ok(None);
+    };
+    if first(rest) != b'=' {
+        return Ok(None);
+    }
+    Ok(Some((key, skip_ws(skip(rest, 1)))))
 }

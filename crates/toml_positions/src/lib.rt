@@ -7,8 +7,5 @@
 
 mod expression;
 mod position;
-mod positions;
-mod value;
 
-pub use position::{Position, position_after};
-pub use positions::{KeyPath, positions_of};
+pub use position::{KeyPath, Position, position_after, positions_of};

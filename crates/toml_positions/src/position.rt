@@ -1,9 +1,14 @@
-//! Lines and columns.
-ghost use Rattle.std.specs.Prelude.{◌≡◌};
-ghost use Rattle.toml.specs.Parse.{skip_bom};
+//! Lines and columns, and those where paths of keys are written.
+ghost use Rattle.std.specs.Prelude.{◌≡◌, ℕ, ◌<◌, ◌≤◌, ◌∷◌, ◌++◌, [], take, length, map, slice_index_or, None, Some, IfOk, OnOk, IsSome, string_bytes};
+ghost use Rattle.toml_parser.specs.Reading.{key_view, path_view as keys_view};
+ghost use Rattle.toml.specs.Parse as spec;
 ghost use Rattle.toml_positions.specs.Position.{column_after, position_after};
+ghost use Rattle.toml_positions.specs.Written.{agree, parts, path_below, header_after, path_view, written, writes, marked, ArePlaces};
 
-use toml_parser::bytes::byte_at;
+use crate::expression::{Head, past_brackets, read_expression};
+use std::alloc::{AllocError, Global};
+use toml_parser::text::{byte_at, first, skip_blank};
+use toml_parser::{Key, bytes};
 
 /// Where a byte of a text stands: its line and its column, both counted from 1. Columns are counted
 /// in bytes. A byte order mark in front has none.
@@ -16,25 +21,23 @@ pub struct Position {
 }
 
 /// The position of the byte that follows these first bytes of a text.
+#[tactic(auto, unfolding(toml::specs::Parse::skip_bom))]
 pub fn position_after(before: &[u8]) -> Position
     ensures { result ≡ position_after before.now }
 {
     let line = before.iter().filter(|byte| **byte == b'\n').count() + 1;
+    if bytes::byte_at(before, 0) == 0xEF
+        && bytes::byte_at(before, 1) == 0xBB
+        && bytes::byte_at(before, 2) == 0xBF
+    {
+        return Position {
+            line,
+            column: column_after(&before[3..]),
+        };
+    }
     Position {
         line,
-        column: column_after(without_mark(before)),
-    }
-}
-
-/// What follows a byte order mark, if there is one.
-#[tactic(auto, unfolding(toml::specs::Parse::skip_bom))]
-fn without_mark(bytes: &[u8]) -> &[u8]
-    ensures { result.now ≡ skip_bom bytes.now }
-{
-    if byte_at(bytes, 0) == 0xEF && byte_at(bytes, 1) == 0xBB && byte_at(bytes, 2) == 0xBF {
-        &bytes[3..]
-    } else {
-        bytes
+        column: column_after(before),
     }
 }
 
@@ -51,4 +54,172 @@ fn column_after(bytes: &[u8]) -> usize
         }
     }
     column
+}
+
+/// The path of a key: the keys that lead to its table, and the key.
+#[derive(Clone, Copy, Debug, PartialEq, Eq)]
+pub struct KeyPath<'a> {
+    /// The keys that lead to the table, none for the whole file.
+    pub table: &'a [&'a str],
+    /// The key in the table.
+    pub key: &'a str,
+}
+
+/// What follows a byte order mark, if there is one.
+#[tactic(auto, using(std::proofs::lemmas::Bool::Decides::nat_tests, toml::proofs::Turns::bom_boundary), unfolding(toml::specs::Parse::skip_bom))]
+fn skip_bom(text: &str) -> &str
+    ensures rest { result.now ≡ spec.skip_bom text.now }
+    ensures within { length result.now ≤ length text.now }
+{
+    if first(text) == 0xEF && byte_at(text, 1) == 0xBB && byte_at(text, 2) == 0xBF {
+        &text[3..]
+    } else {
+        text
+    }
+}
+
+/// Whether two paths agree as far as both go.
+#[tactic(auto, using(crate::proofs::Paths::agree_past))]
+fn agree(keys: &[String], path: &[&str]) -> bool
+    ensures { result ≡ agree (keys_view keys.now) (map (λ k. k.now) path.now) }
+{
+    for at in 0..keys.len().min(path.len()) {
+        if keys[at].as_str() != path[at] {
+            return false;
+        }
+    }
+    true
+}
+
+/// Whether an expression writes a path.
+fn writes(keys: &[String], pair: bool, path: &KeyPath<'_>) -> bool
+    ensures { (start : _) → result
+        ≡ writes (written start (keys_view keys.now) pair) (path_view path.now) }
+{
+    if !agree(keys, path.table) {
+        return false;
+    }
+    if keys.len() <= path.table.len() {
+        return pair;
+    }
+    keys[path.table.len()].as_str() == path.key
+}
+
+/// Appends the keys of an expression to a path.
+#[tactic(auto, using(crate::proofs::Paths::led))]
+fn lead(path: &mut Vec<String>, key: Key) -> Result<(), AllocError>
+    ensures { OnOk result (keys_view path.new.items
+        ≡ keys_view path.old.items ++ parts (key_view key)) }
+{
+    let Key {
+        path: mut front,
+        last,
+    } = key;
+    path.append(&mut front)?;
+    path.push(last)?;
+    Ok(())
+}
+
+/// Makes a path that begins with the `header` keys of the header in force the path of the next
+/// expression. Returns how many of its keys are the header in force after that.
+fn enter(path: &mut Vec<String>, header: usize, head: Head) -> Result<usize, AllocError>
+    requires { header ≤ length path.old.items }
+    ensures path { IfOk result (λ _. keys_view path.new.items
+        ≡ path_below (take header (keys_view path.old.items)) (key_view head.key, head.pair)) }
+    ensures header { IfOk result (λ n. take n (keys_view path.new.items)
+        ≡ header_after (take header (keys_view path.old.items)) (key_view head.key, head.pair)) }
+    ensures within { IfOk result (λ n. n ≤ length path.new.items) }
+{
+    if head.pair {
+        path.truncate(header);
+        lead(path, head.key)?;
+        Ok(header)
+    } else {
+        path.truncate(0);
+        lead(path, head.key)?;
+        Ok(path.len())
+    }
+}
+
+/// What is known of a path after an expression: where it was written above, or else the position of
+/// this one, if it writes the path.
+fn marked(
+    found: Option<Position>,
+    path: &KeyPath<'_>,
+    keys: &[String],
+    pair: bool,
+    text: &str,
+    from_key: &str,
+) -> Option<Position>
+    requires { length from_key.now ≤ length text.now }
+    ensures { result ≡ marked text.now (written from_key.now (keys_view keys.now) pair)
+        (path_view path.now) found }
+{
+    if found.is_some() {
+        return found;
+    }
+    if writes(keys, pair, path) {
+        Some(position_after(&text.as_bytes()[..text.len() - from_key.len()]))
+    } else {
+        None
+    }
+}
+
+/// Notes the position of an expression for the paths that it writes, but for those that were
+/// written above.
+fn mark(
+    found: &mut [Option<Position>],
+    paths: &[KeyPath<'_>],
+    keys: &[String],
+    pair: bool,
+    text: &str,
+    from_key: &str,
+)
+    requires each { length found.old ≡ length paths.now }
+    requires within { length from_key.now ≤ length text.now }
+    ensures { (k : ℕ) → k < length paths.now → slice_index_or found.new k None
+        ≡ marked text.now (written from_key.now (keys_view keys.now) pair)
+        (slice_index_or (map path_view paths.now) k []) (slice_index_or found.old k None) }
+{
+    for (i, path) in paths.iter().enumerate() {
+        found[i] = marked(found[i], path, keys, pair, text, from_key);
+    }
+}
+
+/// The position where each of some paths of keys is first written in a text that is TOML: the key
+/// of the first expression whose path leads through it, or of the first pair whose path it leads
+/// through. A path that no expression writes has none.
+///
+/// The text is gone over once. Nothing is said of a text that is no TOML.
+pub fn positions_of(
+    alloc: Global,
+    text: &str,
+    paths: &[KeyPath<'_>],
+) -> Result<Vec<Option<Position>>, AllocError>
+    ensures { IfOk result (λ found. IsSome (spec.parse_document text.now)
+        → ArePlaces text.now (map path_view paths.now) found.items) }
+{
+    let mut found = Vec::new(alloc);
+    found.resize(paths.len(), None)?;
+    let mut keys = Vec::new(alloc);
+    let mut header = 0;
+    let mut rest = skip_bom(text);
+    'expressions: loop {
+        let start = skip_blank(rest, true);
+        let Some((head, after)) = read_expression(alloc, start)? else {
+            return Ok(found);
+        };
+        let pair = head.pair;
+        header = enter(&mut keys, header, head)?;
+        let from_key = past_brackets(start);
+        mark(
+            found.as_mut_slice(),
+            paths,
+            keys.as_slice(),
+            pair,
+            text,
+            from_key,
+        );
+        rest = after;
+    }
 }

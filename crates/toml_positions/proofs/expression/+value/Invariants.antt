@@ -4,7 +4,7 @@ use denote.Shadow.{shadow}
 use Rattle.toml.specs.Data.{Items, no_items, Members}
 use Rattle.toml.specs.Tables.{Nodes, no_nodes}
 use Rattle.toml.specs.Parse.{val, items, members}
-use Rattle.toml_positions.proofs.value.+value.Given as goal
+use Rattle.toml_positions.proofs.expression.+value.Given as goal
 
 abbrev pub decreases-after_array : goal.decreases-after_array
 decreases-after_array l = 2 * l.depth + 2

@@ -13,7 +13,7 @@ use Rattle.toml_positions.specs.Written.{path_view, position_in, seen, header_af
 use Rattle.toml_positions.proofs.Known.{known_step, known_all, none_below}
 use Rattle.toml_positions.proofs.Paths.{all_by_index}
 use Rattle.toml_positions.proofs.Steps.{document_lines, line_of, line_expression, no_line, not_empty}
-use Rattle.toml_positions.proofs.positions.positions_of.Goals as goal
+use Rattle.toml_positions.proofs.position.positions_of.Goals as goal
 
 pub expressions-init : goal.expressions-init
 expressions-init c = (

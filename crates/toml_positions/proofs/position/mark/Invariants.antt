@@ -2,7 +2,7 @@ use Rattle.std.proofs.Common.{◌≡◌, ℕ, ◌<◌, ◌≤◌, [], length, ge
 use Rattle.std.specs.Prelude.{map}
 use Rattle.toml_parser.specs.Reading.{path_view as keys_view}
 use Rattle.toml_positions.specs.Written.{path_view, written, marked}
-use Rattle.toml_positions.proofs.positions.mark.Given as goal
+use Rattle.toml_positions.proofs.position.mark.Given as goal
 
 abbrev pub invariant-loop-i : goal.invariant-loop-i
 invariant-loop-i l = record {

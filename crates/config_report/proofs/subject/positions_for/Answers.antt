@@ -10,7 +10,7 @@ use Rattle.config_report.proofs.Lines.{map_same}
 use Rattle.config_report.specs.Positions.{position_for}
 use Rattle.toml.specs.Parse.{parse_document}
 use Rattle.toml_positions.specs.Written.{path_view, position_in}
-use Rattle.config_report.proofs.positions.positions_for.Goals as goal
+use Rattle.config_report.proofs.subject.positions_for.Goals as goal
 
 pub returns-then-text-le-LARGEST_SEARCHED : goal.returns-then-text-le-LARGEST_SEARCHED
 returns-then-text-le-LARGEST_SEARCHED c =

@@ -9,7 +9,7 @@ use Rattle.toml.proofs.Turns.{items_end, members_end, val_atom, val_deep, val_op
 use Rattle.toml_parser.specs.Lexical.{first, skip_blank}
 use Rattle.toml_parser.specs.Reading.{key_view}
 use Rattle.toml_positions.proofs.Steps.{mapped, rest_mapped, keyed_at, element_of, pair_of}
-use Rattle.toml_positions.proofs.value.+value.Goals as goal
+use Rattle.toml_positions.proofs.expression.+value.Goals as goal
 
 pub after_array-items-init : goal.after_array-items-init
 after_array-items-init c c' =

@@ -3,7 +3,7 @@ use Rattle.std.specs.Prelude.{map}
 use Rattle.config_report.specs.Notes.{topic_path}
 use Rattle.config_report.specs.Subjects.{subject_view}
 use Rattle.toml_positions.specs.Written.{path_view}
-use Rattle.config_report.proofs.positions.subject_positions.Given as goal
+use Rattle.config_report.proofs.subject.subject_positions.Given as goal
 
 abbrev pub invariant-loop-subject : goal.invariant-loop-subject
 invariant-loop-subject l =

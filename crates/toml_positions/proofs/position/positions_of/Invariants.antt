@@ -6,7 +6,7 @@ use Rattle.toml_parser.specs.Reading.{path_view as keys_view}
 use Rattle.toml.specs.Tables.{Document}
 use Rattle.toml.specs.Parse.{lines, parse_document}
 use Rattle.toml_positions.specs.Written.{path_view, written_below, first_position, position_in}
-use Rattle.toml_positions.proofs.positions.positions_of.Given as goal
+use Rattle.toml_positions.proofs.position.positions_of.Given as goal
 
 abbrev pub invariant-expressions : goal.invariant-expressions
 invariant-expressions l =

@@ -5,7 +5,7 @@ use Rattle.toml_parser.specs.Lexical.{first}
 use Rattle.toml_parser.specs.Reading.{key_view}
 use Rattle.toml.specs.Parse.{key_equals}
 use Rattle.toml_positions.proofs.Steps.{pair_seen}
-use Rattle.toml_positions.proofs.expression.pair.Goals as goal
+use Rattle.toml_positions.proofs.expression.read_expression.Goals as goal
 
 pub returns-in_default-2-clause-value : goal.returns-in_default-2-clause-value
 returns-in_default-2-clause-value c x e =

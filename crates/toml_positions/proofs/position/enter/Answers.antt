@@ -3,7 +3,7 @@ use Rattle.std.proofs.lemmas.List.{length-map, take-map}
 use Rattle.toml_parser.specs.Reading.{key_view, path_view as keys_view}
 use Rattle.toml_positions.specs.Written.{parts}
 use Rattle.toml_positions.proofs.Paths.{take_front}
-use Rattle.toml_positions.proofs.positions.enter.Goals as goal
+use Rattle.toml_positions.proofs.position.enter.Goals as goal
 
 pub returns-in_ok-lead-clause-path : goal.returns-in_ok-lead-clause-path
 returns-in_ok-lead-clause-path c =

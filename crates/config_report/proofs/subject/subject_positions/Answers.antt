@@ -6,7 +6,7 @@ use Rattle.config_report.specs.Positions.{position_for}
 use Rattle.config_report.specs.Subjects.{subject_view}
 use Rattle.toml.specs.Parse.{parse_document}
 use Rattle.toml_positions.specs.Written.{path_view}
-use Rattle.config_report.proofs.positions.subject_positions.Goals as goal
+use Rattle.config_report.proofs.subject.subject_positions.Goals as goal
 
 pub returns : goal.returns
 returns c =
