@@ -32,9 +32,9 @@ calls_text t =
 abbrev pub lines_text : List (Bor (List ℕ)) → List ℕ
 lines_text notes = flat_map (λ (note : Bor (List ℕ)). note_text note.now) notes
 
--- the lines of a report that are shown: two, and four for each of at most eight configurations
+-- the lines of a report that are shown: three, and four for each of at most eight configurations
 abbrev pub shown : List (Bor (List ℕ)) → List (Bor (List ℕ))
-shown notes = take (min (length notes) 34) notes
+shown notes = take (min (length notes) 35) notes
 
 -- the begin of what stands below the calls
 unfoldable pub below_text : ℕ → List ℕ
@@ -51,7 +51,7 @@ report_text notes more y =
 
 -- the lines of a report as far as they are shown, and the end of the document
 abbrev pub notes_text : List (Bor (List ℕ)) → ℕ → List ℕ
-notes_text notes y = report_text (shown notes) ((length notes - 34) / 4) y
+notes_text notes y = report_text (shown notes) ((length notes - 35) / 4) y
 
 -- a picture of this size
 unfoldable pub sized_text : Timeline → List ℕ → List (Bor (List ℕ)) → ℕ → ℕ → ℕ → List ℕ
@@ -64,4 +64,4 @@ sized_text t heading notes width height below =
 abbrev pub svg_text : Timeline → List ℕ → List (Bor (List ℕ)) → List ℕ
 svg_text t heading notes =
     sized_text t heading notes (max (right t.bars.items + 12) 760)
-    (bottom t + 40 + 18 * min (length notes) 35) (bottom t + 12)
+    (bottom t + 40 + 18 * min (length notes) 36) (bottom t + 12)

@@ -20,12 +20,14 @@ use history_logs::logs::{Refusal, Verdict, order_log, report_log};
 use line_streams::Status;
 use std::alloc::{AllocError, Global};
 
-/// What is drawn of a log: the status of the program, the picture, and what is reported where there
-/// is none.
+/// What is drawn of a log.
 #[derive(Drop)]
 pub struct Drawing {
+    /// The status of the program.
     pub status: Status,
+    /// The picture, as SVG; empty where there is none.
     pub picture: String,
+    /// What is reported where there is no picture; else empty.
     pub message: Vec<u8>,
 }
 
@@ -70,7 +72,8 @@ fn is_answered(end: &BarEnd<'_>, line: usize) -> bool
     }
 }
 
-/// The call that begins in this line, if it is answered in the refused one.
+/// The call that begins in this line, if it is answered in the refused one. Its end is looked for
+/// above the last line.
 fn answered_at<'a>(
     alloc: Global,
     lines: &[&'a [u8]],

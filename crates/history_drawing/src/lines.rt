@@ -5,7 +5,7 @@ ghost use Rattle.history_drawing.specs.Drawings.{AreLines};
 use line_streams::before_byte;
 use std::alloc::{AllocError, Global};
 
-/// The lines of a text, each at the index of its number. At 0 stands an empty one.
+/// The whole lines of a text, each at the index of its number. At 0 stands an empty one.
 pub(crate) fn lines_of(alloc: Global, text: &[u8]) -> Result<Vec<&[u8]>, AllocError>
     ensures { IfOk result (λ lines. AreLines text.now lines.items) }
 {
@@ -20,7 +20,7 @@ pub(crate) fn lines_of(alloc: Global, text: &[u8]) -> Result<Vec<&[u8]>, AllocEr
     Ok(lines)
 }
 
-/// The lines below the first one.
+/// The lines below the one with number 1.
 pub(crate) fn below_first<'b, 'a>(lines: &'b [&'a [u8]]) -> &'b [&'a [u8]]
     ensures { result.now ≡ drop 2 lines.now }
 {

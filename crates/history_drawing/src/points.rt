@@ -37,8 +37,8 @@ fn reaches(end: &BarEnd<'_>, line: usize) -> bool
     }
 }
 
-/// The point of a call that takes effect behind another one: in the line of its begin, or in that
-/// of the other point, if that is a later one.
+/// The point of a call that takes effect after another one: in the line of its begin, or in that of
+/// the other point, if that is a later one.
 fn point_after(bar: &Bar<'_>, before: &Point) -> Point
     requires number { before.now.number < 200 }
     requires part { before.now.part ≤ before.now.number }
@@ -65,8 +65,8 @@ fn point_after(bar: &Bar<'_>, before: &Point) -> Point
     }
 }
 
-/// The point of the call that begins in this line, behind another one; `None` where there is no
-/// such call, or where it is over above that one.
+/// The point of the call that begins in this line, after another one; `None` where there is no such
+/// call, where it is over above that point, or where the order has its greatest number of points.
 fn next_point(bars: &[Bar<'_>], line: usize, before: &Point) -> Option<Point>
     requires rising { AllPairs (λ (one other : Bar). one.begin < other.begin) bars.now }
     requires part { before.now.part ≤ before.now.number }

@@ -57,9 +57,10 @@ fn run<R: Source, W: Sink, E: Sink>(
 /// - 0: orders of the calls explain the replies. A picture of all calls was written to `output`.
 /// - 1: none do. A picture of the window of the first reply that none explains was written to
 ///   `output`.
-/// - 2: a line is bad, a bound of the judge was passed, or there are more calls than a picture can
-///   have. What is wrong was written to `errors`.
-/// - 3: memory was refused, or a read, a write or a flush failed.
+/// - 2: a line is not what it should be, a bound is passed with it, or there are more calls than a
+///   picture can have. What is wrong was written to `errors`.
+/// - 3: memory was refused, and `no memory` was written to `errors`; or a read, a write or a flush
+///   failed, for any cause, and it was tried to write `a stream failed` to `errors`.
 pub fn draw_streams<R: Source, W: Sink, E: Sink>(
     alloc: Global,
     input: &mut R,

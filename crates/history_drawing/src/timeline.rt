@@ -17,7 +17,7 @@ pub(crate) const MAX_CALLS: usize = 200;
 pub(crate) enum BarEnd<'a> {
     /// It was answered in this line, with these words.
     Answered(usize, &'a [u8]),
-    /// Its caller died above this line.
+    /// Its caller died, as this line says.
     Died(usize),
     /// It is open where the picture ends.
     Open,
@@ -35,7 +35,7 @@ pub(crate) struct Bar<'a> {
     pub(crate) end: BarEnd<'a>,
 }
 
-/// Where a call took effect.
+/// A point at which a call took effect.
 #[derive(Clone, Copy, Debug)]
 pub(crate) struct Point {
     /// Its number in the order, from 1.
@@ -48,7 +48,7 @@ pub(crate) struct Point {
     pub(crate) part: usize,
 }
 
-/// Calls, by the lines of a log.
+/// Calls of a log, as they are drawn.
 #[derive(Drop)]
 pub(crate) struct Timeline<'a> {
     /// The callers, each once. Calls alone have an empty name.
@@ -74,7 +74,8 @@ pub(crate) struct Window {
     pub(crate) service: Option<u64>,
 }
 
-/// Whether a call is on a wanted service; one without a number is on the first one.
+/// Whether a call with this number of a service, or with none, is on a wanted one. Without a number
+/// it is on the first service.
 fn is_on(wanted: Option<u64>, first: Option<u64>, number: Option<u64>) -> bool
     ensures yes { IsTrue result → IsOn wanted first number }
     ensures no { IsOn wanted first number → IsTrue result }

@@ -20,6 +20,11 @@ const WINDOW: &str =
 const CALLS: &str =
     "service event 7 3 2 2\nregister 1.0.0.1\n= handle 0 0\nA> add listener 2.0.0.1 1.0.0.1\nB> add listener 2.0.0.2 1.0.0.1\nB< handle 0 0\nA< handle 1 1\nB> release listener 0 0\nA> list listener\nA< list 2000000000000000000000001\nB!\nC> register 1.0.0.2\n";
 
+/// Three nodes die while a fourth registers: before the refused reply any of them may be gone, so
+/// there are eight configurations.
+const DEAD: &str =
+    "service event 7 5 2 2\nregister 1.0.0.1\n= handle 0 0\nregister 1.0.0.2\n= handle 1 1\nregister 1.0.0.3\n= handle 2 2\nregister 1.0.0.4\n= handle 3 3\nA> dead 1.0.0.1\nB> dead 1.0.0.2\nC> dead 1.0.0.3\nregister 1.0.0.5\n= handle 4 4\nnodes\n= list\n";
+
 /// A line that is bad.
 const NODE: &str = "service event 7 2 0 1\nnode\n";
 
@@ -66,6 +71,18 @@ const WHOLE: Row = Row {
     ],
 };
 
+/// All eight are below the calls, each with its four lines.
+const EIGHT: Row = Row {
+    log: DEAD,
+    status: 1,
+    message: "",
+    parts: &[
+        "<title>line 16: no order of the calls explains this reply</title>",
+        ">made: lines 10 11 12</tspan>",
+        ">ports:</tspan>\n</text>\n</svg>\n",
+    ],
+};
+
 /// The report alone.
 const BAD: Row = Row {
     log: NODE,
@@ -92,6 +109,11 @@ fn draws(rt: &(impl Abort + AllocGlobal), row: &Row) -> Result<(), Fail> {
 #[test]
 fn a_window(rt: HostRuntime) -> Result<(), Fail> {
     draws(&rt, &REFUSED)
+}
+
+#[test]
+fn eight_configurations(rt: HostRuntime) -> Result<(), Fail> {
+    draws(&rt, &EIGHT)
 }
 
 #[test]

@@ -1,5 +1,5 @@
 -- What settles of all services while a log is read.
-use Rattle.std.proofs.Common.{◌≡◌, ◌≢◌, ◌⊎◌, ℕ, zero, suc, ◌+◌, ◌<◌, ◌≤◌, true, List, [], ◌∷◌, ◌++◌, All, Option, Some, None, get_or, length, refl, sym, ◌∙◌, ap, subst, arith, inl, inr, slice_get, take, take_all}
+use Rattle.std.proofs.Common.{◌≡◌, ◌≢◌, ℕ, zero, suc, ◌+◌, ◌<◌, ◌≤◌, true, List, [], ◌∷◌, ◌++◌, All, Option, Some, None, get_or, length, refl, sym, ◌∙◌, ap, subst, arith, inl, inr, slice_get, take, take_all}
 use Rattle.std.specs.Prelude.{◌==◌, sum_by}
 use Rattle.std.specs.List.{slice_set}
 use Rattle.std.proofs.lemmas.Bool.{cases_eq, cases_lt}
@@ -13,11 +13,9 @@ use Rattle.histories.specs.declared.front.Front.{Front}
 use Rattle.histories.specs.Histories.{IsExplained, begun}
 use Rattle.histories.proofs.Events.{begins_none}
 use Rattle.histories.proofs.Frontiers.{explains_none}
-use Rattle.histories.proofs.Verdicts.{begun_none}
 use Rattle.history_windows.proofs.Growing.{goes_explained}
 use Rattle.line_streams.specs.Spelling.{HasNo}
 use Rattle.service_conformance.specs.Looks.{Watched, unwatched}
-use Rattle.history_logs.specs.declared.logs.service.LogCall.{LogCall}
 use Rattle.history_logs.specs.Good.{IsAbove, IsOrderly, IsReadTo, Takes}
 use Rattle.history_logs.specs.Judging.{end_verdict}
 use Rattle.history_logs.specs.Logs.{IsSeenRightly, Judged, StepOf, news, services_in}

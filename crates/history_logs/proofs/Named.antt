@@ -1,5 +1,5 @@
 -- Services that are named.
-use Rattle.std.proofs.Common.{◌≡◌, ◌≢◌, ℕ, zero, suc, ◌+◌, ◌<◌, ◌≤◌, ◌-◌, List, [], ◌∷◌, ◌++◌, All, Bool, true, false, ◌||◌, Option, Some, None, IfNone, IfSome, add-one, cond, drop, drop-cons, eqb, get_or, length, length-drop, map, refl, sym, ◌∙◌, ap, subst, arith, eq-eqb, inl, inr, ne_eqb, take, take_all}
+use Rattle.std.proofs.Common.{◌≡◌, ◌≢◌, ℕ, zero, suc, ◌+◌, ◌<◌, ◌≤◌, ◌-◌, List, [], ◌∷◌, Bool, true, false, ◌||◌, Option, Some, None, IfNone, IfSome, add-one, cond, drop, drop-cons, eqb, get_or, length, length-drop, map, refl, sym, ◌∙◌, ap, subst, arith, eq-eqb, inl, inr, ne_eqb, take, take_all}
 use Rattle.std.specs.Prelude.{slice_get}
 use Rattle.std.specs.List.{list_any, slice_set}
 use Rattle.std.specs.Option.{is_some}

@@ -1,12 +1,12 @@
-//! What holds of all logs, and how what a line should have been is compared and copied.
+//! What holds of all logs, and of the comparison and the clone of `Expected`.
 ghost use Rattle.std.specs.Prelude.{◌≡◌, ◌↔◌, IsTrue, IsOkAnd};
 ghost use Rattle.history_logs.specs.Laws.{EmptyStatesChangeNothing};
 
 use crate::logs::Expected;
 use std::alloc::AllocError;
 
-/// What lines should have been is equal exactly where it is the same, and a clone of it is it and
-/// takes no memory.
+/// Two of `Expected` are equal exactly where they are the same variant. A clone is the same one,
+/// and never fails.
 pub fn expected_goes_by_variant(
     one: &Expected,
     other: &Expected,

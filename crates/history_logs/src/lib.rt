@@ -1,4 +1,4 @@
-//! Logs of what was seen of a service, judged by the steps of services.
+//! Logs of what was seen of services, judged by the steps of services.
 #![tactic(auto)]
 
 pub mod laws;

@@ -92,14 +92,14 @@ fn check_with<P: Progress>(
 /// Judges a log of services.
 ///
 /// A log has lines of services, as `service_before` reads them, each with a number of its own, and
-/// what was seen of them, as `read_log_line` reads it. The line of a command is a call that
-/// overlaps none of its caller's; below it stands `= ` and the words of its reply, and notes may be
-/// between. `A> COMMAND` begins a call of the caller `A`, and `A< WORDS` ends it with the reply
-/// that was seen. A caller has one call open at a time. `A!` says that it died: its open call took
-/// effect above it or never, and no line of it follows. A call that is open at the end took effect
-/// or not. `7: ` before a command or a begin says that it is on the service with that number; it
-/// may be left out where no other service is above. Lines that are empty or begin with `#` may
-/// stand anywhere. Every line ends with a newline.
+/// what was seen of them, as `read_log_line` reads it. The line of a command is a call alone, of no
+/// caller, which begins and ends in the line of its reply: below it stands `= ` and the words of
+/// that, and notes may be between. `A> COMMAND` begins a call of the caller `A`, and `A< WORDS`
+/// ends it with the reply that was seen. A caller has one call open at a time. `A!` says that it
+/// died: its open call took effect above it or never, and no line of it follows. A call that is
+/// open at the end took effect or not. `7: ` before a command or a begin says that it is on the
+/// service with that number; it may be left out where no other service is above. Lines that are
+/// empty or begin with `#` may stand anywhere. Every line ends with a newline.
 ///
 /// A line `state ..` gives what is there of a service that was in use. Above all calls on it, it
 /// says how the service begins. Below calls, where no caller has a call open on it, it begins the
@@ -114,9 +114,9 @@ fn check_with<P: Progress>(
 /// the call's reply gave, where that reply stands above the line of the begin, else for none.
 ///
 /// A log that conforms is judged while it is read. Memory grows, beside the text, with the entries
-/// of the services, with the commands, the handles of which later ones may name, with the links
-/// since no call was open, and with what lies between the begin and the end of the longest call. A
-/// log that does not conform is read once more, as a whole.
+/// of the services, with the commands, whose handles later ones may name, with the links since no
+/// call was open, and with what lies between the begin and the end of the longest call. A log that
+/// does not conform is read once more, as a whole.
 pub fn check_log(alloc: Global, log: &[u8]) -> Result<Verdict, AllocError>
     ensures { IfOk result (Judged log.now) }
 {
@@ -170,9 +170,9 @@ fn order_read(
     }
 }
 
-/// Judges a log, as `check_log` does. Where it conforms, there is an order for each service, by
-/// their lines, and for each time that one begins anew: one of those that explain what was seen of
-/// it. Else there is none.
+/// Judges a log, as `check_log` does. Where it conforms, there is an order for each service, in the
+/// order of their lines, and for each time that one begins anew: one of those that explain what was
+/// seen of it. Else there is none.
 ///
 /// What is read is kept whole, also of a log that conforms, and memory grows by one link for each
 /// call in each configuration in which it was made.

@@ -100,7 +100,7 @@ static SHOWN: [(u64, bool, Option<u64>, &str); 6] = [
 ];
 
 #[test]
-fn counts(rt: HostRuntime) -> Result<(), AllocError> {
+fn a_count_is_shown_once_a_second(rt: HostRuntime) -> Result<(), AllocError> {
     let log = long_log(rt.alloc())?;
     for (step, is_terminal, failing, text) in &SHOWN {
         let terminal = shown(rt.alloc(), &log, *step, *is_terminal, *failing);

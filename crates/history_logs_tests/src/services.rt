@@ -63,7 +63,7 @@ static ROWS: [Row; 20] = [
 ];
 
 #[test]
-fn services_are_told_by_their_numbers(rt: HostRuntime) -> Result<(), Fail> {
+fn services_are_distinguished_by_their_numbers(rt: HostRuntime) -> Result<(), Fail> {
     are_judged(&rt, BOTH, &ROWS)
 }
 

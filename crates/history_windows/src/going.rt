@@ -36,12 +36,13 @@ pub fn first_front<M: Machine>(
     start(alloc, machine, states)
 }
 
-/// Goes on with more events of a history of which the front is. Returns whether orders explain all;
-/// else, or where memory was refused, the front is of no history any more.
+/// Goes on with more events of the history that the front is of. Returns whether orders explain
+/// all. Where it returns false, or memory was refused, the front is of no history any more. False
+/// is returned also where a bound of `histories` is passed.
 ///
-/// The machine needs the calls alone that are open in the front or begin in these events, and they
-/// need their replies. So a history is judged while it is still written, and what is kept grows
-/// with the calls that are open and with the links, which are dropped where no call is open.
+/// The machine needs only the calls that are open in the front or begin in these events, with their
+/// replies. So a history is judged while it is still written, and what is kept grows with the calls
+/// that are open and with the links, which are dropped where no call is open.
 pub fn go_on<M: Machine>(
     alloc: Global,
     machine: &M,

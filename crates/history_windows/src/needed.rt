@@ -11,8 +11,8 @@ use super::window::{Cut, Window};
 use histories::{Advance, Config, Event, Machine, advance, start};
 use std::alloc::{AllocError, Global};
 
-/// How many configurations are followed at most, event by event, to leave out one call after the
-/// other.
+/// How many configurations are followed at most to leave out one call after the other. A
+/// configuration counts once for each event with which it is followed.
 pub const MAX_TRIED: usize = 262_144;
 
 /// The call that the event is of.
@@ -46,8 +46,9 @@ fn rest_of(alloc: Global, events: &[Event], left_out: &[bool]) -> Result<Vec<Eve
     Ok(rest)
 }
 
-/// Whether it is found that no order explains the events, and one explains those before the last
-/// one, where no more configurations are followed than are left.
+/// Whether it is found that no order explains the events, and that one explains those before the
+/// last one. The answer is also no where more configurations would be followed than are left. Those
+/// that were followed are no longer left.
 fn is_refused<M: Machine>(
     alloc: Global,
     machine: &M,
@@ -102,8 +103,8 @@ fn leave_out<M: Machine>(
 }
 
 /// Leaves out the call that begins with the event, if it is known to change nothing, and it is
-/// found that no order explains the rest. Where fewer configurations are left than there are
-/// events, that is not tried.
+/// found that no order explains the rest. It is not tried where fewer configurations are left than
+/// there are events.
 fn leave_out_begun<M: Machine>(
     alloc: Global,
     machine: &M,
@@ -219,12 +220,12 @@ fn states_left<M: Machine>(
 }
 
 /// Which calls of a window are left out, where no order explains the events in it and those before
-/// it: calls that change nothing, as long as no order explains the rest. First all of them are left
-/// out, else one after the other. Those before the window are followed once more. Which calls are
-/// known to change nothing is said by their numbers.
+/// it: calls that change nothing, as long as no order explains the rest. `idle` says by its number
+/// whether a call is known to change nothing. First all of these are left out together, and where
+/// that does not do, one after the other. The events before the window are followed once more.
 ///
-/// Where to leave out one after the other would follow more than `MAX_TRIED` configurations, event
-/// by event, the others stay.
+/// Once `MAX_TRIED` configurations were followed one after the other, the calls that were not tried
+/// stay.
 pub fn calls_left_out<M: Machine>(
     alloc: Global,
     machine: &M,

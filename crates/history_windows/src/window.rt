@@ -38,10 +38,10 @@ pub enum Verdict<S> {
 /// Why a history is not followed further.
 #[derive(Clone, Copy, Debug, PartialEq, Eq)]
 pub enum Stop {
-    /// No order explains the events up to this one.
+    /// No order explains the events up to this one, by which a call was answered.
     Refused,
-    /// More configurations were to be followed than are.
+    /// More than `histories::MAX_CONFIGS` configurations were to be followed: not decided.
     ManyConfigs,
-    /// More calls are open than are followed.
+    /// More than `histories::MAX_OPEN` calls are open: not decided.
     ManyOpen,
 }

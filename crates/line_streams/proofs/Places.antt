@@ -1,11 +1,12 @@
 -- What stands before the first of a byte.
-use Rattle.std.proofs.Common.{◌≡◌, ◌≢◌, ◌==◌, ℕ, ◌+◌, ◌-◌, ◌<◌, ◌≤◌, Bool, true, false, cond, List, [], ◌∷◌, ◌++◌, length, get_or, take, drop, Some, None, arith, add-one, drop-cons, refl, sym, ◌∙◌, ap}
+use Rattle.std.proofs.Common.{◌≡◌, ◌≢◌, ◌==◌, ℕ, ◌+◌, ◌-◌, ◌<◌, ◌≤◌, Bool, true, false, cond, List, [], ◌∷◌, ◌++◌, length, get_or, take, drop, Option, Some, None, arith, add-one, drop-cons, refl, sym, ◌∙◌, ap}
 use Rattle.std.specs.List.{position, position_or_len, before_first}
-use Rattle.std.proofs.lemmas.Bool.{ltb-false, eqb-true, eqb-false}
+use Rattle.memchr.specs.Find.{IsFirstByte, is_byte}
+use Rattle.std.proofs.lemmas.Bool.{eqb-false, eqb-true, false_from_ne_true, ltb-false}
 use Rattle.std.proofs.lemmas.List.{length-take-le, take-append-drop, get_or-take, take_all}
 use Rattle.std.proofs.lemmas.List.Elements.{All-from_get_or, All-head, All-tail}
 use Rattle.std.proofs.lemmas.List.Quantifiers.{position-Some}
-use Rattle.std.proofs.lemmas.List.Sums.{fails_before_first}
+use Rattle.std.proofs.lemmas.List.Sums.{fails_before_first, position_or_len_is}
 use Rattle.line_streams.specs.Spelling.{HasNo}
 use Rattle.line_streams.proofs.Fronts.{slice_tail}
 
@@ -16,6 +17,22 @@ some_is false n i e = cc
 none_is : (b : Bool) (n : ℕ) → cond b (Some n) None ≡ None → b ≡ false
 none_is true n e = cc
 none_is false n e = cc
+
+-- the index that a search for the byte finds
+pub found_first : (byte : ℕ) (xs : List ℕ) (found : Option ℕ)
+    → IsFirstByte (is_byte byte) xs found → found ≡ position (λ b. b == byte) xs
+found_first byte xs None h =
+    let p : ℕ → Bool = λ b. b == byte in
+    let none = position_or_len_is p xs (length xs) 0 (omega arith)
+    (λ k below. false_from_ne_true (p (get_or xs k 0)) (h k (omega arith) below))
+    (λ within. absurd (omega (arith, within))) in
+    rw none (grind arith)
+found_first byte xs (Some i) h =
+    let p : ℕ → Bool = λ b. b == byte in
+    let is = position_or_len_is p xs i 0 (omega (arith, h.0.high))
+    (λ k below. false_from_ne_true (p (get_or xs k 0)) (h.0.before k (omega arith) below))
+    (λ within. h.1) in
+    rw is (grind (arith, h.0.high))
 
 -- what stands before the first that passes
 pub front_is : (p : ℕ → Bool) (xs : List ℕ) (i : ℕ) → position p xs ≡ Some i

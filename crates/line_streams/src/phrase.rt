@@ -8,6 +8,7 @@ ghost use Rattle.line_streams.specs.Spelling.{after as after_it, before, line_en
 ghost use Rattle.line_streams.specs.Spelling.{number, sequence};
 ghost use Rattle.line_streams.specs.OneWay.{after_one, line_end_one, number_one, sequence_one};
 
+use memchr::memchr;
 use std::alloc::{AllocError, Global};
 
 /// A kind of text that can begin the bytes of a line.
@@ -251,10 +252,11 @@ pub fn after_word<'a>(bytes: &'a [u8], word: &[u8]) -> Option<&'a [u8]>
 }
 
 /// The first index of this byte.
-fn place_of(bytes: &[u8], byte: u8) -> Option<usize>
+#[tactic(auto, using(crate::proofs::Places::found_first))]
+fn index_of(bytes: &[u8], byte: u8) -> Option<usize>
     ensures { result ≡ position (λ b. b == byte) bytes.now }
 {
-    bytes.iter().position(|b| *b == byte)
+    memchr(byte, bytes)
 }
 
 /// What comes before the first such byte, and what follows it.
@@ -265,7 +267,7 @@ pub fn before_byte(bytes: &[u8], byte: u8) -> Option<(&[u8], &[u8])>
     ensures first { MatchOption result (before_first (λ b. b == byte) bytes.now ≡ bytes.now)
         (λ found. found.0.now ≡ before_first (λ b. b == byte) bytes.now) }
 {
-    match place_of(bytes, byte) {
+    match index_of(bytes, byte) {
         Some(end) => Some((&bytes[..end], &bytes[end + 1..])),
         None => None,
     }

@@ -1,3 +1,4 @@
+pub mod Found
 pub mod Names
 pub mod Splits
 pub mod States

@@ -11,15 +11,15 @@ use Rattle.service_descriptions.specs.declared.replay.machine.command.Command.{C
 use Rattle.service_descriptions.specs.declared.replay.machine.command.Command.TheVariants as command
 use Rattle.service_descriptions.specs.Lines.{HasLine, line_of}
 use Rattle.service_descriptions.proofs.OneReading.{one_service}
-use Rattle.log_lines.specs.Commands.{Begun, HasBegun, HasText, NamedCommand, begun_text, command_text}
+use Rattle.log_lines.specs.Commands.{Begun, HasText, NamedCommand, begun_text, command_text}
 use Rattle.log_lines.specs.Commands.NamedCommand.{numbered, deregister, release}
 use Rattle.log_lines.specs.Laws.{IsAlike, LinesAreReadOneWay, NotesAreNoLines}
-use Rattle.log_lines.specs.Lines.{IsCaller, IsLine, Line, begin_text, given_text, is_note, line_text, number_text}
+use Rattle.log_lines.specs.Lines.{Comes, HasNone, IsCaller, IsLine, Line, begin_text, given_text, is_note, line_text, number_text}
 use Rattle.log_lines.specs.Lines.Line.{service, call, reply, begin, end, crash, given}
-use Rattle.log_lines.specs.States.{HasState, State, state_text}
+use Rattle.log_lines.specs.States.{state_text}
 use Rattle.log_lines.proofs.Names.{first_letter}
 use Rattle.log_lines.proofs.Parts.{given_no_begin, given_no_command}
-use Rattle.log_lines.proofs.Splits.{Comes, Tells, begin_comes, comes_same, crash_comes, end_comes, kind, kind_begin, kind_call, number_comes, kind_given, of_line, of_text, one_kind}
+use Rattle.log_lines.proofs.Splits.{Tells, begin_comes, comes_same, crash_comes, end_comes, kind, kind_begin, kind_call, number_comes, kind_given, of_line, of_text, one_kind}
 use Rattle.log_lines.proofs.States.{same_state}
 
 -- the numbers before two texts that are the same are, and so is what follows them
@@ -116,14 +116,10 @@ one_way a b p q e =
     (one_kind (line_text a) (kind a) (kind b) (of_line a p)
     (subst (λ (t : List ℕ). Tells t (kind b)) (sym e) (of_line b q)))
 
--- after a number only a call follows, alone or begun
+-- after a number only a call follows, alone or begun, or what is given
 pub numbered_none : (line rest : List ℕ) (n : ℕ) → n < 2 ^ 64 → line ≡ number_text n ++ rest
-    → ((c : NamedCommand) → HasText c → rest ≢ command_text c)
-    → ((caller : List ℕ) (c : Begun) → IsCaller caller → HasBegun c
-    → rest ≢ begin_text caller c)
-    → ((s : State) → HasState s → rest ≢ given_text s)
-    → (l : Line) → IsLine l → line ≢ line_text l
-numbered_none line rest n h is alone begun gives l p e =
+    → HasNone rest → (l : Line) → IsLine l → line ≢ line_text l
+numbered_none line rest n h is none l p e =
     cases l p (sym is ∙ e)
     (one_kind (line_text l) (kind l) 2 (of_line l p) (record {
       front = decimal n;
@@ -134,11 +130,12 @@ numbered_none line rest n h is alone begun gives l p e =
     }))
   where
     cases : (m : Line) → IsLine m → number_text n ++ rest ≡ line_text m → kind m ≡ 2 → ⊥
-    cases (call (Some m) c) q f k = alone c q.1 (one_number n m rest (command_text c) h q.0 f).1
+    cases (call (Some m) c) q f k =
+        none.alone c q.1 (one_number n m rest (command_text c) h q.0 f).1
     cases (begin (Some m) caller c) q f k =
-        begun caller c q.1 q.2 (one_number n m rest (begin_text caller c) h q.0 f).1
+        none.begun caller c q.1 q.2 (one_number n m rest (begin_text caller c) h q.0 f).1
     cases (given (Some m) s) q f k =
-        gives s q.1 (one_number n m rest (given_text s) h q.0 f).1
+        none.given s q.1 (one_number n m rest (given_text s) h q.0 f).1
     cases (given None s) q f k = absurd (omega (arith, k))
     cases (service m) q f k = absurd (omega (arith, k))
     cases (call None c) q f k = absurd (omega (arith, k))

@@ -1,5 +1,5 @@
 -- What the parts of a line leave out.
-use Rattle.std.proofs.Common.{◌≡◌, ◌≢◌, ℕ, ◌<◌, ◌^◌, List, [], ◌++◌, Some, None, codes, refl, sym, ◌∙◌, subst, arith}
+use Rattle.std.proofs.Common.{◌≡◌, ◌≢◌, ◌⊎◌, ℕ, ◌≤◌, ◌<◌, ◌^◌, List, [], ◌++◌, Some, None, codes, get_or, refl, sym, ◌∙◌, subst, arith}
 use Rattle.std.proofs.lemmas.List.{append-nil, append_cancel_left}
 use Rattle.iox2_container.specs.declared.container.role.Role.{Role}
 use Rattle.iox2_container.specs.declared.container.role.Role.TheVariants as role
@@ -12,10 +12,10 @@ use Rattle.service_descriptions.specs.Script.{IsServiceLine, service_line}
 use Rattle.log_lines.specs.Commands.{Begun, HasBegun, HasText, IsHandle, NamedCommand, begun_text, command_text, handle_text, weak_text}
 use Rattle.log_lines.specs.Commands.Begun.{command, weak}
 use Rattle.log_lines.specs.Commands.NamedCommand.{numbered, deregister, release}
-use Rattle.log_lines.specs.Lines.{IsCaller, IsLine, Line, begin_text, given_text, line_text, number_text}
+use Rattle.log_lines.specs.Lines.{HasNone, Comes, IsCaller, IsLine, Line, begin_text, given_text, line_text, mark, number_text}
 use Rattle.log_lines.specs.States.{HasState, State, state_text}
 use Rattle.log_lines.specs.Lines.Line.{service, call, reply, begin, end, crash, given}
-use Rattle.log_lines.proofs.Splits.{Comes, Tells, begin_comes, comes_same, crash_comes, end_comes, of_text, one_kind}
+use Rattle.log_lines.proofs.Splits.{Tells, begin_comes, class, class_end, class_number, class_plain, comes_same, crash_comes, end_comes, kind, kind_begin, kind_call, kind_given, line_kind, of_given, of_text, one_kind}
 
 -- no role begins the text
 abbrev NoRole : List ℕ → Type 0
@@ -131,70 +131,116 @@ module _ (text front back : List ℕ) (c : Comes text front back) where
       comes_same text front back caller (codes "!") c
       (subst (λ (t : List ℕ). Comes t caller (codes "!")) (sym e) (crash_comes caller p))
 
-  -- after a name that is none, no call begins and none ends
-  pub no_caller_begin : (IsCaller front → ⊥) → (caller : List ℕ) (d : Begun)
-      → IsCaller caller → HasBegun d → text ≢ begin_text caller d
-  no_caller_begin none caller d p q e =
-      none (subst (λ (n : List ℕ). IsCaller n) (sym (begin_same caller d p e).0) p)
+  -- behind the name of a caller that begins a call, where what it begins is none
+  pub begun_none : (rest : List ℕ) → back ≡ codes "> " ++ rest
+      → ((b : Begun) → IsCaller front → HasBegun b → rest ≢ begun_text b) → HasNone text
+  begun_none rest is none = record {
+    alone = λ d p e.
+        let k = one_kind text 3 1 tells (subst (λ (t : List ℕ). Tells t 1) (sym e) (of_text d p)) in
+        absurd (omega (arith, k));
+    begun = λ caller b p q e.
+        let same = begin_same caller b p e in
+        none b (subst (λ (n : List ℕ). IsCaller n) (sym same.0) p) q
+        (append_cancel_left (codes "> ") rest (begun_text b) (sym is ∙ same.1));
+    given = λ s p e.
+        let k = one_kind text 3 5 tells (subst (λ (t : List ℕ). Tells t 5) (sym e) (of_given s)) in
+        absurd (omega (arith, k));
+  }
+    where
+      tells : Tells text 3
+      tells = record {
+        front = front;
+        back = back;
+        comes = c;
+        is = subst (λ (b : List ℕ). class front b ≡ 3) (sym is) refl;
+      }
 
-  pub no_caller_end : (IsCaller front → ⊥) → (caller words : List ℕ) → IsCaller caller
-      → text ≢ caller ++ (codes "< " ++ words)
-  no_caller_end none caller words p e =
-      none (subst (λ (n : List ℕ). IsCaller n) (sym (end_same caller words p e).0) p)
+  -- where none begins, none is given, and the text is that of no command
+  pub command_none : ((x : List ℕ) → back ≢ codes "> " ++ x)
+      → ((x : List ℕ) → text ≢ codes "state " ++ x)
+      → ((d : NamedCommand) → HasText d → text ≢ command_text d) → HasNone text
+  command_none none other alone = record {
+    alone = alone;
+    begun = λ caller b p q e. none (begun_text b) (begin_same caller b p e).1;
+    given = λ s p e. other (state_text s) e;
+  }
 
-  pub no_caller_crash : (IsCaller front → ⊥) → (caller : List ℕ) → IsCaller caller
-      → text ≢ caller ++ codes "!"
-  no_caller_crash none caller p e =
-      none (subst (λ (n : List ℕ). IsCaller n) (sym (crash_same caller p e).0) p)
+  -- a line of a caller whose call ends or who died
+  late : (mark back ≡ 60) ⊎ (mark back ≡ 33) → (l : Line) → IsLine l → text ≡ line_text l
+      → ¬ (kind l ≤ 5)
+  late is l p e few =
+      absurd (omega (
+        arith,
+        line_kind text front back c l p e,
+        class_end (mark back) (mark front) (get_or front 1 0) is,
+        few,
+      ))
 
-  -- nor where something else follows the name
-  pub no_begin_mark : ((x : List ℕ) → back ≢ codes "> " ++ x) → (caller : List ℕ)
-      (d : Begun) → IsCaller caller → HasBegun d → text ≢ begin_text caller d
-  no_begin_mark none caller d p q e = none (begun_text d) (begin_same caller d p e).1
+  -- no line of a caller whose call ends or who died
+  pub ends_none : (mark back ≡ 60) ⊎ (mark back ≡ 33)
+      → ((words : List ℕ) → IsCaller front → back ≢ codes "< " ++ words)
+      → (IsCaller front → back ≢ codes "!") → (l : Line) → IsLine l → text ≢ line_text l
+  ends_none is ended died (end caller words) p e =
+      let same = end_same caller words p e in
+      ended words (subst (λ (n : List ℕ). IsCaller n) (sym same.0) p) same.1
+  ends_none is ended died (crash caller) p e =
+      let same = crash_same caller p e in
+      died (subst (λ (n : List ℕ). IsCaller n) (sym same.0) p) same.1
+  ends_none is ended died (service l) p e = late is (service l) p e (omega arith)
+  ends_none is ended died (call n d) p e = late is (call n d) p e (omega (arith, kind_call))
+  ends_none is ended died (reply words) p e = late is (reply words) p e (omega arith)
+  ends_none is ended died (begin n caller b) p e =
+      late is (begin n caller b) p e (omega (arith, kind_begin))
+  ends_none is ended died (given n s) p e = late is (given n s) p e (omega (arith, kind_given))
 
-  pub no_end_mark : ((x : List ℕ) → back ≢ codes "< " ++ x) → (caller words : List ℕ)
-      → IsCaller caller → text ≢ caller ++ (codes "< " ++ words)
-  no_end_mark none caller words p e = none words (end_same caller words p e).1
+  -- a line on the service with a number
+  other : mark back ≡ 58 → (l : Line) → IsLine l → text ≡ line_text l → kind l ≢ 2 → ⊥
+  other is l p e differ =
+      differ (line_kind text front back c l p e
+      ∙ class_number (mark back) (mark front) (get_or front 1 0) is)
 
-  pub no_crash_mark : ((x : List ℕ) → back ≢ codes "!" ++ x) → (caller : List ℕ)
-      → IsCaller caller → text ≢ caller ++ codes "!"
-  no_crash_mark none caller p e = none [] (crash_same caller p e).1
+  -- no line on the service with a number
+  pub number_none : mark back ≡ 58
+      → ((n : ℕ) (rest : List ℕ) → n < 2 ^ 64 → text ≢ number_text n ++ rest)
+      → (l : Line) → IsLine l → text ≢ line_text l
+  number_none is none (call (Some n) d) p e = none n (command_text d) p.0 e
+  number_none is none (begin (Some n) caller b) p e = none n (begin_text caller b) p.0 e
+  number_none is none (given (Some n) s) p e = none n (given_text s) p.0 e
+  number_none is none (service l) p e = other is (service l) p e (λ k. absurd (omega (arith, k)))
+  number_none is none (call None d) p e =
+      other is (call None d) p e (λ k. absurd (omega (arith, k)))
+  number_none is none (reply words) p e =
+      other is (reply words) p e (λ k. absurd (omega (arith, k)))
+  number_none is none (begin None caller b) p e =
+      other is (begin None caller b) p e (λ k. absurd (omega (arith, k)))
+  number_none is none (end caller words) p e =
+      other is (end caller words) p e (λ k. absurd (omega (arith, k)))
+  number_none is none (crash caller) p e =
+      other is (crash caller) p e (λ k. absurd (omega (arith, k)))
+  number_none is none (given None s) p e =
+      other is (given None s) p e (λ k. absurd (omega (arith, k)))
 
-  -- nor where more follows the mark
-  pub no_crash_more : (rest : List ℕ) → back ≡ codes "!" ++ rest → rest ≢ []
-      → (caller : List ℕ) → IsCaller caller → text ≢ caller ++ codes "!"
-  no_crash_more rest is some caller p e =
-      some (append_cancel_left (codes "!") rest [] (sym is ∙ (crash_same caller p e).1))
-
-  pub no_begun : (rest : List ℕ) → back ≡ codes "> " ++ rest
-      → ((d : Begun) → HasBegun d → rest ≢ begun_text d) → (caller : List ℕ)
-      (d : Begun) → IsCaller caller → HasBegun d → text ≢ begin_text caller d
-  no_begun rest is none caller d p q e =
-      none d q
-      (append_cancel_left (codes "> ") rest (begun_text d)
-      (sym is ∙ (begin_same caller d p e).1))
-
--- no line, where none of its kinds is there
-pub plain_none : (text : List ℕ) → ((words : List ℕ) → text ≢ codes "= " ++ words)
-    → ((l : ServiceLine) → IsServiceLine l → text ≢ service_line l)
-    → ((number : ℕ) (rest : List ℕ) → number < 2 ^ 64 → text ≢ number_text number ++ rest)
-    → ((caller words : List ℕ) → IsCaller caller → text ≢ caller ++ (codes "< " ++ words))
-    → ((caller : List ℕ) → IsCaller caller → text ≢ caller ++ codes "!")
-    → ((c : NamedCommand) → HasText c → text ≢ command_text c)
-    → ((caller : List ℕ) (c : Begun) → IsCaller caller → HasBegun c
-    → text ≢ begin_text caller c)
-    → ((s : State) → HasState s → text ≢ given_text s)
-    → (l : Line) → IsLine l → text ≢ line_text l
-plain_none text a b c d f g h i (service l) p e = b l p e
-plain_none text a b c d f g h i (call None x) p e = g x p.1 e
-plain_none text a b c d f g h i (call (Some n) x) p e = c n (command_text x) p.0 e
-plain_none text a b c d f g h i (reply words) p e = a words e
-plain_none text a b c d f g h i (begin None caller x) p e = h caller x p.1 p.2 e
-plain_none text a b c d f g h i (begin (Some n) caller x) p e = c n (begin_text caller x) p.0 e
-plain_none text a b c d f g h i (end caller words) p e = d caller words p e
-plain_none text a b c d f g h i (crash caller) p e = f caller p e
-plain_none text a b c d f g h i (given None s) p e = i s p.1 e
-plain_none text a b c d f g h i (given (Some n) s) p e = c n (given_text s) p.0 e
+  -- no line, where none of these marks follows the letters and digits at its front
+  pub plain_none : mark back ≢ 60 → mark back ≢ 33 → mark back ≢ 58
+      → ((words : List ℕ) → text ≢ codes "= " ++ words)
+      → ((l : ServiceLine) → IsServiceLine l → text ≢ service_line l) → HasNone text
+      → (l : Line) → IsLine l → text ≢ line_text l
+  plain_none x y z replies services none l p e =
+      let k = line_kind text front back c l p e in
+      let few = class_plain (mark back) (mark front) (get_or front 1 0) x y z in
+      each l p e (omega (arith, k, few.0)) (λ is. few.1 (sym k ∙ is))
+    where
+      each : (m : Line) → IsLine m → text ≡ line_text m → kind m ≤ 5 → kind m ≢ 2 → ⊥
+      each (service m) q f few differ = services m q f
+      each (call None d) q f few differ = none.alone d q.1 f
+      each (call (Some n) d) q f few differ = differ refl
+      each (reply words) q f few differ = replies words f
+      each (begin None caller b) q f few differ = none.begun caller b q.1 q.2 f
+      each (begin (Some n) caller b) q f few differ = differ refl
+      each (end caller words) q f few differ = absurd (omega (arith, few))
+      each (crash caller) q f few differ = absurd (omega (arith, few))
+      each (given None s) q f few differ = none.given s q.1 f
+      each (given (Some n) s) q f few differ = differ refl
 
 -- what is given is no command, and no begin of a call
 pub given_no_command : (text rest : List ℕ) → text ≡ codes "state " ++ rest
@@ -227,8 +273,12 @@ given_no_begin text rest is caller d p q e =
     }) in
     absurd (omega (arith, k))
 
-pub given_none : (text rest : List ℕ) → text ≡ codes "state " ++ rest
-    → ((s : State) → HasState s → rest ≢ state_text s) → (s : State) → HasState s
-    → text ≢ given_text s
-given_none text rest is none s p e =
-    none s p (append_cancel_left (codes "state ") rest (state_text s) (sym is ∙ e))
+-- nothing, where no state stands behind the word
+pub state_none : (text rest : List ℕ) → text ≡ codes "state " ++ rest
+    → ((s : State) → HasState s → rest ≢ state_text s) → HasNone text
+state_none text rest is none = record {
+  alone = given_no_command text rest is;
+  begun = given_no_begin text rest is;
+  given = λ s p e.
+      none s p (append_cancel_left (codes "state ") rest (state_text s) (sym is ∙ e));
+}

@@ -1,45 +1,64 @@
 -- Each line begins with letters and digits, and what follows them says which line it is.
-use Rattle.std.proofs.Common.{◌≡◌, ℕ, ◌<◌, ◌≤◌, ◌^◌, List, [], ◌∷◌, ◌++◌, Option, Some, None, codes, get_or, decimal, refl, sym, ◌∙◌, ap, arith, append_assoc}
-use Rattle.std.specs.Prelude.{◌==◌, if◌then◌else◌, IsTrue}
+use Rattle.std.proofs.Common.{◌≡◌, ◌≢◌, ◌⊎◌, ℕ, ◌<◌, ◌≤◌, ◌^◌, Bool, true, false, List, [], ◌∷◌, ◌++◌, Option, Some, None, codes, get_or, decimal, refl, sym, ◌∙◌, ap, subst, arith, append_assoc, inl, inr}
+use Rattle.std.specs.Prelude.{◌==◌, if◌then◌else◌}
+use Rattle.std.proofs.lemmas.Bool.{ne_eqb}
 use Rattle.service_descriptions.specs.declared.replay.machine.command.Cleanup.TheVariants.{ByPort}
 use Rattle.service_descriptions.specs.declared.replay.machine.command.Command.{Command}
 use Rattle.service_descriptions.specs.declared.replay.machine.command.Command.TheVariants as command
 use Rattle.service_descriptions.specs.Lines.{HasLine, line_of}
 use Rattle.log_lines.specs.Commands.{Begun, HasText, NamedCommand, begun_text, command_text}
 use Rattle.log_lines.specs.Commands.NamedCommand.{numbered, deregister, release}
-use Rattle.log_lines.specs.Lines.{IsCaller, IsLine, IsNameByte, Line, are_letters, begin_text, given_text, line_text, number_text}
+use Rattle.log_lines.specs.Lines.{Comes, IsCaller, IsLine, Line, begin_text, given_text, line_text, mark, number_text}
 use Rattle.log_lines.specs.States.{State, state_text}
 use Rattle.log_lines.specs.Lines.Line.{service, call, reply, begin, end, crash, given}
 use Rattle.log_lines.proofs.Names.{name_same, number_letters}
-
--- the text begins with these letters and digits, and this follows them
-pub record Comes (text front back : List ℕ) : Type 0 where
-  pub whole : text ≡ front ++ back
-  pub letters : IsTrue (are_letters front)
-  pub ends : ¬ (IsNameByte (get_or back 0 0))
 
 pub comes_same : (text a x b y : List ℕ) → Comes text a x → Comes text b y
     → (a ≡ b) × (x ≡ y)
 comes_same text a x b y p q =
     name_same a b x y p.letters q.letters p.ends q.ends (sym p.whole ∙ q.whole)
 
--- the byte with which it begins
-abbrev pub mark : List ℕ → ℕ
-mark bytes = get_or bytes 0 0
-
 -- which line the letters and digits at its front and what follows them tell: a service (0), a call
 -- without a number (1) or with one (2), alone or begun, the begin of a call without a number (3), a
 -- reply (4), what is given of a service without a number (5) or with one (2), the end of a call
 -- (6), or that the caller died (7)
-abbrev pub class : List ℕ → List ℕ → ℕ
-class front back =
-    if mark back == 62 then 3
-    else if mark back == 60 then 6
-    else if mark back == 33 then 7
-    else if mark back == 61 then 4
-    else if mark back == 58 then 2
-    else if mark front == 115 then (if get_or front 1 0 == 116 then 5 else 0)
+abbrev pub class_at : (after first second : ℕ) → ℕ
+class_at after first second =
+    if after == 62 then 3
+    else if after == 60 then 6
+    else if after == 33 then 7
+    else if after == 61 then 4
+    else if after == 58 then 2
+    else if first == 115 then (if second == 116 then 5 else 0)
     else 1
+
+abbrev pub class : List ℕ → List ℕ → ℕ
+class front back = class_at (mark back) (mark front) (get_or front 1 0)
+
+-- what follows the name of a caller whose call ends or who died, or a number, and what does not
+pub class_end : (after first second : ℕ) → (after ≡ 60) ⊎ (after ≡ 33)
+    → 6 ≤ class_at after first second
+class_end after first second (inl e) = rw e (omega arith)
+class_end after first second (inr e) = rw e (omega arith)
+
+pub class_number : (after first second : ℕ) → after ≡ 58 → class_at after first second ≡ 2
+class_number after first second e = rw e refl
+
+abbrev pick : Bool → Bool → Bool → Bool → ℕ
+pick p q r s = if p then 3 else if q then 4 else if r then (if s then 5 else 0) else 1
+
+pick_plain : (p q r s : Bool) → (pick p q r s ≤ 5) × (pick p q r s ≢ 2)
+pick_plain true q r s = (omega arith, λ e. absurd (omega (arith, e)))
+pick_plain false true r s = (omega arith, λ e. absurd (omega (arith, e)))
+pick_plain false false true true = (omega arith, λ e. absurd (omega (arith, e)))
+pick_plain false false true false = (omega arith, λ e. absurd (omega (arith, e)))
+pick_plain false false false s = (omega arith, λ e. absurd (omega (arith, e)))
+
+pub class_plain : (after first second : ℕ) → after ≢ 60 → after ≢ 33 → after ≢ 58
+    → (class_at after first second ≤ 5) × (class_at after first second ≢ 2)
+class_plain after first second a b c =
+    rw (ne_eqb after 60 a, ne_eqb after 33 b, ne_eqb after 58 c)
+    (pick_plain (after == 62) (after == 61) (first == 115) (second == 116))
 
 -- the text begins so, and tells this line
 pub record Tells (text : List ℕ) (kind : ℕ) : Type 0 where
@@ -232,3 +251,11 @@ pub kind_begin : (n : Option ℕ) (caller : List ℕ) (c : Begun)
     → (2 ≤ kind (begin n caller c)) × (kind (begin n caller c) ≤ 3)
 kind_begin None caller c = (omega arith, omega arith)
 kind_begin (Some n) caller c = (omega arith, omega arith)
+
+-- a line tells its kind
+pub line_kind : (text front back : List ℕ) → Comes text front back → (l : Line) → IsLine l
+    → text ≡ line_text l → kind l ≡ class front back
+line_kind text front back c l p e =
+    one_kind text (kind l) (class front back)
+    (subst (λ (t : List ℕ). Tells t (kind l)) (sym e) (of_line l p))
+    (record { front = front; back = back; comes = c; is = refl })

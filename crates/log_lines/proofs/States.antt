@@ -1,6 +1,6 @@
 -- What is given of a service is read in one way.
 use Rattle.std.proofs.Common.{◌≡◌, ◌≢◌, ℕ, ◌<◌, ◌^◌, Bool, true, false, List, [], ◌∷◌, ◌++◌, codes, decimal, get_or, length, refl, sym, ◌∙◌, ap, subst, arith}
-use Rattle.std.specs.Prelude.{IfNone, IfOk, IfSome, Option, Some, None, Result, Ok, Err}
+use Rattle.std.specs.Prelude.{IfNone, IfSome, Option, Some, None}
 use Rattle.std.proofs.lemmas.Fmt.{decimal_injective, decimal_nonempty}
 use Rattle.std.proofs.lemmas.List.{append-nil, append_cancel_left}
 use Rattle.iox2_container.specs.declared.container.role.Role.{Role}
@@ -12,7 +12,6 @@ use Rattle.service_descriptions.specs.declared.replay.machine.command.Command.Th
 use Rattle.service_descriptions.specs.Lines.{HasLine, SameCommand, line_of, role_word}
 use Rattle.service_descriptions.specs.OneWay.{role_one}
 use Rattle.service_descriptions.proofs.OneReading.{one_command}
-use Rattle.log_lines.specs.Lines.{given_text}
 use Rattle.log_lines.specs.States.{AddsEntry, HasEntry, HasNodes, HasPorts, HasState, State, entry_text, locked_word, nodes_text, ports_text, state_text}
 use Rattle.log_lines.specs.States.State.{nodes, ports, entry}
 
@@ -174,11 +173,3 @@ pub none_by : {X : Type 0} (P Q : Type 0) (found : Option X) → IfNone found P 
     → IfNone found Q
 none_by P Q (Some v) h f = h
 none_by P Q None h f = f h
-
--- what does not begin so gives nothing
-pub given_other : {X E : Type 0} (result : Result (Option X) E) (rest : List ℕ)
-    → ((more : List ℕ) → rest ≢ codes "state " ++ more)
-    → IfOk result (λ found. IfNone found ((s : State) → HasState s → rest ≢ given_text s))
-given_other (Ok (Some v)) rest none = tt
-given_other (Ok None) rest none = λ s h e. none (state_text s) e
-given_other (Err e) rest none = tt

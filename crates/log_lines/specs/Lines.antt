@@ -1,5 +1,5 @@
 -- The lines of logs.
-use Rattle.std.specs.Prelude.{◌≡◌, ◌==◌, ◌&&◌, ℕ, ◌<◌, ◌≤◌, ◌^◌, Bool, true, IsTrue, List, [], ◌∷◌, ◌++◌, Option, Some, None, codes, length}
+use Rattle.std.specs.Prelude.{◌≡◌, ◌≢◌, ◌==◌, ◌&&◌, ℕ, ◌<◌, ◌≤◌, ◌^◌, Bool, true, IsTrue, List, [], ◌∷◌, ◌++◌, Option, Some, None, codes, get_or, length}
 use Rattle.std.specs.Char.{is_ascii_alphanumeric}
 use Rattle.std.specs.Fmt.{decimal}
 use Rattle.service_descriptions.specs.declared.replay.lines.service_line.ServiceLine.{ServiceLine}
@@ -28,6 +28,16 @@ pub record IsCaller (name : List ℕ) : Type 0 where
   pub letters : IsTrue (are_letters name)
   pub some : 0 < length name
   pub few : length name ≤ 16
+
+-- the text begins with these letters and digits, and this follows them
+pub record Comes (text front back : List ℕ) : Type 0 where
+  pub whole : text ≡ front ++ back
+  pub letters : IsTrue (are_letters front)
+  pub ends : ¬ (IsNameByte (get_or back 0 0))
+
+-- the byte with which it begins
+abbrev pub mark : List ℕ → ℕ
+mark bytes = get_or bytes 0 0
 
 -- the number of a service before a call on it
 abbrev pub number_text : ℕ → List ℕ
@@ -96,3 +106,10 @@ line_seen (spelled.State number s) = given number (state_seen s)
 -- the line is one on a service, with this number, and this text after it
 abbrev pub IsLineOf : Option ℕ → List ℕ → Line → Type 0
 IsLineOf number rest line = IsLine line × (line_text line ≡ name_text number ++ rest)
+
+-- the text is none of a call, alone or begun, nor of what is given of a service
+pub record HasNone (text : List ℕ) : Type 0 where
+  pub alone : (c : NamedCommand) → HasText c → text ≢ command_text c
+  pub begun : (caller : List ℕ) (b : Begun) → IsCaller caller → HasBegun b
+      → text ≢ begin_text caller b
+  pub given : (s : State) → HasState s → text ≢ given_text s

@@ -1,4 +1,4 @@
-//! The lines of logs: what was called on services, and what was answered.
+//! The lines of logs of services: the calls, the replies that were seen, and states that are given.
 #![tactic(auto)]
 
 mod command;

@@ -1,12 +1,12 @@
 //! Lines of a log, and the names of callers and the numbers of services in them.
 ghost use Rattle.std.specs.Prelude.{◌≡◌, ◌≢◌, ◌<◌, ◌≤◌, ◌^◌, ◌++◌, ℕ, List, Option};
-ghost use Rattle.std.specs.Prelude.{IfNone, IfOk, IfSome, IsTrue, codes, get_or, length};
+ghost use Rattle.std.specs.Prelude.{IfNone, IfOk, IfSome, IsTrue, codes};
 ghost use Rattle.std.specs.Option.{option_map};
 ghost use Rattle.line_streams.specs.Spelling.{Reads};
-ghost use Rattle.log_lines.specs.Commands.{Begun, HasBegun, HasText, NamedCommand, command_text};
-ghost use Rattle.log_lines.specs.States.{HasState, State};
-ghost use Rattle.log_lines.specs.Lines.{HasNumber, IsCaller, IsLine, IsLineOf, IsNameByte, are_letters};
-ghost use Rattle.log_lines.specs.Lines.{begin_text, given_text, is_note, line_seen, line_text, number_text};
+ghost use Rattle.log_lines.specs.Commands.{Begun, HasBegun, begun_text};
+ghost use Rattle.log_lines.specs.States.{HasState, State, state_text};
+ghost use Rattle.log_lines.specs.Lines.{Comes, HasNone, HasNumber, IsCaller, IsLine, IsLineOf};
+ghost use Rattle.log_lines.specs.Lines.{are_letters, is_note, line_seen, line_text, mark, number_text};
 ghost use Rattle.service_descriptions.specs.Script.{IsServiceLine, service_line};
 
 use super::command::{BegunCall, LogCommand, read_begun, read_command};
@@ -20,10 +20,10 @@ use std::alloc::{AllocError, Global};
 pub enum LogLine<'a> {
     /// A service.
     Service(ServiceLine),
-    /// A call that overlaps none of its caller's, with the number of its service or without. Its
-    /// reply follows.
+    /// A call alone, of no caller, with the number of its service or without. It begins and ends in
+    /// the line of its reply, which follows.
     Call(Option<u64>, LogCommand),
-    /// The words of the reply to the call above.
+    /// The words of the reply to the call alone above.
     Reply(&'a [u8]),
     /// The begin of a call: the number of its service or none, its caller, and what it begins.
     Begin(Option<u64>, &'a [u8], BegunCall),
@@ -50,9 +50,7 @@ const MAX_NAME: usize = 16;
 
 /// The letters and digits that begin the line, and what follows them.
 fn split_name(line: &[u8]) -> (&[u8], &[u8])
-    ensures whole { line.now ≡ result.0.now ++ result.1.now }
-    ensures name { IsTrue (are_letters result.0.now) }
-    ensures ends { ¬ (IsNameByte (get_or result.1.now 0 0)) }
+    ensures { Comes line.now result.0.now result.1.now }
 {
     for at in 0..line.len() {
         if !line[at].is_ascii_alphanumeric() {
@@ -87,31 +85,30 @@ fn number_front(line: &[u8]) -> Option<(u64, &[u8])>
     Some((number, rest))
 }
 
-/// Whether no command begins as the line does. A no says nothing.
-fn begins_otherwise(line: &[u8]) -> bool {
-    match line {
-        [] => true,
-        [first, ..] => !first.is_ascii_lowercase(),
+/// The byte that follows a name, or 0 where none does.
+fn mark_of(rest: &[u8]) -> u8
+    ensures { result ≡ mark rest.now }
+{
+    match rest {
+        [] => 0,
+        [first, ..] => *first,
     }
 }
 
-/// The begin of a call whose text this is, after the number of its service.
+/// What this caller begins with the text.
 fn begin_of<'a>(
     alloc: Global,
     number: Option<u64>,
-    rest: &'a [u8],
+    caller: &'a [u8],
+    text: &[u8],
 ) -> Result<Option<LogLine<'a>>, AllocError>
-    requires { HasNumber number }
-    ensures some { IfOk result (λ found. IfSome found (λ line. IsLineOf number rest.now
-        (line_seen line))) }
-    ensures begun { IfOk result (λ found. IfNone found ((caller : List ℕ)
-        (begun : Begun) → IsCaller caller → HasBegun begun
-        → rest.now ≢ begin_text caller begun)) }
+    requires number { HasNumber number }
+    requires letters { IsTrue (are_letters caller.now) }
+    ensures some { IfOk result (λ found. IfSome found (λ line. IsLineOf number
+        (caller.now ++ (codes "> " ++ text.now)) (line_seen line))) }
+    ensures none { IfOk result (λ found. IfNone found ((begun : Begun)
+        → IsCaller caller.now → HasBegun begun → text.now ≢ begun_text begun)) }
 {
-    let (caller, after) = split_name(rest);
-    let Some(text) = after_word(after, b"> ") else {
-        return Ok(None);
-    };
     if !is_caller(caller) {
         return Ok(None);
     }
@@ -121,84 +118,71 @@ fn begin_of<'a>(
     }
 }
 
-/// The call whose text this is, alone or the begin of one, after the number of its service. What is
-/// more likely is tried first.
-#[inline(always)]
-fn call_of<'a>(
+/// The state whose text this is.
+fn state_of<'a>(
     alloc: Global,
     number: Option<u64>,
-    rest: &'a [u8],
+    text: &[u8],
 ) -> Result<Option<LogLine<'a>>, AllocError>
     requires { HasNumber number }
-    ensures some { IfOk result (λ found. IfSome found (λ line. IsLineOf number rest.now
-        (line_seen line))) }
-    ensures alone { IfOk result (λ found. IfNone found ((command : NamedCommand)
-        → HasText command → rest.now ≢ command_text command)) }
-    ensures begun { IfOk result (λ found. IfNone found ((caller : List ℕ)
-        (begun : Begun) → IsCaller caller → HasBegun begun
-        → rest.now ≢ begin_text caller begun)) }
+    ensures some { IfOk result (λ found. IfSome found (λ line. IsLineOf number
+        (codes "state " ++ text.now) (line_seen line))) }
+    ensures none { IfOk result (λ found. IfNone found ((s : State) → HasState s
+        → text.now ≢ state_text s)) }
 {
-    if begins_otherwise(rest) {
-        if let Some(begin) = begin_of(alloc, number, rest)? {
-            return Ok(Some(begin));
-        }
-    }
-    if let Some(command) = read_command(alloc, rest)? {
-        return Ok(Some(LogLine::Call(number, command)));
-    }
-    begin_of(alloc, number, rest)
-}
-
-/// The state or the call whose text this is, after the number of its service.
-#[inline(always)]
-fn on_service<'a>(
-    alloc: Global,
-    number: Option<u64>,
-    rest: &'a [u8],
-) -> Result<Option<LogLine<'a>>, AllocError>
-    requires { HasNumber number }
-    ensures some { IfOk result (λ found. IfSome found (λ line. IsLineOf number rest.now
-        (line_seen line))) }
-    ensures alone { IfOk result (λ found. IfNone found ((command : NamedCommand)
-        → HasText command → rest.now ≢ command_text command)) }
-    ensures begun { IfOk result (λ found. IfNone found ((caller : List ℕ)
-        (begun : Begun) → IsCaller caller → HasBegun begun
-        → rest.now ≢ begin_text caller begun)) }
-    ensures given { IfOk result (λ found. IfNone found ((s : State) → HasState s
-        → rest.now ≢ given_text s)) }
-{
-    let Some(text) = after_word(rest, b"state ") else {
-        return call_of(alloc, number, rest);
-    };
     match read_state(alloc, text)? {
         Some(state) => Ok(Some(LogLine::State(number, state))),
         None => Ok(None),
     }
 }
 
-/// The line of a caller whose call ends, or who died.
-fn end_of(line: &[u8]) -> Option<LogLine<'_>>
-    ensures some { IfSome result (λ found. IsLine (line_seen found)
-        × (line.now ≡ line_text (line_seen found))) }
-    ensures ended { IfNone result ((caller words : List ℕ) → IsCaller caller
-        → line.now ≢ caller ++ (codes "< " ++ words)) }
-    ensures died { IfNone result ((caller : List ℕ) → IsCaller caller
-        → line.now ≢ caller ++ codes "!") }
+/// The begin of a call, the state or the call alone whose text this is, after the number of its
+/// service. It begins with the name, and with what follows that.
+#[inline(always)]
+fn on_service<'a>(
+    alloc: Global,
+    number: Option<u64>,
+    text: &'a [u8],
+    name: &'a [u8],
+    rest: &'a [u8],
+) -> Result<Option<LogLine<'a>>, AllocError>
+    requires number { HasNumber number }
+    requires split { Comes text.now name.now rest.now }
+    ensures some { IfOk result (λ found. IfSome found (λ line. IsLineOf number text.now
+        (line_seen line))) }
+    ensures none { IfOk result (λ found. IfNone found (HasNone text.now)) }
 {
-    let (caller, after) = split_name(line);
-    if !is_caller(caller) {
+    if let Some(begun) = after_word(rest, b"> ") {
+        return begin_of(alloc, number, name, begun);
+    }
+    if let Some(given) = after_word(text, b"state ") {
+        return state_of(alloc, number, given);
+    }
+    match read_command(alloc, text)? {
+        Some(command) => Ok(Some(LogLine::Call(number, command))),
+        None => Ok(None),
+    }
+}
+
+/// The line of a caller whose call ends, or who died, by its name and what follows that.
+fn end_of<'a>(name: &'a [u8], rest: &'a [u8]) -> Option<LogLine<'a>>
+    requires { IsTrue (are_letters name.now) }
+    ensures some { IfSome result (λ found. IsLine (line_seen found)
+        × (name.now ++ rest.now ≡ line_text (line_seen found))) }
+    ensures ended { IfNone result ((words : List ℕ) → IsCaller name.now
+        → rest.now ≢ codes "< " ++ words) }
+    ensures died { IfNone result (IsCaller name.now → rest.now ≢ codes "!") }
+{
+    if !is_caller(name) {
         return None;
     }
-    if let Some(words) = after_word(after, b"< ") {
-        return Some(LogLine::End(caller, words));
+    if let Some(words) = after_word(rest, b"< ") {
+        return Some(LogLine::End(name, words));
     }
-    let Some(rest) = after_word(after, b"!") else {
-        return None;
-    };
-    if !rest.is_empty() {
+    if rest != b"!".as_slice() {
         return None;
     }
-    Some(LogLine::Crash(caller))
+    Some(LogLine::Crash(name))
 }
 
 /// The service whose line this is.
@@ -235,25 +219,20 @@ pub fn read_log_line(alloc: Global, line: &[u8]) -> Result<Option<LogLine<'_>>, 
     if let Some(words) = after_word(line, b"= ") {
         return Ok(Some(LogLine::Reply(words)));
     }
-    if begins_otherwise(line) {
-        if let Some(found) = end_of(line) {
-            return Ok(Some(found));
-        }
+    let (name, rest) = split_name(line);
+    let mark = mark_of(rest);
+    if mark == b'<' || mark == b'!' {
+        return Ok(end_of(name, rest));
     }
-    if let Some(found) = on_service(alloc, None, line)? {
-        return Ok(Some(found));
-    }
-    if let Some((number, rest)) = number_front(line) {
-        return match on_service(alloc, Some(number), rest)? {
-            Some(found) => Ok(Some(found)),
-            None => Ok(None),
+    if mark == b':' {
+        let Some((number, text)) = number_front(line) else {
+            return Ok(None);
         };
+        let (name, rest) = split_name(text);
+        return on_service(alloc, Some(number), text, name, rest);
     }
-    if let Some(found) = end_of(line) {
-        return Ok(Some(found));
+    if let Some(service) = service_of(alloc, line)? {
+        return Ok(Some(LogLine::Service(service)));
     }
-    match service_of(alloc, line)? {
-        Some(service) => Ok(Some(LogLine::Service(service))),
-        None => Ok(None),
-    }
+    on_service(alloc, None, line, name, rest)
 }

@@ -18,9 +18,9 @@ use std::alloc::{AllocError, Global};
 /// What a line gives of a service that was in use.
 #[derive(Drop)]
 pub enum LogState {
-    /// So many tickets of its nodes were used, and whether it is locked.
+    /// How many tickets of its nodes were used, and whether it is locked.
     Nodes(u64, bool),
-    /// So many tickets of its ports of this role were used.
+    /// The role of ports, and how many of their tickets were used.
     Ports(Role, u64),
     /// An entry of a node: its slot, its ticket and its id.
     Node(usize, u64, UniqueNodeId),

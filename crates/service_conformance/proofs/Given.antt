@@ -1,8 +1,8 @@
 -- What is given of a service that was in use.
-use Rattle.std.proofs.Common.{◌≡◌, ◌≢◌, ℕ, zero, suc, ◌<◌, ◌≤◌, Bool, true, false, List, [], ◌∷◌, ◌++◌, length, take, refl, sym, ◌∙◌, ap, subst, arith}
+use Rattle.std.proofs.Common.{◌≡◌, ◌≢◌, ℕ, ◌<◌, ◌≤◌, Bool, true, false, List, [], ◌∷◌, ◌++◌, length, refl, sym, ◌∙◌, ap, subst, arith}
 use Rattle.std.specs.Prelude.{All, AllPairs, IfOk, OnErr, Result, Ok, Err}
 use Rattle.std.proofs.lemmas.List.{length-append}
-use Rattle.std.proofs.lemmas.List.Elements.{All-head, All-nil, All-cons, All-push, All-tail, All-weaker, filter-append}
+use Rattle.std.proofs.lemmas.List.Elements.{All-head, All-nil, All-cons, All-push, All-weaker, filter-append}
 use Rattle.std.proofs.lemmas.List.Quantifiers.{all_pairs_push}
 use Rattle.iox2_container.proofs.Gaining.{All-back, AllPairs-head, AllPairs-tail}
 use Rattle.iox2_container.specs.declared.container.role.Role.{Role}
@@ -92,15 +92,6 @@ pub last_is : {T : Type 0} (s r : RegistryState T) (e : Entry T) (l : List (Entr
 last_is {T} s r e l same is =
     ap (λ (es : List (Entry T)). record s { entries = es }) is
     ∙ ap (λ (x : RegistryState T). record x { entries = x.entries ++ e ∷ [] }) same
-
--- what holds of the first ones, where these are all
-pub all_whole : {X : Type 0} (P : X → Type 0) (xs : List X) (i : ℕ) → length xs ≤ i
-    → All P (take i xs) → All P xs
-all_whole P [] i h all = All-nil P
-all_whole P (x ∷ xs) zero h all = absurd (omega (arith, h))
-all_whole P (x ∷ xs) (suc i) h all =
-    All-cons P x xs (All-head P x (take i xs) all)
-    (all_whole P xs i (omega (arith, h)) (All-tail P x (take i xs) all))
 
 -- one more node leaves those that are registered
 more_of : (id : ℕ) (r : RegistryState ℕ) (x : Entry ℕ)

@@ -7,7 +7,7 @@ use Rattle.iox2_container.specs.declared.container.refusal.ContainerRemoveError.
 use Rattle.iox2_container.specs.declared.container.release.ReleaseMode.TheVariants.{Default}
 use Rattle.iox2_container.specs.declared.container.release.ReleaseState.{ReleaseState}
 use Rattle.iox2_container.specs.Handle.{Handle}
-use Rattle.iox2_container.specs.State.{Entry, RegistryState, IsRegistry}
+use Rattle.iox2_container.specs.State.{Entry, RegistryState}
 use Rattle.iox2_container.specs.Steps.{AddStep, RemoveStep, is_of}
 use Rattle.iox2_container.proofs.Counting.{counted, counted-InsertsOne, one_if}
 use Rattle.iox2_dynamic.specs.declared.dynamic_config.port_details.PortDetails.{PortDetails}

@@ -1,31 +1,25 @@
 -- Lists of entries by rising slot.
-use Rattle.std.proofs.Common.{◌≡◌, ◌≢◌, ℕ, zero, suc, ◌+◌, ◌<◌, ◌≤◌, List, [], ◌∷◌, ◌++◌, length, take, drop, get_or, sym, ◌∙◌, ap, subst, arith, length-drop}
-use Rattle.std.specs.Prelude.{All, AllPairs}
-use Rattle.std.proofs.lemmas.List.{get_or_default, get_or-drop, take-append-drop}
-use Rattle.std.proofs.lemmas.List.Elements.{All-head, All-tail, All-append, All-cons, All-weaker}
-use Rattle.iox2_container.proofs.Gaining.{AllPairs-head, AllPairs-tail, All-back, All-put}
+use Rattle.std.proofs.Common.{◌≡◌, ◌≢◌, ℕ, ◌+◌, ◌<◌, ◌≤◌, Option, Some, None, Result, Ok, Err, List, [], ◌∷◌, ◌++◌, length, get_or, sym, ap, subst, inl, inr, arith, length-drop}
+use Rattle.std.specs.Prelude.{All, AllPairs, IfNone, IfSome}
+use Rattle.std.specs.List.{HoldsAt}
+use Rattle.std.specs.List.Sorted.{IsBinarySearchResult, IsSearchInRange}
+use Rattle.std.specs.Option.{MatchOption}
+use Rattle.std.specs.Ordering.{nat_cmp, ordering_index}
+use Rattle.std.specs.Result.{result_err}
+use Rattle.std.proofs.lemmas.Bool.{cases_lt}
+use Rattle.std.proofs.lemmas.Bool.Decides.{nat_tests}
+use Rattle.std.proofs.lemmas.Cmp.{ranked}
+use Rattle.std.proofs.lemmas.List.{get_or-drop, get_or-take, length-take}
+use Rattle.std.proofs.lemmas.List.Elements.{All-head, All-tail}
 use Rattle.std.proofs.lemmas.List.Kept.{AllPairs-cons}
-use Rattle.service_conformance.specs.Entries.{IsAt, IsFreePosition}
+use Rattle.std.proofs.lemmas.Option.{slice_get_cases}
+use Rattle.iox2_container.proofs.Gaining.{AllPairs-head, AllPairs-tail, All-back, All-put}
+use Rattle.service_conformance.specs.Entries.{HasAt, IsAt, IsFreePosition}
 use Rattle.iox2_container.specs.State.{Entry}
 
 -- the entries stand by rising slot
 abbrev pub Rise : {T : Type 0} → List (Entry T) → Type 0
 Rise es = AllPairs (λ a b. a.slot < b.slot) es
-
--- from an entry on, no slot is below its own
-pub all_from : {T : Type 0} (es : List (Entry T)) (i n : ℕ) (d : Entry T) → Rise es → i < length es
-    → n ≤ (get_or es i d).slot → All (λ e. n ≤ e.slot) (drop i es)
-all_from {T} [] i n d r h l = absurd (omega arith)
-all_from {T} (e ∷ es) zero n d r h l =
-    All-cons (λ (x : Entry T). n ≤ x.slot) e es l
-    (λ k q m. (let b : e.slot < (get_or es k q).slot = AllPairs-head
-    (λ (a b : Entry T). a.slot < b.slot) e es r k q m in omega arith))
-all_from {T} (e ∷ es) (suc i) n d r h l =
-    all_from es i n d (AllPairs-tail (λ (a b : Entry T). a.slot < b.slot) e es r) (omega arith) l
-
-all_rise : {T : Type 0} (b a : List (Entry T)) (y : Entry T) → Rise (y ∷ (b ++ a))
-    → All (λ e. y.slot < e.slot) (b ++ a)
-all_rise {T} b a y r = AllPairs-head (λ (v w : Entry T). v.slot < w.slot) y (b ++ a) r
 
 -- an entry has one position among others
 pub one_position : {T : Type 0} (b a c d : List (Entry T)) (x : Entry T) → b ++ a ≡ c ++ d
@@ -68,65 +62,61 @@ rise_put {T} (y ∷ b) a x r below above =
     (rise_put b a x (AllPairs-tail R y (b ++ a) r)
     (All-tail (λ (e : Entry T). e.slot < x.slot) y b below) above)
 
--- the position that is found is free, where its entry, if there is one, is not of the slot
-pub free_there : {T : Type 0} (es : List (Entry T)) (slot position : ℕ) → Rise es
-    → position ≤ length es → All (λ e. e.slot < slot) (take position es)
-    → All (λ e. slot ≤ e.slot) (drop position es)
-    → ((d : Entry T) → position < length es → (get_or es position d).slot ≢ slot)
-    → IsFreePosition es slot position
-free_there {T} es slot position r within below from n = record {
-  within = within;
-  below = below;
-  above = λ k d h. (
-      let there : position < length es = omega (arith, length-drop position es) in
-      let f : slot ≤ (get_or (drop position es) 0 d).slot =
-      from 0 d (omega (arith, length-drop position es)) in
-      let z : get_or (drop position es) 0 d ≡ get_or es position d =
-      get_or-drop position es 0 d ∙ ap (λ n. get_or es n d) (omega arith) in
-      let first : slot ≤ (get_or es position d).slot = subst (λ (e : Entry T). slot ≤ e.slot) z f in
-      let not : (get_or es position d).slot ≢ slot = n d there in
-      all_from es position (suc slot) d r there (omega arith) k d h);
-}
+module _ {T : Type 0} (es : List (Entry T)) (rises : Rise es) (slot : ℕ) where
+  orders_rise : (i j : ℕ) (d : Entry T) → i ≤ j → j < length es
+      → ordering_index (nat_cmp (get_or es i d).slot slot)
+      ≤ ordering_index (nat_cmp (get_or es j d).slot slot)
+  orders_rise i j d le h = elim (cases_lt i j) [
+    | inl less ↦ (let r = rises i j d less h in grind (arith, nat_tests))
+    | inr more ↦ (let e : i ≡ j = omega arith in rw e (omega arith))
+  ]
 
--- an entry that was read is the one in its position
-pub other_slot : {T : Type 0} (es : List (Entry T)) (slot position : ℕ) (x d : Entry T)
-    → position < length es → x ≡ get_or es position x → x.slot ≢ slot
-    → (get_or es position d).slot ≢ slot
-other_slot {T} es slot position x d h e n q =
-    n (ap (λ (y : Entry T). y.slot) (e ∙ get_or_default es position x d h) ∙ q)
+  -- what a binary search for the slot finds
+  pub searched : (found : Result ℕ ℕ) (position : Option ℕ) → position ≡ result_err found
+      → IsSearchInRange found (length es)
+      → IsBinarySearchResult (λ e. nat_cmp e.slot slot) es found
+      → record {
+        none : IfNone position (¬ (All (λ e. e.slot ≢ slot) es));
+        some : IfSome position (IsFreePosition es slot);
+      }
+  searched (Ok at) p e within is = rw e (record {
+    none = taken es at within (λ d. ranked _ slot _ (sym (is d)));
+    some = tt;
+  })
+    where
+      taken : (es : List (Entry T)) (at : ℕ) → at < length es
+          → HoldsAt (λ e. e.slot ≡ slot) es at → ¬ (All (λ e. e.slot ≢ slot) es)
+      taken [] at h is free = omega (arith, h)
+      taken (e ∷ es) at h is free = free at e h (is e)
+  searched (Err at) p e within is =
+      let parts = is (λ i j d le h. orders_rise i j d le h) in
+      rw e (record {
+        none = tt;
+        some = record {
+          within = within;
+          below = λ k d h. (
+              let short : k < at = omega (arith, length-take at es) in
+              let less : (get_or es k d).slot < slot =
+              ranked _ slot _ (sym (parts.0 k d (omega arith) short)) in
+              rw (get_or-take at es k d short) less);
+          above = λ k d h. (
+              let there : at + k < length es = omega (arith, length-drop at es) in
+              let more : slot < (get_or es (at + k) d).slot =
+              ranked _ slot _ (sym (parts.1 (at + k) d (omega arith) there)) in
+              rw (get_or-drop at es k d) more);
+        };
+      })
 
-none_from : {T : Type 0} (es : List (Entry T)) (slot ticket position k : ℕ) (d : Entry T) → Rise es
-    → position + k < length es → slot ≤ (get_or (drop position es) 0 d).slot
-    → (position < length es → ¬ (IsAt slot ticket (get_or es position d)))
-    → ¬ (IsAt slot ticket (get_or es (position + k) d))
-none_from {T} es slot ticket position zero d r h from n q =
-    let z : get_or es (position + 0) d ≡ get_or es position d =
-    ap (λ i. get_or es i d) (omega arith) in
-    n (omega arith) (subst (IsAt slot ticket) z q)
-none_from {T} es slot ticket position (suc k) d r h from n q =
-    let z : get_or (drop position es) 0 d ≡ get_or es position d =
-    get_or-drop position es 0 d ∙ ap (λ i. get_or es i d) (omega arith) in
-    let first : slot ≤ (get_or es position d).slot =
-    subst (λ (e : Entry T). slot ≤ e.slot) z from in
-    let more : (get_or es position d).slot < (get_or es (position + suc k) d).slot =
-    r position (position + suc k) d (omega arith) (omega arith) in
-    absurd (omega (arith, q.0))
-
--- no entry has the slot and the ticket, where the first one that is not below has not
-pub none_there : {T : Type 0} (es : List (Entry T)) (slot ticket position : ℕ) → Rise es
-    → position ≤ length es → All (λ e. e.slot < slot) (take position es)
-    → All (λ e. slot ≤ e.slot) (drop position es)
-    → ((d : Entry T) → position < length es → ¬ (IsAt slot ticket (get_or es position d)))
-    → All (λ e. ¬ (IsAt slot ticket e)) es
-none_there {T} es slot ticket position r within below from n =
-    let P : Entry T → Type 0 = λ e. ¬ (IsAt slot ticket e) in
-    subst (λ (l : List (Entry T)). All P l) (take-append-drop position es)
-    (All-append P (take position es) (drop position es)
-    (All-weaker (λ (e : Entry T). e.slot < slot) P (λ e h q. absurd (omega (arith, q.0)))
-    (take position es) below)
-    (λ k d h q. none_from es slot ticket position k d r (omega (arith, length-drop position es))
-    (from 0 d (omega (arith, length-drop position es))) (n d)
-    (subst (IsAt slot ticket) (get_or-drop position es k d) q)))
+-- what is found in a position stands there
+pub first_at : {T : Type 0} (es : List (Entry T)) (slot ticket : ℕ) (None_is : Type 0)
+    (Before : ℕ → Type 0) (found : Option ℕ)
+    → MatchOption found None_is (λ i. (i < length es) × HoldsAt (IsAt slot ticket) es i × Before i)
+    → IfSome found (HasAt es slot ticket)
+first_at es slot ticket None_is Before None is = tt
+first_at es slot ticket None_is Before (Some i) is = elim (slice_get_cases es i).1 [
+  | inl at ↦ (at.0, at.2, subst (IsAt slot ticket) at.3 (is.1 at.0))
+  | inr past ↦ absurd (omega (arith, past.0, is.0))
+]
 
 -- an entry has one position: without it, the others are the same
 pub one_gone : {T : Type 0} (b a c d : List (Entry T)) (x y : Entry T) → b ++ x ∷ a ≡ c ++ y ∷ d
@@ -151,10 +141,3 @@ one_gone {T} (z ∷ b) a (w ∷ c) d x y e s r =
     let others : b ++ x ∷ a ≡ c ++ y ∷ d = cc in
     let rest : b ++ a ≡ c ++ d = one_gone b a c d x y others s (AllPairs-tail R z (b ++ x ∷ a) r) in
     cc
-
--- an entry that was read is the one in its position
-pub other_entry : {T : Type 0} (es : List (Entry T)) (slot ticket position : ℕ) (x d : Entry T)
-    → position < length es → x ≡ get_or es position x → ¬ (IsAt slot ticket x)
-    → ¬ (IsAt slot ticket (get_or es position d))
-other_entry {T} es slot ticket position x d h e n q =
-    n (subst (IsAt slot ticket) (sym (e ∙ get_or_default es position x d h)) q)

@@ -19,7 +19,6 @@ use Rattle.service_descriptions.specs.declared.replay.machine.command.Command.Th
 use Rattle.service_descriptions.specs.declared.replay.machine.reply.Reply.{Reply}
 use Rattle.service_descriptions.specs.declared.replay.machine.reply.Reply.TheVariants as reply
 use Rattle.service_descriptions.specs.Handles.{named}
-use Rattle.service_descriptions.specs.Lines.{HasLine}
 use Rattle.service_descriptions.specs.Replies.{IsSameReply, text_of}
 use Rattle.service_descriptions.specs.Steps.{Serves, ServesDeregister, ServesRelease}
 use Rattle.service_descriptions.proofs.Lines.{any_fits, any_number}
@@ -29,8 +28,11 @@ use Rattle.service_conformance.specs.declared.conformance.possible.Part.TheVaria
 use Rattle.service_conformance.specs.declared.conformance.line_reply.LineReply.{LineReply}
 use Rattle.service_conformance.specs.declared.conformance.possible.Possible.TheVariants as possible
 use Rattle.service_conformance.specs.declared.conformance.possible.PossibleReplies.TheVariants as replies
+use Rattle.service_conformance.specs.declared.conformance.request.Request.{Request}
+use Rattle.service_conformance.specs.declared.conformance.request.Request.TheVariants as request
 use Rattle.service_conformance.specs.Entries.{MayGive}
 use Rattle.service_conformance.specs.Possible.{ArePossible, IsCovered, MayGiveIn, reply_in}
+use Rattle.service_conformance.specs.Requests.{request_command}
 use Rattle.service_conformance.specs.Words.{AllowsWords, ArePossibleWords, IsNextHandle, IsNextIn, Tells, TellsHandle, handle_words}
 
 -- the text of a handle: its slot, a space, and the rest
@@ -281,14 +283,13 @@ module _ (s new : Service) (handles : List (Option Handle)) where
       ports_step c i ports a.0 a.2 (subst (λ q. Serves s None handles c q new) a.1 so)
   same_step c i _ q e so = subst (λ r. Serves s None handles c r new) (sym e) so
 
--- a command with a line is one whose replies are known
-pub covered : (c : Command) → HasLine c → IsCovered c
-covered (command.Register id) h = tt
-covered (command.Deregister k) h = tt
-covered command.Nodes h = tt
-covered (command.Add d) h = tt
-covered (command.Release k) h = tt
-covered (command.List role) h = tt
-covered (command.Count role) h = tt
-covered (command.Dead id (ByPort kept)) h = tt
-covered _ h = absurd h
+-- a command that was called is one whose replies are known
+pub request_covered : (a : Request) → IsCovered (request_command a)
+request_covered (request.Register id) = tt
+request_covered (request.Deregister handle) = tt
+request_covered request.Nodes = tt
+request_covered (request.Add port) = tt
+request_covered (request.Release handle) = tt
+request_covered (request.List role) = tt
+request_covered (request.Count role) = tt
+request_covered (request.Dead node kept) = tt

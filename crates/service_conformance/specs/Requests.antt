@@ -2,6 +2,7 @@
 use Rattle.std.specs.Prelude.{[], ◌∷◌, Option, None}
 use Rattle.iox2_container.specs.Handle.{Handle}
 use Rattle.iox2_dynamic.specs.Service.{Service}
+use Rattle.service_descriptions.specs.declared.replay.machine.command.Cleanup.TheVariants.{ByPort}
 use Rattle.service_descriptions.specs.declared.replay.machine.command.Command.{Command}
 use Rattle.service_descriptions.specs.declared.replay.machine.command.Command.TheVariants as command
 use Rattle.service_descriptions.specs.declared.replay.machine.reply.Reply.{Reply}
@@ -19,7 +20,7 @@ request_command (request.Add port) = command.Add (plain_of port)
 request_command (request.Release handle) = command.Release 0
 request_command (request.List role) = command.List role
 request_command (request.Count role) = command.Count role
-request_command (request.Dead node cleanup) = command.Dead node cleanup
+request_command (request.Dead node kept) = command.Dead node (ByPort kept)
 
 -- the handle that it names, or none
 abbrev pub request_handle : Request → Option Handle

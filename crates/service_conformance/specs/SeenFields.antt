@@ -3,7 +3,6 @@ use Rattle.std.specs.Option.{option_map}
 use Rattle.service_conformance.specs.declared.conformance.seen_call.SeenCall.TheInside.{Inside}
 use Rattle.service_conformance.specs.Requests.{request_command, request_handle}
 use Rattle.service_conformance.specs.Calls.{Call}
-use Rattle.service_conformance.specs.Possible.{IsCovered}
 use Rattle.service_conformance.specs.Seen.{seen_text}
 
 -- the call that they tell
@@ -13,7 +12,3 @@ seen_as c = record {
   handle = request_handle c.request;
   words = option_map seen_text c.seen;
 }
-
--- its possible replies are known
-abbrev pub IsSoundSeen : Inside → Type 0
-IsSoundSeen c = IsCovered (request_command c.request)

@@ -19,7 +19,7 @@ const CALLS: [Call; 9] = [
     ("nodes", None, "list"),
 ];
 
-/// Whether each call moves before each, by its place in the row.
+/// Whether a call moves before another: a row for each call, a column for each other one.
 const MOVES: [&str; 9] = [
     "y........",
     "yyy.y....",

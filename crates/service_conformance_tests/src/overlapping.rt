@@ -1,7 +1,4 @@
 //! Histories of calls that overlapped, with what becomes of them.
-ghost use Rattle.std.specs.Prelude.{IfOk, IfSome};
-ghost use Rattle.service_conformance.specs.Possible.{IsCovered};
-ghost use Rattle.service_descriptions.specs.Lines.{command_of};
 
 use histories::{Event, Verdict, judge};
 use iox2_container::container::{ContainerHandle, Role};
@@ -20,7 +17,7 @@ use std::test::Fail;
 /// answered.
 pub(crate) type Call = (&'static str, Option<(Role, usize, u64)>, &'static str);
 
-/// A history of calls on an event service with room for three nodes and two listeners.
+/// A history of calls on an event service for three nodes, two listeners and two notifiers.
 #[derive(Clone, Copy)]
 struct Row {
     /// The calls, by their begins.
@@ -50,7 +47,7 @@ const NONE_LISTED: Call = ("nodes", None, "list");
 
 const ONE_LISTED: Call = ("nodes", None, LIST_1);
 
-/// A call that is registered and never answered.
+/// A node is registered by a call that is never answered.
 const OPEN_1: Call = ("register 1.0.0.1", None, "");
 
 const ROWS: [Row; 14] = [
@@ -250,10 +247,7 @@ const ROWS: [Row; 14] = [
 ];
 
 /// The command of a line.
-#[tactic(auto, using(service_conformance::proofs::Words::covered))]
-fn command(alloc: Global, line: &str) -> Result<Option<LineCommand>, AllocError>
-    ensures { IfOk result (λ found. IfSome found (λ c. IsCovered (command_of c))) }
-{
+fn command(alloc: Global, line: &str) -> Result<Option<LineCommand>, AllocError> {
     match command_before(alloc, line.as_bytes(), LineEnd::Bytes)? {
         Some((command, _)) => Ok(Some(command)),
         None => Ok(None),

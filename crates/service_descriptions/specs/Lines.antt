@@ -154,4 +154,4 @@ command_of (spelled.Add port) = command.Add (plain_of port)
 command_of (spelled.Release k) = command.Release k
 command_of (spelled.List role) = command.List role
 command_of (spelled.Count role) = command.Count role
-command_of (spelled.Dead node cleanup) = command.Dead node cleanup
+command_of (spelled.Dead node kept) = command.Dead node (ByPort kept)

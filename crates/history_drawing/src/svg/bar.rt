@@ -18,7 +18,7 @@ fn is_refused(end: &BarEnd<'_>, refused: Option<usize>) -> bool
     }
 }
 
-/// What a call is in the picture.
+/// The class of a call in the style sheet.
 fn class_of(is_refused: bool) -> &'static str
     ensures { result.now ≡ class_text is_refused }
 {
@@ -36,7 +36,7 @@ fn words_of<'a>(end: &BarEnd<'a>) -> &'a [u8]
     }
 }
 
-/// Appends the outline of a bar, which is open on the right.
+/// Appends the outline of a bar, which has no line on the right.
 #[tactic(auto, unfolding(crate::specs::Bars::outline_text))]
 fn write_outline(
     out: &mut String,
@@ -70,7 +70,7 @@ fn write_end(out: &mut String, to: usize, y: usize, end: &BarEnd<'_>) -> Result<
     }
 }
 
-/// Appends what cuts off the words of a call behind its bar.
+/// Appends the begin of the frame that cuts off the words of a call at the end of its bar.
 #[tactic(auto, unfolding(crate::specs::Bars::frame_text))]
 fn write_frame(out: &mut String, from: usize, width: usize, y: usize) -> Result<(), AllocError>
     ensures { OnOk result (string_bytes out.new ≡ string_bytes out.old ++ frame_text from width y) }

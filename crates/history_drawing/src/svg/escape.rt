@@ -4,8 +4,8 @@ ghost use Rattle.history_drawing.specs.Escape.{element_text, escaped, escaped_by
 
 use std::alloc::AllocError;
 
-/// Appends a byte as a document has it: a mark of the language by its name, and what is no letter,
-/// digit or mark of ASCII as `?`.
+/// Appends a byte as a document has it: `&`, `<` and `>` by their names, and what is no printable
+/// ASCII as `?`.
 fn write_byte(out: &mut String, byte: u8) -> Result<(), AllocError>
     ensures { OnOk result (string_bytes out.new ≡ string_bytes out.old ++ escaped_byte byte) }
 {
@@ -28,7 +28,7 @@ fn write_escaped(out: &mut String, bytes: &[u8]) -> Result<(), AllocError>
     Ok(())
 }
 
-/// Appends bytes as a document has them, between two texts of the language.
+/// Appends bytes as a document has them, between the tags that begin and end an element.
 #[tactic(auto, unfolding(crate::specs::Escape::element_text))]
 pub(super) fn write_element(
     out: &mut String,

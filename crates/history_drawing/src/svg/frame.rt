@@ -8,7 +8,7 @@ use super::place::{left, own_end};
 use crate::timeline::Bar;
 use std::alloc::AllocError;
 
-/// The colors, also for those who read light on dark.
+/// The style sheet: fonts, strokes and colours, also for those who read light on dark.
 pub(super) const STYLE: &str = "<style>
 text { fill: #222222; font-size: 12px }
 .page { fill: #ffffff }
@@ -117,7 +117,7 @@ pub(super) fn write_marks(
     Ok(())
 }
 
-/// What a caller is called: calls alone have none.
+/// The name by which a row is labelled: calls alone have no caller.
 fn label(name: &[u8]) -> &[u8]
     ensures { result.now ≡ label name.now }
 {

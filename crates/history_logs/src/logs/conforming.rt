@@ -16,8 +16,8 @@ use line_streams::before_byte;
 use service_conformance::conformance::WatchedService;
 use std::alloc::{AllocError, Global};
 
-/// What was seen settles once in so many lines, or once in as many as there were events left, if
-/// these were more: to look at them again costs each line the same.
+/// Services settle once in so many lines, or in as many as events were left the last time, if these
+/// were more. So the cost of a line does not grow with the events that are left.
 const LINES_A_SETTLING: usize = 4096;
 
 /// Each of so many services has a front, or none yet.

@@ -1,6 +1,6 @@
 //! Reading a log line by line.
 ghost use Rattle.std.specs.Prelude.{◌≡◌, ◌≢◌, ◌<◌, ℕ, List, [], None, Some, IfNone, IfOk, IfSome, IsFalse, IsTrue, length, slice_get};
-ghost use Rattle.log_lines.specs.Commands.{HasBegun, HasText, begun_in, named as named_command};
+ghost use Rattle.log_lines.specs.Commands.{begun_in, named as named_command};
 ghost use Rattle.log_lines.specs.Lines.Line.{service as service_line, call as call_line};
 ghost use Rattle.log_lines.specs.Lines.Line.{begin as begin_line, end as end_line, crash as crash_line};
 ghost use Rattle.log_lines.specs.Lines.Line.{given as given_line};
@@ -212,8 +212,7 @@ impl Reading {
 
     /// A call alone. Returns what is expected instead, if it may not come.
     fn call(&mut self, number: Option<u64>, command: LogCommand) -> Option<Expected>
-        requires waits { self.old.waits ≡ None }
-        requires text { HasText (named_command command) }
+        requires { self.old.waits ≡ None }
         ensures { (k : ℕ) → Does (log_of self.old) k
             (call_line number (named_command command)) result (log_of self.new) }
     {
@@ -236,7 +235,6 @@ impl Reading {
     ) -> Result<Option<Expected>, AllocError>
         requires waits { self.old.waits ≡ None }
         requires sane { IsSane (log_of self.old) }
-        requires text { HasBegun (begun_in begun) }
         ensures { IfOk result (λ found. Does (log_of self.old) line
             (begin_line number caller.now (begun_in begun)) found (log_of self.new)) }
     {
@@ -308,7 +306,8 @@ impl Reading {
         }
     }
 
-    /// The reply to the call that waits, in this line. Returns whether it is one.
+    /// The reply to the call that waits, in this line. Returns what is expected instead, if it is
+    /// none.
     fn reply(
         &mut self,
         alloc: Global,
@@ -344,7 +343,6 @@ impl Reading {
     ) -> Result<Option<Expected>, AllocError>
         requires waits { self.old.waits ≡ None }
         requires sane { IsSane (log_of self.old) }
-        requires is { IsLine (line_seen read) }
         ensures { IfOk result (λ found.
             Does (log_of self.old) line (line_seen read.entry) found (log_of self.new)) }
     {

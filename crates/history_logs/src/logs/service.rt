@@ -1,6 +1,6 @@
 //! What was seen of a service.
 ghost use Rattle.std.specs.Prelude.{◌≡◌, ◌↔◌, ◌+◌, ◌++◌, ◌<◌, ◌≤◌, ℕ, IsTrue, replicate, OnOk, IfOk, Some, None, get_or, length};
-ghost use Rattle.log_lines.specs.Commands.{HasBegun, HasText, begun_in, named};
+ghost use Rattle.log_lines.specs.Commands.{begun_in, named};
 ghost use Rattle.log_lines.specs.Commands.Begun.{weak};
 ghost use Rattle.log_lines.specs.States.{state_seen};
 ghost use Rattle.service_conformance.specs.Given.{Becomes};
@@ -158,13 +158,13 @@ impl LogService {
     pub(super) fn give(&mut self, given: LogState) -> Result<bool, AllocError>
         ensures { IfOk result (λ yes. Starts self.old (state_seen given) yes self.new) }
     {
-        if self.first > 0 || !self.calls.is_empty() {
+        if self.has_calls() {
             return Ok(false);
         }
         give(&mut self.start, given)
     }
 
-    /// The calls, by their begins.
+    /// All calls, by their begins.
     pub(super) fn calls(&self) -> &[JudgedCall]
         requires { self.now.first ≡ 0 }
         ensures { result.now ≡ self.now.calls }
@@ -186,7 +186,7 @@ impl LogService {
         self.first
     }
 
-    /// The calls behind those that are forgotten.
+    /// The calls behind those that are forgotten, by their begins.
     pub(super) fn kept(&self) -> &[JudgedCall]
         ensures { self.now.calls ≡ replicate self.now.first forgotten ++ result.now }
     {
@@ -207,7 +207,7 @@ impl LogService {
         self.calls[at].stopped()
     }
 
-    /// The line in which each of them begins.
+    /// The line in which each call begins, where none is forgotten.
     pub(super) fn begins(&self) -> &[usize]
         ensures { result.now ≡ self.now.begins }
     {
@@ -221,7 +221,7 @@ impl LogService {
         &self.events
     }
 
-    /// The line of each event.
+    /// The line of each event, where no call is forgotten.
     pub(super) fn event_lines(&self) -> &[usize]
         ensures { result.now ≡ self.now.event_lines }
     {
@@ -261,9 +261,7 @@ impl LogService {
     }
 
     /// The call of a command, whose reply was not seen.
-    #[tactic(auto, using(service_conformance::proofs::Words::covered))]
     pub(super) fn call(&self, command: LogCommand) -> LogCall
-        requires { HasText (named command) }
         ensures { result ≡ called self.now (named command) }
     {
         match command {
@@ -275,6 +273,7 @@ impl LogService {
                     adds,
                 }
             }
+            // Of a removal that names its handle the number of a command is not looked at.
             LogCommand::Deregister(slot, ticket) => LogCall {
                 seen: JudgedCall::call(SeenCall::new(
                     LineCommand::Deregister(0),
@@ -370,8 +369,7 @@ impl LogService {
     /// What a caller begins in this line. Returns the number of the call that is open. Where memory
     /// was refused, the service is not to be used any more.
     pub(super) fn begin_call(&mut self, begun: BegunCall, line: usize) -> Result<usize, AllocError>
-        requires text { HasBegun (begun_in begun) }
-        requires handles { HasHandles self.old }
+        requires { HasHandles self.old }
         ensures { IfOk result (λ current. Begins self.old (begun_in begun) line self.new current) }
     {
         match begun {
@@ -419,7 +417,8 @@ impl LogService {
         Ok(())
     }
 
-    /// Forgets the calls below this number, so many of the events, and all lines.
+    /// Forgets the calls below this number, so many of the events, and all lines. Where memory was
+    /// refused, the service is not to be used any more.
     pub(super) fn forget(&mut self, first: usize, followed: usize) -> Result<(), AllocError>
         requires first { self.old.first ≤ first }
         requires within { first ≤ length self.old.calls }

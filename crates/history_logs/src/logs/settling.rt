@@ -181,30 +181,6 @@ fn begin(alloc: Global, service: &LogService) -> Result<Front<WatchedService>, A
     first_front(alloc, &machine, &states)
 }
 
-/// Settles what was seen of a service. Returns whether orders explain what is settled.
-pub(super) fn settle(
-    alloc: Global,
-    service: &mut LogService,
-    front: &mut Option<Front<WatchedService>>,
-) -> Result<bool, AllocError>
-    requires { HasShort service.old front.old }
-    ensures { IfOk result (λ yes. IsTrue yes
-        → Stays service.old front.old service.new front.new) }
-{
-    if !service.has_calls() {
-        return Ok(true);
-    }
-    let mut next = match front.take() {
-        Some(next) => next,
-        None => begin(alloc, service)?,
-    };
-    if !follow(alloc, service, &mut next)? {
-        return Ok(false);
-    }
-    *front = Some(next);
-    Ok(true)
-}
-
 /// The front of a service, or that before any call on it, where there is none yet.
 fn front_or_begin(
     alloc: Global,
@@ -218,6 +194,27 @@ fn front_or_begin(
         Some(last) => Ok(last),
         None => begin(alloc, service),
     }
+}
+
+/// Settles what was seen of a service. Returns whether orders explain what is settled.
+pub(super) fn settle(
+    alloc: Global,
+    service: &mut LogService,
+    front: &mut Option<Front<WatchedService>>,
+) -> Result<bool, AllocError>
+    requires { HasShort service.old front.old }
+    ensures { IfOk result (λ yes. IsTrue yes
+        → Stays service.old front.old service.new front.new) }
+{
+    if !service.has_calls() {
+        return Ok(true);
+    }
+    let mut next = front_or_begin(alloc, service, front.take())?;
+    if !follow(alloc, service, &mut next)? {
+        return Ok(false);
+    }
+    *front = Some(next);
+    Ok(true)
 }
 
 /// Whether orders explain all that was seen of a service, where no more comes.

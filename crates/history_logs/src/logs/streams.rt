@@ -153,8 +153,8 @@ fn answer<R: Source, W: Sink, E: Sink, P: Progress>(
 /// - 1: none do. The first reply that none explains was written to `output`: its line, its words,
 ///   the line from which the window is open, and for each configuration which open calls were made,
 ///   every reply that the call could have had, and the nodes and ports that are there.
-/// - 2: a line is not what it should be. Which one, and what is expected, was written to `errors`;
-///   or the line of a call or an event with which a bound would be passed.
+/// - 2: a line is not what it should be, or a bound is passed with it, so the log is not decided.
+///   The number of the line, and what is expected or which bound it is, was written to `errors`.
 /// - 3: memory was refused, and `no memory` was written to `errors`; or a read, a write or a flush
 ///   failed, for any cause, and it was tried to write `a stream failed` to `errors`.
 ///

@@ -8,7 +8,7 @@ use service_conformance::conformance::PossibleReplies;
 pub enum Expected {
     /// The line of a service: none is above.
     Service,
-    /// The line of a service with a number of its own, or of a call or an event on a service above.
+    /// The line of a service with a number of its own, or a line on a service above.
     Call,
     /// The words of a reply: behind `= ` below a call alone, or of a call that ends.
     Reply,

@@ -6,7 +6,7 @@ ghost use Rattle.service_descriptions.specs.Lines.{command_of};
 
 use iox2_container::container::{ContainerHandle, Role};
 use iox2_ids::identifiers::UniqueNodeId;
-use service_descriptions::replay::{Cleanup, LineCommand, ScriptPort};
+use service_descriptions::replay::{LineCommand, ScriptPort};
 
 /// A command that has a line, as the variant of `LineCommand` of this name. A removal has the
 /// handle that it names, or none, in place of the number of a command.
@@ -19,7 +19,7 @@ pub(super) enum Request {
     Release(Option<ContainerHandle>),
     List(Role),
     Count(Role),
-    Dead(UniqueNodeId, Cleanup),
+    Dead(UniqueNodeId, Vec<u128>),
 }
 
 impl Request {
@@ -36,7 +36,7 @@ impl Request {
             LineCommand::Release(_) => Request::Release(handle),
             LineCommand::List(role) => Request::List(role),
             LineCommand::Count(role) => Request::Count(role),
-            LineCommand::Dead(node, cleanup) => Request::Dead(node, cleanup),
+            LineCommand::Dead(node, kept) => Request::Dead(node, kept),
         }
     }
 }

@@ -7,9 +7,9 @@ ghost use Rattle.service_conformance.specs.Calls.{IsIdleCall, ServesCall};
 ghost use Rattle.service_conformance.specs.Calls.{answered, call_of, unanswered};
 ghost use Rattle.service_conformance.specs.Movers.{IsChange};
 ghost use Rattle.service_conformance.specs.Possible.{ArePossible, IsCovered, reply_in};
-ghost use Rattle.service_conformance.specs.Quiet.{CanServe, LeadsTo};
+ghost use Rattle.service_conformance.specs.Quiet.{CanServe, LeadsTo, quiet};
 ghost use Rattle.service_conformance.specs.Seen.{changes_nothing, seen_text};
-ghost use Rattle.iox2_dynamic.specs.Service.{Service};
+ghost use Rattle.iox2_dynamic.specs.Service.{IsService, Service};
 ghost use Rattle.service_descriptions.specs.Lines.{command_of};
 ghost use Rattle.service_conformance.specs.declared.conformance.possible.Possible.TheVariants as possible;
 
@@ -35,20 +35,17 @@ pub struct SeenCall {
 
 impl Model for SeenCall {
     ghost use Rattle.service_conformance.specs.Calls.{Call};
-    ghost use Rattle.service_conformance.specs.SeenFields.{IsSoundSeen, seen_as};
+    ghost use Rattle.service_conformance.specs.SeenFields.{seen_as};
 
     ghost Value = { Call };
 
     ghost view = { seen_as };
-
-    ghost invariant = { IsSoundSeen };
 }
 
 impl SeenCall {
     /// A call whose reply was not seen. The command of a removal names the handle, whatever its
     /// number; where it names none, and for other commands, there is none.
     pub fn new(command: LineCommand, handle: Option<ContainerHandle>) -> Self
-        requires { IsCovered (command_of command) }
         ensures { result ≡ call_of (command_of command) handle }
     {
         SeenCall {
@@ -65,10 +62,13 @@ impl SeenCall {
     }
 
     /// The replies that the call may have in this state.
+    #[tactic(auto, using(crate::proofs::Words::request_covered))]
     #[inline(always)]
     fn possible(&self, alloc: Global, state: &ServiceCheck) -> Result<Possible, AllocError>
         ensures possible { IfOk result (ArePossible state.now (ServesCall self.now state.now)) }
         ensures covered { IsCovered self.now.command }
+        ensures kept { IsService state.now }
+        ensures rest { quiet state.now ≡ state.now }
     {
         state.possible_for(alloc, &self.request)
     }
@@ -108,8 +108,6 @@ impl SeenCall {
         ensures { IfOk result (IsMade (CallStep (answered self.now (seen_text seen.now)) state.old)
             state.old state.new) }
     {
-        // For the proof: what is true of every check.
-        let _pattern = state.kind();
         let possible = self.possible(alloc, state)?;
         let Some(reply) = state.reply_seen(possible, seen) else {
             return Ok(false);
@@ -140,8 +138,6 @@ impl SeenCall {
             AreAll (CallStep (answered self.now (seen_text seen.now)) state.now)
             (states_in left)) }
     {
-        // For the proof: what is true of every check.
-        let _pattern = state.kind();
         let possible = self.possible(alloc, state)?;
         let Some(reply) = state.reply_seen(possible, seen) else {
             return Ok(Left::Nothing);
@@ -183,8 +179,6 @@ impl SeenCall {
         ensures { IfOk result (λ found.
             AreAll (CallStep (unanswered self.now) state.now) found.items) }
     {
-        // For the proof: what is true of every check.
-        let _pattern = state.kind();
         let mut found = Vec::new(alloc);
         for slot in 0..state.capacity(part) {
             self.follow_slot(alloc, state, part, slot, &mut found)?;
@@ -201,8 +195,6 @@ impl SeenCall {
         ensures { IfOk result (λ left.
             AreAll (CallStep (unanswered self.now) state.now) (states_in left)) }
     {
-        // For the proof: what is true of every check.
-        let _pattern = state.kind();
         match self.possible(alloc, state)? {
             Possible::One(reply) => Ok(Left::One(self.state_after(alloc, state, &reply)?)),
             Possible::Given(part) => Ok(Left::All(self.follow_add(alloc, state, part)?)),
@@ -230,8 +222,6 @@ impl SeenCall {
         if !changes_nothing(seen) {
             return false;
         }
-        // For the proof: what is true of every check.
-        let _pattern = state.kind();
         let Ok(possible) = self.possible(alloc, state) else {
             return false;
         };
@@ -257,8 +247,6 @@ impl SeenCall {
         ensures { IsTrue result → (new : Service)
             → ¬ (CallStep (answered self.now (seen_text seen.now)) state.now new) }
     {
-        // For the proof: what is true of every check.
-        let _pattern = state.kind();
         let Ok(possible) = self.possible(alloc, state) else {
             return false;
         };
@@ -304,8 +292,6 @@ impl SeenCall {
     ) -> Result<PossibleReplies, AllocError>
         ensures { IfOk result (AreRepliesOf state.now self.now) }
     {
-        // For the proof: what is true of every check.
-        let _pattern = state.kind();
         state.possible_replies(alloc, &self.request)
     }
 }

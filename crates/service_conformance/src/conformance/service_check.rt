@@ -153,10 +153,8 @@ impl ServiceCheck {
         ensures copy { IfOk result (λ copy. copy ≡ self.now) }
         ensures rest { quiet self.now ≡ self.now }
     {
-        // For the proof: what is true of every check.
-        let pattern = self.kind();
         Ok(ServiceCheck {
-            pattern,
+            pattern: self.kind(),
             nodes: self.nodes.copied(alloc)?,
             first: self.first.copied(alloc)?,
             second: self.second.copied(alloc)?,

@@ -61,31 +61,14 @@ impl<T: Copy + Same> Same for SlotEntry<T> {
     }
 }
 
-/// The position of the first entry whose slot is not below this one.
-pub(super) fn position_of<T: Copy>(entries: &[SlotEntry<T>], slot: usize) -> usize
-    requires { AllPairs (λ a b. a.slot < b.slot) entries.now }
-    ensures within { result ≤ length entries.now }
-    ensures below { All (λ e. e.slot < slot) (take result entries.now) }
-    ensures from { All (λ e. slot ≤ e.slot) (drop result entries.now) }
-{
-    let mut position = 0;
-    while position < entries.len() && entries[position].slot() < slot {
-        position += 1;
-    }
-    position
-}
-
 /// The position that an entry of this slot would have, or `None` where the slot is taken.
 pub(super) fn free_position<T: Copy>(entries: &[SlotEntry<T>], slot: usize) -> Option<usize>
     requires { AllPairs (λ a b. a.slot < b.slot) entries.now }
     ensures none { IfNone result (¬ (All (λ e. e.slot ≢ slot) entries.now)) }
     ensures some { IfSome result (IsFreePosition entries.now slot) }
 {
-    let position = position_of(entries, slot);
-    if position < entries.len() && entries[position].slot() == slot {
-        return None;
-    }
-    Some(position)
+    let found = entries.binary_search_by_key(&slot, |entry| entry.slot());
+    found.err()
 }
 
 /// Puts an entry with the slot and the ticket of the handle in the position.
@@ -123,11 +106,7 @@ pub(super) fn position_with<T: Copy>(
     ensures none { IfNone result (All (λ e. ¬ (IsAt slot ticket e)) entries.now) }
     ensures some { IfSome result (HasAt entries.now slot ticket) }
 {
-    let position = position_of(entries, slot);
-    if position < entries.len() && entries[position].is_at(slot, ticket) {
-        return Some(position);
-    }
-    None
+    entries.iter().position(|entry| entry.is_at(slot, ticket))
 }
 
 /// The details of the entries.
@@ -137,10 +116,9 @@ pub(super) fn details_of<T: Copy>(
 ) -> Result<Vec<T>, AllocError>
     ensures { IfOk result (λ list. list.items ≡ map (λ e. e.details) entries.now) }
 {
+    // Room is made first: `collect` asks for less where that is refused.
     let mut list = Vec::with_capacity(alloc, entries.len())?;
-    for entry in entries {
-        list.push(entry.details())?;
-    }
+    list.extend(entries.iter().map(|entry| entry.details()))?;
     Ok(list)
 }
 
@@ -152,9 +130,7 @@ pub(super) fn slots_of<T: Copy>(
     ensures { IfOk result (λ list. list.items ≡ map (λ e. e.slot) entries.now) }
 {
     let mut list = Vec::with_capacity(alloc, entries.len())?;
-    for entry in entries {
-        list.push(entry.slot())?;
-    }
+    list.extend(entries.iter().map(|entry| entry.slot()))?;
     Ok(list)
 }
 

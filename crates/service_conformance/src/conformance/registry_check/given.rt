@@ -23,12 +23,7 @@ fn are_before<T: Copy>(entries: &[SlotEntry<T>], slot: usize, ticket: u64) -> bo
     ensures yes { IsTrue result → All (IsBefore slot ticket) entries.now }
     ensures no { All (IsBefore slot ticket) entries.now → IsTrue result }
 {
-    for at in 0..entries.len() {
-        if !entries[at].is_before(slot, ticket) {
-            return false;
-        }
-    }
-    true
+    entries.iter().all(|entry| entry.is_before(slot, ticket))
 }
 
 impl<T: Copy> RegistryCheck<T> {

@@ -1,13 +1,12 @@
 //! The state that a reply leaves.
 ghost use Rattle.std.specs.Prelude.{◌≡◌, OnOk, OnErr};
 ghost use Rattle.iox2_dynamic.specs.Service.{IsService};
-ghost use Rattle.service_conformance.specs.Requests.{ServesRequest, request_command};
-ghost use Rattle.service_conformance.specs.Possible.{IsCovered, reply_in};
+ghost use Rattle.service_conformance.specs.Requests.{ServesRequest};
+ghost use Rattle.service_conformance.specs.Possible.{reply_in};
 ghost use Rattle.service_conformance.specs.Quiet.{CanServe, LeadsTo};
 ghost use Rattle.service_descriptions.specs.Cleanups.{ServesDead};
 ghost use Rattle.service_descriptions.specs.Steps.{ServesAdd, ServesDeregister, ServesRegister, ServesRelease};
 ghost use Rattle.service_descriptions.specs.declared.replay.machine.command.Cleanup.TheVariants as cleanup;
-ghost use Rattle.service_descriptions.specs.declared.replay.machine.command.Command.TheVariants as command;
 
 use super::super::line_reply::LineReply;
 use super::super::replies::{given, is_removal};
@@ -16,7 +15,6 @@ use super::{ServiceCheck, has_ports_in};
 use iox2_container::container::{ContainerHandle, ReleaseMode};
 use iox2_dynamic::dynamic_config::{PortDetails, PortRoles};
 use iox2_ids::identifiers::UniqueNodeId;
-use service_descriptions::replay::Cleanup;
 use std::alloc::AllocError;
 
 impl ServiceCheck {
@@ -119,20 +117,6 @@ impl ServiceCheck {
         self.nodes.recover(dead);
     }
 
-    /// The service after a dead node was removed with this cleanup.
-    fn follow_cleanup(&mut self, dead: &UniqueNodeId, cleanup: &Cleanup, reply: &LineReply)
-        requires covered { IsCovered (command.Dead dead.now cleanup.now) }
-        requires can { CanServe (ServesDead self.old dead.now cleanup.now) (reply_in reply.now) }
-        ensures one { LeadsTo (ServesDead self.old dead.now cleanup.now) (reply_in reply.now)
-            self.new }
-        ensures kept { IsService self.new }
-    {
-        match cleanup {
-            Cleanup::ByPort(kept) => self.follow_dead(dead, kept, reply),
-            Cleanup::ByOrder(_) => unreachable!(),
-        }
-    }
-
     /// The service after a command and its reply.
     #[tactic(auto, using(crate::proofs::Following::reported))]
     pub(in super::super) fn follow_request(
@@ -140,8 +124,7 @@ impl ServiceCheck {
         request: &Request,
         reply: &LineReply,
     ) -> Result<(), AllocError>
-        requires covered { IsCovered (request_command request.now) }
-        requires can { CanServe (ServesRequest request.now self.old) (reply_in reply.now) }
+        requires { CanServe (ServesRequest request.now self.old) (reply_in reply.now) }
         ensures ok { OnOk result (LeadsTo (ServesRequest request.now self.old) (reply_in reply.now)
             self.new) }
         ensures err { OnErr result (self.new ≡ self.old) }
@@ -163,8 +146,8 @@ impl ServiceCheck {
             Request::Nodes => Ok(()),
             Request::List(_) => Ok(()),
             Request::Count(_) => Ok(()),
-            Request::Dead(dead, cleanup) => {
-                self.follow_cleanup(dead, cleanup, reply);
+            Request::Dead(dead, kept) => {
+                self.follow_dead(dead, kept, reply);
                 Ok(())
             }
         }

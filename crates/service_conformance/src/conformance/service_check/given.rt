@@ -26,8 +26,6 @@ impl ServiceCheck {
         ensures gives { Becomes (GivesNodes self.old used locked) self.old result self.new }
         ensures kept { IsService self.new }
     {
-        // For the proof: what is true of every check.
-        let _pattern = &self.pattern;
         self.nodes.give_used(used, locked)
     }
 
@@ -62,8 +60,6 @@ impl ServiceCheck {
         ensures err { OnErr result (self.new ≡ self.old) }
         ensures kept { IsService self.new }
     {
-        // For the proof: what is true of every check.
-        let _pattern = &self.pattern;
         self.nodes.give_entry(slot, ticket, id)
     }
 

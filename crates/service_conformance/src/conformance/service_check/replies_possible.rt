@@ -1,14 +1,14 @@
 //! The replies that a command may have.
 ghost use Rattle.std.specs.Prelude.{◌≡◌, ◌<◌, IfNone, IfOk, IfSome};
 ghost use Rattle.iox2_container.specs.Handle.{Handle};
-ghost use Rattle.service_conformance.specs.Requests.{ServesRequest, request_command};
-ghost use Rattle.service_conformance.specs.Possible.{ArePossible, IsCovered, MayGiveIn};
-ghost use Rattle.service_conformance.specs.Quiet.{Reports};
+ghost use Rattle.iox2_dynamic.specs.Service.{IsService};
+ghost use Rattle.service_conformance.specs.Requests.{ServesRequest};
+ghost use Rattle.service_conformance.specs.Possible.{ArePossible, MayGiveIn};
+ghost use Rattle.service_conformance.specs.Quiet.{Reports, quiet};
 ghost use Rattle.service_descriptions.specs.Cleanups.{ServesDead};
 ghost use Rattle.service_descriptions.specs.Listings.{ServesCount, ServesList, ServesNodes};
 ghost use Rattle.service_descriptions.specs.Steps.{ServesAdd, ServesDeregister, ServesRegister, ServesRelease};
 ghost use Rattle.service_descriptions.specs.declared.replay.machine.command.Cleanup.TheVariants as cleanup;
-ghost use Rattle.service_descriptions.specs.declared.replay.machine.command.Command.TheVariants as command;
 
 use super::super::line_reply::LineReply;
 use super::super::possible::{Part, Possible};
@@ -19,7 +19,6 @@ use super::ServiceCheck;
 use iox2_container::container::{ContainerHandle, Role};
 use iox2_dynamic::dynamic_config::{PortDetails, PortRoles};
 use iox2_ids::identifiers::UniqueNodeId;
-use service_descriptions::replay::Cleanup;
 use std::alloc::{AllocError, Global};
 
 impl ServiceCheck {
@@ -27,8 +26,6 @@ impl ServiceCheck {
     fn possible_register(&self, _id: UniqueNodeId) -> Possible
         ensures { ArePossible self.now (ServesRegister self.now _id) result }
     {
-        // For the proof: what is true of every check.
-        let _pattern = &self.pattern;
         let why = self.nodes.refusal();
         possible_add(why, Part::Nodes)
     }
@@ -95,17 +92,6 @@ impl ServiceCheck {
         Possible::One(reply_of_owners(locked))
     }
 
-    /// The replies that removing a dead node with this cleanup may have.
-    fn possible_cleanup(&self, dead: &UniqueNodeId, cleanup: &Cleanup) -> Possible
-        requires { IsCovered (command.Dead dead.now cleanup.now) }
-        ensures { ArePossible self.now (ServesDead self.now dead.now cleanup.now) result }
-    {
-        match cleanup {
-            Cleanup::ByPort(kept) => self.possible_dead(dead, kept),
-            Cleanup::ByOrder(_) => unreachable!(),
-        }
-    }
-
     /// The replies that a list of the nodes may be.
     fn possible_nodes(&self, alloc: Global) -> Result<Possible, AllocError>
         ensures { IfOk result (ArePossible self.now (Reports self.now (ServesNodes self.now))) }
@@ -145,9 +131,13 @@ impl ServiceCheck {
         alloc: Global,
         request: &Request,
     ) -> Result<Possible, AllocError>
-        requires { IsCovered (request_command request.now) }
-        ensures { IfOk result (ArePossible self.now (ServesRequest request.now self.now)) }
+        ensures possible { IfOk result
+            (ArePossible self.now (ServesRequest request.now self.now)) }
+        ensures kept { IsService self.now }
+        ensures rest { quiet self.now ≡ self.now }
     {
+        // For the proof: what is true of every check.
+        let _pattern = &self.pattern;
         match request {
             Request::Register(id) => Ok(self.possible_register(*id)),
             Request::Deregister(handle) => Ok(self.possible_deregister(*handle)),
@@ -156,13 +146,16 @@ impl ServiceCheck {
             Request::Release(handle) => Ok(self.possible_release(*handle)),
             Request::List(role) => self.possible_list(alloc, *role),
             Request::Count(role) => Ok(self.possible_count(*role)),
-            Request::Dead(dead, cleanup) => Ok(self.possible_cleanup(dead, cleanup)),
+            Request::Dead(dead, kept) => Ok(self.possible_dead(dead, kept)),
         }
     }
 
     /// How many slots the registry of the part has.
     pub(in super::super) fn capacity(&self, part: Part) -> usize
-        ensures { (handle : Handle) → MayGiveIn self.now part handle → handle.slot < result }
+        ensures below { (handle : Handle) → MayGiveIn self.now part handle
+            → handle.slot < result }
+        ensures kept { IsService self.now }
+        ensures rest { quiet self.now ≡ self.now }
     {
         match part {
             Part::Nodes => self.nodes.capacity(),

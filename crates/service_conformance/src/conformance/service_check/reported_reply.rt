@@ -1,9 +1,10 @@
 //! The replies that a call may have, and who is there.
 ghost use Rattle.std.specs.Prelude.{◌≡◌, ◌++◌, IfOk, map};
 ghost use Rattle.iox2_container.specs.Steps.{listed};
-ghost use Rattle.service_conformance.specs.Requests.{ServesRequest, request_command};
+ghost use Rattle.iox2_dynamic.specs.Service.{IsService};
+ghost use Rattle.service_conformance.specs.Requests.{ServesRequest};
 ghost use Rattle.service_conformance.specs.Looks.{ids_in};
-ghost use Rattle.service_conformance.specs.Possible.{IsCovered};
+ghost use Rattle.service_conformance.specs.Quiet.{quiet};
 ghost use Rattle.service_conformance.specs.Words.{ArePossibleWords, IsNextIn};
 
 use super::super::possible::{NextHandle, Part, Possible, PossibleReplies};
@@ -18,10 +19,8 @@ use std::alloc::{AllocError, Global};
 fn ids_of<T: Printed>(alloc: Global, items: &[T]) -> Result<Vec<u128>, AllocError>
     ensures { IfOk result (λ ids. ids.items ≡ map T.id items.now) }
 {
-    let mut ids = Vec::new(alloc);
-    for item in items {
-        ids.push(item.printed())?;
-    }
+    let mut ids = Vec::with_capacity(alloc, items.len())?;
+    ids.extend(items.iter().map(|item| item.printed()))?;
     Ok(ids)
 }
 
@@ -58,8 +57,9 @@ impl ServiceCheck {
         alloc: Global,
         request: &Request,
     ) -> Result<PossibleReplies, AllocError>
-        requires { IsCovered (request_command request.now) }
-        ensures { IfOk result (ArePossibleWords (ServesRequest request.now self.now)) }
+        ensures replies { IfOk result (ArePossibleWords (ServesRequest request.now self.now)) }
+        ensures kept { IsService self.now }
+        ensures rest { quiet self.now ≡ self.now }
     {
         match self.possible_for(alloc, request)? {
             Possible::One(one) => Ok(PossibleReplies::One(one.reply())),

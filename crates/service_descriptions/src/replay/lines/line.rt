@@ -9,7 +9,7 @@ ghost use Rattle.service_descriptions.specs.Lines.{plain_of, value_of};
 ghost use Rattle.service_descriptions.specs.OneWay.{id_one, node_id_one, port_one, role_one};
 ghost use Rattle.service_descriptions.specs.Phrases.{id_phrase, node_id_phrase, port_phrase, role_phrase};
 
-use crate::replay::machine::{Cleanup, Command, LineCommand, Parts, ScriptPort};
+use crate::replay::machine::{Command, LineCommand, Parts, ScriptPort};
 use iox2_container::container::Role;
 use iox2_ids::identifiers::UniqueNodeId;
 use line_streams::{After, LineEnd, Number, Phrase, Then, after_word, list_before};
@@ -193,7 +193,7 @@ fn dead_before(
     let Some(((), rest)) = end.read(rest) else {
         return Ok(None);
     };
-    Ok(Some((LineCommand::Dead(node, Cleanup::ByPort(kept)), rest)))
+    Ok(Some((LineCommand::Dead(node, kept), rest)))
 }
 
 /// The command whose line begins these bytes, and what follows its end.

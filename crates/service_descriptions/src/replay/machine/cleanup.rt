@@ -6,7 +6,6 @@ ghost use Rattle.service_descriptions.specs.Cleanups.{CleanedUp, action_for};
 ghost use Rattle.service_descriptions.specs.Cleanups.{first_action, other_actions};
 ghost use Rattle.service_descriptions.specs.declared.replay.machine.command.Cleanup.TheVariants as cleanups;
 
-use super::command::Cleanup;
 use super::kept::Kept;
 use iox2_dynamic::dynamic_config::{DeregisterNodeState, DynamicConfig, PortCleanupAction};
 use iox2_ids::identifiers::{UniqueNodeId, UniquePortId};
@@ -24,7 +23,7 @@ fn answer_by_port(kept: &Kept<'_>, port: &UniquePortId) -> PortCleanupAction
 
 /// Removes a dead node, with decisions in order.
 #[inline(always)]
-fn by_order(
+pub(super) fn by_order(
     service: &mut DynamicConfig,
     dead: &UniqueNodeId,
     actions: &Vec<PortCleanupAction>,
@@ -51,7 +50,7 @@ fn by_order(
 
 /// Removes a dead node, with decisions by the value of the port.
 #[inline(always)]
-fn by_port(
+pub(super) fn by_port(
     service: &mut DynamicConfig,
     dead: &UniqueNodeId,
     kept: &Vec<u128>,
@@ -65,20 +64,4 @@ fn by_port(
         ensures same { kept.exit.now ≡ kept.entry.now }
     { answer_by_port(kept, &port) };
     service.remove_dead_node_id(dead, &mut answer)
-}
-
-/// Removes a dead node, and those of its ports that the cleanup lets go.
-#[inline(always)]
-pub(super) fn clean_up(
-    service: &mut DynamicConfig,
-    dead: &UniqueNodeId,
-    cleanup: &Cleanup,
-) -> DeregisterNodeState
-    ensures cleaned { CleanedUp service.old dead.now cleanup.now result service.new }
-    ensures kept { IsService service.new }
-{
-    match cleanup {
-        Cleanup::ByOrder(actions) => by_order(service, dead, actions),
-        Cleanup::ByPort(kept) => by_port(service, dead, kept),
-    }
 }

@@ -2,7 +2,7 @@
 ghost use Rattle.std.specs.Prelude.{◌≡◌, ℕ, IfOk, IfSome, Option, OnErr};
 ghost use Rattle.iox2_dynamic.specs.Service.{IsService, capacities_in};
 ghost use Rattle.iox2_static.specs.Description.{Description};
-ghost use Rattle.service_descriptions.specs.Cleanups.{ServesDead};
+ghost use Rattle.service_descriptions.specs.Cleanups.{ServesDead, reply_of_owners};
 ghost use Rattle.service_descriptions.specs.Fields.{described};
 ghost use Rattle.service_descriptions.specs.Handles.{handle_at, handles_in, named};
 ghost use Rattle.service_descriptions.specs.LineAnswers.{LineStep, ServesLine, handle_given};
@@ -12,8 +12,9 @@ ghost use Rattle.service_descriptions.specs.Replies.{reply_of};
 ghost use Rattle.service_descriptions.specs.Steps.{Serves, ServesAdd, ServesDeregister};
 ghost use Rattle.service_descriptions.specs.Steps.{ServesRegister, ServesRelease, ServiceStep};
 ghost use Rattle.service_descriptions.specs.Steps.{IsState, handle_in, new_state};
+ghost use Rattle.service_descriptions.specs.declared.replay.machine.command.Cleanup.TheVariants as cleanup;
 
-use super::cleanup::clean_up;
+use super::cleanup::{by_order, by_port};
 use super::command::{Cleanup, Command, LineCommand};
 use super::description::{compatible, layout, places, verify};
 use super::reply::{LineAnswer, LineReply, Reply};
@@ -172,10 +173,10 @@ impl Session {
             }
             LineCommand::List(role) => LineAnswer::Ports(*role),
             LineCommand::Count(role) => LineAnswer::Reply(count(&self.service, *role)),
-            LineCommand::Dead(node, cleanup) => {
+            LineCommand::Dead(node, kept) => {
                 // A copy is lent, so that the command itself need not lie in memory.
                 let node = *node;
-                LineAnswer::Reply(dead(&mut self.service, &node, cleanup))
+                LineAnswer::Reply(dead_but(&mut self.service, &node, kept))
             }
         };
         self.earlier.push_reserved(Earlier::of(&answer));
@@ -214,6 +215,7 @@ fn register(service: &mut DynamicConfig, id: UniqueNodeId) -> LineReply
     }
 }
 
+#[tactic(auto, using(crate::proofs::Serving::deregister_served))]
 fn deregister(service: &mut DynamicConfig, handle: Option<ContainerHandle>) -> LineReply
     requires { IsService service.old }
     ensures served { ServesDeregister service.old handle (reply_of result) service.new }
@@ -223,8 +225,7 @@ fn deregister(service: &mut DynamicConfig, handle: Option<ContainerHandle>) -> L
         return LineReply::NoHandle;
     };
     match service.deregister_node_id(handle) {
-        Ok(DeregisterNodeState::HasOwners) => LineReply::HasOwners,
-        Ok(DeregisterNodeState::NoMoreOwners) => LineReply::NoMoreOwners,
+        Ok(state) => reply_of_owners(state),
         Err(DeregisterError::ContainerHandleNotOwnedByContainer) => LineReply::NotOwned,
         Err(DeregisterError::PortsStillAttached) => LineReply::PortsAttached,
     }
@@ -276,12 +277,33 @@ fn count(service: &DynamicConfig, role: Role) -> LineReply
     }
 }
 
-#[inline(always)]
+#[tactic(auto, using(crate::proofs::Serving::dead_served))]
 fn dead(service: &mut DynamicConfig, node: &UniqueNodeId, cleanup: &Cleanup) -> LineReply
     ensures served { ServesDead service.old node.now cleanup.now (reply_of result) service.new }
     ensures kept { IsService service.new }
 {
-    match clean_up(service, node, cleanup) {
+    match cleanup {
+        Cleanup::ByOrder(actions) => reply_of_owners(by_order(service, node, actions)),
+        Cleanup::ByPort(kept) => dead_but(service, node, kept),
+    }
+}
+
+/// Removes a dead node, and all its ports but those of these values.
+#[tactic(auto, using(crate::proofs::Serving::dead_served))]
+#[inline(always)]
+fn dead_but(service: &mut DynamicConfig, node: &UniqueNodeId, kept: &Vec<u128>) -> LineReply
+    ensures served { ServesDead service.old node.now (cleanup.ByPort kept.now) (reply_of result)
+        service.new }
+    ensures kept { IsService service.new }
+{
+    reply_of_owners(by_port(service, node, kept))
+}
+
+/// What is replied where entries of a node were removed.
+fn reply_of_owners(state: DeregisterNodeState) -> LineReply
+    ensures { reply_of result ≡ reply_of_owners state }
+{
+    match state {
         DeregisterNodeState::HasOwners => LineReply::HasOwners,
         DeregisterNodeState::NoMoreOwners => LineReply::NoMoreOwners,
     }

@@ -1,4 +1,4 @@
-use Rattle.std.proofs.Common.{rules, ap, ℕ, ◌≡◌, ◌+◌, ◌<◌, ◌^◌, List, Option, None, arith, length, refl, subst, sum_by, sym}
+use Rattle.std.proofs.Common.{rules, ap, ◌≡◌, ◌+◌, ◌<◌, ◌^◌, List, Option, None, arith, length, refl, subst, sum_by, sym}
 use Rattle.histories.specs.declared.front.Front.{Front}
 use Rattle.histories.proofs.Places.{put_back}
 use Rattle.service_conformance.specs.Looks.{Watched}

@@ -3,6 +3,7 @@ use Rattle.service_conformance.specs.Calls.{ChangesNothing, answered}
 use Rattle.service_conformance.specs.Possible.{IsCovered}
 use Rattle.service_conformance.specs.Seen.{seen_text}
 use Rattle.service_conformance.proofs.Calls.{changes_none}
+use Rattle.service_conformance.proofs.Words.{request_covered}
 use Rattle.service_conformance.proofs.conformance.seen_call.SeenCall.changes_nothing.Goals as goal
 
 pub returns : goal.returns
@@ -11,5 +12,6 @@ returns c t =
     rw (← c.self.view_is, c.in-Some.is) refl in
     subst (λ call. ChangesNothing call) same
     (changes_none c.args.self.now
-    (subst (λ call. IsCovered call.command) c.self.view_is c.self.invariant) c.in-Some.seen
+    (subst (λ call. IsCovered call.command) c.self.view_is
+    (request_covered c.self.inside.request)) c.in-Some.seen
     (sym c.changes_nothing.ensures ∙ t))

@@ -5,7 +5,7 @@ use Rattle.service_conformance.proofs.conformance.seen_call.SeenCall.follow_add.
 pub returns : goal.returns
 returns c =
     all_given c.args.self.now c.args.state.now c.args.part
-    c.kind-pattern.ensures.kept c.kind-pattern.ensures.rest
+    c.capacity-slot-end.ensures.kept c.capacity-slot-end.ensures.rest
     c.requires.all c.loop-slot.slot
-    (λ h may. omega (arith, c.capacity-slot-end.ensures h may, c.loop-slot-test.false))
+    (λ h may. omega (arith, c.capacity-slot-end.ensures.below h may, c.loop-slot-test.false))
     c.loop-slot.found.items c.loop-slot.invariant

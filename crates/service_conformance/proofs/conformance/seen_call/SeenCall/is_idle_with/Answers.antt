@@ -9,5 +9,5 @@ returns c t =
     let nothing : changes_nothing c.args.seen.now ≡ true = search rules in
     idle c.args.self.now c.in-Ok.ensures.covered c.args.seen.now nothing c.args.state.now
     c.in-Ok.possible (reply_in c.in-Some._reply)
-    c.kind-pattern.ensures.kept c.kind-pattern.ensures.rest
+    c.in-Ok.ensures.kept c.in-Ok.ensures.rest
     c.in-Ok.ensures.possible c.in-Some.ensures

@@ -6,4 +6,5 @@ pub returns : goal.returns
 returns c =
     rw (← c.self.view_is)
     (replies_found (seen_as c.self.inside) c.args.state.now c.possible_replies.result
-    c.kind-pattern.ensures.kept c.kind-pattern.ensures.rest c.possible_replies.ensures)
+    c.possible_replies.ensures.kept c.possible_replies.ensures.rest
+    c.possible_replies.ensures.replies)
