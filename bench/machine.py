@@ -1,6 +1,7 @@
 """A second, plain machine for the scripts of `iox2-replay`, written from their rules and from no
 program: what the programs are compared with. Entries stand in dictionaries by slot."""
 
+import functools
 import re
 from typing import NamedTuple
 
@@ -56,22 +57,18 @@ class Places:
     """The nodes of a service, or its ports of one role."""
 
     def __init__(self, capacity):
-        self.capacity = capacity
-        self.entries = {}
-        self.freed = {}  # slots that were used and are free, in the order in which they became free
-        self.ever_used = 0
-        self.tickets = 0
+        self.capacity, self.entries, self.tickets = capacity, {}, 0
+        self.freed = []  # slots that were used and are free, in the order in which they became free
+
+    def next_slot(self):
+        """The slot that became free last, or else the first that was never used."""
+        return self.freed.pop() if self.freed else len(self.entries)
 
     def add(self, node, shown):
         """The slot and the ticket of the new entry, or `None` where there is no room."""
         if len(self.entries) >= self.capacity:
             return None
-        if self.freed:
-            slot, _ = self.freed.popitem()
-        else:
-            slot = self.ever_used
-            self.ever_used += 1
-        ticket = self.tickets
+        slot, ticket = self.next_slot(), self.tickets
         self.tickets += 1
         self.entries[slot] = Entry(ticket, node, shown)
         return slot, ticket
@@ -81,7 +78,7 @@ class Places:
 
     def free(self, slot):
         del self.entries[slot]
-        self.freed[slot] = None
+        self.freed.append(slot)
 
     def of_node(self, node):
         """The slots of a node's entries, by rising number."""
@@ -94,20 +91,18 @@ class Places:
 class Service:
     NODE = b"node"
 
-    def __init__(self, pattern, nodes, first, second):
+    def __init__(self, places, pattern, *capacities):
+        """`places` makes those of one kind."""
         self.roles = ROLES[pattern]
-        self.places = {Service.NODE: Places(nodes), self.roles[0]: Places(first), self.roles[1]: Places(second)}
-        self.locked = False
+        self.places = dict(zip((Service.NODE, *self.roles), map(places, capacities)))
+        self.locked, self.commands = False, 0
         self.handles = {}  # by the number of the command: kind of entry, slot, ticket
-        self.commands = 0
 
     def step(self, line):
         """The reply to a command line, without its newline; an invalid line changes nothing."""
         word = line.split(b" ", 1)[0]
-        if word not in COMMAND_LINES:
-            raise BadLine
-        found = COMMAND_LINES[word].fullmatch(line)
-        if found is None:
+        found = word in COMMAND_LINES and COMMAND_LINES[word].fullmatch(line)
+        if not found:
             raise BadLine
         reply = getattr(self, word.decode())(*found.groups())
         if isinstance(reply, tuple):
@@ -118,9 +113,7 @@ class Service:
 
     def register(self, node):
         node = node_id(node)
-        if self.locked:
-            return b"locked"
-        return self.placed(Service.NODE, node, node)
+        return b"locked" if self.locked else self.placed(Service.NODE, node, node)
 
     def add(self, role, port, node):
         port, node = any_id(port), node_id(node)
@@ -147,10 +140,7 @@ class Service:
         node = nodes.entries[slot].node
         if len(nodes.of_node(node)) == 1 and any(self.places[role].of_node(node) for role in self.roles):
             return b"ports-attached"
-        nodes.free(slot)
-        if not nodes.entries:
-            self.locked = True
-        return self.owners()
+        return self.without_nodes([slot])
 
     def release(self, number):
         handle = self.handles.get(number_to(number, LAST_U64))
@@ -174,43 +164,34 @@ class Service:
     def dead(self, node, skip):
         node = node_id(node)
         kept = {any_id(port) for port in skip.split(b" ")[2:]} if skip else set()
-        node_stays = False
-        for role in self.roles:
-            ports = self.places[role]
-            for slot in ports.of_node(node):
-                if ports.entries[slot].shown in kept:
-                    node_stays = True
-                else:
-                    ports.free(slot)
-        nodes = self.places[Service.NODE]
-        going = [] if node_stays else nodes.of_node(node)
-        for slot in going:
-            nodes.free(slot)
-        if going and not nodes.entries:
-            self.locked = True
-        return self.owners()
+        ports = [(self.places[role], slot) for role in self.roles for slot in self.places[role].of_node(node)]
+        going = [(of_role, slot) for of_role, slot in ports if of_role.entries[slot].shown not in kept]
+        for of_role, slot in going:
+            of_role.free(slot)
+        return self.without_nodes(self.places[Service.NODE].of_node(node) if going == ports else [])
 
-    def owners(self):
+    def without_nodes(self, slots):
+        """Nodes leave. With the last one the service is locked."""
+        nodes = self.places[Service.NODE]
+        for slot in slots:
+            nodes.free(slot)
+        self.locked |= bool(slots) and not nodes.entries
         return b"no-owners" if self.locked else b"has-owners"
 
     def listing(self, kind):
-        return b" ".join([b"list", *(b"%x" % shown for shown in self.places[kind].shown())])
+        return b"list" + b"".join(b" %x" % shown for shown in self.places[kind].shown())
 
 
 def number_to(word, last):
-    number = int(word) if len(word) <= 20 else last + 1
-    if number > last:
+    if len(word) > 20 or int(word) > last:
         raise BadLine
-    return number
+    return int(word)
 
 
 def any_id(word):
     if ONE_ID.fullmatch(word) is None:
         raise BadLine
-    value = 0
-    for part in word.split(b"."):
-        value = value << 32 | number_to(part, LAST_U32)
-    return value
+    return functools.reduce(lambda value, part: value << 32 | number_to(part, LAST_U32), word.split(b"."), 0)
 
 
 def node_id(word):
@@ -230,7 +211,7 @@ class LeftOpen(Exception):
     """Whether there is memory for the service depends on the machine that runs the script."""
 
 
-def new_service(line):
+def new_service(line, places=Places):
     """The service of a service line."""
     found = SERVICE_LINE.fullmatch(line)
     if found is None:
@@ -240,28 +221,24 @@ def new_service(line):
         raise NoRoom
     if max(capacities) > MANY_PLACES:
         raise LeftOpen
-    return Service(found[1], *capacities)
+    return Service(places, found[1], *capacities)
 
 
 def expected(script):
     """What a program shows that runs `script`, or `None` where that is left open."""
-    lines = script.split(b"\n")
-    unended = lines.pop()
-    if unended or not lines:
-        lines.append(None)
+    *lines, unended = script.split(b"\n")
     replies = []
-    for number, line in enumerate(lines, 1):
-        try:
-            if line is None:
-                raise BadLine
+    try:
+        # No line is empty, so an empty one stands for the one that has no end, or for none at all.
+        for number, line in enumerate([*lines, b""] if unended or not lines else lines, 1):
             if number == 1:
                 service = new_service(line)
             else:
                 replies.append(service.step(line) + b"\n")
-        except BadLine:
-            return Result(1, b"".join(replies), b"bad line %d\n" % number)
-        except NoRoom:
-            return Result(2, b"", b"no memory\n")
-        except LeftOpen:
-            return None
+    except BadLine:
+        return Result(1, b"".join(replies), b"bad line %d\n" % number)
+    except NoRoom:
+        return Result(2, b"", b"no memory\n")
+    except LeftOpen:
+        return None
     return Result(0, b"".join(replies), b"")

@@ -1,12 +1,23 @@
-"""Draws scripts for `iox2-replay`, good ones and broken ones, and runs a program on them."""
+"""Draws scripts for `iox2-replay`, good ones and broken ones, and runs a program on what is drawn of
+many seeds."""
 
+import argparse
+import collections
+import functools
+import multiprocessing
+import os
+import pathlib
 import random
+import resource
 import subprocess
+import sys
 
 import machine
 from machine import LAST_U32, LAST_U64, ROLES, Result
 
+CRATES = pathlib.Path(__file__).resolve().parent.parent / "crates"
 SECONDS_FOR_A_SCRIPT = 20
+GIGABYTES = 4
 
 # ---- Good scripts ----
 
@@ -69,9 +80,7 @@ class Writer:
         word, = self.dice.choices(WORDS, self.weights)
         if word in (b"deregister", b"dead") and self.stays_open and self.may_lock() and self.dice.random() < 0.97:
             word = b"register"
-        if word == b"nodes":
-            return word
-        return word + b" " + getattr(self, word.decode())()
+        return b" ".join([word, *self.arguments(word)])
 
     def may_lock(self):
         if not self.service:
@@ -79,28 +88,22 @@ class Writer:
         held = self.service.places[machine.Service.NODE].entries.values()
         return len({entry.node for entry in held}) < 2
 
-    def register(self):
-        return self.node()
-
-    def deregister(self):
-        return self.earlier(of_node=True)
-
-    def add(self):
-        return b" ".join([self.role(), self.port(), self.node()])
-
-    def release(self):
-        return self.earlier(of_node=False)
-
-    def list(self):
-        return self.role()
-
-    count = list
-
-    def dead(self):
+    def arguments(self, word):
+        match word:
+            case b"nodes":
+                return []
+            case b"register":
+                return [self.node()]
+            case b"add":
+                return [self.role(), self.port(), self.node()]
+            case b"deregister" | b"release":
+                return [self.earlier(of_node=word == b"deregister")]
+            case b"list" | b"count":
+                return [self.role()]
         if self.dice.random() < 0.4:
-            return self.node()
+            return [self.node()]
         skipped = [self.port() for _ in range(self.dice.choice([1, 1, 1, 2, 3, 8]))]
-        return b" ".join([self.node(), b"skip", *skipped])
+        return [self.node(), b"skip", *skipped]
 
     def node(self):
         return self.dice.choice(self.nodes) if self.dice.random() < 0.97 else self.id(of_node=True)
@@ -174,6 +177,10 @@ def drawn(seed):
 # ---- The program under test ----
 
 
+class Otherwise(Exception):
+    """With a seed, a program shows something else than it should: the seed, its input, and what."""
+
+
 def shown_by(program, script, arguments=()):
     """What a program shows for a script, or a status that none has where it takes too long."""
     try:
@@ -181,3 +188,29 @@ def shown_by(program, script, arguments=()):
     except subprocess.TimeoutExpired:
         return Result(None, b"", b"")
     return Result(ended.returncode, ended.stdout, ended.stderr)
+
+
+def judged(judge, program, seed):
+    return list(judge(program, seed))
+
+
+def try_seeds(judge, about, crate, drawn, count, in_a_part):
+    """Lets `judge` try a program, as the arguments say, with that many seeds, of each of which
+    something is drawn. Returns how often it saw what. Ends at the first seed where it is otherwise."""
+    options = argparse.ArgumentParser(description=about)
+    options.add_argument("program", type=os.path.abspath, nargs="?", default=CRATES / crate / "out" / crate,
+                         help=f"the program under test, or that of {crate}")
+    options.add_argument(f"--{drawn}", type=int, default=count, help=f"how many {drawn} ({count:,})")
+    options.add_argument("--first", type=int, default=0, help="the first seed (0)")
+    options.add_argument("--jobs", type=int, default=1, help="how many processes run them (1)")
+    chosen = vars(options.parse_args())
+    seeds = range(chosen["first"], chosen["first"] + chosen[drawn])
+    memory = resource.RLIMIT_AS, (GIGABYTES << 30, GIGABYTES << 30)
+    with multiprocessing.Pool(chosen["jobs"], resource.setrlimit, memory) as pool:
+        try:
+            seen = pool.imap(functools.partial(judged, judge, chosen["program"]), seeds, in_a_part)
+            return collections.Counter(each for of_seed in seen for each in of_seed)
+        except Otherwise as otherwise:
+            seed, given, why = otherwise.args
+            sys.stdout.buffer.write(given)
+            sys.exit(f"seed {seed}: {why}")

@@ -40,28 +40,25 @@ def taken_names(path):
     if not use:
         return {}
     crate, where = use["crate"], use["path"]
-    if where.startswith("declared."):
-        # The type is the last part of the path, but for the list of its variants.
-        where = where.removesuffix(".TheVariants")
-        target = Taken(crate, where, where.rpartition(".")[2])
-        words = [use["alias"]] if use["alias"] else [w.strip() for w in use["names"].split(",")]
-        return {word: target for word in words}
-    words = [w.strip() for w in (use["names"] or "").split(",") if w.strip()]
-    return {word: Taken(crate, where, word) for word in words}
+    words = [word.strip() for word in (use["names"] or "").split(",") if word.strip()]
+    if not where.startswith("declared."):
+        return {word: Taken(crate, where, word) for word in words}
+    # The type is the last part of the path, but for the list of its variants.
+    where = where.removesuffix(".TheVariants")
+    target = Taken(crate, where, where.rpartition(".")[2])
+    return dict.fromkeys([use["alias"]] if use["alias"] else words, target)
 
 
 def read_definitions(crate, module, text):
     """What the file is about, its definitions, and those that other names of it stand for."""
-    scope, about, found, handed_on = {}, [], [], {}
-    comment = []
+    scope, about, found, handed_on, comment = {}, [], [], {}, []
     for line in text.split("\n"):
         start = DEFINED.match(line)
-        if line.startswith("use "):
-            scope.update(taken_names(line[4:]))
-        elif line.startswith("pub use "):
-            taken = taken_names(line[8:])
-            scope.update(taken)
-            handed_on.update({(crate, module, name): of for name, of in taken.items()})
+        if line.startswith(("use ", "pub use ")):
+            taken = taken_names(line.partition("use ")[2])
+            scope |= taken
+            if line.startswith("pub "):
+                handed_on |= {(crate, module, name): of for name, of in taken.items()}
         elif line.startswith("--"):
             comment.append(line[2:].strip())
         elif start:
@@ -77,10 +74,8 @@ def read_definitions(crate, module, text):
             comment = []
         elif found:
             found[-1].text += "\n" + line
-            constructor = CONSTRUCTOR.match(line)
-            if constructor and found[-1].text.startswith("pub data "):
-                taken = Taken(crate, module, found[-1].name)
-                handed_on[crate, module, constructor["name"]] = taken
+            if found[-1].text.startswith("pub data ") and (constructor := CONSTRUCTOR.match(line)):
+                handed_on[crate, module, constructor["name"]] = Taken(crate, module, found[-1].name)
         if line.startswith("use ") and comment:
             about, comment = about + comment, []
     return " ".join(about), found, handed_on

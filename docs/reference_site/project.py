@@ -1,8 +1,10 @@
 """The crates of the repository: their files, what is public in them, and what names stand for."""
 
 import re
+from collections import defaultdict
 from dataclasses import dataclass
 
+from crates import NAMED
 from reference_site.definitions import read_definitions, taken_names
 from reference_site.rattle import read_source
 
@@ -82,10 +84,8 @@ def head_of(block):
 class Crate:
     """A crate as its line of `crates.txt` and its folder describe it."""
 
-    def __init__(self, top, line):
-        head, _, uses = line.partition(":")
-        self.name, self.uses = head.split()[0], uses.split()
-        self.folder = top / "crates" / self.name
+    def __init__(self, top, name, uses):
+        self.name, self.uses, self.folder = name, uses, top / "crates" / name
         self.definitions, self.handed_on, self.abouts = [], {}, {}
         for file in sorted((self.folder / "specs").glob("*.antt")):
             if file.stem != "Lib":
@@ -142,19 +142,17 @@ class Project:
     """All crates, and the look-ups over them."""
 
     def __init__(self, top):
-        lines = [line.split("#")[0] for line in (top / "crates.txt").read_text().splitlines()]
-        crates = [Crate(top, line) for line in lines
-                  if line.strip() and not line.split(":")[0].endswith("_tests")]
+        crates = [Crate(top, name, uses) for name, uses in NAMED.items()
+                  if not name.endswith("_tests")]
         self.crates = {crate.name: crate for crate in crates}
         self.definitions = {(d.crate, d.module, d.name): d for c in crates for d in c.definitions}
         self.handed_on = {name: of for c in crates for name, of in c.handed_on.items()}
-        self.types, self.members = {}, {}
-        for crate in crates:
-            for shown in [shown for each in crate.shown.values() for shown in each]:
-                if shown.owner:
-                    self.members.setdefault((crate.name, shown.title), shown)
-                elif shown.item.kind in TYPES:
-                    self.types.setdefault(shown.item.name, []).append(shown)
+        self.types, self.members = defaultdict(list), {}
+        for shown in [s for crate in crates for each in crate.shown.values() for s in each]:
+            if shown.owner:
+                self.members.setdefault((shown.module.crate, shown.title), shown)
+            elif shown.item.kind in TYPES:
+                self.types[shown.item.name].append(shown)
         # A block stands only beside a public type.
         for crate in crates:
             for name, each in crate.shown.items():
@@ -162,7 +160,7 @@ class Project:
 
     def is_of_public_type(self, shown):
         owner = head_of(shown.item)[1] if shown.item.kind == "impl" else shown.owner
-        found = self.type_named(shown.module, owner) if owner else None
+        found = self.type_named(shown.module, owner)
         return not owner or found and found.module.crate == shown.module.crate
 
     def type_named(self, module, name):
@@ -179,9 +177,9 @@ class Project:
 
     def type_declared(self, taken):
         """The public type at a path of `declared`, as `declared.container.role.Role`."""
-        path = tuple(taken.path.split(".")[1:-1])
-        return next((s for s in self.types.get(taken.name, ())
-                     if (s.module.crate, s.module.path) == (taken.crate, path)), None)
+        at = taken.crate, tuple(taken.path.split(".")[1:-1])
+        return next((shown for shown in self.types.get(taken.name, ())
+                     if (shown.module.crate, shown.module.path) == at), None)
 
     def origin(self, taken):
         """What a name stands for where the files that only hand it on are passed over."""
