@@ -21,7 +21,8 @@
  *   one service any number of queries may run at once, or one change alone. A service may be moved
  *   to another thread. The caller orders moves and changes with other calls, by a lock or by a
  *   thread's start or join.
- * - Only iox2sd_service_create takes memory, by malloc, and only iox2sd_service_free frees it. A
+ * - Of this header, the calls iox2sd_service_create and iox2sd_service_create_.. alone take memory,
+ *   by malloc, and iox2sd_service_free alone frees it. Other headers say which calls take memory. A
  *   call takes at most IOX2SD_STACK_BYTES of its thread's stack.
  *
  * What is proved, and what not
@@ -38,7 +39,7 @@
  *   say, and NULL with the number 0 is an empty array.
  * - Left to the caller: to free a service, to run no other call beside a change, and what is done
  *   with a pointer.
- * */
+ */
 #ifndef IOX2SD_H
 #define IOX2SD_H
 
@@ -147,11 +148,11 @@ enum iox2sd_status_number {
     IOX2SD_STATUS_NO_FILE = 85,         /* A file cannot be read: C++ alone returns it. */
     /* Tables and arrays of a file are more than 32 deep in one another. */
     IOX2SD_STATUS_TOO_DEEP = 86,
-    /* No order of the calls of a log explains a reply: no run of the proved machine gives it. */
+    /* No order of the calls of a log explains a reply. */
     IOX2SD_STATUS_NO_ORDER = 90,
     /* A line of a log is not what is expected, or the log ends before it. */
     IOX2SD_STATUS_NO_SERVICE_LINE = 91,
-    IOX2SD_STATUS_NO_CALL_LINE = 92, /* Of a service, a call or an event. */
+    IOX2SD_STATUS_NO_CALL_LINE = 92, /* Of a new service, or on a service above. */
     IOX2SD_STATUS_NO_REPLY_LINE = 93,
     /* A log is not decided: orders of its calls lead to more than 4,096 configurations, or more
      * than 64 calls of a service are open. */

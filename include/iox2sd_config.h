@@ -29,8 +29,8 @@ typedef struct iox2sd_config_text {
 typedef struct iox2sd_config_texts {
     iox2sd_config_text root_path; /* The path below which everything else lies. */
     iox2sd_config_text prefix;    /* What the name of each file begins with. */
-    /* Below the root path. The ends of the names of services' files: */
-    iox2sd_config_text service_directory;
+    iox2sd_config_text service_directory; /* Below the root path. */
+    /* The ends of the names of services' files: */
     iox2sd_config_text data_segment_suffix;
     iox2sd_config_text static_config_storage_suffix;
     iox2sd_config_text dynamic_config_storage_suffix;
@@ -38,7 +38,8 @@ typedef struct iox2sd_config_texts {
     iox2sd_config_text event_connection_suffix;
     iox2sd_config_text blackboard_mgmt_suffix;
     iox2sd_config_text blackboard_data_suffix;
-    iox2sd_config_text node_directory; /* Below the root path. The ends of nodes' files: */
+    iox2sd_config_text node_directory; /* Below the root path. */
+    /* The ends of the names of nodes' files: */
     iox2sd_config_text monitor_suffix;
     iox2sd_config_text node_static_config_suffix;
     iox2sd_config_text service_tag_suffix;

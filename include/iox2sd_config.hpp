@@ -146,9 +146,10 @@ IOX2SD_WRITTEN(ConfigFault);
 
 /// Why the text of a file gives no settings.
 struct ConfigError {
-    /// `NoFile`; `NotUtf8`; `NotToml`; that of the first fault; `NoMemory`.
+    /// `NoFile`; `NotUtf8`; `TooDeep`; `NotToml`; that of the first fault; `NoMemory`.
     Status status;
-    /// Every fault, in the order of the file; one without a key where the text is no TOML.
+    /// Every fault, in the order of the file; one without a key with `NotUtf8`, `TooDeep` and
+    /// `NotToml`.
     List<ConfigFault> faults;
     int system_error = 0;  ///< With `NoFile`, the system's number of the error.
     List<char> file;       ///< The path of the file, or nothing of a text.
@@ -201,7 +202,8 @@ IOX2SD_WRITTEN(UnknownKey);
 struct ConfigTexts {
     Path root_path;   ///< The path below which everything else lies.
     FileName prefix;  ///< What the name of each file begins with.
-    Path service_directory;  ///< Below the root path. The ends of services' files:
+    Path service_directory;  ///< Below the root path.
+    // The ends of the names of services' files:
     FileName data_segment_suffix;
     FileName static_config_storage_suffix;
     FileName dynamic_config_storage_suffix;
@@ -209,7 +211,8 @@ struct ConfigTexts {
     FileName event_connection_suffix;
     FileName blackboard_mgmt_suffix;
     FileName blackboard_data_suffix;
-    Path node_directory;  ///< Below the root path. The ends of nodes' files:
+    Path node_directory;  ///< Below the root path.
+    // The ends of the names of nodes' files:
     FileName monitor_suffix;
     FileName node_static_config_suffix;
     FileName service_tag_suffix;

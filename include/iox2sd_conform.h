@@ -1,7 +1,7 @@
 /* Logs of services, for C99 and C++: the calls that were made on a service of any implementation
- * and the replies that were seen, as text, are judged by the proved machine. The rules of iox2sd.h
- * for every call, and what it says of what is proved, hold here too. docs/CONFORM.md has the lines
- * of logs and of reports.
+ * and the replies that were seen, as text, are judged by the sequential specification. The rules of
+ * iox2sd.h for every call, and what it says of what is proved, hold here too. docs/CONFORM.md has
+ * the lines of logs and of reports.
  *
  * A check takes memory by malloc and realloc, and frees all of it before it returns. It takes at
  * most IOX2SD_CONFORM_STACK_BYTES of the stack.
@@ -34,14 +34,15 @@ typedef struct iox2sd_conform_answer {
  * buffer of NULL and 0 are empty ones.
  * Errors: IOX2SD_STATUS_NULL. IOX2SD_STATUS_NO_MEMORY. IOX2SD_STATUS_BUFFER_TOO_SHORT, with `line`,
  * `calls` and `length` as they would be with a longer buffer; then `out` is as it was, and a call
- * with a longer buffer judges the log again from its start. Then of the first line that does not
- * conform: IOX2SD_STATUS_NO_ORDER where no order of the calls explains its reply;
- * IOX2SD_STATUS_TOO_MANY_CONFIGURATIONS where orders lead to more than 4,096 configurations, and
- * IOX2SD_STATUS_TOO_MANY_OPEN_CALLS where more than 64 calls of a service are open;
+ * with a longer buffer judges the log again from its start. Then IOX2SD_STATUS_NO_ORDER, of the
+ * first line whose reply no order of the calls explains. If there is none, of the first line that
+ * passes a bound: IOX2SD_STATUS_TOO_MANY_CONFIGURATIONS where orders lead to more than 4,096
+ * configurations, IOX2SD_STATUS_TOO_MANY_OPEN_CALLS where more than 64 calls of a service are open.
+ * Else, of the first line that is not what is expected, or before which the log ends,
  * IOX2SD_STATUS_NO_SERVICE_LINE, IOX2SD_STATUS_NO_CALL_LINE, IOX2SD_STATUS_NO_REPLY_LINE,
  * IOX2SD_STATUS_CALLER_IS_BUSY, IOX2SD_STATUS_NO_OPEN_CALL, IOX2SD_STATUS_CALLER_IS_DEAD,
  * IOX2SD_STATUS_UNKNOWN_CALLER, IOX2SD_STATUS_NO_NEWLINE, IOX2SD_STATUS_CARRIAGE_RETURN and
- * IOX2SD_STATUS_NO_STATE_LINE where it is not what is expected, or the log ends before it. */
+ * IOX2SD_STATUS_NO_STATE_LINE. With TOO_MANY_.. the log is not decided. */
 IOX2SD_CHECKED iox2sd_conform_answer iox2sd_conform_run(const uint8_t *log, size_t length,
                                                         uint8_t *out, size_t capacity);
 IOX2SD_CHECKED iox2sd_conform_answer iox2sd_conform_run_str(const char *log, uint8_t *out,

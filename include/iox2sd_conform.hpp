@@ -1,7 +1,7 @@
 /// Logs of services for C++17: the calls that were made on a service of any implementation and the
-/// replies that were seen are judged by the proved machine (docs/CONFORM.md shows a log). A
-/// `LogWriter` (iox2sd_log.hpp) writes the log of a registry of one's own, and a `Recorder` that of
-/// a service of this layer.
+/// replies that were seen are judged by the sequential specification (docs/CONFORM.md shows a log).
+/// A `LogWriter` (iox2sd_log.hpp) writes the log of a registry of one's own, and a `Recorder` that
+/// of a service of this layer.
 ///
 /// A header alone, over iox2sd.hpp, iox2sd_log.hpp and iox2sd_conform.h, under the rules of the
 /// first.
@@ -123,8 +123,8 @@ private:
 
 /// What a log was judged to be.
 struct [[nodiscard]] LogVerdict {
-    /// `Done` where the log conforms; `NoMemory`; or what the first line that does not conform is:
-    /// `NoOrder` where no order of the calls explains its reply; not decided with
+    /// `Done` where the log conforms; `NoMemory`; or, as iox2sd_conform.h says in which order,
+    /// `NoOrder` where no order of the calls explains the reply of a line; not decided with
     /// `TooManyConfigurations`, where orders of the calls lead to more than 4,096, and with
     /// `TooManyOpenCalls`, where more than 64 calls of a service are open; else `NoServiceLine`,
     /// `NoCallLine`, `NoReplyLine`, `CallerIsBusy`, `NoOpenCall`, `CallerIsDead`, `UnknownCaller`,
@@ -138,20 +138,14 @@ struct [[nodiscard]] LogVerdict {
     IOX2SD_LENDS(std::string_view, report, text);
 
     /// With `NoOrder`: the words of the reply that was seen. Else nothing.
-    std::string_view words() const& noexcept {
-        std::string_view lines = below_first();
-        return lines.empty() ? lines : detail::take_line(lines, "seen: ");
-    }
+    std::string_view words() const& noexcept { return line_below(1, "seen: "); }
     std::string_view words() const&& = delete;
 
     /// With `NoOrder`: the line from which the window is open, which is that of the first event of
     /// the service since none of its calls was open. Else 0.
     std::size_t window() const noexcept {
-        std::string_view lines = below_first();
-        if (lines.empty()) return 0;
-        detail::take_line(lines, {});
         std::size_t number = 0;
-        for (const char digit : detail::take_line(lines, "window: from line ")) {
+        for (const char digit : line_below(2, "window: from line ")) {
             number = 10 * number + static_cast<std::size_t>(digit - '0');
         }
         return number;
@@ -160,33 +154,26 @@ struct [[nodiscard]] LogVerdict {
     /// With `NoOrder`: the lines, by rising number, in which the calls of the window begin that are
     /// needed, with a space between: no order explains these alone, and the others change nothing.
     /// Else nothing.
-    std::string_view needed() const& noexcept {
-        std::string_view lines = below_first();
-        if (lines.empty()) return lines;
-        detail::take_line(lines, {});
-        detail::take_line(lines, {});
-        return detail::take_line(lines, "needed: lines ");
-    }
+    std::string_view needed() const& noexcept { return line_below(3, "needed: lines "); }
     std::string_view needed() const&& = delete;
 
     /// With `NoOrder`: what the calls before the reply can have led to, at least one. Else none.
-    Configurations configurations() const& noexcept {
-        std::string_view lines = below_first();
-        if (lines.empty()) return Configurations({});
-        detail::take_line(lines, {});
-        detail::take_line(lines, {});
-        detail::take_line(lines, {});
-        return Configurations(lines);
-    }
+    Configurations configurations() const& noexcept { return Configurations(below(4)); }
     Configurations configurations() const&& = delete;
 
 private:
-    /// With `NoOrder`: the lines of the report below the first one.
-    std::string_view below_first() const noexcept {
+    /// With `NoOrder`: the lines of the report below so many first ones. Else nothing.
+    std::string_view below(std::size_t count) const noexcept {
         if (status != Status::NoOrder) return {};
         std::string_view lines = text;
-        detail::take_line(lines, {});
+        for (; count != 0; --count) detail::take_line(lines, {});
         return lines;
+    }
+
+    /// With `NoOrder`: what the line below so many first ones has behind these words. Else nothing.
+    std::string_view line_below(std::size_t count, std::string_view front) const noexcept {
+        std::string_view lines = below(count);
+        return lines.empty() ? lines : detail::take_line(lines, front);
     }
 };
 
@@ -213,7 +200,7 @@ inline LogVerdict check_log(std::string_view log) noexcept {
 }
 
 /// A service that writes down each call on it with its reply, as a log that `check_log` judges. So
-/// what a test saw is compared with the proved machine.
+/// what a test saw is compared with the sequential specification.
 ///
 /// Its calls are those of `Service` that have a line in a log, with the errors of that class, and
 /// `NoMemory` where there is none for a line: then the call is not made. A call with a handle of

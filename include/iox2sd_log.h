@@ -5,8 +5,9 @@
  * A header alone, which calls no function of the library. A writer has the log of one service, and
  * each thread a caller of its own. A call is begun before the registry is called and ended once the
  * reply is seen. Neither takes a lock: a begin reads the one counter that callers share, an end
- * adds to it, and the rest is written to memory of the caller's own. So what one call ended before
- * another began stands so in the log, and an end stands below the begins of the same number.
+ * adds to it, and the rest is written to memory of the caller's own. So where a call ended before
+ * another began, its end stands above that begin in the log. Begins stand above an end of the same
+ * number.
  *
  * - Memory is taken by malloc and realloc where a caller is made, and where it has more calls or
  *   ids than were reserved. It is freed by iox2sd_log_writer_free alone.
@@ -213,8 +214,8 @@ struct iox2sd_log_call {
     uint8_t reply;
     iox2sd_id port;
     iox2sd_id node;
-    uint64_t named[2]; /* The slot and the ticket of a command, or where ids begin, and how many. */
-    uint64_t seen[2]; /* Those of a reply, or a count. */
+    uint64_t named[2]; /* A command's slot and ticket, or where its ids begin and how many. */
+    uint64_t seen[2];  /* The same of a reply, or its count. */
 };
 
 struct iox2sd_log_writer;
@@ -232,7 +233,7 @@ typedef struct iox2sd_log_caller {
     uint64_t died;
     bool has_open_call;
     char name[IOX2SD_LOG_MAX_NAME + 1];
-    /* How far it is written: the call, and whether its begin is. */
+    /* How far it is written: the call, whether its begin is, and whether no line is left. */
     size_t at;
     bool began;
     bool ended;
@@ -245,7 +246,7 @@ typedef struct iox2sd_log_writer {
     uint64_t number;
     iox2sd_capacities capacities;
     iox2sd_log_caller *callers;
-    char before[64];
+    char before[64]; /* So that `ends` has a line of the processor's cache of its own. */
     uint64_t ends; /* How many calls have ended, or callers died. */
     char after[64];
 } iox2sd_log_writer;
@@ -289,7 +290,8 @@ static inline void iox2sd_log_writer_free(iox2sd_log_writer *writer) {
     }
 }
 
-/* Memory for at least `needed` items, which is written once, so that the system has given it. */
+/* Memory for `needed` items, the first `count` of which stay. The others are written once, so that
+ * the system has given them. NULL where it is refused. */
 static inline void *iox2sd_log_take(void *items, size_t count, size_t *capacity, size_t needed,
                                     size_t size) {
     if (needed > SIZE_MAX / 2 / size) return NULL;
@@ -371,7 +373,7 @@ iox2sd_log_caller_create(iox2sd_log_writer *writer, const char *name) {
 
 /* ---- Recording ---- */
 
-/* Whether a command has a line in a log. */
+/* IOX2SD_STATUS_DONE where a command has a line in a log; else why it has none. */
 static inline iox2sd_status iox2sd_log_command_check(const iox2sd_log_command *command) {
     if (command->kind > IOX2SD_LOG_LIST_WEAK) return IOX2SD_STATUS_UNKNOWN_VARIANT;
     const bool has_role = command->kind == IOX2SD_LOG_ADD || command->kind == IOX2SD_LOG_RELEASE ||
@@ -435,7 +437,8 @@ IOX2SD_CHECKED static inline iox2sd_log_token iox2sd_log_begin(iox2sd_log_caller
  * Errors: IOX2SD_STATUS_NULL; IOX2SD_STATUS_UNKNOWN_VARIANT, of a reply of no kind;
  * IOX2SD_STATUS_NO_OPEN_CALL, where the call has ended or was never begun;
  * IOX2SD_STATUS_NO_MEMORY, which a list alone meets: the call stays open. */
-static inline iox2sd_status iox2sd_log_end(iox2sd_log_token token, iox2sd_log_reply reply) {
+IOX2SD_CHECKED static inline iox2sd_status iox2sd_log_end(iox2sd_log_token token,
+                                                          iox2sd_log_reply reply) {
     iox2sd_log_caller *const caller = token.caller;
     const bool has_ids = reply.kind == IOX2SD_LOG_LISTED && reply.count != 0;
     if (caller == NULL || (reply.ids == NULL && has_ids)) return IOX2SD_STATUS_NULL;
@@ -463,7 +466,7 @@ static inline iox2sd_status iox2sd_log_end(iox2sd_log_token token, iox2sd_log_re
 /* The caller died: its open call took effect before this, or never. Another thread may call it once
  * the caller's has ended. A caller that has begun no call has no line.
  * Errors: IOX2SD_STATUS_NULL; IOX2SD_STATUS_CALLER_IS_DEAD. */
-static inline iox2sd_status iox2sd_log_died(iox2sd_log_caller *caller) {
+IOX2SD_CHECKED static inline iox2sd_status iox2sd_log_died(iox2sd_log_caller *caller) {
     if (caller == NULL) return IOX2SD_STATUS_NULL;
     if (caller->died != IOX2SD_LOG_NEVER) return IOX2SD_STATUS_CALLER_IS_DEAD;
     caller->died = __atomic_fetch_add(&caller->writer->ends, 1, __ATOMIC_ACQ_REL);
@@ -487,7 +490,7 @@ static inline void iox2sd_log_put_str(struct iox2sd_log_text *text, const char *
     iox2sd_log_put(text, words, strlen(words));
 }
 
-/* A number below a word, in decimal. */
+/* A number in decimal, behind these words. */
 static inline void iox2sd_log_put_number(struct iox2sd_log_text *text, const char *front,
                                          uint64_t number) {
     char digits[20];

@@ -16,11 +16,12 @@
  * - A status other than IOX2SD_STATUS_DONE is an error: nothing was written, and the other fields
  *   of a result are 0, unless a function says otherwise. Errors are checked in the order in which
  *   they are listed.
- * - No call writes past the length that is passed, keeps a pointer, takes memory, or calls back.
- *   There is no global state: calls may run on several threads at once, where they share no buffer.
- *   A call takes at most IOX2SD_STACK_BYTES of the stack.
+ * - No call writes past the length that is passed, keeps a pointer, or calls back, and none but
+ *   iox2sd_service_create_of_description takes memory. There is no global state: calls may run on
+ *   several threads at once, where they share no buffer. A call takes at most IOX2SD_STACK_BYTES of
+ *   the stack.
  * - Results have padding: compare them by their fields.
- * */
+ */
 #ifndef IOX2SD_VALUES_H
 #define IOX2SD_VALUES_H
 
@@ -368,20 +369,22 @@ typedef struct iox2sd_global_settings {
 
 /* The settings of a publish-subscribe service. */
 typedef struct iox2sd_publish_subscribe_settings {
-    size_t max_subscribers; /* How many may be attached at once; so are the next two. */
-    size_t max_publishers;
-    size_t max_nodes;
+    size_t max_subscribers; /* How many subscribers may be attached at once. */
+    size_t max_publishers;  /* How many publishers may be attached at once. */
+    size_t max_nodes;       /* How many nodes may use the service at once. */
     /* The capacity of a subscriber's buffer, in samples. */
     size_t subscriber_max_buffer_size;
     /* How many samples a subscriber may hold at once. */
     size_t subscriber_max_borrowed_samples;
     /* How many samples a publisher may have loaned and not yet sent. */
     size_t publisher_max_loaned_samples;
-    /* How many a publisher keeps for subscribers that come later. */
+    /* How many of the last samples a publisher keeps for later subscribers. */
     size_t publisher_history_size;
-    /* How many connections of publishers that are gone it keeps. */
+    /* How many connections of publishers that are gone a subscriber keeps. */
     size_t subscriber_expired_connection_buffer;
+    /* What a publisher does where a buffer is full and may not overflow. */
     iox2sd_backpressure_strategy backpressure_strategy;
+    /* How a publisher's data segment grows. */
     iox2sd_allocation_strategy publisher_allocation_strategy;
     /* Whether a new sample replaces the oldest one where a buffer is full. */
     bool enable_safe_overflow;
@@ -389,38 +392,42 @@ typedef struct iox2sd_publish_subscribe_settings {
 
 /* The settings of an event service. */
 typedef struct iox2sd_event_settings {
-    size_t max_listeners; /* How many may be attached at once; so are the next two. */
-    size_t max_notifiers;
-    size_t max_nodes;
+    size_t max_listeners;              /* How many listeners may be attached at once. */
+    size_t max_notifiers;              /* How many notifiers may be attached at once. */
+    size_t max_nodes;                  /* How many nodes may use the service at once. */
     size_t event_id_max_value;         /* The greatest number of an event. */
     iox2sd_optional_duration deadline; /* The longest time between two events. */
-    iox2sd_optional_event_id notifier_created_event;
-    iox2sd_optional_event_id notifier_dropped_event;
-    iox2sd_optional_event_id notifier_dead_event;
+    iox2sd_optional_event_id notifier_created_event; /* That which reports a new notifier. */
+    iox2sd_optional_event_id notifier_dropped_event; /* That which reports that one went. */
+    iox2sd_optional_event_id notifier_dead_event;    /* That of a notifier whose node died. */
 } iox2sd_event_settings;
 
 /* The settings of a request-response service. */
 typedef struct iox2sd_request_response_settings {
-    size_t max_active_requests_per_client; /* How many may be open at each server at once. */
-    /* The capacity of a client's buffer, in responses to one request. */
+    /* How many requests of one client may be open at each server at once. */
+    size_t max_active_requests_per_client;
+    /* The capacity of a client's buffer for the responses to one request. */
     size_t max_response_buffer_size;
-    /* How many may be attached at once; so are the next two. */
-    size_t max_servers;
-    size_t max_clients;
-    size_t max_nodes;
-    size_t max_borrowed_responses_per_pending_response; /* How many a client may hold at once. */
+    size_t max_servers; /* How many servers may be attached at once. */
+    size_t max_clients; /* How many clients may be attached at once. */
+    size_t max_nodes;   /* How many nodes may use the service at once. */
+    /* How many responses to one request a client may hold at once. */
+    size_t max_borrowed_responses_per_pending_response;
     /* How many requests a client may have loaned and not yet sent. */
     size_t max_loaned_requests;
-    /* The same of a server's responses to one request. */
+    /* How many responses to one request a server may have loaned and not yet sent. */
     size_t server_max_loaned_responses_per_request;
-    /* How many connections of gone servers and gone pending responses a client keeps, and of gone
-     * clients each server. */
+    /* How many connections of gone servers and gone pending responses a client keeps. */
     size_t client_expired_connection_buffer;
+    /* How many connections of gone clients each server keeps. */
     size_t server_expired_connection_buffer;
+    /* What a client does where a server's buffer is full and may not overflow; and the reverse. */
     iox2sd_backpressure_strategy client_backpressure_strategy;
     iox2sd_backpressure_strategy server_backpressure_strategy;
+    /* How a client's and a server's data segment grows. */
     iox2sd_allocation_strategy client_allocation_strategy;
     iox2sd_allocation_strategy server_allocation_strategy;
+    /* Whether a new request, and a new response, replaces the oldest one in a full buffer. */
     bool enable_safe_overflow_for_requests;
     bool enable_safe_overflow_for_responses;
     /* Whether a client may send a request and take no response. */
@@ -429,8 +436,8 @@ typedef struct iox2sd_request_response_settings {
 
 /* The settings of a blackboard service. */
 typedef struct iox2sd_blackboard_settings {
-    size_t max_readers; /* How many may be attached at once; so is the next. */
-    size_t max_nodes;
+    size_t max_readers; /* How many readers may be attached at once. */
+    size_t max_nodes;   /* How many nodes may use the service at once. */
 } iox2sd_blackboard_settings;
 
 /* How many chunks the data segment of a publisher, of a client or of a server needs with these
@@ -453,10 +460,10 @@ iox2sd_blackboard_settings iox2sd_blackboard_defaults(void);
 
 /* The fields of settings and of what is fixed of a service, as results name them. */
 enum iox2sd_settings_field_number {
-    IOX2SD_FIELD_BACKPRESSURE_STRATEGY = 0, /* Of publish-subscribe; so is the next. */
+    IOX2SD_FIELD_BACKPRESSURE_STRATEGY = 0, /* Of publish-subscribe, as the next one. */
     IOX2SD_FIELD_PUBLISHER_ALLOCATION_STRATEGY = 1,
     IOX2SD_FIELD_DEADLINE = 2,                     /* Of an event service. */
-    IOX2SD_FIELD_CLIENT_BACKPRESSURE_STRATEGY = 3, /* Of request-response; so are the next three. */
+    IOX2SD_FIELD_CLIENT_BACKPRESSURE_STRATEGY = 3, /* Of request-response, as the next three. */
     IOX2SD_FIELD_SERVER_BACKPRESSURE_STRATEGY = 4,
     IOX2SD_FIELD_CLIENT_ALLOCATION_STRATEGY = 5,
     IOX2SD_FIELD_SERVER_ALLOCATION_STRATEGY = 6,
@@ -576,10 +583,10 @@ IOX2SD_CHECKED iox2sd_text_answer iox2sd_node_dir_str(const char *root, uint8_t 
 
 /* What is fixed of a publish-subscribe service, beside the types of its messages. */
 typedef struct iox2sd_publish_subscribe_config {
-    size_t max_subscribers; /* How many may be attached at once; so are the next two. */
-    size_t max_publishers;
-    size_t max_nodes;
-    size_t history_size;               /* How many a publisher keeps for later subscribers. */
+    size_t max_subscribers;            /* How many subscribers may be attached at once. */
+    size_t max_publishers;             /* How many publishers may be attached at once. */
+    size_t max_nodes;                  /* How many nodes may use the service at once. */
+    size_t history_size;               /* How many samples are kept for later subscribers. */
     size_t subscriber_max_buffer_size; /* The capacity of a subscriber's buffer, in samples. */
     size_t subscriber_max_borrowed_samples; /* How many samples a subscriber may hold at once. */
     bool enable_safe_overflow; /* Whether a new sample replaces the oldest in a full buffer. */
@@ -587,25 +594,29 @@ typedef struct iox2sd_publish_subscribe_config {
 
 /* What is fixed of an event service. */
 typedef struct iox2sd_event_config {
-    size_t max_notifiers; /* How many may be attached at once; so are the next two. */
-    size_t max_listeners;
-    size_t max_nodes;
+    size_t max_notifiers;              /* How many notifiers may be attached at once. */
+    size_t max_listeners;              /* How many listeners may be attached at once. */
+    size_t max_nodes;                  /* How many nodes may use the service at once. */
     size_t event_id_max_value;         /* The greatest number of an event. */
     iox2sd_optional_duration deadline; /* The longest time between two events. */
-    iox2sd_optional_event_id notifier_created_event;
-    iox2sd_optional_event_id notifier_dropped_event;
-    iox2sd_optional_event_id notifier_dead_event;
+    iox2sd_optional_event_id notifier_created_event; /* That which reports a new notifier. */
+    iox2sd_optional_event_id notifier_dropped_event; /* That which reports that one went. */
+    iox2sd_optional_event_id notifier_dead_event;    /* That of a notifier whose node died. */
 } iox2sd_event_config;
 
 /* What is fixed of a request-response service, beside the types of its messages. */
 typedef struct iox2sd_request_response_config {
-    size_t max_active_requests_per_client; /* How many may be open at each server at once. */
+    /* How many requests of one client may be open at each server at once. */
+    size_t max_active_requests_per_client;
     size_t max_loaned_requests; /* How many requests a client may have loaned and not yet sent. */
-    size_t max_response_buffer_size; /* The capacity for responses to one request. */
-    size_t max_servers;              /* How many may be attached at once; so are the next two. */
-    size_t max_clients;
-    size_t max_nodes;
-    size_t max_borrowed_responses_per_pending_response; /* How many a client may hold at once. */
+    /* The capacity of a client's buffer for the responses to one request. */
+    size_t max_response_buffer_size;
+    size_t max_servers; /* How many servers may be attached at once. */
+    size_t max_clients; /* How many clients may be attached at once. */
+    size_t max_nodes;   /* How many nodes may use the service at once. */
+    /* How many responses to one request a client may hold at once. */
+    size_t max_borrowed_responses_per_pending_response;
+    /* Whether a new request, and a new response, replaces the oldest one in a full buffer. */
     bool enable_safe_overflow_for_requests;
     bool enable_safe_overflow_for_responses;
     bool enable_fire_and_forget_requests; /* Whether a client may take no response. */
@@ -613,9 +624,9 @@ typedef struct iox2sd_request_response_config {
 
 /* What is fixed of a blackboard service, beside the type of its keys. */
 typedef struct iox2sd_blackboard_config {
-    size_t max_readers; /* How many may be attached at once; so are the next two. */
-    size_t max_writers;
-    size_t max_nodes;
+    size_t max_readers; /* How many readers may be attached at once. */
+    size_t max_writers; /* How many writers may be attached at once. */
+    size_t max_nodes;   /* How many nodes may use the service at once. */
 } iox2sd_blackboard_config;
 
 /* What is fixed of a service, beside its attributes and the types of its messages. It is a plain

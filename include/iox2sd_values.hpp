@@ -567,17 +567,17 @@ struct GlobalSettings {
 
 /// The settings of a publish-subscribe service.
 struct PublishSubscribeSettings {
-    std::size_t max_subscribers;  ///< How many may be attached at once; so are the next two.
-    std::size_t max_publishers;
-    std::size_t max_nodes;
+    std::size_t max_subscribers;  ///< How many subscribers may be attached at once.
+    std::size_t max_publishers;   ///< How many publishers may be attached at once.
+    std::size_t max_nodes;        ///< How many nodes may use the service at once.
     std::size_t subscriber_max_buffer_size;       ///< Samples in a subscriber's buffer.
     std::size_t subscriber_max_borrowed_samples;  ///< Samples that a subscriber may hold at once.
-    std::size_t publisher_max_loaned_samples;     ///< Samples taken and not yet sent.
+    std::size_t publisher_max_loaned_samples;     ///< Samples that a publisher may have unsent.
     std::size_t publisher_history_size;           ///< Samples kept for later subscribers.
     std::size_t subscriber_expired_connection_buffer;  ///< Connections of publishers now gone.
-    BackpressureStrategy backpressure_strategy;
-    AllocationStrategy publisher_allocation_strategy;
-    bool enable_safe_overflow;  ///< Whether a new sample replaces the oldest one.
+    BackpressureStrategy backpressure_strategy;  ///< What a publisher does at a full buffer.
+    AllocationStrategy publisher_allocation_strategy;  ///< How its data segment grows.
+    bool enable_safe_overflow;  ///< Whether a new sample replaces the oldest in a full buffer.
 
     IOX2SD_SETTINGS(PublishSubscribeSettings, publish_subscribe, max_subscribers, max_publishers,
                     max_nodes, subscriber_max_buffer_size, subscriber_max_borrowed_samples,
@@ -596,14 +596,14 @@ struct PublishSubscribeSettings {
 
 /// The settings of an event service. They are its description too.
 struct EventSettings {
-    std::size_t max_listeners;  ///< How many may be attached at once; so are the next two.
-    std::size_t max_notifiers;
-    std::size_t max_nodes;
+    std::size_t max_listeners;         ///< How many listeners may be attached at once.
+    std::size_t max_notifiers;         ///< How many notifiers may be attached at once.
+    std::size_t max_nodes;             ///< How many nodes may use the service at once.
     std::size_t event_id_max_value;    ///< The greatest number of an event.
     std::optional<Duration> deadline;  ///< The longest time between two events.
-    std::optional<EventId> notifier_created_event;
-    std::optional<EventId> notifier_dropped_event;
-    std::optional<EventId> notifier_dead_event;
+    std::optional<EventId> notifier_created_event;  ///< That which reports a new notifier.
+    std::optional<EventId> notifier_dropped_event;  ///< That which reports that one went.
+    std::optional<EventId> notifier_dead_event;     ///< That of a notifier whose node died.
 
     IOX2SD_SETTINGS(EventSettings, event, max_listeners, max_notifiers, max_nodes,
                     event_id_max_value, deadline, notifier_created_event, notifier_dropped_event,
@@ -617,20 +617,24 @@ struct EventSettings {
 /// The settings of a request-response service.
 struct RequestResponseSettings {
     std::size_t max_active_requests_per_client;  ///< Open at each server at once.
-    std::size_t max_response_buffer_size;        ///< Responses to one request in a buffer.
-    std::size_t max_servers;  ///< How many may be attached at once; so are the next two.
-    std::size_t max_clients;
-    std::size_t max_nodes;
-    std::size_t max_borrowed_responses_per_pending_response;  ///< Held by a client at once.
-    std::size_t max_loaned_requests;                          ///< Taken and not yet sent.
-    std::size_t server_max_loaned_responses_per_request;      ///< Taken and not yet sent.
-    /// Connections of gone servers and gone pending responses.
+    std::size_t max_response_buffer_size;        ///< Responses to one request in a client's buffer.
+    std::size_t max_servers;                     ///< How many servers may be attached at once.
+    std::size_t max_clients;                     ///< How many clients may be attached at once.
+    std::size_t max_nodes;                       ///< How many nodes may use the service at once.
+    /// Responses to one request that a client may hold at once.
+    std::size_t max_borrowed_responses_per_pending_response;
+    std::size_t max_loaned_requests;  ///< Requests that a client may have unsent.
+    /// Responses to one request that a server may have unsent.
+    std::size_t server_max_loaned_responses_per_request;
+    /// Connections of gone servers and gone pending responses that a client keeps.
     std::size_t client_expired_connection_buffer;
+    /// Connections of gone clients that each server keeps.
     std::size_t server_expired_connection_buffer;
-    BackpressureStrategy client_backpressure_strategy;
-    BackpressureStrategy server_backpressure_strategy;
-    AllocationStrategy client_allocation_strategy;
-    AllocationStrategy server_allocation_strategy;
+    BackpressureStrategy client_backpressure_strategy;  ///< What a client does at a full buffer.
+    BackpressureStrategy server_backpressure_strategy;  ///< What a server does at a full buffer.
+    AllocationStrategy client_allocation_strategy;      ///< How a client's data segment grows.
+    AllocationStrategy server_allocation_strategy;      ///< How a server's data segment grows.
+    /// Whether a new request, and a new response, replaces the oldest one in a full buffer.
     bool enable_safe_overflow_for_requests;
     bool enable_safe_overflow_for_responses;
     bool enable_fire_and_forget_requests;  ///< Whether a request may go without a response.
@@ -645,12 +649,14 @@ struct RequestResponseSettings {
                     enable_safe_overflow_for_responses, enable_fire_and_forget_requests);
     IOX2SD_CHECK_OF(request_response);
 
-    /// The greatest number of one client's requests, and of one server's responses, that can be in
-    /// use at once. Error: `TooLarge` past 2^64 - 1.
+    /// The greatest number of one client's requests that can be in use at once. Error: `TooLarge`
+    /// past 2^64 - 1.
     Result<std::size_t> required_amount_of_chunks_per_client_data_segment() const noexcept {
         const iox2sd_request_response_settings c = as_c();
         return detail::result(iox2sd_requests_of(&c));
     }
+    /// The greatest number of one server's responses that can be in use at once. Error: `TooLarge`
+    /// past 2^64 - 1.
     Result<std::size_t> required_amount_of_chunks_per_server_data_segment() const noexcept {
         const iox2sd_request_response_settings c = as_c();
         return detail::result(iox2sd_responses_of(&c));
@@ -659,8 +665,8 @@ struct RequestResponseSettings {
 
 /// The settings of a blackboard service. They are always valid.
 struct BlackboardSettings {
-    std::size_t max_readers;  ///< How many may be attached at once; so is the next.
-    std::size_t max_nodes;
+    std::size_t max_readers;  ///< How many readers may be attached at once.
+    std::size_t max_nodes;    ///< How many nodes may use the service at once.
 
     IOX2SD_SETTINGS(BlackboardSettings, blackboard, max_readers, max_nodes);
 };

@@ -3,8 +3,9 @@
 //
 //     record THREADS CALLS SEED [SERVICES]
 //
-// CALLS are made on each of the SERVICES, one after another. Where there is one service, a node of
-// the main thread stays registered until the others are done, so that it is not locked before.
+// At most eight THREADS together make about CALLS calls on each of the SERVICES, one service after
+// another. Where there is one service, a node of the main thread stays registered until the others
+// are done, so that it is not locked before.
 #include <cstdio>
 #include <cstdlib>
 #include <string>
@@ -22,6 +23,8 @@ using iox2sd::Role;
 
 const iox2sd::Capacities capacities{6, 5, 4};
 constexpr Role roles[] = {Role::Listener, Role::Notifier};
+/// The most threads, the main one with them.
+constexpr std::size_t most_threads = 9;
 
 /// Numbers that look random, by xorshift.
 class Dice {
@@ -64,8 +67,8 @@ struct Service {
 
     LogWriter log;
     Registry registry;
-    Shared nodes[8];
-    Shared ports[2][8];
+    Shared nodes[most_threads];
+    Shared ports[2][most_threads];
     std::atomic<int> waiting{0};
 };
 
@@ -126,7 +129,7 @@ private:
         if (kind < 5) return nodes_[which] ? leave(which) : register_node(which);
         if (kind < 8) return attach(which, role);
         if (kind < 11) return release(role, service_.ports[role][number_]);
-        const std::size_t other = dice_.below(8);
+        const std::size_t other = dice_.below(most_threads - 1);
         if (kind == 11) return release(role, service_.ports[role][other]);
         if (kind == 12) return remove_other(other);
         if (kind == 13) return list_nodes();
@@ -186,7 +189,7 @@ private:
 iox2sd::List<char> run(std::uint64_t number, std::uint32_t threads, std::size_t calls,
                        std::uint64_t seed, bool stays_open) {
     Service service(number);
-    Thread main(service, 8, 2, seed);
+    Thread main(service, most_threads - 1, 2, seed);
     if (stays_open) main.register_node(1);
     std::vector<Thread> callers;
     for (std::uint32_t at = 0; at < threads; ++at) {

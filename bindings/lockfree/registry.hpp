@@ -1,7 +1,7 @@
 // A registry of the nodes and ports of a service in memory that threads share, without a lock:
 // slots in an array, a free list by compare-and-swap, and one word for each container with the next
 // ticket, how many entries there are and, for nodes, whether the service is locked. A call that
-// meets an entry while it comes or goes waits until it has.
+// meets an entry that comes or goes waits until that has come or gone.
 //
 // Which step of a call is the one at which it takes effect:
 // - An entry comes when its ticket is taken from the word, after its slot was taken off the list.
@@ -32,7 +32,9 @@ namespace lockfree {
 inline void interrupted() {
 #ifdef LOCKFREE_SLOW
     static std::atomic<std::uint32_t> passes{0};
-    if (passes.fetch_add(1, std::memory_order_relaxed) % 5 == 0) std::this_thread::sleep_for(std::chrono::microseconds(20));
+    if (passes.fetch_add(1, std::memory_order_relaxed) % 5 == 0) {
+        std::this_thread::sleep_for(std::chrono::microseconds(20));
+    }
 #endif
 }
 

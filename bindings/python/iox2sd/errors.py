@@ -108,7 +108,7 @@ class WrongTypeError(Error, TypeError, status=Status.WRONG_TYPE):
 
 
 class OutOfRangeError(Error, OverflowError, status=Status.TOO_LARGE):
-    """An integer is negative, or needs more bits than its parameter has."""
+    """An integer or a length is not within the range of its parameter."""
 
 
 class RefusedError(Error):
@@ -166,7 +166,7 @@ class EmptyError(RefusedError, ValueError, status=Status.EMPTY):
     """The text is empty."""
 
 class TooLongError(RefusedError, ValueError, status=Status.TOO_LONG):
-    """The text is too long; `at` is the greatest length in bytes where a text was checked."""
+    """The text is too long; `at` is the greatest length in bytes, where one text was checked."""
 
 class IllegalByteError(RefusedError, ValueError, status=Status.ILLEGAL_BYTE):
     """A byte may not stand in the text; `at` is the index of the first one."""
@@ -272,7 +272,8 @@ class ConfigFault(Value):
     column: "int | None"
     """The column, in bytes from 1, or None."""
     key: str
-    """The path of the key whose value is not allowed, or nothing where the text is no TOML."""
+    """The path of the key whose value is not allowed, or nothing where it is the text that is wrong.
+    """
     reason: str
     """What is wrong, in words."""
     cause: Status
@@ -283,8 +284,8 @@ class ConfigFault(Value):
 
 
 class BadConfigError(RefusedError, ValueError):
-    """The text of a file gives no settings: it is no UTF-8 or no TOML, or values are not allowed.
-    `faults` has all that is wrong, in the order of the file, and `status` the first cause.
+    """The text of a file gives no settings: it is no UTF-8, too deep or no TOML, or values are not
+    allowed. `faults` has all that is wrong, in the order of the file, and `status` the first cause.
     """
 
     def __init__(self, faults: "tuple[ConfigFault, ...]") -> None:

@@ -16,7 +16,7 @@ class Expected(Choice):
     SERVICE = Status.NO_SERVICE_LINE.value
     """The line of a service."""
     CALL = Status.NO_CALL_LINE.value
-    """The line of a service, a call or an event."""
+    """The line of a service with a number of its own, or a line on a service above."""
     REPLY = Status.NO_REPLY_LINE.value
     """A reply."""
     IDLE_CALLER = Status.CALLER_IS_BUSY.value
@@ -69,7 +69,8 @@ class Conforms(Value):
 
 @dataclass(frozen=True, slots=True)
 class NoOrder(_Fails):
-    """Orders of the calls explain what is above a reply, and none explains it. It counts as False.
+    """Orders of the calls explain what was seen of a service above a reply, and none explains it. It
+    counts as False.
     """
 
     line: int
@@ -92,7 +93,7 @@ class TooManyConfigurations(_Fails):
     """
 
     line: int
-    """The number of the line, from 1 on."""
+    """The number of the line at which they do, from 1 on."""
 
 
 @dataclass(frozen=True, slots=True)
@@ -100,7 +101,7 @@ class TooManyOpenCalls(_Fails):
     """Not decided: more than 64 calls of a service are open. It counts as False."""
 
     line: int
-    """The number of the line, from 1 on."""
+    """The number of the line from which they are, from 1 on."""
 
 
 @dataclass(frozen=True, slots=True)

@@ -30,7 +30,7 @@ _REPLIES = {
 
 class Recorder(DynamicConfig):
     """A service that writes down each call on it with its reply, as a log that `check_log` judges.
-    So what a test saw is compared with the proved machine.
+    So what a test saw is compared with the sequential specification.
 
         >>> import iox2sd
         >>> with iox2sd.Recorder.event(7, max_nodes=1, max_listeners=2, max_notifiers=2) as service:

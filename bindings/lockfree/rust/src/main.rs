@@ -5,9 +5,9 @@
 //! record THREADS CALLS SEED [SERVICES]
 //! ```
 //!
-//! `CALLS` are made on each of the `SERVICES`, one after another. Where there is one service, a
-//! node of the main thread stays registered until the others are done, so that it is not locked
-//! before.
+//! At most eight `THREADS` together make about `CALLS` calls on each of the `SERVICES`, one service
+//! after another. Where there is one service, a node of the main thread stays registered until the
+//! others are done, so that it is not locked before.
 #![forbid(unsafe_code)]
 
 mod container;

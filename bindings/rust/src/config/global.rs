@@ -112,7 +112,7 @@ files! {
         /// The end of the name of the segment with a blackboard's values.
         blackboard_data_suffix: FileName = blackboard_data_suffix IOX2SD_TEXT_BLACKBOARD_DATA_SUFFIX,
     } and {
-        /// Whether somebody who opens a service first removes what dead nodes left; so by default.
+        /// Whether somebody who opens a service first removes what dead nodes left. By default true.
         cleanup_dead_nodes_on_open,
     }
 }
@@ -142,9 +142,9 @@ files! {
         /// The end of the name of the segment with which nodes are managed.
         global_mgmt_suffix: FileName = global_mgmt_suffix IOX2SD_TEXT_GLOBAL_MGMT_SUFFIX,
     } and {
-        /// Whether somebody who creates a node first removes what dead nodes left; so by default.
+        /// Whether somebody who creates a node first removes what dead nodes left. By default true.
         cleanup_dead_nodes_on_creation,
-        /// Whether a node that is dropped removes what dead nodes left; so by default.
+        /// Whether a node that is dropped removes what dead nodes left. By default true.
         cleanup_dead_nodes_on_destruction,
     }
 }

@@ -258,8 +258,8 @@ impl fmt::Display for ConfigTextFault {
 pub enum ConfigError {
     /// It is no TOML.
     NotToml(ConfigTextFault),
-    /// Its tables and arrays are nested too deeply. Dotted keys nest too. This is found before
-    /// anything else.
+    /// Its tables and arrays are more than 32 deep in one another. Each dot of a key counts too.
+    /// This is found before anything else.
     TooDeep(ConfigTextFault),
     /// Values are not allowed: all of them, in the order of the file.
     Faults(Vec<ConfigFault>),

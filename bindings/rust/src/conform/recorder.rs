@@ -8,7 +8,8 @@ use crate::log::{self, Command, Ends, Record, Reply};
 use std::collections::HashSet;
 
 /// A service that writes down each call on it with its reply, as a log that
-/// [`check_log`](super::check_log) judges. So what a test saw is compared with the proved machine.
+/// [`check_log`](super::check_log) judges. So what a test saw is compared with the sequential
+/// specification.
 ///
 /// Its methods are those of [`DynamicConfig`] that have a line in a log. A call with a handle of
 /// another service, or of the other kind, has no line.

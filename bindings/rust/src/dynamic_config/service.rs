@@ -135,7 +135,7 @@ patterns! {
     Blackboard: blackboard,
 }
 
-/// A caller keeps its own.
+/// A copy, so that the caller keeps its own.
 impl From<&MessagingPatternSettings> for MessagingPatternSettings {
     fn from(settings: &MessagingPatternSettings) -> Self {
         *settings
@@ -326,7 +326,7 @@ impl DynamicConfig {
             .map_err(RegisterNodeResult::of)
     }
 
-    /// Takes out the node with this handle. Where it was the last one, the service is locked for
+    /// Deregisters the node with this handle. Where it was the last one, the service is locked for
     /// good.
     ///
     /// # Errors
