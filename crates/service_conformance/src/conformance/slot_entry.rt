@@ -116,9 +116,11 @@ pub(super) fn details_of<T: Copy>(
 ) -> Result<Vec<T>, AllocError>
     ensures { IfOk result (λ list. list.items ≡ map (λ e. e.details) entries.now) }
 {
-    // Room is made first: `collect` asks for less where that is refused.
+    // `collect` would ask for less room where the first request is refused.
     let mut list = Vec::with_capacity(alloc, entries.len())?;
-    list.extend(entries.iter().map(|entry| entry.details()))?;
+    for entry in entries {
+        list.push(entry.details())?;
+    }
     Ok(list)
 }
 
@@ -130,7 +132,9 @@ pub(super) fn slots_of<T: Copy>(
     ensures { IfOk result (λ list. list.items ≡ map (λ e. e.slot) entries.now) }
 {
     let mut list = Vec::with_capacity(alloc, entries.len())?;
-    list.extend(entries.iter().map(|entry| entry.slot()))?;
+    for entry in entries {
+        list.push(entry.slot())?;
+    }
     Ok(list)
 }
 

@@ -20,7 +20,9 @@ fn ids_of<T: Printed>(alloc: Global, items: &[T]) -> Result<Vec<u128>, AllocErro
     ensures { IfOk result (λ ids. ids.items ≡ map T.id items.now) }
 {
     let mut ids = Vec::with_capacity(alloc, items.len())?;
-    ids.extend(items.iter().map(|item| item.printed()))?;
+    for item in items {
+        ids.push(item.printed())?;
+    }
     Ok(ids)
 }
 
