@@ -2,14 +2,15 @@
 
 import re
 from dataclasses import dataclass
+from typing import NamedTuple
 
-DEFINED = re.compile(r"(?:abbrev |unfoldable )?pub (?:record |data )?(?P<name>[^\s:({]+)")
+DEFINED = re.compile(r"(?:abbrev |unfoldable )?pub (?:record |data )?([^\s:({]+)")
 TAKEN = re.compile(r"Rattle\.(?P<crate>\w+)\.specs\.(?P<path>[\w.]+?)(?:\.\{(?P<names>[^}]*)\})?"
                    r"(?: as (?P<alias>\w+))?$")
-CONSTRUCTOR = re.compile(r"  (?P<name>\w+) :")
+CONSTRUCTOR = re.compile(r"  (\w+) :")
 
 
-@dataclass
+@dataclass(eq=False)
 class Definition:
     """One definition, with the comment above it."""
 
@@ -25,8 +26,7 @@ class Definition:
         return f"{self.crate}-definitions.html#{self.module}.{self.name}"
 
 
-@dataclass(frozen=True)
-class Taken:
+class Taken(NamedTuple):
     """What a name stands for: the definition or the type at a path in the `specs` of a crate."""
 
     crate: str
@@ -53,29 +53,24 @@ def read_definitions(crate, module, text):
     """What the file is about, its definitions, and those that other names of it stand for."""
     scope, about, found, handed_on, comment = {}, [], [], {}, []
     for line in text.split("\n"):
-        start = DEFINED.match(line)
         if line.startswith(("use ", "pub use ")):
             taken = taken_names(line.partition("use ")[2])
             scope |= taken
             if line.startswith("pub "):
                 handed_on |= {(crate, module, name): of for name, of in taken.items()}
+            else:
+                about, comment = about + comment, []
         elif line.startswith("--"):
             comment.append(line[2:].strip())
-        elif start:
+        elif start := DEFINED.match(line):
             # A comment above several definitions speaks of them all, that of the file of the first.
-            name, said = start["name"], " ".join(comment)
-            said = said or (found[-1].comment if found else " ".join(about))
-            found.append(Definition(crate, module, name, said, line, scope))
-            scope[name] = Taken(crate, module, name)
-            comment = []
+            said = " ".join(comment) or (found[-1].comment if found else " ".join(about))
+            found.append(Definition(crate, module, start[1], said, line, scope))
+            scope[start[1]], comment = Taken(crate, module, start[1]), []
         elif not line:
-            if comment and not found:
-                about += comment
-            comment = []
+            about, comment = about + (comment if not found else []), []
         elif found:
             found[-1].text += "\n" + line
             if found[-1].text.startswith("pub data ") and (constructor := CONSTRUCTOR.match(line)):
-                handed_on[crate, module, constructor["name"]] = Taken(crate, module, found[-1].name)
-        if line.startswith("use ") and comment:
-            about, comment = about + comment, []
+                handed_on[crate, module, constructor[1]] = Taken(crate, module, found[-1].name)
     return " ".join(about), found, handed_on

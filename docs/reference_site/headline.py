@@ -6,6 +6,8 @@ that the next one needs beside them.
 """
 
 import re
+from graphlib import TopologicalSorter
+from itertools import chain, groupby, starmap
 
 from reference_site.parts import WORD, cited, code, filled, plural
 from reference_site.project import head_of
@@ -29,20 +31,19 @@ class Headline:
     def __init__(self, project, parts, promises):
         self.project, self.parts = project, parts
         self.sentences, self.lists, self.trusted = [], [], set()
-        before = set()
         for each in sentences(promises):
-            found = [(text, [self.function(*path) for path in paths]) for text, paths in each]
-            self.sentences += [(text, [f for f in functions if f]) for text, functions in found]
-            behind = self.closure([f for _, functions in found for f in functions if f])
-            self.lists.append([d for d in behind if id(d) not in before])
-            before |= {id(d) for d in behind}
+            found = [(text, [*filter(None, starmap(self.function, paths))]) for text, paths in each]
+            behind = self.closure([f for _, functions in found for f in functions])
+            before = {*chain(*self.lists)}
+            self.lists.append([d for d in self.in_reading_order() if d in behind - before])
+            self.sentences += found
         if len(self.lists) < 2 or not all(functions for _, functions in self.sentences):
             parts.problems.add("docs/PROMISES.md: a sentence of the headline names no function")
 
     def function(self, crate, path):
         """The function at a path of a crate: of a module, of a type or of a trait."""
         owner, _, name = path.rpartition("::")
-        for shown in [s for each in self.project.crates[crate].shown.values() for s in each]:
+        for shown in self.project.crates[crate].all_shown():
             if shown.item.kind == "fn" and (shown.title == path or not shown.owner and (
                     shown.item.name == name and shown.module.path[-1:] == (owner,))):
                 return shown
@@ -54,10 +55,9 @@ class Headline:
         signature = re.split(r"\n *(?:requires|ensures)\b", function.item.text)[0]
         names = [function.owner, *(match[0] for match in WORD.finditer(signature))]
         types = [self.project.type_named(function.module, name) for name in names]
-        for owner in {id(found): found for found in types if found}.values():
-            for shown in self.project.crates[owner.module.crate].shown[owner.module.name]:
-                if head_of(shown.item) == ("Model", owner.item.name):
-                    yield shown
+        return [shown for owner in dict.fromkeys(filter(None, types))
+                for shown in self.project.crates[owner.module.crate].shown[owner.module.name]
+                if head_of(shown.item) == ("Model", owner.item.name)]
 
     def closure(self, functions):
         """All definitions behind the clauses and the models. What they take from libraries is
@@ -65,31 +65,28 @@ class Headline:
         texts = [(f.item.text, f.module.scope(f.block)) for f in functions]
         texts += [(ghost.text, model.module.scope(model.item)) for f in functions
                   for model in self.models(f) for ghost in model.item.ghosts]
-        left = [taken for text, scope in texts for taken in cited(text, scope)]
-        found = {}
+        left, found = [taken for text, scope in texts for taken in cited(text, scope)], set()
         while left:
             taken = self.project.origin(left.pop())
             definition = self.project.definition(taken)
             if taken.crate not in self.project.crates:
-                self.trusted.add((taken.crate, taken.path, taken.name))
-            elif definition and id(definition) not in found:
-                found[id(definition)] = definition
+                self.trusted.add(taken)
+            elif definition and definition not in found:
+                found.add(definition)
                 left += cited(definition.text, definition.scope)
-        return [d for d in self.in_reading_order() if id(d) in found]
+        return found
 
     def in_reading_order(self):
         """All definitions: crates bottom-up, and each file of one after those that it uses."""
         for crate in self.project.crates.values():
-            uses = {module: set() for module in dict.fromkeys(d.module for d in crate.definitions)}
+            uses = {definition.module: set() for definition in crate.definitions}
             for definition in crate.definitions:
                 homes = map(self.project.definition, definition.scope.values())
                 uses[definition.module] |= {home.module for home in homes
                                             if home and home.crate == crate.name}
-            done = []
-            while len(done) < len(uses):
-                left = [module for module in uses if module not in done]
-                done.append(next((m for m in left if uses[m] <= {m, *done}), left[0]))
-            yield from sorted(crate.definitions, key=lambda d: done.index(d.module))
+            order = TopologicalSorter({m: sorted(uses[m] - {m}) for m in uses})
+            yield from sorted(crate.definitions, key=lambda d, done=[*order.static_order()]:
+                              done.index(d.module))
 
     def counts(self, between):
         """How many definitions each list needs, and their lines with the comments above them."""
@@ -112,17 +109,13 @@ class Headline:
                 rows.append(f"<p>{code(function.title, function.href)} of <code>"
                             f"{function.module.crate}</code>:</p>"
                             + self.parts.item(function.item, function.module, function.block))
-                models |= {id(model): self.parts.item(model.item, model.module)
+                models |= {model: self.parts.item(model.item, model.module)
                            for model in self.models(function)}
-        module = None
-        for found in [definition for each in self.lists for definition in each]:
-            if (found.crate, found.module) != module:
-                module = (found.crate, found.module)
-                about = self.parts.inline(self.project.crates[found.crate].abouts[found.module])
-                texts.append(f"<h3>{found.crate}: {found.module}</h3><p>{about}</p>")
-            texts.append(f"<p>{self.parts.inline(found.comment)}</p>"
-                         + self.parts.definition(found))
-        names = ", ".join(f"<code>{name}</code>" for _, _, name in sorted(self.trusted))
+        for (crate, module), each in groupby(chain(*self.lists), lambda d: (d.crate, d.module)):
+            about = self.parts.inline(self.project.crates[crate].abouts[module])
+            texts += [f"<h3>{crate}: {module}</h3><p>{about}</p>"]
+            texts += map(self.parts.definition, each)
+        names = ", ".join(f"<code>{taken.name}</code>" for taken in sorted(self.trusted))
         return filled(
             "headline", counts=self.counts(", and for the last sentences "),
             trusted=len(self.trusted), sentences="".join(rows), models="".join(models.values()),

@@ -1,8 +1,8 @@
 """Writes the parts of a page: code and doc text with links."""
 
-import html
 import re
 import string
+from html import escape
 from pathlib import Path
 
 WORD = re.compile(r"[^\W\d][\w']*(?:\.[^\W\d][\w']*)*")
@@ -10,13 +10,9 @@ STRING = re.compile(r'("(?:[^"\\]|\\.)*")')
 LINK = re.compile(r"\[`(?P<link>[^`]+)`\](?:\((?P<path>[^)]+)\))?|`(?P<code>[^`]+)`")
 
 
-def escape(text):
-    return html.escape(text, quote=True)
-
-
 def filled(template, **parts):
     """A template of this folder, filled with these parts."""
-    text = (Path(__file__).parent / f"{template}.html").read_text()
+    text = Path(__file__).with_name(f"{template}.html").read_text()
     return string.Template(text).substitute(parts)
 
 
@@ -30,7 +26,7 @@ def code(name, href):
 
 
 def plural(count, what):
-    return f"{count} {what}" if count == 1 else f"{count} {what}s"
+    return f"{count} {what}{'' if count == 1 else 's'}"
 
 
 def first_sentence(doc):
@@ -47,33 +43,31 @@ class Parts:
     """The parts of the pages of one project."""
 
     def __init__(self, project):
-        self.project = project
-        self.problems = set()
+        self.project, self.problems = project, set()
 
     def target(self, taken):
         """The link and the meaning of a name in a contract, or none for a name of the library."""
         taken = self.project.origin(taken)
-        found = self.project.definition(taken)
-        if found:
+        if found := self.project.definition(taken):
             return found.href, found.comment
         if taken.crate in self.project.crates and taken.path[0].isupper():
             self.problems.add(f"no definition {taken.crate}.specs.{taken.path}.{taken.name}")
         shown = self.project.type_declared(taken)
-        return (shown.href, first_sentence(shown.item.doc)) if shown else None
+        return shown and (shown.href, first_sentence(shown.item.doc))
 
     def linked(self, text, scope, module=None, own=""):
         """Code in which each name but `own` that a contract cites, and each public type, is a
         link."""
         def link(match):
-            head, dot, rest = match[0].partition(".")
-            target = None
+            head, target = match[0].partition(".")[0], None
             if head in scope:
-                target = self.target(scope[head]) if head != own else None
+                target = head != own and self.target(scope[head])
             elif shown := module and self.project.type_named(module, head):
                 target = shown.href, ""
             if not target:
                 return match[0]
-            return f'<a href="{target[0]}" title="{escape(target[1])}">{head}</a>{dot}{rest}'
+            linked = f'<a href="{target[0]}" title="{escape(target[1])}">{head}</a>'
+            return linked + match[0].removeprefix(head)
         return "".join(escape(part) if part.startswith('"') else WORD.sub(link, escape(part))
                        for part in STRING.split(text))
 
@@ -85,8 +79,9 @@ class Parts:
         return f"<pre>{self.linked(text, module.scope(block or item), module)}</pre>{docs}"
 
     def definition(self, found):
-        """The text of a definition."""
-        return f"<pre>{self.linked(found.text, found.scope, own=found.name)}</pre>"
+        """The comment and the text of a definition."""
+        text = self.linked(found.text, found.scope, own=found.name)
+        return f"<p>{self.inline(found.comment)}</p><pre>{text}</pre>"
 
     def prose(self, doc, module):
         """Doc text: paragraphs, lists, code, and links to items."""
@@ -109,20 +104,18 @@ class Parts:
             if match["link"]:
                 return code(match["link"], self.item_link(match["path"] or match["link"], module))
             return f"<code>{match['code']}</code>"
-        return LINK.sub(replace, html.escape(text, quote=False))
+        return LINK.sub(replace, escape(text, quote=False))
 
     def item_link(self, path, module):
         """Where `[`Type::method`]` of a doc text leads; what leads nowhere is noted."""
         *owners, name = [p for p in path.split("::") if p not in ("super", "crate", "self")]
         owner = self.project.type_named(module, owners[-1]) if owners else None
-        if owner and (member := self.project.members.get((owner.module.crate, f"{owner.title}::{name}"))):
-            return member.href
-        if owner and re.search(rf"^    (pub )?{name}\b", owner.item.text, re.M):
-            return owner.href  # A variant stands with its type.
-        of_crate = self.project.crates[module.crate].shown.values()
-        shown = self.project.type_named(module, name) or next(
-            (s for each in of_crate for s in each if s.item.name == name), None)
-        if shown:
-            return shown.href
-        self.problems.add(f"{module.file}: no page has what [`{path}`] leads to")
-        return "#"
+        of_crate = self.project.crates[module.crate].all_shown()
+        shown = owner and self.project.members.get((owner.module.crate, f"{owner.title}::{name}"))
+        if owner and not shown and re.search(rf"^    (pub )?{name}\b", owner.item.text, re.M):
+            shown = owner  # A variant stands with its type.
+        shown = shown or self.project.type_named(module, name) or next(
+            (each for each in of_crate if each.item.name == name), None)
+        if not shown:
+            self.problems.add(f"{module.file}: no page has what [`{path}`] leads to")
+        return shown.href if shown else "#"

@@ -4,7 +4,7 @@ import re
 from collections import defaultdict
 from dataclasses import dataclass
 
-from crates import NAMED
+from crates import NAMED, TOP
 from reference_site.definitions import read_definitions, taken_names
 from reference_site.rattle import read_source
 
@@ -28,8 +28,8 @@ class Module:
 
     def scope(self, block=None):
         """What the names in contracts stand for, in the file or in a block of it."""
-        uses = [i for i in [*self.items, *(block.members if block else ())] if i.kind == "ghost use"]
-        return {name: taken for use in uses for name, taken in taken_names(use.name).items()}
+        return {name: taken for item in [*self.items, *(block.members if block else ())]
+                if item.kind == "ghost use" for name, taken in taken_names(item.name).items()}
 
     def used(self):
         """The path of each name that a `use` brings here."""
@@ -38,7 +38,7 @@ class Module:
         return {name: path for use in uses for name, path in expand_use(use).items()}
 
 
-@dataclass
+@dataclass(eq=False)
 class Shown:
     """What is shown of a file: an item, or a member of a block, which has an owner."""
 
@@ -62,10 +62,9 @@ class Shown:
 
 def expand_use(path):
     """Each name that `a::{b, c as d}` brings into scope, with its path as a tuple."""
-    path = re.sub(r"\s+", " ", path).strip()
-    head, brace, rest = path.partition("{")
+    head, brace, rest = " ".join(path.split()).partition("{")
     if not brace:
-        path, _, alias = path.partition(" as ")
+        path, _, alias = head.partition(" as ")
         parts = tuple(part for part in path.split("::") if part != "self")
         return {alias or parts[-1]: parts}
     entries = re.findall(r"((?:[^,{}]|\{(?:[^{}]|\{[^{}]*\})*\})+),?", rest[:rest.rindex("}")])
@@ -84,35 +83,35 @@ def head_of(block):
 class Crate:
     """A crate as its line of `crates.txt` and its folder describe it."""
 
-    def __init__(self, top, name, uses):
-        self.name, self.uses, self.folder = name, uses, top / "crates" / name
+    def __init__(self, name, uses):
+        self.name, self.uses, self.folder = name, uses, TOP / "crates" / name
         self.definitions, self.handed_on, self.abouts = [], {}, {}
         for file in sorted((self.folder / "specs").glob("*.antt")):
             if file.stem != "Lib":
-                about, found, handed = read_definitions(self.name, file.stem, file.read_text())
-                self.abouts[file.stem] = about
+                self.abouts[file.stem], found, handed = read_definitions(
+                    name, file.stem, file.read_text())
                 self.definitions += found
                 self.handed_on |= handed
-        src = self.folder / "src"
+        src, self.modules = self.folder / "src", []
         self.is_library = (src / "lib.rt").exists()
-        self.modules = []
         for file in sorted(src.rglob("*.rt")):
-            path = file.relative_to(src).with_suffix("").parts
-            name = str(file.relative_to(top))
+            path, where = file.relative_to(src).with_suffix("").parts, str(file.relative_to(TOP))
             path = () if path in (("lib",), ("main",)) else path
-            self.modules.append(Module(self.name, path, name, *read_source(name, file.read_text())))
+            self.modules.append(Module(name, path, where, *read_source(where, file.read_text())))
         self.modules.sort(key=lambda module: (module.path[:1] == ("laws",), module.path))
         self.root = self.modules[0]
         uses = [i.text for m in self.modules for i in m.items if i.kind == "use" and i.public]
         self.handed_out = set(re.findall(r"\w+", " ".join(uses)))
         self.shown = {module.name: list(self.shown_of(module)) for module in self.modules}
 
+    def all_shown(self):
+        return [shown for each in self.shown.values() for shown in each]
+
     def is_public(self, module):
         """Whether the module of a file, and each above it, is public."""
-        paths = [module.path[:n] for n in range(1, len(module.path) + 1)]
         public = {(*m.path, i.name) for m in self.modules for i in m.items
                   if i.kind == "mod" and i.public and not i.is_for_tests}
-        return all(path in public for path in paths)
+        return all(module.path[:n] in public for n in range(1, len(module.path) + 1))
 
     def shown_of(self, module):
         """The public items of a file, and the methods and blocks of its public types."""
@@ -141,22 +140,21 @@ class Crate:
 class Project:
     """All crates, and the look-ups over them."""
 
-    def __init__(self, top):
-        crates = [Crate(top, name, uses) for name, uses in NAMED.items()
-                  if not name.endswith("_tests")]
+    def __init__(self):
+        crates = [Crate(*each) for each in NAMED.items() if not each[0].endswith("_tests")]
         self.crates = {crate.name: crate for crate in crates}
         self.definitions = {(d.crate, d.module, d.name): d for c in crates for d in c.definitions}
         self.handed_on = {name: of for c in crates for name, of in c.handed_on.items()}
         self.types, self.members = defaultdict(list), {}
-        for shown in [s for crate in crates for each in crate.shown.values() for s in each]:
+        for shown in [shown for crate in crates for shown in crate.all_shown()]:
             if shown.owner:
                 self.members.setdefault((shown.module.crate, shown.title), shown)
             elif shown.item.kind in TYPES:
                 self.types[shown.item.name].append(shown)
         # A block stands only beside a public type.
         for crate in crates:
-            for name, each in crate.shown.items():
-                crate.shown[name] = [s for s in each if self.is_of_public_type(s)]
+            crate.shown = {name: [*filter(self.is_of_public_type, each)]
+                           for name, each in crate.shown.items()}
 
     def is_of_public_type(self, shown):
         owner = head_of(shown.item)[1] if shown.item.kind == "impl" else shown.owner
@@ -183,12 +181,10 @@ class Project:
 
     def origin(self, taken):
         """What a name stands for where the files that only hand it on are passed over."""
-        handed_on = self.handed_on.get((taken.crate, taken.path, taken.name))
-        return self.origin(handed_on) if handed_on else taken
+        return self.origin(self.handed_on[taken]) if taken in self.handed_on else taken
 
     def definition(self, taken):
+        """The definition that a name stands for; that of a constructor is the one of its type."""
         taken = self.origin(taken)
-        # A constructor stands at the path of its type.
         module, _, name = taken.path.partition(".")
-        return self.definitions.get((taken.crate, taken.path, taken.name)) or self.definitions.get(
-            (taken.crate, module, name))
+        return self.definitions.get(taken) or self.definitions.get((taken.crate, module, name))

@@ -7,8 +7,8 @@ not know.
 import re
 from dataclasses import dataclass, field
 
-HEAD = re.compile(r"(?P<visible>pub(\([a-z: ]+\))? )?(const |unsafe |extern \"C\" )*"
-                  r"(?P<kind>fn|struct|enum|trait|impl|mod|use|type|const|static|ghost)\b(?: (?P<name>\w+))?")
+HEAD = re.compile(r"(?P<visible>pub(\([a-z: ]+\))? )?(const |unsafe |extern \"C\" )*(?P<kind>fn|"
+                  r"struct|enum|trait|impl|mod|use|type|const|static|ghost)\b(?: (?P<name>\w+))?")
 CLAUSE = re.compile(r"(requires|ensures)\*?( [\w ]+?)? \{")
 MACRO = re.compile(r"[\w:]+!\s*\w*\s*[({\[]")
 # A text is one line, whatever its lines.
@@ -69,31 +69,28 @@ def read_items(path, lines):
     inner, doc, attributes, items, at = [], [], [], [], 0
     while at < len(lines):
         line, end = lines[at], at + 1
-        if line.startswith("//!"):
-            inner.append(line[3:].removeprefix(" "))
-        elif line.startswith("///"):
-            doc.append(line[3:].removeprefix(" "))
+        if line.startswith(("//!", "///")):
+            (inner if line[2] == "!" else doc).append(line[3:].removeprefix(" "))
         elif line.startswith("#"):
             while not lines[end - 1].endswith("]"):
                 end += 1
             attributes.append("\n".join(lines[at:end]))
         elif line.strip() and not line.startswith("//"):
             end = item_end(lines, at)
-            if item := read_item(path, lines[at:end], "\n".join(doc), attributes):
-                items.append(item)
+            items += read_item(path, lines[at:end], "\n".join(doc), attributes)
             doc, attributes = [], []
         at = end
     return "\n".join(inner), items
 
 
 def read_item(path, lines, doc, attributes):
+    """The item of these lines, or none where they are the call of a macro."""
     head = HEAD.match(lines[0])
     if not head:
         if not MACRO.match(lines[0]):
             raise Unreadable(f"{path}: no item is known here: {lines[0]}")
-        return None
-    kind, name, text = head["kind"], head["name"] or "", text_of(lines)
-    members = []
+        return []
+    kind, name, text, members = head["kind"], head["name"] or "", text_of(lines), []
     if kind in ("fn", "trait", "impl", "mod"):
         body = next((n for n, line in enumerate(lines) if line[:1].strip() and
                      line.endswith(("{", "}", ";"))), len(lines))
@@ -104,7 +101,7 @@ def read_item(path, lines, doc, attributes):
         text = PRIVATE.sub("", text)
     elif text.startswith("ghost use "):
         kind, name = "ghost use", text.removeprefix("ghost use ").rstrip(";")
-    return Item(kind, name, head["visible"] == "pub ", doc, text, attributes, members)
+    return [Item(kind, name, head["visible"] == "pub ", doc, text, attributes, members)]
 
 
 def read_source(path, text):
