@@ -1,5 +1,4 @@
-"""Draws scripts for `iox2-replay`, good ones and broken ones, and runs a program on what is drawn of
-many seeds."""
+"""Draws scripts for `iox2-replay`, and runs a program on what is drawn of many seeds."""
 
 import argparse
 import collections
@@ -19,27 +18,24 @@ CRATES = pathlib.Path(__file__).resolve().parent.parent / "crates"
 SECONDS_FOR_A_SCRIPT = 20
 GIGABYTES = 4
 
-# ---- Good scripts ----
-
-PARTS_OF_IDS = [0, 0, 1, 1, 2, 5, 9, 10, 255, 65536, 4294967294, LAST_U32]
+PARTS_OF_IDS = [0, 0, 1, 1, 2, 5, 9, 10, 255, 65536, LAST_U32 - 1, LAST_U32]
 NUMBERS = [0, 1, 7, 2**32, 2**63, LAST_U64 - 1, LAST_U64]
-TOO_MANY = [machine.TOO_MANY_PLACES, 2**56, 2**59 + 1, 2**60, 2**63 - 1, 2**63, LAST_U64 - 1, LAST_U64]
+TOO_MANY = [machine.TOO_MANY_PLACES, 2**56, 2**59 + 1, 2**60, 2**63 - 1, *NUMBERS[-3:]]
 ALL_ROLES = [role for pair in ROLES.values() for role in pair]
 WORDS = [b"register", b"deregister", b"nodes", b"add", b"release", b"list", b"count", b"dead"]
 
 
 class Writer:
-    """Writes one good script line by line, and keeps a service beside it to name what is there."""
+    """Writes one script line by line, and keeps a service beside it to name what is there."""
 
     def __init__(self, dice):
-        self.dice = dice
+        self.dice, self.replies = dice, []
         pattern = dice.choice(list(ROLES))
         self.roles = ROLES[pattern]
         capacities = [self.capacity() for _ in range(3)]
         number = dice.choice([dice.choice(NUMBERS), dice.getrandbits(64)])
-        line = b"service %s %d %d %d %d" % (pattern, number, *capacities)
-        self.lines = [line]
-        self.service = machine.new_service(line) if max(capacities) < machine.TOO_MANY_PLACES else None
+        self.lines = [b"service %s %d %d %d %d" % (pattern, number, *capacities)]
+        self.service = machine.new_service(self.lines[0])
         self.nodes = [self.id(of_node=True) for _ in range(dice.randint(1, 6))]
         self.ports = [self.id() for _ in range(dice.randint(1, 8))] + self.nodes[:1]
         self.weights = [dice.choice([1, 2, 4, 8]) for _ in WORDS]
@@ -47,12 +43,11 @@ class Writer:
         self.weights[WORDS.index(b"add")] *= 3
         self.stays_open = dice.random() < 0.7
         for _ in range(self.length()):
-            self.write(self.command())
-            if self.service and self.service.locked and dice.random() < 0.15:
-                break
-
-    def script(self):
-        return b"".join(line + b"\n" for line in self.lines)
+            self.lines.append(self.command())
+            if self.service:
+                self.replies.append(self.service.step(self.lines[-1]))
+                if self.service.locked and dice.random() < 0.15:
+                    break
 
     def capacity(self):
         if self.dice.random() < 0.004:
@@ -71,14 +66,10 @@ class Writer:
             if not of_node or parts[0] or parts[3]:
                 return b"%d.%d.%d.%d" % tuple(parts)
 
-    def write(self, line):
-        self.lines.append(line)
-        if self.service:
-            self.service.step(line)
-
     def command(self):
         word, = self.dice.choices(WORDS, self.weights)
-        if word in (b"deregister", b"dead") and self.stays_open and self.may_lock() and self.dice.random() < 0.97:
+        is_last = word in (b"deregister", b"dead") and self.may_lock()
+        if is_last and self.stays_open and self.dice.random() < 0.97:
             word = b"register"
         return b" ".join([word, *self.arguments(word)])
 
@@ -126,52 +117,16 @@ class Writer:
 
     def is_held(self, handle, of_node):
         kind, slot, ticket = handle
-        return (kind == machine.Service.NODE) == of_node and self.service.places[kind].holds(slot, ticket)
-
-
-# ---- Broken scripts ----
-
-TELLING_BYTES = b" \n.0123456789\r\t\0\x0b-+aAeghikldrsx\x7f\x80\xc8\xff"
-
-
-def mutated(dice, script):
-    """`script` with one to three bytes replaced, put in, taken out or exchanged with the next; in a
-    third of all scripts only digits are replaced by digits, and a tenth is cut before any byte."""
-    if dice.random() < 0.1:
-        return script[: dice.randrange(len(script))]
-    digits_alone = dice.random() < 0.33
-    script = bytearray(script)
-    for _ in range(dice.randint(1, 3)):
-        length = len(script)
-        if digits_alone:
-            digit = dice.choice([place for place, byte in enumerate(script) if byte in b"0123456789"])
-            script[digit] = dice.choice(b"0123456789")
-            continue
-        place = dice.choice([dice.randrange(length), dice.randrange(min(length, 40)), length - 1 - dice.randrange(min(length, 20))])
-        byte = dice.choice([dice.choice(TELLING_BYTES), script[dice.randrange(length)], dice.randrange(256)])
-        kind = dice.randrange(4)
-        if kind == 0:
-            script[place] = byte
-        elif kind == 1:
-            script.insert(dice.choice([place, length]), byte)
-        elif kind == 2 and length > 1:
-            del script[place]
-        elif kind == 3:
-            script[place : place + 2] = script[place : place + 2][::-1]
-    return bytes(script)
+        is_node = kind == machine.Service.NODE
+        return is_node == of_node and self.service.places[kind].holds(slot, ticket)
 
 
 def drawn(seed):
-    """The script of a seed, and what a program shows for it. Good scripts have even seeds, broken
-    ones odd seeds."""
-    dice = random.Random(seed)
-    while True:
-        script = Writer(dice).script()
-        if seed % 2 == 1:
-            script = mutated(dice, script)
-        shown = machine.expected(script)
-        if shown is not None:
-            return script, shown
+    """The script of a seed, and what a program shows for it."""
+    writer = Writer(random.Random(seed))
+    script, output = (b"".join(line + b"\n" for line in lines)
+                      for lines in (writer.lines, writer.replies))
+    return script, Result(0, output, b"") if writer.service else Result(2, b"", b"no memory\n")
 
 
 # ---- The program under test ----
@@ -184,7 +139,8 @@ class Otherwise(Exception):
 def shown_by(program, script, arguments=()):
     """What a program shows for a script, or a status that none has where it takes too long."""
     try:
-        ended = subprocess.run([program, *arguments], input=script, capture_output=True, timeout=SECONDS_FOR_A_SCRIPT)
+        ended = subprocess.run([program, *arguments], input=script, capture_output=True,
+                               timeout=SECONDS_FOR_A_SCRIPT)
     except subprocess.TimeoutExpired:
         return Result(None, b"", b"")
     return Result(ended.returncode, ended.stdout, ended.stderr)
@@ -196,11 +152,12 @@ def judged(judge, program, seed):
 
 def try_seeds(judge, about, crate, drawn, count, in_a_part):
     """Lets `judge` try a program, as the arguments say, with that many seeds, of each of which
-    something is drawn. Returns how often it saw what. Ends at the first seed where it is otherwise."""
+    something is drawn. Returns how often it saw what. Ends at the first seed where it is
+    otherwise."""
     options = argparse.ArgumentParser(description=about)
-    options.add_argument("program", type=os.path.abspath, nargs="?", default=CRATES / crate / "out" / crate,
-                         help=f"the program under test, or that of {crate}")
-    options.add_argument(f"--{drawn}", type=int, default=count, help=f"how many {drawn} ({count:,})")
+    options.add_argument("program", type=os.path.abspath, nargs="?", help=f"or that of {crate}",
+                         default=CRATES / crate / "out" / crate)
+    options.add_argument(f"--{drawn}", type=int, default=count, help=f"how many ({count:,})")
     options.add_argument("--first", type=int, default=0, help="the first seed (0)")
     options.add_argument("--jobs", type=int, default=1, help="how many processes run them (1)")
     chosen = vars(options.parse_args())
