@@ -1,25 +1,21 @@
-#!/usr/bin/env python3
+#!/usr/bin/env -S python3 -B
 """Typed calls: `bench_calls` beside `plain_calls`, a program without proofs, and calls from C and
 Rust beside plain programs of the same calls, and from C beside those inside. Alone it prints these
-figures. A program takes lines of a call, the places of a service, a number of rounds and of calls in
-a round; a round sets up the same whatever the number of calls. So the instructions of a call are
-the difference of two runs that differ in that number alone."""
+figures. A program takes lines of a call, the places of a service, a number of rounds and of calls
+in a round; a round sets up the same whatever the number of calls. So the instructions of a call
+are the difference of two runs that differ in that number alone."""
 
 import os
 import shutil
 import subprocess
-import sys
 import tempfile
 from pathlib import Path
 from typing import NamedTuple
-
-sys.dont_write_bytecode = True
 
 import measure
 from measure import difference, ratio
 
 HERE = Path(__file__).resolve().parent
-PLAIN = HERE / "plain_calls"
 FFI = HERE / "ffi"
 DEBIAN = Path("/usr/share/cargo/registry")
 ARCHIVE = HERE.parent / "bindings" / "out" / "libiox2sd.a"
@@ -39,15 +35,16 @@ class Call(NamedTuple):
     mark: float = 1.0
 
     def instructions(self, programs, work):
-        """Instructions of one call in each of the programs."""
-        scripts = []
-        for calls in (self.few, self.many):
-            script = Path(work) / f"{calls}"
-            script.write_text(f"{self.name} {self.places} {self.rounds} {calls}\n")
+        """Instructions of one call in each of the programs, if there are such."""
+        if programs is None:
+            return [None, None]
+        scripts = [work / str(self.few), work / str(self.many)]
+        for script in scripts:
+            script.write_text(f"{self.name} {self.places} {self.rounds} {script.name}\n")
             measure.check_same(programs, script)
-            scripts.append(script)
         made = self.rounds * (self.many - self.few)
-        counted = ([measure.instructions(program, script) for script in scripts] for program in programs)
+        counted = ([measure.instructions(program, script) for script in scripts]
+                   for program in programs)
         return [difference(many, few, made) for few, many in counted]
 
 
@@ -55,8 +52,8 @@ DEFAULT, LARGE, SIZES, NONE = "20 8 2", "500 250 250", "40 8 24", "0 0 0"
 SINGLE = [
     Call("register", DEFAULT, 50, 10, 20),
     Call("register", LARGE, 2, 250, 500),
-    *(Call(name, *at) for name in ("list", "nodes", "ports")
-      for at in ((DEFAULT, 1, 100, 200), (LARGE, 1, 100, 200))),
+    *(Call(name, places, 1, 100, 200) for name in ("list", "nodes", "ports")
+      for places in (DEFAULT, LARGE)),
     *(Call(name, *at) for name in ("attach", "release", "deregister", "death")
       for at in ((DEFAULT, 50, 4, 8), (LARGE, 2, 125, 250))),
     Call("layout", SIZES, 1, 1_000, 2_000),
@@ -76,27 +73,13 @@ BEYOND_INSIDE = [
 # Inside, it is one read, as in the plain program.
 BEYOND_A_READ = [Call("is-locked", DEFAULT, 1, 100, 200, 12)]
 BESIDE_PLAIN_RUST = [
-    *(Call(name, DEFAULT, 1, 100, 200, 1.5) for name in ("port", "attach-release")),
+    *(Call(name, DEFAULT, 1, 100, 200, 1.5)
+      for name in ("port", "attach-release", "ports", "ports-of", "count", "make")),
     Call("death", DEFAULT, 50, 0, 2, 1.5),
-    *(Call(name, DEFAULT, 1, 100, 200, 1.5) for name in ("ports", "ports-of", "count", "make")),
 ]
-# A death that keeps all ports. Where it takes n log n, 16,000 take 16 * log(16,000) / log(1,000) times
-# as much as 1,000, which is 22.4.
-KEPT = [Call("keep", f"1 {kept} 0", 1, 2, 4, 22.5) for kept in (1_000, 16_000)]
-
-
-def measure_calls(pair, compared, rows, programs, work, marks):
-    """Prints what each call takes in two programs, if there are such, beside its mark."""
-    print(f"\n{pair}, instructions a call")
-    for call in rows:
-        figures = call.instructions(programs, work) if programs else [None, None]
-        marks.show(f"{call.name} {'' if call.places == NONE else call.places}".strip(), figures, call.mark, compared)
-
-
-def measure_kept(programs, work, marks):
-    """Prints what a death takes that keeps all of many ports, beside that of few."""
-    few, many = (call.instructions(programs, work)[0] if programs else None for call in KEPT)
-    marks.show("a death that keeps 16,000 ports, beside one that keeps 1,000", [many, few], KEPT[0].mark, ratio)
+# A death that keeps all ports. Where it takes n log n, 16,000 take 16 * log(16,000) / log(1,000)
+# times as much as 1,000, which is 22.4.
+KEPT = [Call("keep", f"1 {kept} 0", 1, 2, 4, 22.5) for kept in (16_000, 1_000)]
 
 
 def run(*command, **more):
@@ -106,33 +89,30 @@ def run(*command, **more):
 def cargo(folder, *names, **more):
     """The paths of programs that cargo builds in a folder."""
     run("cargo", "build", "--release", "--quiet", "--offline", cwd=folder, **more)
-    return [str(folder / "target" / "release" / name) for name in names]
-
-
-def built():
-    """The paths of the programs of calls inside: the plain one is built each time, the proved one
-    where it is missing. `None` where there are not the libraries of which the plain one is made."""
-    if not all(any(DEBIAN.glob(f"{library}-*")) for library in ("sha1", "base64")):
-        print("Single calls are not measured: librust-sha1-dev and librust-base64-dev are not installed.")
-        return None
-    return [measure.proved("bench_calls"), *cargo(PLAIN, "plain_calls")]
+    return [folder / "target" / "release" / name for name in names]
 
 
 def built_for_c(work):
     """The paths of the programs of `ffi`: on the library, and the plain one."""
     include = f"-I{HERE.parent / 'include'}"
-    c = ["cc", "-std=c99", "-O2", include, FFI / "calls.c"]
+    c, plain = ["cc", "-std=c99", "-O2", include, FFI / "calls.c"], work / "calls.o"
     run(*c, ARCHIVE, "-o", work / "from_c")
-    run(*c, "-DPLAIN", "-c", "-o", work / "calls.o")
-    run("g++", "-std=c++17", "-O2", include, FFI / "plain.cpp", work / "calls.o", "-o", work / "plain")
-    return [str(work / "from_c"), str(work / "plain")]
+    run(*c, "-DPLAIN", "-c", "-o", plain)
+    run("g++", "-std=c++17", "-O2", include, FFI / "plain.cpp", plain, "-o", work / "plain")
+    return [work / "from_c", work / "plain"]
 
 
 def measure_all(marks):
-    """Prints what the calls of each pair of programs take, beside their marks."""
-    inside, c, rust = built(), None, None
+    """Prints what the calls of each pair of programs take, beside their marks. The plain programs
+    are built each time."""
+    inside = c = rust = None
     with tempfile.TemporaryDirectory() as folder:
         work = Path(folder)
+        if all(any(DEBIAN.glob(f"{library}-*")) for library in ("sha1", "base64")):
+            inside = [measure.built("bench_calls"), *cargo(HERE / "plain_calls", "plain_calls")]
+        else:
+            print("Single calls are not measured: there is no librust-sha1-dev, or no "
+                  "librust-base64-dev.")
         absent = [tool for tool in ("cc", "g++", "cargo") if shutil.which(tool) is None]
         absent += [] if ARCHIVE.exists() else ["bindings/out/libiox2sd.a"]
         if absent:
@@ -140,12 +120,20 @@ def measure_all(marks):
         else:
             library = os.environ | {"IOX2SD_LIB_DIR": str(ARCHIVE.parent)}
             c, rust = built_for_c(work), cargo(FFI / "rust", "from_rust", "plain", env=library)
-        measure_calls("Inside / plain", ratio, SINGLE, inside, work, marks)
-        measure_calls("From C / plain C++", ratio, BESIDE_PLAIN_CPP, c, work, marks)
-        measure_kept(c, work, marks)
-        measure_calls("From C / inside", difference, BEYOND_INSIDE, c and inside and [c[0], inside[0]], work, marks)
-        measure_calls("From C / plain C++", difference, BEYOND_A_READ, c, work, marks)
-        measure_calls("From Rust / plain Rust", ratio, BESIDE_PLAIN_RUST, rust, work, marks)
+        for pair, compared, rows, programs in (
+            ("Inside / plain", ratio, SINGLE, inside),
+            ("From C / plain C++", ratio, BESIDE_PLAIN_CPP, c),
+            ("From C / inside", difference, BEYOND_INSIDE, c and inside and [c[0], inside[0]]),
+            ("From C / plain C++", difference, BEYOND_A_READ, c),
+            ("From Rust / plain Rust", ratio, BESIDE_PLAIN_RUST, rust),
+        ):
+            print(f"\n{pair}, instructions a call")
+            for call in rows:
+                name = f"{call.name} {call.places}".removesuffix(f" {NONE}")
+                marks.show(name, call.instructions(programs, work), call.mark, compared)
+        kept = [call.instructions(c, work)[0] for call in KEPT]
+        marks.show("\na death from C that keeps 16,000 ports, beside one that keeps 1,000", kept,
+                   KEPT[0].mark, ratio)
 
 
 if __name__ == "__main__":

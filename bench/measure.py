@@ -7,7 +7,9 @@ import shutil
 import subprocess
 import sys
 import tempfile
+from pathlib import Path
 
+CRATES = Path(__file__).resolve().parent.parent / "crates"
 SECONDS = 300
 GNU_TIME = "/usr/bin/time"
 
@@ -34,25 +36,20 @@ class Marks:
         print(f"{name}: {', '.join(words)}", flush=True)
 
     def print_summary(self):
-        """Prints how many marks there are, and which are missed. Ends where nothing was measured."""
-        print(f"\nMarks: {self.count}, missed: {len(self.missed)}, not measured: {self.left_out}", *self.missed, sep="\n")
+        """Prints how many marks there are, and which are missed. Ends where none was measured."""
+        print(f"\nMarks: {self.count}, missed: {len(self.missed)}, "
+              f"not measured: {self.left_out}", *self.missed, sep="\n")
         if self.left_out == self.count:
             sys.exit("nothing was measured")
 
 
 def ratio(one, other):
-    return None if one is None or other is None else one / other
+    return None if None in (one, other) else one / other
 
 
 def difference(more, fewer, times=1):
     """By how much one figure is above another, for each time."""
-    return None if more is None or fewer is None else (more - fewer) / times
-
-
-def missing():
-    """What is not installed, and the figures that it would give."""
-    needed = [("valgrind", "instructions"), (GNU_TIME, "peak memory")]
-    return [f"{tool} ({figures})" for tool, figures in needed if shutil.which(tool) is None]
+    return None if None in (more, fewer) else (more - fewer) / times
 
 
 def told_by(command, script):
@@ -60,40 +57,42 @@ def told_by(command, script):
     if shutil.which(command[0]) is None:
         return None
     with open(script, "rb") as stdin:
-        return subprocess.run(command, stdin=stdin, stdout=subprocess.DEVNULL, stderr=subprocess.PIPE, timeout=SECONDS, check=True).stderr
+        return subprocess.run(command, stdin=stdin, stdout=subprocess.DEVNULL,
+                              stderr=subprocess.PIPE, timeout=SECONDS, check=True).stderr
 
 
 def instructions(program, script):
     """How many instructions the program takes on the file, by callgrind."""
-    told = told_by(["valgrind", "--tool=callgrind", f"--callgrind-out-file={os.devnull}", program], script)
+    callgrind = ["valgrind", "--tool=callgrind", f"--callgrind-out-file={os.devnull}"]
+    told = told_by([*callgrind, program], script)
     return told and int(re.search(rb"Collected : (\d+)", told)[1])
 
 
 def peak(program, script):
-    """The program's peak memory on the file, in bytes, by GNU time, since a child of this process
-    counts its memory too."""
+    """The program's peak memory on the file, in megabytes, by GNU time, since a child of this
+    process counts its memory too."""
     told = told_by([GNU_TIME, "-f", "%M", program], script)
-    return told and int(told) << 10
+    return told and int(told) * 1024 / 1e6
 
 
 def check_same(programs, script):
     """Ends where the programs do not show the same for the file, or one refuses it."""
-    shown = []
-    for program in programs:
-        with open(script, "rb") as stdin:
-            ended = subprocess.run([program], stdin=stdin, capture_output=True, timeout=SECONDS)
-        shown.append((ended.returncode, ended.stdout, ended.stderr))
-    if len(set(shown)) > 1 or shown[0][0] != 0:
+    runs = [subprocess.run([program], input=script.read_bytes(), capture_output=True,
+                           timeout=SECONDS) for program in programs]
+    shown = {(ended.returncode, ended.stdout, ended.stderr) for ended in runs}
+    if len(shown) > 1 or runs[0].returncode:
         kept = shutil.copy(script, tempfile.mkdtemp())
-        why = "it is not carried out" if len(set(shown)) == 1 else "the programs show different output or errors"
-        sys.exit(f"{why}: {shown[0][2]}; the script is left at {kept}")
+        sys.exit(f"it is not carried out, or the programs show different output or errors: "
+                 f"{runs[0].stderr}; the script is left at {kept}")
 
 
-def proved(crate):
-    """The path of the program of a crate, which is proved and built where it is missing."""
-    folder = os.path.join(os.path.dirname(os.path.abspath(__file__)), "..", "crates", crate)
-    program = os.path.normpath(os.path.join(folder, "out", crate))
-    if not os.path.exists(program):
-        with open(os.path.join(folder, "stdin"), "rb") as stdin:
-            subprocess.run(["rt", "run"], cwd=folder, stdin=stdin, stdout=subprocess.DEVNULL, check=True)
+def built(crate, name=None, *command):
+    """A program of a crate, proved and built first where it is missing or older than a source."""
+    program, given = CRATES / crate / "out" / (name or crate), CRATES / crate / "stdin"
+    sources = [*CRATES.glob("*/src/**/*.rt"), *CRATES.glob("*/specs/**/*.antt")]
+    if not program.exists() or any(
+            source.stat().st_mtime > program.stat().st_mtime for source in sources):
+        with open(given if given.exists() else os.devnull) as stdin:
+            subprocess.run(["rt", *(command or ["run"])], cwd=CRATES / crate, stdin=stdin,
+                           stdout=sys.stderr, check=True)
     return program
