@@ -36,8 +36,9 @@ runs() {
 same_exports() {
     nm -g --defined-only out/libiox2sd.a | awk 'NF == 3 { print $3 }' | sort -u > "$work/archive"
     [ -s "$work/archive" ] && ! grep -v '^iox2sd_' "$work/archive" &&
-        nm -D --defined-only out/libiox2sd.so.2 | sed -n 's/.* \(iox2sd_[a-z0-9_]*\)@@IOX2SD_.*/\1/p' |
-        sort | diff "$work/archive" - && ./symbols out/libiox2sd.so.2
+        nm -D --defined-only out/libiox2sd.so.2 |
+        sed -n 's/.* \(iox2sd_[a-z0-9_]*\)@@IOX2SD_.*/\1/p' | sort |
+        diff "$work/archive" - && ./symbols out/libiox2sd.so.2
 }
 
 # An example prints the lines that stand below 'It prints:' at its head.
@@ -48,25 +49,27 @@ prints_what_it_says() {
 
 example() {
     has "$1" || return 0
-    compiles "$1" "$2" "-std=$3" && run "$1 $2 prints what it says" prints_what_it_says "$2" "$work/caller"
+    compiles "$1" "$2" "-std=$3" &&
+        run "$1 $2 prints what it says" prints_what_it_says "$2" "$work/caller"
 }
 
-# The statuses of the header are those of the crate that has them. In each, a name and a number stand
-# once, or it would not compile.
+# The statuses of the header are those of the crate that has them. In each, a name and a number
+# stand once, or it would not compile.
 same_statuses() {
     sed -n '/^enum iox2sd_status_number {/,/^}/s/^ *IOX2SD_STATUS_\([A-Z0-9_]* = [0-9]*\).*/\1/p' \
         ../include/iox2sd.h | sort > "$work/header"
     [ -s "$work/header" ] &&
-        sed -n 's/^    \([A-Z][A-Za-z0-9]* = [0-9]*\),$/\1/p' ../crates/iox2sd_common/src/status.rt |
-        sed 's/\B[A-Z]/_&/g' | tr a-z A-Z | sort | diff "$work/header" -
+        sed -n 's/^    \([A-Z][A-Za-z0-9]* = [0-9]*\),$/\1/p' \
+            ../crates/iox2sd_common/src/status.rt | sed 's/\B[A-Z]/_&/g' | tr a-z A-Z | sort |
+        diff "$work/header" -
 }
 
 # No instruction is beyond those that every x86-64 has.
 baseline() {
     objdump -d --no-show-raw-insn out/libiox2sd.a > "$work/instructions" &&
         [ -s "$work/instructions" ] &&
-        ! grep -E '\b(popcnt|crc32|ptest|pshufb|pextr[bdq]|pinsr[bdq]|pmulld|round[sp][sd]|v[a-z0-9]+ .*[xy]mm)' \
-            "$work/instructions"
+        ! grep -E '\b(popcnt|crc32|ptest|pshufb|p(ext|ins)r[bdq]|pmulld|round[sp][sd])' \
+            "$work/instructions" && ! grep -E '\bv[a-z0-9]+ .*[xy]mm' "$work/instructions"
 }
 
 # A command of cargo in a target folder, with the library of a folder, on the crate of a folder.
@@ -106,7 +109,9 @@ without_library() {
         grep 'run bindings/build.sh' "$work/built"
 }
 
-has_cargo() { cargo "$1" --version > "$work/which" 2>&1 || { echo "not found: cargo $1"; return 1; }; }
+has_cargo() {
+    cargo "$1" --version > "$work/which" 2>&1 || { echo "not found: cargo $1"; return 1; }
+}
 
 # Packs the crate, and tests it elsewhere with an installed library. The examples of its pages are
 # run once, with the crate's own tests.
@@ -131,26 +136,24 @@ headers_compile() {
 allocations=-Wl,--wrap=malloc,--wrap=realloc
 for compiler in gcc clang; do
     if has "$compiler"; then
-        run "$compiler: each header for C, in C99" headers_compile h "$compiler" -std=c99 -x c
-        run "$compiler: each header for C, in C++11" headers_compile h "$compiler" -std=c++11 -x c++
+        run "$compiler: each header for C" headers_compile h "$compiler" -std=c99 -x c
+        run "$compiler: each header for C, in C++" headers_compile h "$compiler" -std=c++11 -x c++
     fi
+    for source in c/test_{service,values,satisfies,walk,header}.c; do
+        runs "$compiler" plain,leaks,address+undefined "$source" -std=c99
+    done
     while read -r -u 3 ways source options; do
-        runs "$compiler" "$ways" "c/$source" -std=c99 $options
+        runs "$compiler" "$ways" "c/test_$source.c" -std=c99 $options
     done 3<< END
-plain,leaks,address+undefined test_service.c
-plain,leaks,address+undefined test_values.c
-plain,leaks,address+undefined test_satisfies.c
-plain,leaks,address+undefined test_walk.c
-plain,leaks,address+undefined,thread,races test_threads.c
-plain,leaks,address+undefined test_header.c
-plain,leaks,address+undefined,thread test_log.c $allocations,--wrap=calloc
-plain,leaks test_script.c $allocations
-plain,leaks test_conform.c $allocations
-plain,leaks,address+undefined test_config.c $allocations
-plain test_memory.c -D_GNU_SOURCE $allocations,--wrap=calloc,--wrap=free
-plain test_questions.c -D_GNU_SOURCE $allocations,--wrap=calloc,--wrap=free
-plain test_stack.c -D_GNU_SOURCE
-plain test_time.c
+plain,leaks,address+undefined,thread,races threads
+plain,leaks,address+undefined,thread log $allocations,--wrap=calloc
+plain,leaks script $allocations
+plain,leaks conform $allocations
+plain,leaks,address+undefined config $allocations
+plain memory -D_GNU_SOURCE $allocations,--wrap=calloc,--wrap=free
+plain questions -D_GNU_SOURCE $allocations,--wrap=calloc,--wrap=free
+plain stack -D_GNU_SOURCE
+plain time
 END
     for source in ../examples/{builder,monitor,settings}.c; do
         example "$compiler" "$source" c99
@@ -170,29 +173,9 @@ has_format() {
 
 # What an include of the header costs, in kilobytes of the compiler's memory.
 include_costs() {
-    local most=$1 taken
-    taken=$(/usr/bin/time -f %M "${@:2}" -fsyntax-only -x c++ ../include/iox2sd.hpp 2>&1) &&
-        echo "$taken kB, at most $most" && [ "$taken" -le "$most" ]
-}
-
-# The least processor time of seven compilations of a source, in hundredths of a second.
-hundredths() {
-    for _ in 1 2 3 4 5 6 7; do
-        /usr/bin/time -f '%U %S' "$@" 2>&1
-    done | awk '{ taken = 100 * ($1 + $2); if (NR == 1 || taken < least) least = taken }
-                END { print int(least) }'
-}
-
-# The header beside <iostream> takes at most so many hundredths of the time of <iostream> alone more:
-# a ratio, since times grow on a busy machine.
-include_takes() {
-    local most=$1 alone taken
-    echo '#include <iostream>' > "$work/alone.cpp"
-    printf '#include <iostream>\n#include "iox2sd.hpp"\n' > "$work/beside.cpp"
-    alone=$(hundredths "${@:2}" -fsyntax-only -I../include "$work/alone.cpp")
-    taken=$(hundredths "${@:2}" -fsyntax-only -I../include "$work/beside.cpp")
-    echo "$((taken - alone)) hundredths of a second beside $alone, at most $most of each 100"
-    [ "$(((taken - alone) * 100))" -le "$((most * alone))" ]
+    local taken
+    taken=$(/usr/bin/time -f %M g++ -std=c++17 -fsyntax-only -x c++ ../include/iox2sd.hpp 2>&1) &&
+        echo "$taken kB" && [ "$taken" -le 80000 ]
 }
 
 # Of all warnings of clang++ -Weverything, those about older standards and about padding alone are
@@ -200,14 +183,7 @@ include_takes() {
 named=(-Wno-c++98-compat -Wno-c++98-compat-pedantic -Wno-c++98-compat-local-type-template-args
     -Wno-pre-c++14-compat -Wno-pre-c++17-compat -Wno-padded)
 
-if has g++ /usr/bin/time; then
-    run "an include of iox2sd.hpp takes at most 100 MB" include_costs 102400 g++ -std=c++17
-    for compiler in g++ clang++; do
-        has "$compiler" && run \
-            "$compiler: an include of iox2sd.hpp beside <iostream> takes at most 2.4 times as long" \
-            include_takes 140 "$compiler" -std=c++17
-    done
-fi
+has g++ /usr/bin/time && run "an include of iox2sd.hpp takes at most 80 MB" include_costs
 has clang++ && run "clang++ -Weverything has no warning about the headers but those named" \
     headers_compile hpp clang++ -std=c++17 -Weverything "${named[@]}" -x c++
 for compiler in g++ clang++; do
@@ -301,9 +277,10 @@ outside() {
         alike first "$work/outside/c" && alike first "$work/outside/cpp"
 }
 
+# prefix, and its folder of libraries
 by_pkg_config() {
     local flags
-    flags=$(PKG_CONFIG_PATH=$1/${2:-lib}/pkgconfig pkg-config --cflags --libs 'iox2sd >= 0.1') &&
+    flags=$(PKG_CONFIG_PATH=$1/$2/pkgconfig pkg-config --cflags --libs 'iox2sd >= 0.1') &&
         outside $flags
 }
 
@@ -331,38 +308,31 @@ files_of() { (cd "$1" && find . -printf '%P %y %m\n' | sort); }
 
 same_files() { diff <(files_of "$1") <(files_of "$2"); }
 
-installation() {
-    local prefix=$work/prefix
-    mkdir "$work/outside"
-    run "install.sh installs" ./install.sh "$prefix" || return
-    run "install.sh installs into a stage" env DESTDIR="$work/stage" ./install.sh /usr &&
-        run "a stage has the same files" same_files "$prefix" "$work/stage/usr"
-    run "install.sh wants an absolute path" bash -c '! ./install.sh prefix'
-    # The directories of a distribution, as GNUInstallDirs names them.
-    if run "install.sh installs into other directories" env LIBDIR=lib/x86_64-linux-gnu \
-        INCLUDEDIR=include/iox2sd ./install.sh "$work/debian" && has gcc g++ cmake; then
-        run "find_package, in other directories" by_find_package "$work/debian"
-        run "pkg-config, in other directories" by_pkg_config "$work/debian" lib/x86_64-linux-gnu
-        rm -rf "$work/outside"/*
-    fi
-    installed_at "$prefix" ""
-    mv "$prefix" "$work/moved"
-    rm -rf "$work/outside"/*
-    installed_at "$work/moved" ", moved"
+# prefix, its folder of libraries, and what is to be said of it
+installed_at() {
+    rm -rf "$work/outside" && mkdir "$work/outside"
+    has gcc g++ pkg-config && run "pkg-config, $3" by_pkg_config "$1" "$2"
+    has gcc g++ cmake && run "find_package, $3" by_find_package "$1"
 }
 
-# prefix, and what is to be said of it
-installed_at() {
-    has gcc g++ pkg-config && run "pkg-config$2" by_pkg_config "$1"
-    has gcc g++ cmake && run "find_package$2" by_find_package "$1"
-    has cargo && run "cargo, by a path$2" by_cargo "$1"
-    if [ -e "$1/share/iox2sd/python" ]; then
-        run "pip install$2" by_pip "$1"
+run "install.sh wants an absolute path" bash -c '! ./install.sh prefix'
+# The directories of a distribution, as GNUInstallDirs names them.
+other=lib/x86_64-linux-gnu
+run "install.sh installs into other directories" \
+    env LIBDIR=$other INCLUDEDIR=include/iox2sd ./install.sh "$work/debian" &&
+    installed_at "$work/debian" $other "in other directories"
+if run "install.sh installs" ./install.sh "$work/prefix"; then
+    run "install.sh installs into a stage" env DESTDIR="$work/stage" ./install.sh /usr &&
+        run "a stage has the same files" same_files "$work/prefix" "$work/stage/usr"
+    mv "$work/prefix" "$work/moved"
+    installed_at "$work/moved" lib moved
+    has cargo && run "cargo, by a path, moved" by_cargo "$work/moved"
+    if [ -e "$work/moved/share/iox2sd/python" ]; then
+        run "pip install, moved" by_pip "$work/moved"
     else
         echo "no wheel was installed"
     fi
-}
-installation
+fi
 
 if has cargo; then
     run "cargo test" some '^test result: ok[.] [1-9]' crate test --quiet
@@ -371,9 +341,10 @@ if has cargo; then
     done
     run "cargo check and cargo doc pass without the library" without_library
     RUSTDOCFLAGS="--deny warnings" run "cargo doc" crate doc --no-deps && has python3 &&
-        run "each public item of the crate has an example" rust/check_examples "$work/rust/doc/iox2sd"
-    if has_cargo clippy; then run "cargo clippy" crate clippy --all-targets -- --deny warnings
-    run "cargo clippy, pedantic" crate clippy --lib --examples -- --deny warnings --deny clippy::pedantic; fi
+        run "each public item has an example" rust/check_examples "$work/rust/doc/iox2sd"
+    has_cargo clippy && run "cargo clippy" crate clippy --all-targets -- --deny warnings &&
+        run "cargo clippy, pedantic" crate clippy --lib --examples -- --deny warnings \
+            --deny clippy::pedantic
     if has_cargo fmt; then
         for manifest in rust against against/stand_in lockfree/rust; do
             run "cargo fmt $manifest" cargo fmt --check --manifest-path $manifest/Cargo.toml
