@@ -21,13 +21,10 @@ SOURCE_DATE_EPOCH=${SOURCE_DATE_EPOCH:-$(git -C "$top" log -1 --format=%ct)}
 export SOURCE_DATE_EPOCH LC_ALL=C TZ=UTC
 umask 022
 version=$(./version)
-programs=(iox2-replay iox2-describe iox2-conform iox2-check)
 work=$(mktemp -d)
 trap 'rm -rf "$work"' EXIT
 rm -rf "$dist"
 mkdir -p "$dist"
-
-program() { echo "$top/crates/${1//-/_}/out/${1//-/_}"; }
 
 # Packs a folder of the work folder, the same way each time.
 pack() {
@@ -35,17 +32,16 @@ pack() {
         --format=ustar -C "$work" -cf - "$1" | gzip -9n > "$dist/$2"
 }
 
-# What each package has beside its files: licences and notice.
-legal() { install -D -m 644 -t "$1" "$top"/LICENSE-APACHE "$top"/LICENSE-MIT "$top"/NOTICE; }
-
-# The manual page of a program.
-manual() {
-    install -d "$2"
-    package/manual "$1" "$version" | gzip -9n > "$2/$1.1.gz"
+# Installs the programs below a folder, with their manual pages and what bash completes.
+tools() {
+    local each
+    install -d "$1/bin" "$1/share/man/man1"
+    for each in replay describe conform check; do
+        install -m 755 "$top/crates/iox2_$each/out/iox2_$each" "$1/bin/iox2-$each"
+        package/manual "iox2-$each" "$version" | gzip -9n > "$1/share/man/man1/iox2-$each.1.gz"
+    done
+    install -D -m 644 package/iox2-check.bash "$1/share/bash-completion/completions/iox2-check"
 }
-
-# What bash completes for iox2-check.
-completions() { install -D -m 644 package/iox2-check.bash "$1/iox2-check"; }
 
 # ---- The prefix ----
 
@@ -53,18 +49,13 @@ name=iox2sd-$version-x86_64-linux-gnu
 prefix=$work/$name
 ./install.sh "$prefix" > "$work/log"
 mv "$prefix"/share/iox2sd "$work/wrappers"
-install -d "$prefix/bin" "$prefix/share/doc/iox2sd/examples"
-for each in "${programs[@]}"; do
-    install -m 755 "$(program "$each")" "$prefix/bin/$each"
-    manual "$each" "$prefix/share/man/man1"
-done
-completions "$prefix/share/bash-completion/completions"
-install -m 644 "$top"/docs/{C,CPP,CALLS,GLOSSARY,SCRIPT,DESCRIBE,CONFORM,CONFIG}.md \
-    "$top/docs/iceoryx2.toml" "$prefix/share/doc/iox2sd"
-"$top/docs/reference" "$prefix/share/doc/iox2sd/reference" > "$work/log"
-install -m 644 "$top"/examples/*.c "$top"/examples/*.cpp package/Makefile package/CMakeLists.txt \
-    "$prefix/share/doc/iox2sd/examples"
-legal "$prefix/share/doc/iox2sd"
+tools "$prefix"
+doc=$prefix/share/doc/iox2sd
+install -D -m 644 -t "$doc" "$top"/LICENSE-APACHE "$top"/LICENSE-MIT "$top"/NOTICE \
+    "$top"/docs/{C,CPP,CALLS,GLOSSARY,SCRIPT,DESCRIBE,CONFORM,CONFIG}.md "$top/docs/iceoryx2.toml"
+install -D -m 644 -t "$doc/examples" "$top"/examples/*.c "$top"/examples/*.cpp \
+    package/Makefile package/CMakeLists.txt
+"$top/docs/reference" "$doc/reference" > "$work/log"
 pack "$name" "$name.tar.gz"
 
 # ---- The crate ----
@@ -92,11 +83,11 @@ deb() {
     install -d "$root/DEBIAN"
     install -m 644 "$work/md5sums" "$root/DEBIAN/md5sums"
     sed -e "s/@VERSION@/$version/g" "$top/debian/$1.control" > "$root/DEBIAN/control"
-    echo "Installed-Size: $(du -k -s --apparent-size "$root/usr" | cut -f 1)" >> "$root/DEBIAN/control"
+    echo "Installed-Size: $(du -k -s --apparent-size "$root/usr" | cut -f 1)" \
+        >> "$root/DEBIAN/control"
     for script in triggers shlibs symbols; do
-        if [ -f "$top/debian/$1.$script" ]; then
+        [ ! -f "$top/debian/$1.$script" ] ||
             install -m 644 "$top/debian/$1.$script" "$root/DEBIAN/$script"
-        fi
     done
     dpkg-deb --root-owner-group -Zxz --build "$root" \
         "$dist/${1}_$version-1_$(sed -n 's/^Architecture: //p' "$root/DEBIAN/control").deb" \
@@ -105,8 +96,7 @@ deb() {
 
 triplet=x86_64-linux-gnu
 lib=$work/deb/libiox2sd2/usr/lib/$triplet
-install -d "$lib"
-install -m 644 out/libiox2sd.so.2 "$lib"
+install -D -m 644 -t "$lib" out/libiox2sd.so.2
 strip --strip-unneeded "$lib/libiox2sd.so.2"
 deb libiox2sd2
 
@@ -117,7 +107,7 @@ strip --strip-debug "$dev/lib/$triplet/libiox2sd.a"
 # The system finds the library without a path in the program.
 sed -i -e 's|^prefix=.*|prefix=/usr|' -e 's| -Wl,-rpath,[^ ]*||' \
     "$dev/lib/$triplet/pkgconfig/iox2sd.pc"
-install -D -m 644 -t "$dev/share/doc/iox2sd/reference" "$prefix"/share/doc/iox2sd/reference/*
+install -D -m 644 -t "$dev/share/doc/iox2sd/reference" "$doc"/reference/*
 deb libiox2sd-dev
 
 python=$work/deb/python3-iox2sd/usr/lib/python3/dist-packages
@@ -132,14 +122,8 @@ find "$python" -type d -exec chmod 755 {} + -o -type f -exec chmod 644 {} +
 ln -s "../../../$triplet/libiox2sd.so.2" "$python/iox2sd/libiox2sd.so.2"
 deb python3-iox2sd
 
-tools=$work/deb/iox2sd-tools/usr
-install -d "$tools/bin"
-for each in "${programs[@]}"; do
-    install -m 755 "$(program "$each")" "$tools/bin/$each"
-    strip "$tools/bin/$each"
-    manual "$each" "$tools/share/man/man1"
-done
-completions "$tools/share/bash-completion/completions"
+tools "$work/deb/iox2sd-tools/usr"
+strip "$work"/deb/iox2sd-tools/usr/bin/*
 deb iox2sd-tools
 
 # ---- What the bytes stand on ----
@@ -150,7 +134,8 @@ deb iox2sd-tools
     echo "toolchain: $(rt version)"
     # What the gate printed of each crate, and its last line.
     if [ -f "$top/out/gate" ]; then
-        awk '/^== / { crate = $2 } /^logic=/ && !seen[crate]++ { print crate ": " $0 }' "$top/out/gate" | sort
+        awk '/^== / { crate = $2 } /^logic=/ && !seen[crate]++ { print crate ": " $0 }' \
+            "$top/out/gate" | sort
         echo "gate: $(grep -E '^[0-9]+ passed, [0-9]+ failed$' "$top/out/gate" | head -n 1)"
     else
         echo "gate: not run in this tree"

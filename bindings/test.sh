@@ -233,24 +233,6 @@ compiled() {
         run "$1 $2 prints the same as the others" alike first "$work/caller"
 }
 
-# Runs a program in a package of its own in a folder outside, which depends on the crate at a path.
-of_rust() {
-    mkdir -p "$work/package" &&
-        cp "../examples/$1.rs" "$work/package" &&
-        cat > "$work/package/Cargo.toml" << END || return 1
-[package]
-name = "$1"
-edition = "2021"
-[dependencies]
-iox2sd = { path = "$2" }
-[[bin]]
-name = "$1"
-path = "$1.rs"
-END
-    CARGO_TARGET_DIR=$work/rust env -u IOX2SD_LIB_DIR cargo run --quiet --offline --jobs 1 \
-        --manifest-path "$work/package/Cargo.toml"
-}
-
 of_python() {
     PYTHONDONTWRITEBYTECODE=1 PYTHONPATH=../bindings/python \
         IOX2SD_LIBRARY=../bindings/out/libiox2sd.so.2 python3 ../examples/first.py
@@ -260,10 +242,11 @@ compiled gcc first.c -std=c99
 compiled g++ first.cpp -std=c++17
 has python3 && run "first.py prints the same as the others" alike first of_python
 if has cargo; then
-    run "first.rs prints the same as the others" alike first of_rust first "$PWD/rust"
+    run "first.rs prints the same as the others" \
+        alike first of_rust ../examples/first.rs "$PWD/rust"
     for name in builder monitor settings; do
         run "$name.rs prints what it says" prints_what_it_says "../examples/$name.rs" \
-            of_rust "$name" "$PWD/rust"
+            of_rust "../examples/$name.rs" "$PWD/rust"
     done
 fi
 
@@ -293,7 +276,7 @@ by_find_package() {
         done
 }
 
-by_cargo() { alike first of_rust first "$1/share/iox2sd/rust"; }
+by_cargo() { alike first of_rust ../examples/first.rs "$1/share/iox2sd/rust"; }
 
 by_pip() {
     cp ../examples/first.py "$work/outside" &&

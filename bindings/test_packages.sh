@@ -46,22 +46,22 @@ tar xzf "$work"/dist/iox2sd-*-linux-gnu.tar.gz -C "$work/any where"
 version=$(cd "$work/any where" && echo iox2sd-* | sed 's/^iox2sd-\([0-9.]*\)-.*/\1/')
 mv "$work/any where"/iox2sd-* "$work/prefix"
 prefix=$work/prefix
-mkdir "$work/c" && cd "$work/c" && cp "$work"/examples/first.* "$prefix/share/doc/iox2sd/iceoryx2.toml" .
-c_static() { gcc -std=c99 "-I$prefix/include" first.c "$prefix/lib/libiox2sd.a" -o c && prints "$work/expected" ./c; }
-cpp_static() {
-    g++ -std=c++17 "-I$prefix/include" first.cpp "$prefix/lib/libiox2sd.a" -o cpp &&
-        prints "$work/expected" ./cpp
-}
+mkdir "$work/c" && cd "$work/c" || exit 1
+cp "$work"/examples/first.* "$prefix/share/doc/iox2sd/iceoryx2.toml" .
+examples=$prefix/share/doc/iox2sd/examples
 by_pkg_config() {
     PKG_CONFIG_PATH=$prefix/lib/pkgconfig
     export PKG_CONFIG_PATH
     gcc first.c $(pkg-config --cflags --libs iox2sd) -o c && prints "$work/expected" ./c
 }
-examples=$prefix/share/doc/iox2sd/examples
-by_make() { make -C "$examples" && prints "$work/expected" "$examples/first_c" && make -C "$examples" clean; }
+by_make() {
+    make -C "$examples" && prints "$work/expected" "$examples/first_c" &&
+        prints "$work/expected" "$examples/first_cpp" && make -C "$examples" clean
+}
 by_cmake() {
     cmake -S "$examples" -B "$work/build" && cmake --build "$work/build" &&
-        prints "$work/expected" "$work/build/first_cpp" && prints "$work/expected" "$work/build/first_c"
+        prints "$work/expected" "$work/build/first_cpp" &&
+        prints "$work/expected" "$work/build/first_c"
 }
 # A program of the archive on its stored run.
 repeats() {
@@ -73,49 +73,36 @@ repeats() {
         diff "$work/printed" "$work/$1/stdout"
 }
 has_version() { [ "$("$prefix/bin/$1" --version)" = "$1 $version (iceoryx2 0.9.3)" ]; }
-has_manual() { zcat "$prefix/share/man/man1/$1.1.gz" | man -l - | grep -q "$2"; }
-if has gcc; then run "archive: C" c_static; fi
-if has g++; then run "archive: C++" cpp_static; fi
-if has gcc pkg-config; then run "archive: pkg-config" by_pkg_config; fi
-if has make g++; then run "archive: make" by_make; fi
-if has cmake g++; then run "archive: CMake" by_cmake; fi
-run "archive: the site of contracts" \
-    grep -q sample_layout "$prefix/share/doc/iox2sd/reference/headline.html"
+has_manual() { zcat "$prefix/share/man/man1/$1.1.gz" | man -l - | grep -q "usage: $1"; }
 refuses_argument() { ! "$prefix/bin/$1" what < /dev/null; }
-# The program that ignores its arguments, on its stored run.
-ignores() {
-    local argument
-    for argument in --help --version -h -x -- - '' file $'\xff'; do
-        "$prefix/bin/iox2-replay" "$argument" < "$work/replay/stdin" |
-            diff - "$work/replay/stdout" || return 1
-    done
-}
-# The order of a log's calls, with these words. Progress is shown on a terminal alone.
+# The order of a log's calls. Progress is shown on a terminal alone.
 has_witness() {
-    printf 'service event 7 1 0 0\nnodes\n= list\n' | "$prefix/bin/iox2-conform" "$@" 2>&1 |
+    printf 'service event 7 1 0 0\nnodes\n= list\n' |
+        "$prefix/bin/iox2-conform" --progress --witness 2>&1 |
         diff - <(printf 'conforms, 1 calls on 1 service\nservice 7\n3\n')
-}
-default_is_documented() {
-    "$prefix/bin/iox2-check" --default | diff - "$prefix/share/doc/iox2sd/iceoryx2.toml"
 }
 # A program with these words has status 3 where what it writes goes nowhere.
 fails_to_write() { "$prefix/bin/iox2-$1" "${@:3}" < "$2" > /dev/full; [ $? = 3 ]; }
-run "archive: iox2-conform --witness" has_witness --witness
-run "archive: iox2-conform --progress" has_witness --progress --witness
-run "archive: iox2-replay with any argument" ignores
-run "archive: iox2-check --default" default_is_documented
+if has gcc pkg-config; then run "archive: pkg-config" by_pkg_config; fi
+if has make gcc g++; then run "archive: make" by_make; fi
+if has cmake gcc g++; then run "archive: CMake" by_cmake; fi
+run "archive: the site of contracts" \
+    grep -q sample_layout "$prefix/share/doc/iox2sd/reference/headline.html"
+run "archive: iox2-conform --progress --witness" has_witness
 run "archive: iox2-check where nothing can be written" fails_to_write check /dev/null --schema
-for program in replay describe conform; do
-    run "archive: iox2-$program where nothing can be written" fails_to_write $program "$work/$program/stdin"
-done
-for program in replay describe conform check; do run "archive: iox2-$program" repeats $program; done
-for program in describe conform check; do
+for program in replay describe conform check; do
+    run "archive: iox2-$program" repeats $program
+    if has man; then run "archive: man iox2-$program" has_manual iox2-$program; fi
+    [ $program = check ] || run "archive: iox2-$program where nothing can be written" \
+        fails_to_write $program "$work/$program/stdin"
+    [ $program != replay ] || continue
     run "archive: iox2-$program --version" has_version iox2-$program
     run "archive: iox2-$program with a bad argument" refuses_argument iox2-$program
 done
 # What bash completes for the words of a command line, of which the last is completed.
 completes() {
-    bash -c '. "$1"; COMP_WORDS=("${@:2}"); COMP_CWORD=$(($# - 2)); _iox2_check; printf "%s\n" "${COMPREPLY[@]}"' \
+    bash -c '. "$1"; COMP_WORDS=("${@:2}"); COMP_CWORD=$(($# - 2)); _iox2_check
+        printf "%s\n" "${COMPREPLY[@]}"' \
         - "$prefix/share/bash-completion/completions/iox2-check" "$@"
 }
 completes_options() {
@@ -124,21 +111,12 @@ completes_options() {
         [ "$(completes iox2-check "$work/check/ar")" = "$work/check/args" ]
 }
 run "archive: completions of iox2-check" completes_options
-if has man; then
-    for program in iox2-replay iox2-describe iox2-conform iox2-check; do
-        run "archive: man $program" has_manual $program "usage: $program"
-    done
-fi
 
 # ---- The crate and the wheel ----
 
 by_cargo() {
-    mkdir -p "$work/rust/src" && tar xzf "$work"/dist/iox2sd-*-rust.tar.gz -C "$work/rust" &&
-        cp "$work/examples/first.rs" "$work/rust/src/main.rs" && cp iceoryx2.toml "$work/rust" &&
-        printf '[package]\nname = "mine"\nedition = "2021"\n[dependencies]\niox2sd = { path = "%s" }\n' \
-            "$(basename "$work"/rust/iox2sd-*)" > "$work/rust/Cargo.toml" &&
-        (cd "$work/rust" && env -u IOX2SD_LIB_DIR cargo run --quiet --offline) > "$work/printed" &&
-        diff "$work/printed" "$work/expected"
+    tar xzf "$work"/dist/iox2sd-*-rust.tar.gz -C "$work" &&
+        prints "$work/expected" of_rust first.rs "$work/iox2sd-$version"
 }
 by_pip() {
     python3 -m venv "$work/venv" &&
@@ -180,8 +158,8 @@ used() {
 }
 removed() {
     debs --purge libiox2sd2 libiox2sd-dev python3-iox2sd iox2sd-tools &&
-        left=$(find "$root" -path "$root/var/lib/dpkg" -prune -o ! -type d -print) && echo "$left" &&
-        [ -z "$left" ]
+        left=$(find "$root" -path "$root/var/lib/dpkg" -prune -o ! -type d -print) &&
+        echo "$left" && [ -z "$left" ]
 }
 if has dpkg; then
     run "Debian: installed" installed

@@ -26,6 +26,24 @@ run() {
     fi
 }
 
+# Runs a program in a package of its own in a folder outside, which depends on the crate at a path.
+of_rust() {
+    local name=${1##*/}
+    mkdir -p "$work/package" && cp "$1" "$work/package" &&
+        cat > "$work/package/Cargo.toml" << END || return 1
+[package]
+name = "${name%.rs}"
+edition = "2021"
+[dependencies]
+iox2sd = { path = "$2" }
+[[bin]]
+name = "${name%.rs}"
+path = "$name"
+END
+    CARGO_TARGET_DIR=$work/rust env -u IOX2SD_LIB_DIR cargo run --quiet --offline --jobs 1 \
+        --manifest-path "$work/package/Cargo.toml"
+}
+
 finish() {
     echo "$passed passed, $failed failed"
     [ "$failed" -eq 0 ] && [ "$passed" -gt 0 ]
