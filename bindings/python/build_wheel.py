@@ -23,12 +23,13 @@ import tarfile
 import tomllib
 import zipfile
 from pathlib import Path
-from typing import Any, cast
+from typing import Any
 
 HERE = Path(__file__).resolve().parent
-PROJECT = HERE.parents[1]
 SHARED = "libiox2sd.so.2"
 SYSTEM = ("/usr/local/lib", "/usr/lib/x86_64-linux-gnu", "/lib/x86_64-linux-gnu", "/usr/lib64")
+# What pyproject.toml says of the project.
+PROJECT: "dict[str, Any]" = tomllib.loads((HERE / "pyproject.toml").read_text())["project"]
 
 Files = dict[str, bytes]
 
@@ -40,19 +41,16 @@ def build_wheel(
     that equal files make equal wheels.
     """
     library = found_library()
-    project, version = project_table(), library_version(library)
+    name = f"{PROJECT['name']}-{library_version(library)}"
     tag = f"py3-none-{platform_tag(library.read_bytes())}"
-    name = f"{project['name']}-{version}"
+    info, wheel = f"{name}.dist-info", f"{name}-{tag}.whl"
     files = package() | {f"iox2sd/{SHARED}": library.read_bytes()}
-    info = f"{name}.dist-info"
-    for licence, content in licences(project).items():
-        files[f"{info}/licenses/{licence}"] = content
+    files |= {f"{info}/licenses/{licence}": content for licence, content in licences().items()}
     files[f"{info}/WHEEL"] = (
         f"Wheel-Version: 1.0\nGenerator: build_wheel.py\nRoot-Is-Purelib: false\nTag: {tag}\n"
     ).encode()
-    files[f"{info}/METADATA"] = metadata(project, version).encode()
+    files[f"{info}/METADATA"] = metadata(library)
     files[f"{info}/RECORD"] = record(files, f"{info}/RECORD")
-    wheel = f"{name}-{tag}.whl"
     with zipfile.ZipFile(Path(wheel_directory, wheel), "w", zipfile.ZIP_DEFLATED) as archive:
         for path, content in files.items():
             entry = zipfile.ZipInfo(path)
@@ -64,24 +62,18 @@ def build_wheel(
 
 def build_sdist(sdist_directory: str, config_settings: Any = None) -> str:
     """Writes the archive of the sources into a directory, and answers its name (PEP 517)."""
-    project, version = project_table(), library_version(found_library())
+    library = found_library()
     own = ("README.md", "build_wheel.py", "pyproject.toml")
-    files = package() | licences(project) | {name: (HERE / name).read_bytes() for name in own}
-    files["PKG-INFO"] = metadata(project, version).encode()
-    name, packed = f"{project['name']}-{version}", io.BytesIO()
+    files = package() | licences() | {name: (HERE / name).read_bytes() for name in own}
+    files["PKG-INFO"] = metadata(library)
+    name, packed = f"{PROJECT['name']}-{library_version(library)}", io.BytesIO()
     with tarfile.open(fileobj=packed, mode="w", format=tarfile.PAX_FORMAT) as archive:
         for path, content in sorted(files.items()):
             entry = tarfile.TarInfo(f"{name}/{path}")
             entry.size = len(content)
             archive.addfile(entry, io.BytesIO(content))
-    sdist = f"{name}.tar.gz"
-    Path(sdist_directory, sdist).write_bytes(gzip.compress(packed.getvalue(), mtime=0))
-    return sdist
-
-
-def project_table() -> "dict[str, Any]":
-    """What pyproject.toml says of the project."""
-    return cast("dict[str, Any]", tomllib.loads((HERE / "pyproject.toml").read_text())["project"])
+    Path(sdist_directory, f"{name}.tar.gz").write_bytes(gzip.compress(packed.getvalue(), mtime=0))
+    return f"{name}.tar.gz"
 
 
 def package() -> Files:
@@ -91,21 +83,21 @@ def package() -> Files:
     table = HERE / "iox2sd" / "fields.txt"
     paths = [*(HERE / "iox2sd").glob("*.py"), HERE / "iox2sd" / "py.typed"]
     paths.append(table if table.is_file() else HERE.parent / table.name)
-    return {f"iox2sd/{path.name}": path.read_bytes() for path in sorted(paths, key=lambda p: p.name)}
+    paths.sort(key=lambda path: path.name)
+    return {f"iox2sd/{path.name}": path.read_bytes() for path in paths}
 
 
-def licences(project: "dict[str, Any]") -> Files:
+def licences() -> Files:
     """The licences, which lie in the project's folder, and in an archive of sources beside this."""
-    folder = HERE if (HERE / "PKG-INFO").is_file() else PROJECT
-    return {name: (folder / name).read_bytes() for name in project["license-files"]}
+    folder = HERE if (HERE / "PKG-INFO").is_file() else HERE.parents[1]
+    return {name: (folder / name).read_bytes() for name in PROJECT["license-files"]}
 
 
 def found_library() -> Path:
     """The library that goes into the wheel."""
     if named := os.environ.get("IOX2SD_LIBRARY"):
         return Path(named).resolve()
-    folders = (HERE.parent / "out", Path(sys.prefix, "lib"), *map(Path, SYSTEM))
-    for folder in folders:
+    for folder in (HERE.parent / "out", Path(sys.prefix, "lib"), *map(Path, SYSTEM)):
         if (folder / SHARED).is_file():
             return (folder / SHARED).resolve()
     raise SystemExit(f"{SHARED} was not found: install it, or name the file by IOX2SD_LIBRARY")
@@ -115,9 +107,7 @@ def library_version(library: Path) -> str:
     """The version that the library reports, which is that of the package."""
     environment = os.environ | {"IOX2SD_LIBRARY": str(library), "PYTHONPATH": str(HERE)}
     command = [sys.executable, "-B", "-c", "import iox2sd; print(iox2sd.__version__)"]
-    asked = subprocess.run(command, env=environment, check=True, stdout=subprocess.PIPE, text=True)
-    version: str = asked.stdout.strip()
-    return version
+    return subprocess.check_output(command, env=environment, text=True).strip()
 
 
 def platform_tag(library: bytes) -> str:
@@ -131,28 +121,30 @@ def platform_tag(library: bytes) -> str:
     return f"manylinux_{major}_{minor}_x86_64"
 
 
-def metadata(project: dict[str, Any], version: str) -> str:
+def metadata(library: Path) -> bytes:
     """The file METADATA, as the core metadata specification 2.4 has it."""
     lines = [
-        "Metadata-Version: 2.4", f"Name: {project['name']}", f"Version: {version}",
-        f"Summary: {project['description']}", f"Keywords: {','.join(project['keywords'])}",
-        *(f"Author: {author['name']}" for author in project["authors"]),
-        f"License-Expression: {project['license']}",
-        *(f"License-File: {licence}" for licence in project["license-files"]),
-        *(f"Classifier: {classifier}" for classifier in project["classifiers"]),
-        *(f"Project-URL: {label}, {url}" for label, url in project["urls"].items()),
-        f"Requires-Python: {project['requires-python']}",
+        "Metadata-Version: 2.4", f"Name: {PROJECT['name']}",
+        f"Version: {library_version(library)}", f"Summary: {PROJECT['description']}",
+        f"Keywords: {','.join(PROJECT['keywords'])}",
+        *(f"Author: {author['name']}" for author in PROJECT["authors"]),
+        f"License-Expression: {PROJECT['license']}",
+        *(f"License-File: {licence}" for licence in PROJECT["license-files"]),
+        *(f"Classifier: {classifier}" for classifier in PROJECT["classifiers"]),
+        *(f"Project-URL: {label}, {url}" for label, url in PROJECT["urls"].items()),
+        f"Requires-Python: {PROJECT['requires-python']}",
         "Description-Content-Type: text/markdown",
     ]
-    return "\n".join(lines) + "\n\n" + Path(HERE, project["readme"]).read_text()
+    return ("\n".join(lines) + "\n\n" + Path(HERE, PROJECT["readme"]).read_text()).encode()
 
 
 def record(files: Files, own_name: str) -> bytes:
     """The file RECORD: each file with its digest and size, and itself without."""
-    digests = {name: hashlib.sha256(content).digest() for name, content in files.items()}
-    texts = {n: base64.urlsafe_b64encode(d).rstrip(b"=").decode() for n, d in digests.items()}
-    lines = [f"{name},sha256={text},{len(files[name])}\n" for name, text in texts.items()]
-    return ("".join(lines) + f"{own_name},,\n").encode()
+    lines = []
+    for name, content in files.items():
+        digest = base64.urlsafe_b64encode(hashlib.sha256(content).digest()).rstrip(b"=").decode()
+        lines.append(f"{name},sha256={digest},{len(content)}\n")
+    return "".join([*lines, f"{own_name},,\n"]).encode()
 
 
 if __name__ == "__main__":
