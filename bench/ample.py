@@ -1,6 +1,6 @@
-"""What `iox2-replay` and `iox2-describe` are run on with ample memory: inputs of many sizes, which
-none may be too large for. Each comes with its name, the words after the program's name, and the
-number of lines that are to be written, if that is known.
+"""What `iox2-replay`, `iox2-conform` and `iox2-describe` are run on with ample memory: inputs of
+many sizes, which none may be too large for. Each comes with its name, the words after the program's
+name, and the number of lines that are to be written, if that is known.
 
 The sizes are all to 130, each power of two to 65,536 with one below and above, some more, and ten
 random ones, which the environment variable `SEED` repeats."""
@@ -43,6 +43,27 @@ def scripts(size):
     yield f"{size} nodes", [], b"service event 7 %d 1 1\n" % size + nodes, size + 1
     ports = NODE + b"add listener 1.0.0.9 1.0.0.1\n" * size + b"list listener\n"
     yield f"{size} ports", [], b"service event 7 1 %d 1\n" % size + ports, size + 2
+
+
+def logs(size):
+    """Logs by calls of one caller, by calls of four that overlap without a pause, since another one
+    is open from each round to the next, and by bytes of a line."""
+    first = b"service event 7 5 0 0\nregister 1.0.0.1\n= handle 0 0\n"
+    alone = (b"register 2.0.0.2\n= handle 1 %d\nderegister 1 %d\n= has-owners\n" % (n, n)
+             for n in range(1, size // 2 + 1))
+    yield f"{size // 2 * 2} calls of one caller", [], first + b"".join(alone), 1
+    rounds = [first]
+    for number in range(size // 9):
+        calls = [(b"ABCD"[at : at + 1], at + 1, 4 * number + at + 1) for at in range(4)]
+        rounds += [b"E> nodes\n" if number % 2 == 0 else b"F> nodes\n"]
+        rounds += [b"%b> register %d.0.0.2\n" % call[:2] for call in calls]
+        rounds += [b"%b< handle %d %d\n" % call for call in calls]
+        rounds += [b"%b> deregister %d %d\n" % call for call in calls]
+        rounds += [b"%b< list %x\n" % (b"FE"[number % 2 :][:1], 2**96 + 1)] * (number > 0)
+        rounds += [b"%b< has-owners\n" % caller for caller, _, _ in calls]
+    yield f"{size // 9 * 9} calls of four callers", [], b"".join(rounds), 1
+    note = SERVICE + b"#" * size + b"\n"
+    yield f"a note of {size} bytes", [], note, 1
 
 
 def message(prefix, elements):
