@@ -80,21 +80,14 @@ class Writer:
         return len({entry.node for entry in held}) < 2
 
     def arguments(self, word):
-        match word:
-            case b"nodes":
-                return []
-            case b"register":
-                return [self.node()]
-            case b"add":
-                return [self.role(), self.port(), self.node()]
-            case b"deregister" | b"release":
-                return [self.earlier(of_node=word == b"deregister")]
-            case b"list" | b"count":
-                return [self.role()]
-        if self.dice.random() < 0.4:
-            return [self.node()]
-        skipped = [self.port() for _ in range(self.dice.choice([1, 1, 1, 2, 3, 8]))]
-        return [self.node(), b"skip", *skipped]
+        if word in (b"deregister", b"release"):
+            return [self.earlier(of_node=word == b"deregister")]
+        if word == b"dead" and self.dice.random() >= 0.4:
+            skipped = [self.port() for _ in range(self.dice.choice([1, 1, 1, 2, 3, 8]))]
+            return [self.node(), b"skip", *skipped]
+        makers = {b"nodes": [], b"add": [self.role, self.port, self.node],
+                  b"list": [self.role], b"count": [self.role]}
+        return [make() for make in makers.get(word, [self.node])]
 
     def node(self):
         return self.dice.choice(self.nodes) if self.dice.random() < 0.97 else self.id(of_node=True)
