@@ -1,7 +1,5 @@
 #!/usr/bin/env bash
-# Makes dist/: packages that need no toolchain, of what bindings/build.sh and the gate have built.
-#
-#     bindings/package.sh
+# Makes dist/: packages that need no toolchain, of what bindings/build.sh and the gate have built:
 #
 # - iox2sd-VERSION-x86_64-linux-gnu.tar.gz: a prefix with headers, libraries, the programs, pages
 #   and examples, and the site of all contracts, to be unpacked anywhere;
