@@ -1,11 +1,9 @@
 #!/usr/bin/env bash
 # Builds into bindings/out the library for C: libiox2sd.a and libiox2sd.so.2, of which the functions
-# of the headers alone can be seen from outside. It needs the C library alone. The first time takes
-# as long as the proof of all crates below. No link is made, since `rt ci` refuses a checkout that
-# has one: install.sh makes libiox2sd.so.
-# With --after-gate it proves the exports alone, over what `rt ci` left of the crates below, which
-# it has just proved. `rt ci` keeps nothing of the exports that it proves, so they are proved again,
-# but for what checks before the gate kept in out/incremental.
+# of the headers alone can be seen from outside. It proves all crates below first. No link is made,
+# since `rt ci` refuses a checkout that has one: install.sh makes libiox2sd.so.
+# With --after-gate it proves the exports alone, over what `rt ci` left of the crates below. That
+# keeps nothing of the exports, so they are proved again, but for what is in out/incremental.
 set -euo pipefail
 cd "$(dirname "$0")"
 CC=${CC:-cc}

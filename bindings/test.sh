@@ -113,16 +113,6 @@ has_cargo() {
     cargo "$1" --version > "$work/which" 2>&1 || { echo "not found: cargo $1"; return 1; }
 }
 
-# Packs the crate, and tests it elsewhere with an installed library. The examples of its pages are
-# run once, with the crate's own tests.
-packaged() {
-    local prefix=$work/installed
-    ./install.sh "$prefix" &&
-        crate package --no-verify --allow-dirty &&
-        tar xf "$work"/rust/package/iox2sd-*.crate -C "$work" &&
-        cargo_in rust "$prefix/lib" "$work"/iox2sd-* test --quiet --tests --examples
-}
-
 # Each header with this ending, included alone, has no warning. A test has that of <format>.
 headers_compile() {
     local header
@@ -220,17 +210,11 @@ has nm && run "libiox2sd exports the functions of the headers alone" same_export
 
 # ---- The same programs in each language, where there is an iceoryx2.toml ----
 
-# The first of the programs of a name is what the others are compared with. They run in docs/.
+# The first of the programs is what the others are compared with. They run in docs/.
 alike() {
-    (cd ../docs && "${@:2}") > "$work/printed" && [ -s "$work/printed" ] || return 1
-    [ -e "$work/$1" ] || cp "$work/printed" "$work/$1"
-    diff "$work/$1" "$work/printed"
-}
-
-# compiler, name with its ending, and standard
-compiled() {
-    has "$1" && compiles "$1" "../examples/$2" "$3" &&
-        run "$1 $2 prints the same as the others" alike first "$work/caller"
+    (cd ../docs && "$@") > "$work/printed" && [ -s "$work/printed" ] || return 1
+    [ -e "$work/first" ] || cp "$work/printed" "$work/first"
+    diff "$work/first" "$work/printed"
 }
 
 of_python() {
@@ -238,12 +222,14 @@ of_python() {
         IOX2SD_LIBRARY=../bindings/out/libiox2sd.so.2 python3 ../examples/first.py
 }
 
-compiled gcc first.c -std=c99
-compiled g++ first.cpp -std=c++17
-has python3 && run "first.py prints the same as the others" alike first of_python
+has gcc && compiles gcc ../examples/first.c -std=c99 &&
+    run "first.c prints the same as the others" alike "$work/caller"
+has g++ && compiles g++ ../examples/first.cpp -std=c++17 &&
+    run "first.cpp prints the same as the others" alike "$work/caller"
+has python3 && run "first.py prints the same as the others" alike of_python
 if has cargo; then
     run "first.rs prints the same as the others" \
-        alike first of_rust ../examples/first.rs "$PWD/rust"
+        alike of_rust ../examples/first.rs "$PWD/rust"
     for name in builder monitor settings; do
         run "$name.rs prints what it says" prints_what_it_says "../examples/$name.rs" \
             of_rust "../examples/$name.rs" "$PWD/rust"
@@ -257,7 +243,7 @@ outside() {
     cp ../examples/first.c ../examples/first.cpp "$work/outside" &&
         (cd "$work/outside" && gcc -std=c99 first.c "$@" -o c &&
             g++ -std=c++17 first.cpp "$@" -o cpp) &&
-        alike first "$work/outside/c" && alike first "$work/outside/cpp"
+        alike "$work/outside/c" && alike "$work/outside/cpp"
 }
 
 # prefix, and its folder of libraries
@@ -272,24 +258,20 @@ by_find_package() {
         cmake -S "$work/outside" -B "$work/outside/build" -DCMAKE_PREFIX_PATH="$1" &&
         cmake --build "$work/outside/build" --parallel 1 &&
         for program in {c,cpp}_{static,shared,iox2sd}; do
-            alike first "$work/outside/build/$program" || return 1
+            alike "$work/outside/build/$program" || return 1
         done
 }
 
-by_cargo() { alike first of_rust ../examples/first.rs "$1/share/iox2sd/rust"; }
+by_cargo() { alike of_rust ../examples/first.rs "$1/share/iox2sd/rust"; }
 
 by_pip() {
     cp ../examples/first.py "$work/outside" &&
         python3 -m venv "$work/outside/venv" &&
         "$work/outside/venv/bin/python" -m pip install --no-index --quiet \
             "$1"/share/iox2sd/python/*.whl &&
-        alike first env -u IOX2SD_LIBRARY "$work/outside/venv/bin/python" -I \
+        alike env -u IOX2SD_LIBRARY "$work/outside/venv/bin/python" -I \
             "$work/outside/first.py"
 }
-
-files_of() { (cd "$1" && find . -printf '%P %y %m\n' | sort); }
-
-same_files() { diff <(files_of "$1") <(files_of "$2"); }
 
 # prefix, its folder of libraries, and what is to be said of it
 installed_at() {
@@ -305,8 +287,6 @@ run "install.sh installs into other directories" \
     env LIBDIR=$other INCLUDEDIR=include/iox2sd ./install.sh "$work/debian" &&
     installed_at "$work/debian" $other "in other directories"
 if run "install.sh installs" ./install.sh "$work/prefix"; then
-    run "install.sh installs into a stage" env DESTDIR="$work/stage" ./install.sh /usr &&
-        run "a stage has the same files" same_files "$work/prefix" "$work/stage/usr"
     mv "$work/prefix" "$work/moved"
     installed_at "$work/moved" lib moved
     has cargo && run "cargo, by a path, moved" by_cargo "$work/moved"
@@ -334,7 +314,6 @@ if has cargo; then
         done
     fi
     run "the comparison with iceoryx2, by a crate that stands in for it" against
-    run "cargo package, and tests of what it packs" packaged
 fi
 if has python3; then
     has cc || echo "so the declarations of Python were not compared with the headers"
