@@ -70,8 +70,6 @@ BEYOND_INSIDE = [
     Call("register", DEFAULT, 50, 10, 20, 12),
     *(Call(name, DEFAULT, 50, 4, 8, 12) for name in ("attach", "release", "deregister", "death")),
 ]
-# Inside, it is one read, as in the plain program.
-BEYOND_A_READ = [Call("is-locked", DEFAULT, 1, 100, 200, 12)]
 BESIDE_PLAIN_RUST = [
     *(Call(name, DEFAULT, 1, 100, 200, 1.5)
       for name in ("port", "attach-release", "ports", "ports-of", "count", "make")),
@@ -82,13 +80,10 @@ BESIDE_PLAIN_RUST = [
 KEPT = [Call("keep", f"1 {kept} 0", 1, 2, 4, 22.5) for kept in (16_000, 1_000)]
 
 
-def run(*command, **more):
-    subprocess.run(command, check=True, **more)
-
-
 def cargo(folder, *names, **more):
     """The paths of programs that cargo builds in a folder."""
-    run("cargo", "build", "--release", "--quiet", "--offline", cwd=folder, **more)
+    subprocess.run(["cargo", "build", "--release", "--quiet", "--offline"], cwd=folder, check=True,
+                   **more)
     return [folder / "target" / "release" / name for name in names]
 
 
@@ -96,9 +91,11 @@ def built_for_c(work):
     """The paths of the programs of `ffi`: on the library, and the plain one."""
     include = f"-I{HERE.parent / 'include'}"
     c, plain = ["cc", "-std=c99", "-O2", include, FFI / "calls.c"], work / "calls.o"
-    run(*c, ARCHIVE, "-o", work / "from_c")
-    run(*c, "-DPLAIN", "-c", "-o", plain)
-    run("g++", "-std=c++17", "-O2", include, FFI / "plain.cpp", plain, "-o", work / "plain")
+    for command in (
+        [*c, ARCHIVE, "-o", work / "from_c"], [*c, "-DPLAIN", "-c", "-o", plain],
+        ["g++", "-std=c++17", "-O2", include, FFI / "plain.cpp", plain, "-o", work / "plain"],
+    ):
+        subprocess.run(command, check=True)
     return [work / "from_c", work / "plain"]
 
 
@@ -124,7 +121,8 @@ def measure_all(marks):
             ("Inside / plain", ratio, SINGLE, inside),
             ("From C / plain C++", ratio, BESIDE_PLAIN_CPP, c),
             ("From C / inside", difference, BEYOND_INSIDE, c and inside and [c[0], inside[0]]),
-            ("From C / plain C++", difference, BEYOND_A_READ, c),
+            # Inside, it is one read, as in the plain program.
+            ("From C / plain C++", difference, [Call("is-locked", DEFAULT, 1, 100, 200, 12)], c),
             ("From Rust / plain Rust", ratio, BESIDE_PLAIN_RUST, rust),
         ):
             print(f"\n{pair}, instructions a call")

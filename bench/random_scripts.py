@@ -42,7 +42,8 @@ class Writer:
         self.weights[WORDS.index(b"release")] *= 2
         self.weights[WORDS.index(b"add")] *= 3
         self.stays_open = dice.random() < 0.7
-        for _ in range(self.length()):
+        bounds, = dice.choices([(0, 5), (5, 40), (40, 150), (300, 2500)], [100, 700, 195, 5])
+        for _ in range(dice.randint(*bounds)):
             self.lines.append(self.command())
             if self.service:
                 self.replies.append(self.service.step(self.lines[-1]))
@@ -53,10 +54,6 @@ class Writer:
         if self.dice.random() < 0.004:
             return self.dice.choice(TOO_MANY)
         return self.dice.choice([0, 1, 1, 2, 2, 3, 3, 4, 4, 5, 5, 8, 8, 20, 100])
-
-    def length(self):
-        bounds = self.dice.choices([(0, 5), (5, 40), (40, 150), (300, 2500)], [100, 700, 195, 5])[0]
-        return self.dice.randint(*bounds)
 
     def id(self, of_node=False):
         while True:

@@ -17,10 +17,6 @@ TEXT = re.compile(r"//[^\n]*|'(?:\\.[^']*|[^'\\])'|\"(?:[^\"\\]|\\.)*\"", re.S)
 PRIVATE = re.compile(r"(?:^    (?:///|#).*\n)*^    (?!pub |///|#)\S.*\n(?:^     .*\n)*", re.M)
 
 
-class Unreadable(Exception):
-    """A place in a file that this reader does not know."""
-
-
 @dataclass
 class Item:
     """One item, with the items inside it where it is a block of such."""
@@ -88,7 +84,7 @@ def read_item(path, lines, doc, attributes):
     head = HEAD.match(lines[0])
     if not head:
         if not MACRO.match(lines[0]):
-            raise Unreadable(f"{path}: no item is known here: {lines[0]}")
+            raise SystemExit(f"{path}: no item is known here: {lines[0]}")
         return []
     kind, name, text, members = head["kind"], head["name"] or "", text_of(lines), []
     if kind in ("fn", "trait", "impl", "mod"):
