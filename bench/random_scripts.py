@@ -101,14 +101,11 @@ class Writer:
         handles = self.service.handles if self.service else {}
         commands = len(self.lines) - 1
         others = [self.dice.randint(0, commands), commands, commands + 1, self.dice.choice(NUMBERS)]
-        held = [number for number, handle in handles.items() if self.is_held(handle, of_node)]
+        held = [number for number, (kind, slot, ticket) in handles.items()
+                if (kind == machine.Service.NODE) == of_node
+                and self.service.places[kind].holds(slot, ticket)]
         chosen = self.dice.choices([held or [*handles], [*handles], others], [7, 2, 1])[0]
         return b"%d" % self.dice.choice(chosen or others)
-
-    def is_held(self, handle, of_node):
-        kind, slot, ticket = handle
-        is_node = kind == machine.Service.NODE
-        return is_node == of_node and self.service.places[kind].holds(slot, ticket)
 
 
 def drawn(seed):

@@ -5,9 +5,8 @@
 #
 #     [DESTDIR=STAGE] [LIBDIR=lib] [INCLUDEDIR=include] bindings/install.sh PREFIX
 #
-# PREFIX is an absolute path. LIBDIR and INCLUDEDIR lie below it, and are those of CMake's
-# GNUInstallDirs, as lib/x86_64-linux-gnu. Everything finds its neighbours by where it lies itself,
-# so a prefix may be moved, and a stage may be packed.
+# LIBDIR and INCLUDEDIR lie below PREFIX, and are those of CMake's GNUInstallDirs. Everything finds
+# its neighbours by where it lies itself, so a prefix may be moved, and a stage may be packed.
 set -euo pipefail
 libdir=${LIBDIR:-lib} includedir=${INCLUDEDIR:-include}
 if [ $# -ne 1 ] || [[ $1 != /* || $libdir == /* || $includedir == /* ]]; then
@@ -17,9 +16,8 @@ fi
 prefix=${DESTDIR:-}$1
 cd "$(dirname "$0")"
 shared=$(basename out/libiox2sd.so.*)
-for library in out/libiox2sd.a "out/$shared"; do
-    [ -f "$library" ] || { echo "$library is missing: bindings/build.sh builds it" >&2; exit 1; }
-done
+[ -f out/libiox2sd.a ] && [ -f "out/$shared" ] ||
+    { echo "out/ has no library: bindings/build.sh builds it" >&2; exit 1; }
 version=$(./version)
 
 # A file with the version, the directories, the shared library, and the way up from LIBDIR in place

@@ -1,8 +1,8 @@
 """The page of the headline: its sentences, the clauses that carry them, and all definitions behind.
 
-The sentences are the lists below `## The headline` of docs/PROMISES.md. Each names its functions, as
-"`Type::method`, `function` of `crate`". The definitions behind the first list come first, then those
-that the next one needs beside them.
+The sentences are the lists below `## The headline` of docs/PROMISES.md. Each names its functions,
+as "`Type::method`, `function` of `crate`". The definitions behind the first list come first, then
+those that the next one needs beside them.
 """
 
 import re

@@ -93,7 +93,6 @@ class Crate:
                 self.definitions += found
                 self.handed_on |= handed
         src, self.modules = self.folder / "src", []
-        self.is_library = (src / "lib.rt").exists()
         for file in sorted(src.rglob("*.rt")):
             path, where = file.relative_to(src).with_suffix("").parts, str(file.relative_to(TOP))
             path = () if path in (("lib",), ("main",)) else path
