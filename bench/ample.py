@@ -15,6 +15,7 @@ SEED = int(os.environ.get("SEED", time.time_ns() % 2**32))
 NEAR_POWERS = [2**exponent + near for exponent in range(17) for near in (-1, 0, 1)]
 RANDOM = random.Random(SEED).sample(range(131, 65_536), 10)
 SIZES = sorted({*range(131), *NEAR_POWERS, 1_000, 1_001, 1_000_000, 1_000_001, *RANDOM})
+LONGEST = {"iox2_conform": [5_000_000]}  # more sizes: logs of ten million lines
 
 SERVICE = b"service event 7 1 1 1\n"
 NODE = b"register 1.0.0.1\n"
