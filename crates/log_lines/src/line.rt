@@ -119,6 +119,7 @@ fn begin_of<'a>(
 }
 
 /// The state whose text this is.
+#[inline(never)]
 fn state_of<'a>(
     alloc: Global,
     number: Option<u64>,
@@ -213,6 +214,7 @@ fn service_of(alloc: Global, line: &[u8]) -> Result<Option<ServiceLine>, AllocEr
 /// was in use is `state nodes USED`, `state nodes USED locked`, `state ROLE USED`,
 /// `state SLOT TICKET register NODE` and `state SLOT TICKET add ROLE PORT NODE`, also with `7: `
 /// before it. No line has two readings.
+#[inline(always)]
 pub fn read_log_line(alloc: Global, line: &[u8]) -> Result<Option<LogLine<'_>>, AllocError>
     ensures { IfOk result (λ found. Reads IsLine line_text (option_map line_seen found) line.now) }
 {

@@ -1,4 +1,5 @@
-//! Reading a log line by line.
+//! Reading a log line by line. A call alone is read in one function, since to copy a call costs as
+//! much as to read it. Other lines are read out of line, so that it does not pay for their locals.
 ghost use Rattle.std.specs.Prelude.{◌≡◌, ◌≢◌, ◌<◌, ℕ, List, [], None, Some, IfNone, IfOk, IfSome, IsFalse, IsTrue, length, slice_get};
 ghost use Rattle.log_lines.specs.Commands.{begun_in, named as named_command};
 ghost use Rattle.log_lines.specs.Lines.Line.{service as service_line, call as call_line};
@@ -89,6 +90,7 @@ fn ends_in_return(text: &[u8]) -> bool
 }
 
 /// The reply whose words stand in the line of a reply.
+#[inline(always)]
 fn reply_in(alloc: Global, text: &[u8]) -> Result<Option<SeenReply>, AllocError>
     ensures some { IfOk result (λ found. IfSome found (λ r. SaysIn text.now r)) }
     ensures none { IfOk result (λ found. IfNone found (LacksReply text.now)) }
@@ -122,6 +124,7 @@ fn only_service(services: &[LogService]) -> Option<usize>
 }
 
 /// The index of the service that a call is on, before which this number stands, or none.
+#[inline(always)]
 fn service_named(services: &[LogService], number: Option<u64>) -> Option<usize>
     ensures some { IfSome result (λ at. (s : Service) × IsNamed number services.now at s) }
     ensures none { IfNone result (IsNameless number services.now) }
@@ -147,6 +150,7 @@ impl Reading {
     }
 
     /// A service. Returns what is expected instead, if it may not come.
+    #[inline(never)]
     fn service(&mut self, alloc: Global, line: ServiceLine) -> Result<Option<Expected>, AllocError>
         requires { self.old.waits ≡ None }
         ensures { IfOk result (λ found. (k : ℕ)
@@ -187,6 +191,7 @@ impl Reading {
 
     /// What is given of a service that was in use. Returns what is expected instead, if it may not
     /// come.
+    #[inline(never)]
     fn given(
         &mut self,
         alloc: Global,
@@ -211,6 +216,7 @@ impl Reading {
     }
 
     /// A call alone. Returns what is expected instead, if it may not come.
+    #[inline(always)]
     fn call(&mut self, number: Option<u64>, command: LogCommand) -> Option<Expected>
         requires { self.old.waits ≡ None }
         ensures { (k : ℕ) → Does (log_of self.old) k
@@ -225,6 +231,7 @@ impl Reading {
     }
 
     /// The begin of a call in this line. Returns what is expected instead, if it may not come.
+    #[inline(never)]
     fn begin(
         &mut self,
         alloc: Global,
@@ -252,6 +259,7 @@ impl Reading {
 
     /// The end of a caller's call in this line. Returns what is expected instead, if it may
     /// not come.
+    #[inline(never)]
     fn end(
         &mut self,
         alloc: Global,
@@ -280,6 +288,7 @@ impl Reading {
     }
 
     /// A caller died above this line. Returns what is expected instead, if it may not come.
+    #[inline(never)]
     fn crash(
         &mut self,
         alloc: Global,
@@ -308,6 +317,7 @@ impl Reading {
 
     /// The reply to the call that waits, in this line. Returns what is expected instead, if it is
     /// none.
+    #[inline(always)]
     fn reply(
         &mut self,
         alloc: Global,
@@ -335,6 +345,7 @@ impl Reading {
 
     /// A line of a log, where no call waits. Returns what is expected instead, if it may not
     /// come.
+    #[inline(always)]
     fn take(
         &mut self,
         alloc: Global,
@@ -374,6 +385,7 @@ impl Reading {
 
     /// A line that is no note, where no call waits. Returns what is expected instead, if it
     /// may not come.
+    #[inline(always)]
     fn next(
         &mut self,
         alloc: Global,
@@ -397,6 +409,7 @@ impl Reading {
     /// Goes on with a line that is no note. Returns what is expected instead, but for its
     /// carriage return, if it may not come.
     #[tactic(auto, using(crate::proofs::Refused::sane_taken))]
+    #[inline(always)]
     fn go(
         &mut self,
         alloc: Global,
@@ -418,6 +431,7 @@ impl Reading {
     }
 
     /// Goes on with a line. Returns what is expected instead, if it may not come.
+    #[inline(always)]
     pub(super) fn read(
         &mut self,
         alloc: Global,

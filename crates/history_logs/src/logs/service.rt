@@ -1,5 +1,5 @@
 //! What was seen of a service.
-ghost use Rattle.std.specs.Prelude.{◌≡◌, ◌↔◌, ◌+◌, ◌++◌, ◌<◌, ◌≤◌, ℕ, IsTrue, replicate, OnOk, IfOk, Some, None, get_or, length};
+ghost use Rattle.std.specs.Prelude.{◌≡◌, ◌↔◌, ◌+◌, ◌++◌, ◌<◌, ◌≤◌, ℕ, IsTrue, drop, replicate, OnOk, IfOk, Some, None, get_or, length};
 ghost use Rattle.log_lines.specs.Commands.{begun_in, named};
 ghost use Rattle.log_lines.specs.Commands.Begun.{weak};
 ghost use Rattle.log_lines.specs.States.{state_seen};
@@ -110,6 +110,14 @@ fn give(start: &mut ServiceCheck, given: LogState) -> Result<bool, AllocError>
         LogState::Node(slot, ticket, id) => start.give_node(slot, ticket, id),
         LogState::Port(slot, ticket, port) => start.give_port(slot, ticket, port.details()),
     }
+}
+
+/// Leaves the items from this index on, and the capacity.
+fn keep_from<T: Drop>(items: &mut Vec<T>, at: usize)
+    requires { at ≤ length items.old.items }
+    ensures kept { items.new.items ≡ drop at items.old.items }
+{
+    items.drain(..at);
 }
 
 impl LogService {
@@ -229,6 +237,7 @@ impl LogService {
     }
 
     /// The handle that the command of this number gave, by what is above.
+    #[inline(always)]
     fn given_by(&self, number: usize) -> Option<ContainerHandle>
         ensures { result ≡ given_by self.now number }
     {
@@ -243,6 +252,7 @@ impl LogService {
     }
 
     /// The handle that a command names, by what is above.
+    #[inline(always)]
     fn named_by(&self, command: &LineCommand) -> Option<ContainerHandle>
         ensures { result ≡ handle_named self.now (command_of command.now) }
     {
@@ -254,6 +264,7 @@ impl LogService {
     }
 
     /// A handle of the service.
+    #[inline(always)]
     fn handle(&self, role: Role, slot: usize, ticket: u64) -> ContainerHandle
         ensures { result ≡ handle_in self.now role slot ticket }
     {
@@ -261,6 +272,7 @@ impl LogService {
     }
 
     /// The call of a command, whose reply was not seen.
+    #[inline(always)]
     pub(super) fn call(&self, command: LogCommand) -> LogCall
         ensures { result ≡ called self.now (named command) }
     {
@@ -293,6 +305,7 @@ impl LogService {
 
     /// A call begins in this line, and is no command of its own. Returns its number. Where memory
     /// was refused, the service is not to be used any more.
+    #[inline(always)]
     fn begin_part(&mut self, call: LogCall, line: usize) -> Result<usize, AllocError>
         requires { HasHandles self.old }
         ensures begun { OnOk result (self.new ≡ with_part self.old call line) }
@@ -311,6 +324,7 @@ impl LogService {
 
     /// A call begins in this line. Returns its number. Where memory was refused, the service is not
     /// to be used any more.
+    #[inline(always)]
     pub(super) fn begin(&mut self, call: LogCall, line: usize) -> Result<usize, AllocError>
         requires { HasHandles self.old }
         ensures begun { OnOk result (self.new ≡ with_begin self.old call line) }
@@ -382,6 +396,7 @@ impl LogService {
     }
 
     /// The handle that a reply gives to a call that adds an entry of this role.
+    #[inline(always)]
     fn given_in(&self, adds: Option<Role>, reply: &SeenReply) -> Option<ContainerHandle>
         ensures { result ≡ given_in self.now adds reply.now }
     {
@@ -395,6 +410,7 @@ impl LogService {
 
     /// The call of this number was answered in this line. Where memory was refused, the service is
     /// not to be used any more.
+    #[inline(always)]
     pub(super) fn end(
         &mut self,
         alloc: Global,
@@ -417,20 +433,18 @@ impl LogService {
         Ok(())
     }
 
-    /// Forgets the calls below this number, so many of the events, and all lines. Where memory was
-    /// refused, the service is not to be used any more.
-    pub(super) fn forget(&mut self, first: usize, followed: usize) -> Result<(), AllocError>
+    /// Forgets the calls below this number, so many of the events, and all lines.
+    pub(super) fn forget(&mut self, first: usize, followed: usize)
         requires first { self.old.first ≤ first }
         requires within { first ≤ length self.old.calls }
         requires followed { followed ≤ length self.old.events }
-        ensures { OnOk result (self.new ≡ forgetting self.old first followed) }
+        ensures { self.new ≡ forgetting self.old first followed }
     {
-        self.calls = self.calls.split_off(first - self.first)?;
+        keep_from(&mut self.calls, first - self.first);
         self.first = first;
-        self.events = self.events.split_off(followed)?;
+        keep_from(&mut self.events, followed);
         self.begins.clear();
         self.event_lines.clear();
-        Ok(())
     }
 
     /// The caller of the call of this number died above this line. Where memory was refused, the

@@ -163,7 +163,7 @@ fn follow(
         return Ok(false);
     }
     let first = first_open(&front.slots, most);
-    service.forget(first, count)?;
+    service.forget(first, count);
     Ok(true)
 }
 

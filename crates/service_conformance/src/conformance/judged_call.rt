@@ -146,6 +146,7 @@ fn follow_start(
 
 impl JudgedCall {
     /// A call.
+    #[inline(always)]
     pub fn call(seen: SeenCall) -> Self
         ensures { result ≡ call seen }
     {
@@ -196,6 +197,7 @@ impl JudgedCall {
     }
 
     /// This reply was seen.
+    #[inline(always)]
     pub fn answer(&mut self, reply: SeenReply)
         ensures { self.new ≡ judged_answered self.old reply }
     {

@@ -24,6 +24,7 @@ pub(super) enum Request {
 
 impl Request {
     /// The command, which names this handle or none if it is a removal.
+    #[inline(always)]
     pub(super) fn new(command: LineCommand, handle: Option<ContainerHandle>) -> Self
         ensures command { request_command result ≡ at_first (command_of command) }
         ensures handle { request_handle result ≡ handle_for (command_of command) handle }

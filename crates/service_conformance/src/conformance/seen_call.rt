@@ -45,6 +45,7 @@ impl Model for SeenCall {
 impl SeenCall {
     /// A call whose reply was not seen. The command of a removal names the handle, whatever its
     /// number; where it names none, and for other commands, there is none.
+    #[inline(always)]
     pub fn new(command: LineCommand, handle: Option<ContainerHandle>) -> Self
         ensures { result ≡ call_of (command_of command) handle }
     {
@@ -55,6 +56,7 @@ impl SeenCall {
     }
 
     /// This reply was seen.
+    #[inline(always)]
     pub fn answer(&mut self, reply: SeenReply)
         ensures { self.new ≡ answered self.old (seen_text reply) }
     {

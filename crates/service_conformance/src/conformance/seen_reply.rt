@@ -137,6 +137,7 @@ fn ids_in(alloc: Global, words: &[u8]) -> Result<Option<Vec<u128>>, AllocError>
 /// What the words of a reply to a command that has a line say, or `None` where they are the words
 /// of no such reply.
 #[tactic(auto, using(crate::proofs::Seen::none_replied))]
+#[inline(always)]
 pub fn read_reply(alloc: Global, words: &[u8]) -> Result<Option<SeenReply>, AllocError>
     ensures some { IfOk result (λ found. IfSome found
         (λ r. (seen_text r ≡ words.now) × IsSeen r)) }

@@ -9,6 +9,7 @@ pub(super) const NUMBER: Number = Number(u64::MAX);
 
 /// The slot and the ticket of the handle in the words.
 #[tactic(auto, using(crate::proofs::Words::unread))]
+#[inline(always)]
 pub(super) fn slot_and_ticket(words: &[u8]) -> Option<(usize, u64)>
     ensures some { IfSome result (λ h. handle_words h.0 h.1 ≡ words.now) }
     ensures words { IfSome result (λ h. (h.0 < 2 ^ 64) × (h.1 < 2 ^ 64)) }

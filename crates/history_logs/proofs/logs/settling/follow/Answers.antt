@@ -76,6 +76,6 @@ returns c = λ yes s o k.
     let lower = first_low_of live s front new count o k (goes s o k)
     c.count_settled-count.ensures.over most
     first last c.first_open-first.ensures.most slots is in
-    subst (λ (x : Service). IsShort s x (Some new)) (sym c.in_ok-forget.ensures)
+    subst (λ (x : Service). IsShort s x (Some new)) (sym c.forget.ensures)
     (short_now live s front new count o k (goes s o k) c.count_settled-count.ensures.over most
     first last c.first_open-first.ensures.most slots lower)

@@ -7,5 +7,5 @@ pub returns : goal.returns
 returns c =
     forget_is c.args.self.now (service_of c.self.inside) c.self.inside.first
     c.self.inside.calls.items c.args.first c.args.followed c.self.view_is refl refl
-    c.requires.first _ c.in_ok-self-inside.ensures.tail _ c.in_ok-self-inside-2.ensures.tail
+    c.requires.first _ c.keep_from.ensures.kept _ c.keep_from-2.ensures.kept
     _ c.clear.ensures.items _ c.clear-2.ensures.items _ refl
