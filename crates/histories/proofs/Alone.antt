@@ -1,25 +1,23 @@
 -- Calls that overlap nothing.
 use Rattle.std.proofs.Common.{◌≡◌, ◌↔◌, slice_set, true, ℕ, zero, suc, ◌+◌, ◌<◌, List, [], ◌∷◌, ◌++◌, length, get_or, Option, refl, sym, ◌∙◌, ap, subst, arith, inl, inr, append_assoc}
-use Rattle.std.specs.List.{Contains}
 use Rattle.std.proofs.lemmas.Bool.{cases_lt}
-use Rattle.std.proofs.lemmas.List.Quantifiers.{all_pairs_push}
 use Rattle.histories.specs.declared.event.Event.{Event}
 use Rattle.histories.specs.declared.event.Event.TheVariants.{Begin, End}
 use Rattle.histories.specs.declared.front.Config.{Config}
 use Rattle.histories.specs.declared.front.Link.{Link}
-use Rattle.histories.specs.Histories.{AreAll, begins, times, Explains, HasEnded, IsOver, Leads}
+use Rattle.histories.specs.Histories.{AreAll, begins, times, Explains, Leads}
 use Rattle.histories.specs.Frontier.{HasSlot, IsFollowed, IsFrontier, IsSound, IsTable, Path, order_at, order_of, path_more, path_of}
-use Rattle.histories.specs.Splitting.{IsQuiet}
-use Rattle.histories.specs.Advances.{Agrees}
+use Rattle.histories.specs.Advances.{IsQuiet, Agrees}
 use Rattle.histories.specs.Gathering.{AreLaid, IsMadeIn}
 use Rattle.histories.proofs.Chains.{frontier_laid, order_more}
-use Rattle.histories.proofs.Splitting.{quiet_empty, runs_nothing}
 use Rattle.histories.specs.Laws.{CallsAloneAreRuns, calls_alone, in_order}
-use Rattle.histories.proofs.Counting.{not_some, split_times, times-append, times-cons, times_one, times_other, times_same}
-use Rattle.histories.proofs.Events.{answered_now, begins_begin, begins_ends, begins_none, ended_now, ended_still, open_begin_cases, open_begin_now, open_end_before, open_end_other, over_ended, sound_begin, sound_end, sound_none}
+use Rattle.histories.proofs.Places.{only}
+use Rattle.histories.proofs.Counting.{no_times, not_some, split_times, times-append, times-cons, times_one, times_other, times_same}
+use Rattle.histories.proofs.Events.{answered_now, begins_begin, begins_ends, begins_none, ended_now, ended_still, open_begin_cases, open_begin_now, open_end_before, open_end_other, sound_begin, sound_end, sound_none}
 use Rattle.histories.proofs.Running.{leads_push, leads_split}
-use Rattle.histories.proofs.Explaining.{behind_open, explains_begin, explains_end, explains_front, explains_open, no_times}
+use Rattle.histories.proofs.Explaining.{behind_open, explains_begin, explains_end, explains_front, explains_open, explains_pushed}
 use Rattle.histories.proofs.Frontiers.{explains_none, no_calls}
+use Rattle.histories.proofs.Cutting.{quiet_empty, runs_nothing}
 
 -- one event after the other
 two_more : (es : List Event) (a b : Event) → es ++ a ∷ b ∷ [] ≡ (es ++ a ∷ []) ++ b ∷ []
@@ -45,20 +43,8 @@ alone_more es count a =
     λ c. begins_ends c count mid (End count) (inl refl) ∙ begins_begin c count es in record {
       sound = sound_end mid (End count) count (inl refl)
           (sound_begin es count a.sound fresh) here;
-      below = λ c some. elim (cases_lt 0 (begins c es)) [
-        | inl before ↦ omega (arith, a.below c before)
-        | inr none ↦
-            let same : count ≡ c = times_same c count (omega (arith, some, none, counts c)) in
-            omega (arith, same)
-      ];
-      ended = λ c some. elim (cases_lt 0 (begins c es)) [
-        | inl before ↦
-            ended_still mid (End count) c (ended_still es (Begin count) c (a.ended c before))
-        | inr none ↦
-            let same : count ≡ c = times_same c count (omega (arith, some, none, counts c)) in
-            subst (λ x. HasEnded (mid ++ End count ∷ []) x) same
-            (ended_now mid (End count) count (inl refl))
-      ];
+      below = λ c some. grind (arith, cases_lt, times_same);
+      ended = λ c some. grind (arith, cases_lt, ended_still, times_same, ended_now);
     }
 
 is_alone : (count : ℕ) → IsAlone (calls_alone count) count
@@ -84,36 +70,13 @@ module _ {S : Type 0} (Step : S → ℕ → S → Type 0) where
       → begins count es ≡ 0 → Explains Step es old order mid → Step mid count new
       → Explains Step ((es ++ Begin count ∷ []) ++ End count ∷ []) old (order ++ count ∷ []) new
   explains_alone es count old mid new order sound fresh ex step =
+      let es_mid : List Event = es ++ Begin count ∷ [] in
       let none : times count order ≡ 0 =
       not_some (times count order) (λ some. absurd (omega (arith, fresh, ex.begun count some))) in
-      let es_mid : List Event = es ++ Begin count ∷ [] in
-      let is_open = open_begin_now es count sound fresh in
-      let before = explains_begin Step es old mid order count fresh ex in
-      let counts : (c : ℕ) → times c (order ++ count ∷ []) ≡ times c order + times c (count ∷ []) =
-      λ c. times-append c order (count ∷ []) in
       explains_end Step es_mid (End count) old new (order ++ count ∷ []) count (inl refl)
-      (λ is. omega (arith, counts count, times_one count)) (record {
-        once = λ c. elim (cases_lt 0 (times c (count ∷ []))) [
-          | inl here ↦
-              let same : count ≡ c = times_same c count here in
-              omega (
-                arith,
-                counts c,
-                subst (λ x. times x order ≡ 0) same none,
-                subst (λ x. times x (count ∷ []) ≡ 1) same (times_one count),
-              )
-          | inr away ↦ omega (arith, counts c, away, ex.once c)
-        ];
-        begun = λ c some. elim (cases_lt 0 (times c (count ∷ []))) [
-          | inl here ↦ subst (λ x. 0 < begins x es_mid) (times_same c count here) is_open.0
-          | inr away ↦ before.begun c (omega (arith, some, counts c, away))
-        ];
-        answered = λ c answered. omega (arith, before.answered c answered, counts c);
-        real_time = all_pairs_push (λ first second. ¬ (IsOver es_mid second first)) order count
-            before.real_time
-            (λ k d within over. is_open.1 (over_ended es_mid count (get_or order k d) over));
-        leads = leads_push Step old mid new order count ex.leads step;
-      })
+      (λ is. omega (arith, times-append count order (count ∷ []), times_one count))
+      (explains_pushed Step es_mid old mid new order count (open_begin_now es count sound fresh)
+      none (explains_begin Step es old mid order count fresh ex) step)
 
   -- and an order of the whole has it last
   explained_alone : (es : List Event) (count : ℕ) (old new : S) (order : List ℕ) → IsSound es
@@ -195,14 +158,6 @@ module _ {S : Type 0} (Step : S → ℕ → S → Type 0) where
         (alone_back count old new is.1),
   )
 
-only_at : {X : Type 0} (x k : X) (i : ℕ) → i < length (x ∷ []) → get_or (x ∷ []) i k ≡ k → k ≡ x
-only_at x k zero h is = sym is
-only_at x k (suc i) h is = absurd (omega (arith, h))
-
--- the one that a list of one has
-only : {X : Type 0} (x k : X) → Contains (x ∷ []) k → k ≡ x
-only x k has = only_at x k has.0 has.1 has.2
-
 module _ {S : Type 0} (Step : S → ℕ → S → Type 0) (slots : List (Option ℕ)) (es : List Event)
     (c : ℕ) (sound : IsSound es) (fresh : begins c es ≡ 0) (table : IsTable es slots)
     (empty : (slot call : ℕ) → HasSlot slots slot call → ⊥) where
@@ -274,10 +229,7 @@ module _ {S : Type 0} (Step : S → ℕ → S → Type 0) (slots : List (Option 
 -- where the machine makes the call as the history has it, it leaves the same states
 all_as : {S : Type 0} (Made Step : S → Type 0) (states : List S)
     → ((new : S) → Made new ↔ Step new) → AreAll Made states → AreAll Step states
-all_as Made Step states same all = (
-  λ i d h. (same (get_or states i d)).0 (all.0 i d h),
-  λ value is. all.1 value ((same value).1 is),
-)
+all_as Made Step states same all = grind arith
 
 pub made_alone : {M S : Type 0} (Step : M → S → ℕ → S → Type 0) (machine : M)
     (links more : List Link) (slots : List (Option ℕ)) (config made : Config S)

@@ -1,5 +1,5 @@
 -- Sets of slots.
-use Rattle.std.proofs.Common.{◌≡◌, ◌≢◌, ℕ, zero, suc, ◌<◌, ◌≤◌, ◌⊎◌, List, length, get_or, min, max, bit_and, bit_or, ◌*◌, ◌^◌, ◌%◌, ◌-◌, refl, sym, ◌∙◌, ap, subst, arith, inl, inr, Option, None}
+use Rattle.std.proofs.Common.{◌≡◌, ◌≢◌, ℕ, zero, suc, ◌<◌, ◌≤◌, ◌⊎◌, List, length, min, max, bit_and, bit_or, ◌*◌, ◌^◌, ◌%◌, ◌-◌, refl, sym, ◌∙◌, ap, subst, arith, inl, inr, Option}
 use Rattle.std.specs.Int.{bit_at, bit_not, w64}
 use Rattle.std.proofs.lemmas.Bool.{cases_eq, cases_lt}
 use Rattle.std.proofs.lemmas.List.{get_or_past}
@@ -42,10 +42,7 @@ put_apart one other slot h none gone same =
 pub cleared_swap : (set one other : ℕ)
     → cleared (cleared set one) other ≡ cleared (cleared set other) one
 unfolding cleared
-cleared_swap set one other =
-    let A = bit_not w64 (1 * 2 ^ one % 2 ^ 64) in
-    let B = bit_not w64 (1 * 2 ^ other % 2 ^ 64) in
-    and_assoc B set A ∙ (ap (bit_and set) (and_comm A B) ∙ sym (and_assoc A set B))
+cleared_swap set one other = grind (arith, and_assoc, and_comm)
 
 -- and so is that in which one slot goes and another comes
 pub cleared_put : (set slot t : ℕ) → slot < 64 → t < 64 → slot ≢ t
@@ -101,36 +98,21 @@ bit_cases set slot =
 
 -- a slot that is not in the set
 pub bit_none : (set slot : ℕ) → (bit_at set slot ≡ 1 → ⊥) → bit_at set slot ≡ 0
-bit_none set slot never =
-    elim (bit_cases set slot) [
-      | inl none ↦ none
-      | inr some ↦ absurd (never some)
-    ]
+bit_none set slot never = grind (arith, bit_cases)
 
 -- in a set without a slot there is nothing more
 pub cleared_le : (set slot other : ℕ) → slot < 64 → other < 64
     → bit_at (cleared set slot) other ≤ bit_at set other
 cleared_le set slot other h k =
     elim (cases_eq other slot) [
-      | inl e ↦
-          subst (λ x. bit_at (cleared set slot) x ≤ bit_at set x) (sym e)
-          (omega (arith, cleared_same set slot h))
+      | inl e ↦ grind (arith, cleared_same)
       | inr ne ↦ omega (arith, cleared_other set slot other h k ne)
     ]
 
 -- a slot that a call has is there
 pub slot_within : (slots : List (Option ℕ)) (slot call : ℕ) → HasSlot slots slot call
     → slot < length slots
-slot_within slots slot call has =
-    elim (cases_lt slot (length slots)) [
-      | inl h ↦ h
-      | inr late ↦
-          let past : get_or slots slot None ≡ None = get_or_past slots slot None (omega (
-            arith,
-            late,
-          )) in
-          absurd (cc)
-    ]
+slot_within slots slot call has = grind (arith, cases_lt, get_or_past)
 
 -- a slot has one call
 pub slot_once : (slots : List (Option ℕ)) (slot one other : ℕ) → HasSlot slots slot one
@@ -140,10 +122,6 @@ slot_once slots slot one other a b = cc
 pub slot_64 : (slots : List (Option ℕ)) (slot call : ℕ) → length slots ≤ 64
     → HasSlot slots slot call → slot < 64
 slot_64 slots slot call few has = omega (arith, few, slot_within slots slot call has)
-
-pub ones_none : (set : ℕ) → ones set 0 ≡ 0
-unfolding ones
-ones_none set = refl
 
 pub ones_most : (set n : ℕ) → ones set n ≤ n
 unfolding ones
@@ -165,10 +143,7 @@ unfolding ones
 ones_less set more zero slot le h none some = absurd (omega arith)
 ones_less set more (suc n) slot le h none some =
     elim (cases_eq slot n) [
-      | inl e ↦
-          let here : bit_at set n ≡ 0 = subst (λ i. bit_at set i ≡ 0) e none in
-          let there : bit_at more n ≡ 1 = subst (λ i. bit_at more i ≡ 1) e some in
-          omega (arith, here, there, ones_le set more n (λ i k. le i (omega arith)))
+      | inl e ↦ grind (arith, ones_le)
       | inr ne ↦
           let below : slot < n = below_of slot n h ne in
           omega (
@@ -179,8 +154,4 @@ ones_less set more (suc n) slot le h none some =
     ]
   where
     below_of : (slot n : ℕ) → slot < suc n → slot ≢ n → slot < n
-    below_of slot n h ne =
-        elim (cases_lt slot n) [
-          | inl less ↦ less
-          | inr past ↦ absurd (ne (omega (arith, h, past)))
-        ]
+    below_of slot n h ne = grind (arith, cases_lt)

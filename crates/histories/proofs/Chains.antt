@@ -1,14 +1,13 @@
 -- Orders that are read from links.
-use Rattle.std.proofs.Common.{◌≡◌, ℕ, ◌+◌, ◌<◌, ◌≤◌, List, [], ◌∷◌, ◌++◌, ◌≢◌, Option, set, length, take, drop, take-append-drop, reverse, get_or, refl, sym, ◌∙◌, ap, subst, arith, inl, inr, length-append, append-nil, append_assoc}
+use Rattle.std.proofs.Common.{◌≡◌, ℕ, ◌+◌, ◌<◌, ◌≤◌, List, [], ◌∷◌, ◌++◌, Option, length, take, drop, take-append-drop, reverse, get_or, refl, sym, ◌∙◌, ap, subst, arith, length-append, append-nil, append_assoc}
 use Rattle.std.proofs.Math.ListN.{get_or-append}
 use Rattle.std.proofs.Math.Seq.{get_or-append_seam}
-use Rattle.std.proofs.lemmas.Bool.{cases_eq, cases_lt}
-use Rattle.std.proofs.lemmas.List.{get_or-set_other, get_or-set_same, get_or_default, get_or_past, length-take-le, reverse-append, take_more}
+use Rattle.std.proofs.lemmas.Bool.{cases_lt}
+use Rattle.std.proofs.lemmas.List.{get_or_default, get_or_past, length-take-le, reverse-append, take_more}
 use Rattle.histories.specs.declared.front.Config.{Config}
 use Rattle.histories.specs.declared.front.Link.{Link}
 use Rattle.histories.specs.declared.event.Event.{Event}
-use Rattle.histories.specs.Histories.{Explains}
-use Rattle.histories.specs.Frontier.{Leaves, IsFollowed, IsFrontier, Path, Runs, no_path, order_at, order_of, orders, path_more, read}
+use Rattle.histories.specs.Frontier.{IsFollowed, IsFrontier, Path, Runs, no_path, order_at, orders, path_more, read}
 use Rattle.histories.specs.Gathering.{AreLaid, Grows, IsLaid, IsLaidOut}
 
 orders_append : (known : List (List ℕ)) (xs ys : List Link)
@@ -48,10 +47,7 @@ read_zero links = orders_keep ([] ∷ []) links 0 (omega arith)
 read_keep : (links others : List Link) (n : ℕ) → n ≤ length links
     → read (links ++ others) n ≡ read links n
 unfolding read
-read_keep links others n h =
-    ap (λ (l : List (List ℕ)). get_or l n []) (orders_append ([] ∷ []) links others)
-    ∙ orders_keep (orders ([] ∷ []) links) others n
-    (omega (arith, h, orders_length ([] ∷ []) links))
+read_keep links others n h = grind (arith, orders_append, orders_keep, orders_length)
 
 -- one link more
 read_push : (links : List Link) (link : Link)
@@ -74,24 +70,13 @@ read_past links base h =
 left_short : (front : List Link) (at left : ℕ) (link : Link) → length front ≡ at
     → (link.before ≤ at → left ≡ link.before) → (at < link.before → left ≡ 0)
     → left ≤ length front
-left_short front at left link long same none =
-    elim (cases_lt at link.before) [
-      | inl above ↦ omega (arith, none above)
-      | inr within ↦
-          let few : link.before ≤ at = omega (arith, within) in omega (arith, same few, few, long)
-    ]
+left_short front at left link long same none = grind (arith, cases_lt)
 
 -- the number, or 0 where more links are asked for than there are
 pub read_bounded : (links : List Link) (base left : ℕ)
     → (base ≤ length links → left ≡ base) → (length links < base → left ≡ 0)
     → read links base ≡ read links left
-read_bounded links base left same none =
-    elim (cases_lt (length links) base) [
-      | inl above ↦
-          read_past links base above
-          ∙ sym (ap (λ n. read links n) (none above) ∙ read_zero links)
-      | inr within ↦ ap (λ n. read links n) (sym (same (omega (arith, within))))
-    ]
+read_bounded links base left same none = grind (arith, cases_lt, read_past, read_zero)
 
 -- one call more is read
 pub read_step : (links : List Link) (at left : ℕ) (link : Link) → at < length links
@@ -180,24 +165,8 @@ laid_out_more links mid base at calls link h is l = (
 )
 
 module _ {S : Type 0} where
-  pub laid_one : (links more : List Link) (config laid : Config S) → laid.state ≡ config.state
-      → laid.waiting ≡ config.waiting → laid.made.items ≡ []
-      → IsLaidOut links config.base config.made.items more laid.base
-      → IsLaid links more config laid
-  laid_one links more config laid state waits made l = (
-    state,
-    waits,
-    l.0,
-    λ within.
-        let is = l.1 within in (
-          is.0,
-          ap (λ (m : List ℕ). read more laid.base ++ m) made
-              ∙ (append-nil (read more laid.base) ∙ is.1),
-        ),
-  )
-
   -- with more links after it
-  laid_grows : (links mid more : List Link) (config laid : Config S) → Grows mid more
+  pub laid_grows : (links mid more : List Link) (config laid : Config S) → Grows mid more
       → IsLaid links mid config laid → IsLaid links more config laid
   laid_grows links mid more config laid g l = (
     l.0,
@@ -211,7 +180,7 @@ module _ {S : Type 0} where
   )
 
   -- with fewer links before it
-  laid_before : (links mid more : List Link) (config laid : Config S) → Grows links mid
+  pub laid_before : (links mid more : List Link) (config laid : Config S) → Grows links mid
       → IsLaid mid more config laid → IsLaid links more config laid
   laid_before links mid more config laid g l = (
     l.0,
@@ -226,65 +195,11 @@ module _ {S : Type 0} where
         ),
   )
 
-  pub are_laid_none : (links : List Link) → AreLaid {S = S} links links [] []
-  are_laid_none links = record {
-    grows = grows_none links;
-    as_many = refl;
-    each = λ index d h. absurd (omega (arith, h));
-  }
-
-  -- one configuration more, at its place
-  pub are_laid_more : (links mid more : List Link) (configs now new : List (Config S)) (at : ℕ)
-      (config laid : Config S) → at < length now → length now ≡ length configs
-      → ((index : ℕ) (d : Config S) → index < at
-      → IsLaid links mid (get_or configs index d) (get_or now index d))
-      → ((index : ℕ) (d : Config S) → at ≤ index → get_or now index d ≡ get_or configs index d)
-      → Grows links mid → config ≡ get_or now at config → new ≡ set now at laid
-      → IsLaid mid more config laid → (index : ℕ) (d : Config S) → index < at + 1
-      → IsLaid links more (get_or configs index d) (get_or new index d)
-  are_laid_more links mid more configs now new at config laid h many done rest g is e l index d
-      less =
-      elim (cases_eq index at) [
-        | inl here ↦
-            let there : get_or configs index d ≡ config =
-            ap (λ n. get_or configs n d) here
-            ∙ (sym (rest at d (omega arith)) ∙ sym (is ∙ get_or_default now at config d h)) in
-            let now_is : get_or new index d ≡ laid =
-            ap (λ (k : List (Config S)). get_or k index d) e
-            ∙ (ap (λ n. get_or (set now at laid) n d) here ∙ get_or-set_same now at laid d h) in
-            subst (λ (k : Config S). IsLaid links more (get_or configs index d) k) (sym now_is)
-            (subst (λ (k : Config S). IsLaid links more k laid) (sym there)
-            (laid_before links mid more config laid g l))
-        | inr ne ↦
-            let below : index < at = less_of index at less ne in
-            subst (λ (k : Config S). IsLaid links more (get_or configs index d) k)
-            (sym (ap (λ (k : List (Config S)). get_or k index d) e
-            ∙ get_or-set_other now at index laid d ne))
-            (laid_grows links mid more (get_or configs index d) (get_or now index d) l.2
-            (done index d below))
-      ]
-    where
-      less_of : (i n : ℕ) → i < n + 1 → i ≢ n → i < n
-      less_of i n h ne =
-          elim (cases_lt i n) [
-            | inl less ↦ less
-            | inr past ↦ absurd (ne (omega (arith, h, past)))
-          ]
-
 module _ {S : Type 0} (Step : S → ℕ → S → Type 0) where
   laid_followed : (links more : List Link) (slots : List (Option ℕ)) (es : List Event)
       (olds : List S) (config laid : Config S) → IsLaid links more config laid
       → IsFollowed Step links slots es olds config → IsFollowed Step more slots es olds laid
-  laid_followed links more slots es olds config laid l f =
-      let is = l.3 f.within in record {
-        old = f.old;
-        from = f.from;
-        explains = subst (λ (o : List ℕ). Explains Step es f.old o laid.state) (sym is.1)
-            (subst (λ s. Explains Step es f.old (order_of links config) s) (sym l.0) f.explains);
-        leaves = subst (λ (o : List ℕ). Leaves slots o laid.waiting) (sym is.1)
-            (subst (λ w. Leaves slots (order_of links config) w) (sym l.1) f.leaves);
-        within = is.0;
-      }
+  laid_followed links more slots es olds config laid l f = grind arith
 
   -- the same configurations with the same orders
   pub frontier_laid : (links more : List Link) (slots : List (Option ℕ)) (es : List Event)
@@ -320,10 +235,6 @@ module _ {S : Type 0} (Step : S → ℕ → S → Type 0) where
             ),
           ),
         );
-    once = λ i j d less within same.
-        let first = a.each i d (omega (arith, less, within)) in
-        let second = a.each j d within in
-        f.once i j d less (omega (arith, within, a.as_many))
-        (sym first.0 ∙ (same.0 ∙ second.0), sym first.1 ∙ (same.1 ∙ second.1));
+    once = λ i j d less within same. grind arith;
     table = f.table;
   }

@@ -7,6 +7,7 @@ use Rattle.std.proofs.lemmas.List.Elements.{Contains-append_left, Contains-push,
 use Rattle.histories.specs.declared.front.Config.{Config}
 use Rattle.histories.specs.Frontier.{HasSlot, IsLighter, IsSame, LeadTo, Path, Runs, cleared, path_more, path_of}
 use Rattle.histories.specs.Gathering.{AreSettled, FromOne, Gathers, GoesOn, IsClosed, IsClosing, IsCopy, IsDone, IsMadeFrom, IsNext, IsNextAt, IsNextLayer, IsSettled, IsUnderWay, MovesFirst, Spot, ones, spot_of}
+use Rattle.histories.proofs.Places.{nothing_in, only}
 use Rattle.histories.proofs.Bits.{bit_cases, cleared_le, cleared_same, ones_le, ones_less, ones_most, slot_64, slot_within}
 use Rattle.histories.proofs.Gathering.{gathers_none}
 use Rattle.histories.proofs.Running.{lighter_as, lighter_then, runs_as, runs_fewer, runs_first, runs_lighter, runs_then}
@@ -51,9 +52,6 @@ module _ {S : Type 0} (Step : S → ℕ → S → Type 0) (slots : List (Option 
           light,
         ),
       )
-
-  pub nothing_in : (k : Config S) → ¬ (Contains [] k)
-  nothing_in k has = absurd (omega (arith, has.1))
 
   -- where calls that change nothing were made, the others lead to the same
   pub leads_settled : (configs settled : List (Config S)) (new : S) (rest : ℕ)
@@ -141,12 +139,6 @@ module _ {S : Type 0} (Step : S → ℕ → S → Type 0) (slots : List (Option 
     made = path_more (path_of config) (call ∷ []);
   }
 
-  pub only_one : (config k : Config S) → Contains (config ∷ []) k → k ≡ config
-  only_one config k has = elim (Contains-push_cases [] config k has) [
-    | inl none ↦ absurd (nothing_in k none)
-    | inr e ↦ sym e
-  ]
-
   -- where the call waits and in the end does not, one that waits is made next
   leads_next : (old new : List (Config S)) (slot : ℕ) (config : Config S) (calls : List ℕ)
       (last : S) (fewer rest : ℕ) → Gathers (IsNext Step slots config) old new
@@ -177,7 +169,7 @@ module _ {S : Type 0} (Step : S → ℕ → S → Type 0) (slots : List (Option 
     complete = λ k calls last fewer rest has w over run light.
         leads calls last fewer rest over
         (subst (λ (x : Config S). Runs Step slots x.state x.waiting calls last fewer)
-        (only_one config k has) run) light;
+        (only config k has) run) light;
     once = g.once;
   }
 
@@ -202,7 +194,7 @@ module _ {S : Type 0} (Step : S → ℕ → S → Type 0) (slots : List (Option 
       (λ calls last fewer rest over run light.
       let call = moves.0 in
       let first = runs_first Step slots config.state last config.waiting fewer slot call calls few
-      moves.1 waits over (λ at other apart is. moves.2 at other apart is) run in
+      moves.1 waits over moves.2 run in
       leads_found (IsNextAt Step slots config slot) old new
       (spot_after config slot call first.0) first.2.0 last fewer rest g
       (call, (moves.1, waits), first.1, refl, refl) first.2.1 light) g
@@ -210,23 +202,11 @@ module _ {S : Type 0} (Step : S → ℕ → S → Type 0) (slots : List (Option 
   -- where the call does not wait
   pub goes_not : (slot : ℕ) (config : Config S) (old : List (Config S))
       → bit_at config.waiting slot ≡ 0 → GoesOn Step slots slot (config ∷ []) old old
-  goes_not slot config old gone = record {
-    sound = λ k has. inl has;
-    kept = λ k has. has;
-    complete = λ k calls last fewer rest has w over run light.
-        let same = ap (λ (x : Config S). bit_at x.waiting slot) (only_one config k has) in
-        absurd (omega (arith, same, w, gone));
-    once = λ a. a;
-  }
+  goes_not slot config old gone = grind (arith, only)
 
   -- from none
   pub goes_none : (slot : ℕ) (old : List (Config S)) → GoesOn Step slots slot [] old old
-  goes_none slot old = record {
-    sound = λ k has. inl has;
-    kept = λ k has. has;
-    complete = λ k calls last fewer rest has w over run light. absurd (nothing_in k has);
-    once = λ a. a;
-  }
+  goes_none slot old = grind (arith, nothing_in)
 
   -- from one configuration more
   pub goes_pushed : (slot : ℕ) (layer : List (Config S)) (from : Config S)
@@ -243,7 +223,7 @@ module _ {S : Type 0} (Step : S → ℕ → S → Type 0) (slots : List (Option 
         from,
         Contains-push layer from,
         subst (λ (x : Config S). IsUnderWay Step slots slot x (spot_of k))
-            (only_one from q.0 q.1) q.2,
+            (only from q.0 q.1) q.2,
       )
     ];
     kept = λ k has. g.kept k (f.kept k has);
@@ -263,11 +243,7 @@ module _ {S : Type 0} (Step : S → ℕ → S → Type 0) (slots : List (Option 
   -- a slot that is in no set in the end
   pub lighter_gone : (fewer rest slot call : ℕ) → HasSlot slots slot call
       → IsLighter Step slots fewer rest → bit_at rest slot ≡ 0 → bit_at fewer slot ≡ 0
-  lighter_gone fewer rest slot call here light over =
-      elim (light slot call here) [
-        | inl same ↦ same ∙ over
-        | inr idle ↦ idle.0
-      ]
+  lighter_gone fewer rest slot call here light over = grind arith
 
   -- one call more is made where the call waits
   pub closing_more : (configs done layer more next : List (Config S)) (slot call left : ℕ)
@@ -370,25 +346,7 @@ module _ {S : Type 0} (Step : S → ℕ → S → Type 0) (slots : List (Option 
   -- of no configurations
   pub layer_none : (layer done : List (Config S)) (slot : ℕ) → length layer ≡ 0
       → Gathers (FromOne (IsDone slot) layer) done done × IsNextLayer Step slots slot layer layer
-  layer_none layer done slot none = (
-    gathers_none (FromOne (IsDone slot) layer) done
-        (λ k f. absurd (omega (arith, f.1.1, none))),
-    (
-      [],
-      record {
-        sound = λ k has. absurd (nothing_in k has);
-        kept = λ k has. has;
-        complete = λ k calls last fewer rest has w over run light.
-            absurd (omega (arith, has.1, none));
-        once = λ a. a;
-      },
-      record {
-        sound = λ one has. absurd (omega (arith, has.1, none));
-        complete = λ config has. absurd (nothing_in config has);
-        once = λ i j d less h. absurd (omega (arith, h, none));
-      },
-    ),
-  )
+  layer_none layer done slot none = grind (arith, gathers_none, nothing_in)
 
   pub closing_end : (configs done layer : List (Config S)) (slot left : ℕ) → left ≡ 0
       → IsClosing Step slots configs slot done layer left → IsClosed Step slots configs slot done

@@ -1,10 +1,13 @@
--- How often a number stands in a list.
-use Rattle.std.proofs.Common.{◌≡◌, ◌≢◌, ℕ, zero, suc, ◌+◌, ◌<◌, ◌≤◌, List, [], ◌∷◌, ◌++◌, length, take, drop, cond, get_or, refl, ◌∙◌, ap, subst, arith, inl, inr, eq-eqb}
-use Rattle.std.proofs.Common.{take-append-drop}
-use Rattle.std.proofs.lemmas.List.{take_more}
+-- How often a number stands in a list, and what is true of all pairs of a list.
+use Rattle.std.proofs.Common.{length-append, sym, ◌-◌, ◌≡◌, ◌≢◌, ℕ, zero, suc, ◌+◌, ◌<◌, List, [], ◌∷◌, ◌++◌, length, take, drop, get_or, refl, ◌∙◌, ap, subst, arith, inl, inr, eq-eqb}
 use Rattle.std.specs.List.{remove}
 use Rattle.std.proofs.Math.Seq.{split_at}
 use Rattle.std.proofs.lemmas.Bool.Decides.{eqb_tells}
+use Rattle.std.specs.Prelude.{AllPairs}
+use Rattle.std.proofs.Math.ListN.{get_or-append}
+use Rattle.std.proofs.Math.Seq.{get_or-append_seam}
+use Rattle.std.proofs.lemmas.Bool.{cases_lt}
+use Rattle.std.proofs.lemmas.List.{get_or-append-add}
 use Rattle.histories.specs.Histories.{times}
 
 -- a number of which none is more than zero
@@ -31,19 +34,11 @@ times_one c = rw (eq-eqb c c refl) refl
 
 pub times_other : (c x : ℕ) → x ≢ c → times c (x ∷ []) ≡ 0
 unfolding times
-times_other c x ne =
-    elim (eqb_tells x c) [
-      | inl t ↦ absurd (ne t.1)
-      | inr f ↦ ap (λ b. cond b 1 0 + 0) f.0
-    ]
+times_other c x ne = grind (arith, eqb_tells)
 
 -- a number that stands in a list of one is that one
 pub times_same : (c x : ℕ) → 0 < times c (x ∷ []) → x ≡ c
-times_same c x h =
-    elim (eqb_tells x c) [
-      | inl t ↦ t.1
-      | inr f ↦ absurd (omega (arith, times_other c x f.1))
-    ]
+times_same c x h = grind (arith, eqb_tells, times_other)
 
 pub times-remove : (c : ℕ) (xs : List ℕ) (i d : ℕ) → i < length xs
     → times c xs ≡ times c (remove xs i) + times c (get_or xs i d ∷ [])
@@ -87,12 +82,72 @@ split_times c xs h =
       subst (λ x. xs ≡ take at.0 xs ++ x ∷ drop (suc at.0) xs) at.2 (split_at xs at.0 0 at.1),
     )
 
--- one place more
-pub times_more : (c : ℕ) (xs : List ℕ) (i d : ℕ) → i < length xs
-    → times c (take (i + 1) xs) ≡ times c (take i xs) + times c (get_or xs i d ∷ [])
-times_more c xs i d h =
-    ap (times c) (take_more xs i d h) ∙ times-append c (take i xs) (get_or xs i d ∷ [])
+-- it is the empty list where no number stands in it
+pub no_times : (xs : List ℕ) → ((c : ℕ) → times c xs ≡ 0) → xs ≡ []
+no_times [] none = refl
+no_times (x ∷ xs) none =
+    absurd (omega (arith, none x, times-cons x x xs, times_one x))
 
-pub times-take : (c : ℕ) (xs : List ℕ) (i : ℕ) → times c (take i xs) ≤ times c xs
-times-take c xs i =
-    omega (arith, ap (times c) (take-append-drop i xs), times-append c (take i xs) (drop i xs))
+-- a number that stands in the order is not one that does not
+pub apart : (order : List ℕ) (call c : ℕ) → times call order ≡ 0 → 0 < times c order
+    → times c (call ∷ []) ≡ 0
+apart order call c none some =
+    times_other c call (λ e. absurd (omega (arith, subst (λ x. times x order ≡ 0) e none, some)))
+
+-- what is true of all pairs of a list is true of those of its front
+pub all_pairs_front : (P : ℕ → ℕ → Type 0) (xs ys : List ℕ) → AllPairs P (xs ++ ys)
+    → AllPairs P xs
+all_pairs_front P xs ys all = λ i j d less within.
+    subst (λ y. P (get_or xs i d) y) (get_or-append xs ys d j within)
+    (subst (λ x. P x (get_or (xs ++ ys) j d)) (get_or-append xs ys d i (omega arith))
+    (all i j d less (omega (arith, length-append xs ys))))
+
+-- and of its back
+pub all_pairs_back : (P : ℕ → ℕ → Type 0) (xs ys : List ℕ) → AllPairs P (xs ++ ys)
+    → AllPairs P ys
+all_pairs_back P xs ys all = λ i j d less within.
+    subst (λ y. P (get_or ys i d) y) (get_or-append-add xs ys j d)
+    (subst (λ x. P x (get_or (xs ++ ys) (length xs + j) d)) (get_or-append-add xs ys i d)
+    (all (length xs + i) (length xs + j) d (omega arith)
+    (omega (arith, within, length-append xs ys))))
+
+-- and of a number with each behind it
+pub all_pairs_behind : (P : ℕ → ℕ → Type 0) (xs ys : List ℕ) (x y : ℕ)
+    → AllPairs P (xs ++ x ∷ ys) → 0 < times y ys → P x y
+all_pairs_behind P xs ys x y all h =
+    let at = at_times y ys h in
+    let first : get_or (xs ++ x ∷ ys) (length xs) 0 ≡ x = get_or-append_seam xs x ys 0 in
+    let second : get_or (xs ++ x ∷ ys) (length xs + suc at.0) 0 ≡ y =
+    get_or-append-add xs (x ∷ ys) (suc at.0) 0 ∙ at.2 in
+    subst (λ b. P x b) second
+    (subst (λ a. P a (get_or (xs ++ x ∷ ys) (length xs + suc at.0) 0)) first
+    (all (length xs) (length xs + suc at.0) 0 (omega arith)
+    (omega (arith, at.1, length-append xs (x ∷ ys)))))
+
+-- what is true of all pairs of two lists, and across them, is true of those of both
+pub all_pairs_join : (P : ℕ → ℕ → Type 0) (xs ys : List ℕ) → AllPairs P xs → AllPairs P ys
+    → ((x y : ℕ) → 0 < times x xs → 0 < times y ys → P x y) → AllPairs P (xs ++ ys)
+all_pairs_join P xs ys a b across = λ i j d less within.
+    elim (cases_lt j (length xs)) [
+      | inl early ↦ grind (arith, get_or-append)
+      | inr late ↦
+          let k = j - length xs in
+          let there : j ≡ length xs + k = omega (arith, late) in
+          let second : get_or (xs ++ ys) j d ≡ get_or ys k d =
+          ap (λ n. get_or (xs ++ ys) n d) there ∙ get_or-append-add xs ys k d in
+          let inside : k < length ys = omega (arith, there, within, length-append xs ys) in
+          subst (λ y. P (get_or (xs ++ ys) i d) y) (sym second)
+          (elim (cases_lt i (length xs)) [
+            | inl before ↦
+                subst (λ x. P x (get_or ys k d)) (sym (get_or-append xs ys d i before))
+                (across (get_or xs i d) (get_or ys k d) (times_at xs i d before)
+                (times_at ys k d inside))
+            | inr behind ↦
+                let m = i - length xs in
+                let here : i ≡ length xs + m = omega (arith, behind) in
+                let first : get_or (xs ++ ys) i d ≡ get_or ys m d =
+                ap (λ n. get_or (xs ++ ys) n d) here ∙ get_or-append-add xs ys m d in
+                subst (λ x. P x (get_or ys k d)) (sym first)
+                (b m k d (omega (arith, here, there, less)) inside)
+          ])
+    ]

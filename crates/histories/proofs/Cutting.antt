@@ -1,106 +1,23 @@
--- Events and orders in two parts.
-use Rattle.std.proofs.Common.{◌≡◌, ℕ, zero, suc, ◌+◌, ◌-◌, ◌<◌, ◌⊎◌, List, [], ◌∷◌, ◌++◌, length, cond, get_or, refl, sym, ◌∙◌, ap, subst, arith, inl, inr, eq-eqb, length-append, Some, false}
-use Rattle.std.specs.Prelude.{AllPairs}
-use Rattle.std.proofs.Math.ListN.{get_or-append}
-use Rattle.std.proofs.lemmas.Bool.{cases_lt}
-use Rattle.std.proofs.lemmas.Bool.Decides.{eqb_tells}
-use Rattle.std.proofs.lemmas.List.{get_or-append-add}
+-- Histories that are cut where no call is open.
+use Rattle.std.proofs.Common.{◌≡◌, ℕ, suc, ◌+◌, ◌<◌, List, [], ◌∷◌, ◌++◌, refl, sym, ap, subst, arith, inl, inr, ◌↔◌, Option, zero, ◌≤◌, ◌⊎◌, length, get_or, ◌∙◌}
+use Rattle.std.specs.Prelude.{AllPairs, map}
+use Rattle.std.proofs.lemmas.Bool.{cases_lt, cases_eq}
 use Rattle.histories.specs.declared.event.Event.{Event}
 use Rattle.histories.specs.declared.event.Event.TheVariants.{Begin, End, Crash}
-use Rattle.histories.specs.Histories.{begins, times, EndsAt, IsAnswered, IsOver, StandsAt}
-use Rattle.histories.specs.Frontier.{IsSound}
-use Rattle.histories.specs.Splitting.{IsQuiet}
-use Rattle.histories.proofs.Counting.{times-cons, times_at, times_none, times_same}
-use Rattle.histories.proofs.Events.{ends_within, stands_within}
-use Rattle.histories.proofs.Explaining.{all_pairs_behind}
-
-pub begins-append : (c : ℕ) (es fs : List Event)
-    → begins c (es ++ fs) ≡ begins c es + begins c fs
-unfolding begins
-begins-append c [] fs = omega arith
-begins-append c (Begin b ∷ es) fs =
-    let more : begins c (es ++ fs) ≡ begins c es + begins c fs = begins-append c es fs in omega
-    arith
-begins-append c (End b ∷ es) fs = begins-append c es fs
-begins-append c (Crash b ∷ es) fs = begins-append c es fs
-
-stands_left : (es fs : List Event) (k : ℕ) (x : Event) → StandsAt es k x
-    → StandsAt (es ++ fs) k x
-stands_left [] fs k x at = absurd (cc)
-stands_left (y ∷ es) fs zero x at = at
-stands_left (y ∷ es) fs (suc k) x at = stands_left es fs k x at
-
-stands_right : (es fs : List Event) (k : ℕ) (x : Event) → StandsAt fs k x
-    → (index : ℕ) × (index ≡ length es + k) × StandsAt (es ++ fs) index x
-stands_right [] fs k x at = (k, omega arith, at)
-stands_right (y ∷ es) fs k x at =
-    let r = stands_right es fs k x at in (suc r.0, omega (arith, r.1), r.2)
-
-pub stands_either : (es fs : List Event) (k : ℕ) (x : Event) → StandsAt (es ++ fs) k x
-    → StandsAt es k x ⊎ ((j : ℕ) × (k ≡ length es + j) × StandsAt fs j x)
-stands_either [] fs k x at = inr (k, omega arith, at)
-stands_either (y ∷ es) fs zero x at = inl at
-stands_either (y ∷ es) fs (suc k) x at =
-    elim (stands_either es fs k x at) [
-      | inl before ↦ inl before
-      | inr r ↦ inr (r.0, omega (arith, r.1), r.2)
-    ]
-
-stands_begins : (c : ℕ) (es : List Event) (k : ℕ) → StandsAt es k (Begin c)
-    → 0 < begins c es
-unfolding begins
-stands_begins c [] k at = absurd (cc)
-stands_begins c (Begin b ∷ es) zero at =
-    let same : b ≡ c = cc in rw (eq-eqb b c same) (omega arith)
-stands_begins c (End b ∷ es) zero at = absurd (cc)
-stands_begins c (Crash b ∷ es) zero at = absurd (cc)
-stands_begins c (Begin b ∷ es) (suc k) at = omega (arith, stands_begins c es k at)
-stands_begins c (End b ∷ es) (suc k) at = stands_begins c es k at
-stands_begins c (Crash b ∷ es) (suc k) at = stands_begins c es k at
-
-begins_stands : (c : ℕ) (es : List Event) → 0 < begins c es
-    → (k : ℕ) × StandsAt es k (Begin c)
-unfolding begins
-begins_stands c [] h = absurd (omega (arith, h))
-begins_stands c (Begin b ∷ es) h =
-    elim (eqb_tells b c) [
-      | inl t ↦ (0, ap (λ n. Some (Begin n)) t.1)
-      | inr f ↦
-          let fewer : 0 < cond false 1 0 + begins c es =
-          subst (λ t. 0 < cond t 1 0 + begins c es) f.0 h in
-          let r = begins_stands c es (omega (arith, fewer)) in (suc r.0, r.1)
-    ]
-begins_stands c (End b ∷ es) h = let r = begins_stands c es h in (suc r.0, r.1)
-begins_stands c (Crash b ∷ es) h = let r = begins_stands c es h in (suc r.0, r.1)
-
-ends_left : (es fs : List Event) (k c : ℕ) → EndsAt es k c → EndsAt (es ++ fs) k c
-ends_left es fs k c at =
-    elim at [
-      | inl x ↦ inl (stands_left es fs k (End c) x)
-      | inr x ↦ inr (stands_left es fs k (Crash c) x)
-    ]
-
-ends_right : (es fs : List Event) (k c : ℕ) → EndsAt fs k c
-    → (index : ℕ) × (index ≡ length es + k) × EndsAt (es ++ fs) index c
-ends_right es fs k c at =
-    elim at [
-      | inl x ↦ let r = stands_right es fs k (End c) x in (r.0, r.1, inl r.2)
-      | inr x ↦ let r = stands_right es fs k (Crash c) x in (r.0, r.1, inr r.2)
-    ]
-
-ends_either : (es fs : List Event) (k c : ℕ) → EndsAt (es ++ fs) k c
-    → EndsAt es k c ⊎ ((j : ℕ) × (k ≡ length es + j) × EndsAt fs j c)
-ends_either es fs k c at =
-    elim at [
-      | inl x ↦ elim (stands_either es fs k (End c) x) [
-        | inl y ↦ inl (inl y)
-        | inr r ↦ inr (r.0, r.1, inl r.2)
-      ]
-      | inr x ↦ elim (stands_either es fs k (Crash c) x) [
-        | inl y ↦ inl (inr y)
-        | inr r ↦ inr (r.0, r.1, inr r.2)
-      ]
-    ]
+use Rattle.histories.specs.Histories.{begins, times, IsOver, EndsAt, Explains, HasEnded, IsExplained, Leads}
+use Rattle.histories.specs.Frontier.{IsSound, HasSlot, IsFrontier, IsSame, IsTable, Runs, no_path, order_of, path_of}
+use Rattle.histories.specs.Advances.{IsQuiet}
+use Rattle.histories.proofs.Counting.{times-cons, times_at, times_none, times_same, all_pairs_behind, times-append, all_pairs_back, all_pairs_front, all_pairs_join}
+use Rattle.histories.proofs.Places.{contains_map_of, contains_of_map}
+use Rattle.histories.proofs.Events.{ends_within, stands_within, begins-append, begins_stands, ends_either, ends_left, stands_begins, stands_either, stands_right, answered_ended, begins_none, answered_left, answered_right, over_left, over_right}
+use Rattle.std.specs.List.{Contains}
+use Rattle.std.proofs.lemmas.List.{get_or_default}
+use Rattle.histories.specs.declared.front.Config.{Config}
+use Rattle.histories.specs.declared.front.Link.{Link}
+use Rattle.histories.specs.Gathering.{AreUnlinked}
+use Rattle.histories.proofs.Running.{leads_split}
+use Rattle.histories.proofs.Frontiers.{frontier_fresh}
+pub use Rattle.histories.proofs.Events.{begins-append}
 
 -- a call of the first part is over when one of the second begins
 over_across : (es fs : List Event) (c d : ℕ) → IsQuiet es → 0 < begins c es → 0 < begins d fs
@@ -123,13 +40,7 @@ pub cut_order : (es fs : List Event) (order : List ℕ) → IsQuiet es
     → (front : List ℕ) × (back : List ℕ) × (order ≡ front ++ back)
     × ((c : ℕ) → 0 < times c front → 0 < begins c es)
     × ((c : ℕ) → 0 < times c back → 0 < begins c fs)
-cut_order es fs [] quiet begun all = (
-  [],
-  [],
-  refl,
-  λ c h. absurd (omega (arith, h, times_none c)),
-  λ c h. absurd (omega (arith, h, times_none c)),
-)
+cut_order es fs [] quiet begun all = grind (arith, times_none)
 cut_order es fs (x ∷ order) quiet begun all =
     elim (cases_lt 0 (begins x es)) [
       | inl some ↦
@@ -153,10 +64,7 @@ cut_order es fs (x ∷ order) quiet begun all =
         λ c h. elim (cases_lt 0 (begins c es)) [
           | inr not ↦ omega (arith, not, begun c h)
           | inl early ↦ elim (cases_lt 0 (times c (x ∷ []))) [
-            | inl here ↦
-                let same : 0 < begins x es =
-                subst (λ y. 0 < begins y es) (sym (times_same c x here)) early in
-                absurd (omega (arith, same, none))
+            | inl here ↦ grind (arith, times_same)
             | inr not ↦
                 let behind : 0 < times c order = omega (arith, h, not, times-cons c x order) in
                 let late : 0 < begins x fs =
@@ -169,103 +77,211 @@ cut_order es fs (x ∷ order) quiet begun all =
       )
     ]
 
-pub all_pairs_back : (P : ℕ → ℕ → Type 0) (xs ys : List ℕ) → AllPairs P (xs ++ ys)
-    → AllPairs P ys
-all_pairs_back P xs ys all = λ i j d less within.
-    subst (λ y. P (get_or ys i d) y) (get_or-append-add xs ys j d)
-    (subst (λ x. P x (get_or (xs ++ ys) (length xs + j) d)) (get_or-append-add xs ys i d)
-    (all (length xs + i) (length xs + j) d (omega arith)
-    (omega (arith, within, length-append xs ys))))
-
-pub over_left : (es fs : List Event) (c d : ℕ) → IsOver es c d → IsOver (es ++ fs) c d
-over_left es fs c d o =
-    (o.0, o.1, o.2, ends_left es fs o.0 c o.3, stands_left es fs o.1 (Begin d) o.4)
-
-pub over_right : (es fs : List Event) (c d : ℕ) → IsOver fs c d → IsOver (es ++ fs) c d
-over_right es fs c d o =
-    let e = ends_right es fs o.0 c o.3 in
-    let b = stands_right es fs o.1 (Begin d) o.4 in
-    (e.0, b.0, omega (arith, o.2, e.1, b.1), e.2, b.2)
-
-pub answered_left : (es fs : List Event) (c : ℕ) → IsAnswered es c → IsAnswered (es ++ fs) c
-answered_left es fs c a = (a.0, stands_left es fs a.0 (End c) a.1)
-
-pub answered_right : (es fs : List Event) (c : ℕ) → IsAnswered fs c → IsAnswered (es ++ fs) c
-answered_right es fs c a = let r = stands_right es fs a.0 (End c) a.1 in (r.0, r.2)
-
-pub all_pairs_join : (P : ℕ → ℕ → Type 0) (xs ys : List ℕ) → AllPairs P xs → AllPairs P ys
-    → ((x y : ℕ) → 0 < times x xs → 0 < times y ys → P x y) → AllPairs P (xs ++ ys)
-all_pairs_join P xs ys a b across = λ i j d less within.
-    elim (cases_lt j (length xs)) [
-      | inl early ↦
-          subst (λ y. P (get_or (xs ++ ys) i d) y) (sym (get_or-append xs ys d j early))
-          (subst (λ x. P x (get_or xs j d)) (sym (get_or-append xs ys d i (omega arith)))
-          (a i j d less early))
-      | inr late ↦
-          let k = j - length xs in
-          let there : j ≡ length xs + k = omega (arith, late) in
-          let second : get_or (xs ++ ys) j d ≡ get_or ys k d =
-          ap (λ n. get_or (xs ++ ys) n d) there ∙ get_or-append-add xs ys k d in
-          let inside : k < length ys = omega (arith, there, within, length-append xs ys) in
-          subst (λ y. P (get_or (xs ++ ys) i d) y) (sym second)
-          (elim (cases_lt i (length xs)) [
-            | inl before ↦
-                subst (λ x. P x (get_or ys k d)) (sym (get_or-append xs ys d i before))
-                (across (get_or xs i d) (get_or ys k d) (times_at xs i d before)
-                (times_at ys k d inside))
-            | inr behind ↦
-                let m = i - length xs in
-                let here : i ≡ length xs + m = omega (arith, behind) in
-                let first : get_or (xs ++ ys) i d ≡ get_or ys m d =
-                ap (λ n. get_or (xs ++ ys) n d) here ∙ get_or-append-add xs ys m d in
-                subst (λ x. P x (get_or ys k d)) (sym first)
-                (b m k d (omega (arith, here, there, less)) inside)
-          ])
-    ]
-
 -- what was over in the whole when a call of the first part began was over there
 pub over_in_left : (es fs : List Event) (c d : ℕ) → IsSound (es ++ fs) → 0 < begins d es
     → IsOver (es ++ fs) c d → IsOver es c d
 over_in_left es fs c d whole some o =
-    elim (stands_either es fs o.1 (Begin d) o.4) [
-      | inl begun ↦ elim (ends_either es fs o.0 c o.3) [
-        | inl ended ↦ (o.0, o.1, o.2, ended, begun)
-        | inr r ↦ absurd (omega (arith, r.1, o.2, stands_within es o.1 (Begin d) begun))
-      ]
-      | inr r ↦
-          absurd
-          (omega (
-            arith,
-            some,
-            stands_begins d fs r.0 r.2,
-            whole.once d,
-            begins-append d es fs,
-          ))
-    ]
+    grind (arith, stands_either, ends_either, stands_within, stands_begins, begins-append)
 
 pub over_in_right : (es fs : List Event) (c d : ℕ) → IsSound es → IsSound (es ++ fs)
     → 0 < begins c fs → 0 < begins d fs → IsOver (es ++ fs) c d → IsOver fs c d
 over_in_right es fs c d first whole some late o =
-    elim (stands_either es fs o.1 (Begin d) o.4) [
-      | inl begun ↦
-          absurd
-          (omega (
-            arith,
-            late,
-            stands_begins d es o.1 begun,
-            whole.once d,
-            begins-append d es fs,
-          ))
-      | inr r ↦ elim (ends_either es fs o.0 c o.3) [
-        | inl ended ↦
+    grind (arith, stands_either, stands_begins, begins-append, ends_either)
+
+module _ {S : Type 0} (Step : S → ℕ → S → Type 0) where
+  -- an order of the whole is one of the first part and one of the rest
+  pub explains_split : (es fs : List Event) (old new : S) (order : List ℕ) → IsSound es
+      → IsSound fs → IsSound (es ++ fs) → IsQuiet es → Explains Step (es ++ fs) old order new
+      → (mid : S) × (front : List ℕ) × (back : List ℕ) × Explains Step es old front mid
+      × Explains Step fs mid back new
+  explains_split es fs old new order first second whole quiet ex =
+      let P : ℕ → ℕ → Type 0 = λ before after. ¬ (IsOver (es ++ fs) after before) in
+      let parts = cut_order es fs order quiet
+      (λ c h. omega (arith, ex.begun c h, begins-append c es fs)) ex.real_time in
+      let front = parts.0 in
+      let back = parts.1 in
+      let counts : (c : ℕ) → times c order ≡ times c front + times c back =
+      λ c. ap (times c) parts.2 ∙ times-append c front back in
+      let pairs : AllPairs P (front ++ back) =
+      subst (λ (l : List ℕ). AllPairs P l) parts.2 ex.real_time in
+      let leads = leads_split Step old new front back
+      (subst (λ (l : List ℕ). Leads Step old l new) parts.2 ex.leads) in (
+        leads.0,
+        front,
+        back,
+        record {
+          once = λ c. omega (arith, counts c, ex.once c);
+          begun = parts.3;
+          answered = λ c a. grind (arith, cases_lt, answered_left, answered_ended, begins-append);
+          real_time = λ i j d less within over.
+              all_pairs_front P front back pairs i j d less within
+              (over_left es fs (get_or front j d) (get_or front i d) over);
+          leads = leads.1;
+        },
+        record {
+          once = λ c. omega (arith, counts c, ex.once c);
+          begun = parts.4;
+          answered = λ c a. grind (arith, cases_lt, answered_right, answered_ended, begins-append);
+          real_time = λ i j d less within over.
+              all_pairs_back P front back pairs i j d less within
+              (over_right es fs (get_or back j d) (get_or back i d) over);
+          leads = leads.2;
+        },
+      )
+
+  leads_join : (old mid new : S) (before after : List ℕ) → Leads Step old before mid
+      → Leads Step mid after new → Leads Step old (before ++ after) new
+  leads_join old mid new [] after f g = subst (λ s. Leads Step s after new) f g
+  leads_join old mid new (c ∷ before) after f g =
+      (f.0, f.1, leads_join f.0 mid new before after f.2 g)
+
+  -- an order of the first part and one of the rest are one of the whole
+  pub explains_join : (es fs : List Event) (old mid new : S) (front back : List ℕ) → IsSound es
+      → IsSound (es ++ fs) → Explains Step es old front mid
+      → Explains Step fs mid back new → Explains Step (es ++ fs) old (front ++ back) new
+  explains_join es fs old mid new front back first whole x y =
+      let counts : (c : ℕ) → times c (front ++ back) ≡ times c front + times c back =
+      λ c. times-append c front back in record {
+        once = λ c. grind (arith, cases_lt, begins-append);
+        begun = λ c h. grind (arith, cases_lt, begins-append);
+        answered = λ c a. grind (arith, stands_either);
+        real_time = all_pairs_join (λ before after. ¬ (IsOver (es ++ fs) after before)) front back
+            (λ i j d less within over.
+            x.real_time i j d less within
+            (over_in_left es fs (get_or front j d) (get_or front i d) whole
+            (x.begun (get_or front i d) (times_at front i d (omega arith))) over))
+            (λ i j d less within over.
+            y.real_time i j d less within
+            (over_in_right es fs (get_or back j d) (get_or back i d) first whole
+            (y.begun (get_or back j d) (times_at back j d within))
+            (y.begun (get_or back i d) (times_at back i d (omega arith))) over))
+            (λ a b here there over.
+            let is = over_in_left es fs b a whole (x.begun a here) over in
             absurd
             (omega (
               arith,
-              some,
-              first.begun c (o.0, ended),
-              whole.once c,
-              begins-append c es fs,
-            ))
-        | inr q ↦ (q.0, r.0, omega (arith, o.2, q.1, r.1), q.2, r.2)
+              first.begun b (is.0, is.3),
+              y.begun b there,
+              whole.once b,
+              begins-append b es fs,
+            )));
+        leads = leads_join old mid new front back x.leads y.leads;
+      }
+
+  -- where no call has a slot, none that waits is made
+  pub runs_nothing : (slots : List (Option ℕ)) (old new : S) (waiting rest : ℕ) (calls : List ℕ)
+      → ((slot call : ℕ) → HasSlot slots slot call → ⊥)
+      → Runs Step slots old waiting calls new rest → new ≡ old
+  runs_nothing slots old new waiting rest [] none run = run.0
+  runs_nothing slots old new waiting rest (c ∷ calls) none run = absurd (none run.0 c run.1.0)
+
+  -- what comes next is judged from the states of the configurations
+  pub split_anew : (links : List Link) (slots : List (Option ℕ)) (es : List Event) (olds : List S)
+      (configs : List (Config S)) → IsSound es → IsQuiet es
+      → ((slot call : ℕ) → HasSlot slots slot call → ⊥)
+      → IsFrontier Step links slots es olds configs → (rest : List Event) → IsSound rest
+      → IsSound (es ++ rest)
+      → IsExplained Step (es ++ rest) olds
+      ↔ IsExplained Step rest (map (λ config. config.state) configs)
+  split_anew links slots es olds configs sound quiet empty f rest after whole =
+      let state_of : Config S → S = λ config. config.state in
+      let states : List S = map state_of configs in (
+        λ x.
+            let s = explains_split es rest x.0 x.2 x.1 sound after whole quiet x.4 in
+            let lead = f.complete x.0 s.1 s.0 x.3 s.3 in
+            let config = lead.2.0 in
+            let same : s.0 ≡ config.state =
+            runs_nothing slots config.state s.0 config.waiting lead.2.2.1 lead.2.2.0 empty
+            lead.2.2.2 in (
+              s.0,
+              s.2,
+              x.2,
+              subst (λ m. Contains states m) (sym same)
+                  (contains_map_of state_of configs config lead.2.1),
+              s.4,
+            ),
+        λ x.
+            let from = contains_of_map state_of configs x.0 x.3 in
+            let is = f.sound from.0 from.1 in (
+              is.old,
+              order_of links from.0 ++ x.1,
+              x.2,
+              is.from,
+              explains_join es rest is.old from.0.state x.2 (order_of links from.0) x.1 sound whole
+                  is.explains
+                  (subst (λ m. Explains Step rest m x.1 x.2) (sym from.2) x.4),
+            ),
+      )
+
+  -- a front with new orders of no calls
+  pub fresh_anew : (links : List Link) (slots : List (Option ℕ)) (configs unlinked : List (Config
+      S))
+      → length slots ≤ 64 → ((slot call : ℕ) → HasSlot slots slot call → ⊥)
+      → AllPairs (λ a b. ¬ (IsSame a b)) configs → AreUnlinked configs unlinked
+      → IsFrontier Step links slots [] (map (λ config. config.state) configs) unlinked
+  fresh_anew links slots configs unlinked few empty once u =
+      let state_of : Config S → S = λ config. config.state in
+      frontier_fresh Step links slots (map state_of configs) unlinked
+      (record {
+        each = λ slot call has. absurd (empty slot call has);
+        all = λ call is. absurd (omega (arith, is.0, begins_none call));
+        apart = λ one other call a b. absurd (empty one call a);
+        few = few;
+      })
+      (λ k has.
+      let within : has.0 < length configs = omega (arith, has.1, u.0) in
+      let from = get_or configs has.0 k in
+      let is = subst (λ (x : Config S). (x.state ≡ from.state) × (x.waiting ≡ from.waiting)
+      × (path_of x ≡ no_path)) has.2 (u.1 has.0 k has.1) in (
+        subst (λ s. Contains (map state_of configs) s) (sym is.0)
+            (contains_map_of state_of configs from
+            (has.0, within, get_or_default configs has.0 from k within)),
+        is.2,
+      ))
+      (λ old has.
+      let from = contains_of_map state_of configs old has in
+      let at = from.1 in
+      let within : at.0 < length unlinked = omega (arith, at.1, u.0) in
+      let k = get_or unlinked at.0 from.0 in
+      let is = subst (λ (x : Config S). (k.state ≡ x.state) × (k.waiting ≡ x.waiting)
+      × (path_of k ≡ no_path)) at.2 (u.1 at.0 from.0 within) in (
+        k,
+        (at.0, within, get_or_default unlinked at.0 k from.0 within),
+        is.0 ∙ from.2,
+      ))
+      (λ i j d less within same.
+      let first = u.1 i d (omega (arith, less, within)) in
+      let second = u.1 j d within in
+      once i j d less (omega (arith, within, u.0))
+      (sym first.0 ∙ (same.0 ∙ second.0), sym first.1 ∙ (same.1 ∙ second.1)))
+
+-- a call has ended, or not
+ended_or_not : (es : List Event) (c : ℕ) → HasEnded es c ⊎ (¬ (HasEnded es c))
+ended_or_not [] c = inr (λ h. absurd (omega (arith, ends_within [] h.0 c h.1)))
+ended_or_not (e ∷ es) c =
+    elim (ended_or_not es c) [
+      | inl h ↦ inl (suc h.0, h.1)
+      | inr none ↦ elim (ends_or_not e c) [
+        | inl here ↦ inl (0, here)
+        | inr not ↦ inr (λ h. neither h.0 h.1 none not)
       ]
+    ]
+  where
+    ends_or_not : (e : Event) (c : ℕ) → EndsAt (e ∷ es) 0 c ⊎ (¬ (EndsAt (e ∷ es) 0 c))
+    ends_or_not (Begin b) c = grind arith
+    ends_or_not (End b) c = grind (arith, cases_eq)
+    ends_or_not (Crash b) c = grind (arith, cases_eq)
+
+    neither : (k : ℕ) → EndsAt (e ∷ es) k c → ¬ (HasEnded es c) → ¬ (EndsAt (e ∷ es) 0 c) → ⊥
+    neither zero at none not = not at
+    neither (suc k) at none not = none (k, at)
+
+-- no call is open where none has a slot
+pub quiet_empty : (es : List Event) (slots : List (Option ℕ)) → IsTable es slots
+    → ((slot call : ℕ) → HasSlot slots slot call → ⊥) → IsQuiet es
+quiet_empty es slots table empty call begun =
+    elim (ended_or_not es call) [
+      | inl h ↦ h
+      | inr none ↦
+          let at = table.all call (begun, none) in absurd (empty at.0 call at.1)
     ]

@@ -1,79 +1,130 @@
 -- One event more.
-use Rattle.std.proofs.Common.{◌≡◌, ◌≢◌, ℕ, zero, suc, ◌+◌, ◌<◌, ◌⊎◌, List, [], ◌∷◌, ◌++◌, length, cond, eqb, refl, sym, ap, subst, arith, inl, inr}
+use Rattle.std.proofs.Common.{eq-eqb, Some, false, ◌≡◌, ◌≢◌, ℕ, zero, suc, ◌+◌, ◌<◌, ◌⊎◌, List, [], ◌∷◌, ◌++◌, length, cond, refl, sym, ap, subst, arith, inl, inr, ◌∙◌, Option}
 use Rattle.std.proofs.lemmas.Bool.{cases_eq}
+use Rattle.std.proofs.lemmas.Bool.Decides.{eqb_tells}
+use Rattle.histories.proofs.Bits.{slot_once}
+use Rattle.histories.specs.Gathering.{FreesSlot, TakesSlot}
 use Rattle.histories.specs.declared.event.Event.{Event}
 use Rattle.histories.specs.declared.event.Event.TheVariants.{Begin, End, Crash}
 use Rattle.histories.specs.Histories.{begins, times, EndsAt, HasEnded, IsAnswered, IsOpen, IsOver, StandsAt}
 use Rattle.histories.specs.Advances.{Ends}
-use Rattle.histories.specs.Frontier.{IsSound}
+use Rattle.histories.specs.Frontier.{IsSound, HasSlot, IsTable}
 use Rattle.histories.proofs.Counting.{times_one, times_other}
 
-pub begins_begin : (c d : ℕ) (es : List Event)
-    → begins c (es ++ Begin d ∷ []) ≡ begins c es + times c (d ∷ [])
-unfolding begins times
-begins_begin c d [] = omega arith
-begins_begin c d (Begin b ∷ es) =
-    let more : begins c (es ++ Begin d ∷ []) ≡ begins c es + times c (d ∷ []) =
-    begins_begin c d es in omega arith
-begins_begin c d (End b ∷ es) = begins_begin c d es
-begins_begin c d (Crash b ∷ es) = begins_begin c d es
-
-begins_end : (c d : ℕ) (es : List Event) → begins c (es ++ End d ∷ []) ≡ begins c es
+pub begins-append : (c : ℕ) (es fs : List Event)
+    → begins c (es ++ fs) ≡ begins c es + begins c fs
 unfolding begins
-begins_end c d [] = refl
-begins_end c d (Begin b ∷ es) = ap (λ n. cond (eqb b c) 1 0 + n) (begins_end c d es)
-begins_end c d (End b ∷ es) = begins_end c d es
-begins_end c d (Crash b ∷ es) = begins_end c d es
-
-begins_crash : (c d : ℕ) (es : List Event) → begins c (es ++ Crash d ∷ []) ≡ begins c es
-unfolding begins
-begins_crash c d [] = refl
-begins_crash c d (Begin b ∷ es) = ap (λ n. cond (eqb b c) 1 0 + n) (begins_crash c d es)
-begins_crash c d (End b ∷ es) = begins_crash c d es
-begins_crash c d (Crash b ∷ es) = begins_crash c d es
-
--- no call begins where one ends
-pub begins_ends : (c d : ℕ) (es : List Event) (e : Event) → Ends e d
-    → begins c (es ++ e ∷ []) ≡ begins c es
-begins_ends c d es e ends =
-    elim ends [
-      | inl is ↦ subst (λ (x : Event). begins c (es ++ x ∷ []) ≡ begins c es) (sym is)
-          (begins_end c d es)
-      | inr is ↦ subst (λ (x : Event). begins c (es ++ x ∷ []) ≡ begins c es) (sym is)
-          (begins_crash c d es)
-    ]
+begins-append c [] fs = omega arith
+begins-append c (Begin b ∷ es) fs =
+    let more : begins c (es ++ fs) ≡ begins c es + begins c fs = begins-append c es fs in omega
+    arith
+begins-append c (End b ∷ es) fs = begins-append c es fs
+begins-append c (Crash b ∷ es) fs = begins-append c es fs
 
 pub begins_none : (c : ℕ) → begins c [] ≡ 0
 unfolding begins
 begins_none c = refl
 
+pub begins_begin : (c d : ℕ) (es : List Event)
+    → begins c (es ++ Begin d ∷ []) ≡ begins c es + times c (d ∷ [])
+unfolding begins times
+begins_begin c d es = begins-append c es (Begin d ∷ [])
+
 -- the event ends one call
 pub ends_one : (e : Event) (c d : ℕ) → Ends e c → Ends e d → c ≡ d
-ends_one e c d a b =
-    elim a [
-      | inl x ↦ elim b [
-        | inl y ↦ cc
-        | inr y ↦ absurd (cc)
-      ]
-      | inr x ↦ elim b [
-        | inl y ↦ absurd (cc)
-        | inr y ↦ cc
-      ]
-    ]
+ends_one e c d a b = grind arith
 
 pub begin_no_end : (c d : ℕ) → Ends (Begin c) d → ⊥
-begin_no_end c d ends =
-    elim ends [
-      | inl x ↦ absurd (cc)
-      | inr x ↦ absurd (cc)
+begin_no_end c d ends = grind arith
+
+-- no call begins where one ends
+pub begins_ends : (c d : ℕ) (es : List Event) (e : Event) → Ends e d
+    → begins c (es ++ e ∷ []) ≡ begins c es
+unfolding begins
+begins_ends c d es (Begin b) ends = absurd (begin_no_end b d ends)
+begins_ends c d es (End b) ends = omega (arith, begins-append c es (End b ∷ []))
+begins_ends c d es (Crash b) ends = omega (arith, begins-append c es (Crash b ∷ []))
+
+-- what stands at a place of one part stands in both
+pub stands_left : (es fs : List Event) (k : ℕ) (x : Event) → StandsAt es k x
+    → StandsAt (es ++ fs) k x
+stands_left [] fs k x at = absurd (cc)
+stands_left (y ∷ es) fs zero x at = at
+stands_left (y ∷ es) fs (suc k) x at = stands_left es fs k x at
+
+pub stands_right : (es fs : List Event) (k : ℕ) (x : Event) → StandsAt fs k x
+    → (index : ℕ) × (index ≡ length es + k) × StandsAt (es ++ fs) index x
+stands_right [] fs k x at = (k, omega arith, at)
+stands_right (y ∷ es) fs k x at =
+    let r = stands_right es fs k x at in (suc r.0, omega (arith, r.1), r.2)
+
+pub stands_either : (es fs : List Event) (k : ℕ) (x : Event) → StandsAt (es ++ fs) k x
+    → StandsAt es k x ⊎ ((j : ℕ) × (k ≡ length es + j) × StandsAt fs j x)
+stands_either [] fs k x at = inr (k, omega arith, at)
+stands_either (y ∷ es) fs zero x at = inl at
+stands_either (y ∷ es) fs (suc k) x at =
+    elim (stands_either es fs k x at) [
+      | inl before ↦ inl before
+      | inr r ↦ inr (r.0, omega (arith, r.1), r.2)
     ]
 
--- what stands at a place stands there still
-pub stands_still : (es : List Event) (e : Event) (k : ℕ) (x : Event) → StandsAt es k x
-    → StandsAt (es ++ e ∷ []) k x
-stands_still [] e k x at = absurd (cc)
-stands_still (y ∷ es) e zero x at = at
-stands_still (y ∷ es) e (suc k) x at = stands_still es e k x at
+pub stands_begins : (c : ℕ) (es : List Event) (k : ℕ) → StandsAt es k (Begin c)
+    → 0 < begins c es
+unfolding begins
+stands_begins c [] k at = absurd (cc)
+stands_begins c (Begin b ∷ es) zero at =
+    let same : b ≡ c = cc in rw (eq-eqb b c same) (omega arith)
+stands_begins c (End b ∷ es) zero at = absurd (cc)
+stands_begins c (Crash b ∷ es) zero at = absurd (cc)
+stands_begins c (Begin b ∷ es) (suc k) at = omega (arith, stands_begins c es k at)
+stands_begins c (End b ∷ es) (suc k) at = stands_begins c es k at
+stands_begins c (Crash b ∷ es) (suc k) at = stands_begins c es k at
+
+pub begins_stands : (c : ℕ) (es : List Event) → 0 < begins c es
+    → (k : ℕ) × StandsAt es k (Begin c)
+unfolding begins
+begins_stands c [] h = absurd (omega (arith, h))
+begins_stands c (Begin b ∷ es) h =
+    elim (eqb_tells b c) [
+      | inl t ↦ (0, ap (λ n. Some (Begin n)) t.1)
+      | inr f ↦
+          let fewer : 0 < cond false 1 0 + begins c es =
+          subst (λ t. 0 < cond t 1 0 + begins c es) f.0 h in
+          let r = begins_stands c es (omega (arith, fewer)) in (suc r.0, r.1)
+    ]
+begins_stands c (End b ∷ es) h = let r = begins_stands c es h in (suc r.0, r.1)
+begins_stands c (Crash b ∷ es) h = let r = begins_stands c es h in (suc r.0, r.1)
+
+pub ends_left : (es fs : List Event) (k c : ℕ) → EndsAt es k c → EndsAt (es ++ fs) k c
+ends_left es fs k c at = grind (arith, stands_left)
+
+pub ends_right : (es fs : List Event) (k c : ℕ) → EndsAt fs k c
+    → (index : ℕ) × (index ≡ length es + k) × EndsAt (es ++ fs) index c
+ends_right es fs k c at =
+    elim at [
+      | inl x ↦ let r = stands_right es fs k (End c) x in (r.0, r.1, inl r.2)
+      | inr x ↦ let r = stands_right es fs k (Crash c) x in (r.0, r.1, inr r.2)
+    ]
+
+pub ends_either : (es fs : List Event) (k c : ℕ) → EndsAt (es ++ fs) k c
+    → EndsAt es k c ⊎ ((j : ℕ) × (k ≡ length es + j) × EndsAt fs j c)
+ends_either es fs k c at = grind (arith, stands_either)
+
+pub over_left : (es fs : List Event) (c d : ℕ) → IsOver es c d → IsOver (es ++ fs) c d
+over_left es fs c d o =
+    (o.0, o.1, o.2, ends_left es fs o.0 c o.3, stands_left es fs o.1 (Begin d) o.4)
+
+pub over_right : (es fs : List Event) (c d : ℕ) → IsOver fs c d → IsOver (es ++ fs) c d
+over_right es fs c d o =
+    let e = ends_right es fs o.0 c o.3 in
+    let b = stands_right es fs o.1 (Begin d) o.4 in
+    (e.0, b.0, omega (arith, o.2, e.1, b.1), e.2, b.2)
+
+pub answered_left : (es fs : List Event) (c : ℕ) → IsAnswered es c → IsAnswered (es ++ fs) c
+answered_left es fs c a = (a.0, stands_left es fs a.0 (End c) a.1)
+
+pub answered_right : (es fs : List Event) (c : ℕ) → IsAnswered fs c → IsAnswered (es ++ fs) c
+answered_right es fs c a = let r = stands_right es fs a.0 (End c) a.1 in (r.0, r.2)
 
 pub stands_last : (es : List Event) (e : Event) → StandsAt (es ++ e ∷ []) (length es) e
 stands_last [] e = refl
@@ -96,37 +147,16 @@ stands_within [] k x at = absurd (cc)
 stands_within (y ∷ es) zero x at = omega arith
 stands_within (y ∷ es) (suc k) x at = omega (arith, stands_within es k x at)
 
-ends_still : (es : List Event) (e : Event) (k c : ℕ) → EndsAt es k c → EndsAt (es ++ e ∷ []) k c
-ends_still es e k c at =
-    elim at [
-      | inl x ↦ inl (stands_still es e k (End c) x)
-      | inr x ↦ inr (stands_still es e k (Crash c) x)
-    ]
-
 ends_cases : (es : List Event) (e : Event) (k c : ℕ) → EndsAt (es ++ e ∷ []) k c
     → EndsAt es k c ⊎ ((k ≡ length es) × Ends e c)
-ends_cases es e k c at =
-    elim at [
-      | inl x ↦ elim (stands_cases es e k (End c) x) [
-        | inl before ↦ inl (inl before)
-        | inr last ↦ inr (last.0, inl last.1)
-      ]
-      | inr x ↦ elim (stands_cases es e k (Crash c) x) [
-        | inl before ↦ inl (inr before)
-        | inr last ↦ inr (last.0, inr last.1)
-      ]
-    ]
+ends_cases es e k c at = grind (arith, stands_cases)
 
 pub ends_within : (es : List Event) (k c : ℕ) → EndsAt es k c → k < length es
-ends_within es k c at =
-    elim at [
-      | inl x ↦ stands_within es k (End c) x
-      | inr x ↦ stands_within es k (Crash c) x
-    ]
+ends_within es k c at = grind (arith, stands_within)
 
 pub ended_still : (es : List Event) (e : Event) (c : ℕ) → HasEnded es c
     → HasEnded (es ++ e ∷ []) c
-ended_still es e c h = (h.0, ends_still es e h.0 c h.1)
+ended_still es e c h = (h.0, ends_left es (e ∷ []) h.0 c h.1)
 
 pub ended_now : (es : List Event) (e : Event) (c : ℕ) → Ends e c → HasEnded (es ++ e ∷ []) c
 ended_now es e c ends =
@@ -146,25 +176,12 @@ ended_cases es e c h =
 pub answered_ended : (es : List Event) (c : ℕ) → IsAnswered es c → HasEnded es c
 answered_ended es c a = (a.0, inl a.1)
 
-pub answered_still : (es : List Event) (e : Event) (c : ℕ) → IsAnswered es c
-    → IsAnswered (es ++ e ∷ []) c
-answered_still es e c a = (a.0, stands_still es e a.0 (End c) a.1)
-
 pub answered_now : (es : List Event) (c : ℕ) → IsAnswered (es ++ End c ∷ []) c
 answered_now es c = (length es, stands_last es (End c))
 
 pub answered_cases : (es : List Event) (e : Event) (c : ℕ) → IsAnswered (es ++ e ∷ []) c
     → IsAnswered es c ⊎ (e ≡ End c)
-answered_cases es e c a =
-    elim (stands_cases es e a.0 (End c) a.1) [
-      | inl before ↦ inl (a.0, before)
-      | inr last ↦ inr last.1
-    ]
-
-pub over_still : (es : List Event) (e : Event) (c d : ℕ) → IsOver es c d
-    → IsOver (es ++ e ∷ []) c d
-over_still es e c d o =
-    (o.0, o.1, o.2, ends_still es e o.0 c o.3, stands_still es e o.1 (Begin d) o.4)
+answered_cases es e c a = grind (arith, stands_cases)
 
 -- a call that is over before the begin of the last event
 pub over_now : (es : List Event) (c d : ℕ) → HasEnded es c → IsOver (es ++ Begin d ∷ []) c d
@@ -172,22 +189,13 @@ over_now es c d a = (
   a.0,
   length es,
   ends_within es a.0 c a.1,
-  ends_still es (Begin d) a.0 c a.1,
+  ends_left es (Begin d ∷ []) a.0 c a.1,
   stands_last es (Begin d),
 )
 
 pub over_cases : (es : List Event) (e : Event) (c d : ℕ) → IsOver (es ++ e ∷ []) c d
     → IsOver es c d ⊎ (e ≡ Begin d)
-over_cases es e c d o =
-    elim (stands_cases es e o.1 (Begin d) o.4) [
-      | inl begun ↦ elim (ends_cases es e o.0 c o.3) [
-        | inl ended ↦ inl (o.0, o.1, o.2, ended, begun)
-        | inr last ↦
-            let within : o.1 < length es = stands_within es o.1 (Begin d) begun in
-            absurd (omega (arith, within, o.2, last.0))
-      ]
-      | inr last ↦ inr last.1
-    ]
+over_cases es e c d o = grind (arith, stands_cases, ends_cases, stands_within)
 
 pub over_ended : (es : List Event) (c d : ℕ) → IsOver es c d → HasEnded es c
 over_ended es c d o = (o.0, o.3)
@@ -249,11 +257,7 @@ open_end_other es e c x ends o same =
 pub sound_begin : (es : List Event) (c : ℕ) → IsSound es → begins c es ≡ 0
     → IsSound (es ++ Begin c ∷ [])
 sound_begin es c s none = record {
-  once = λ x.
-      elim (cases_eq c x) [
-        | inl e ↦ omega (arith, begins_begin x c es, subst (λ y. begins y es ≡ 0) e none, subst (λ y. times y (c ∷ []) ≡ 1) e (times_one c))
-        | inr ne ↦ omega (arith, begins_begin x c es, times_other x c ne, s.once x)
-      ];
+  once = λ x. grind (arith, cases_eq, begins_begin, times_one, times_other);
   begun = λ x a.
       elim (ended_cases es (Begin c) x a) [
         | inl before ↦ omega (arith, begins_begin x c es, s.begun x before)
@@ -276,10 +280,60 @@ sound_end es e c ends s some = record {
 
 pub sound_none : IsSound []
 unfolding begins
-sound_none = record {
-  once = λ x. omega arith;
-  begun = λ x a. elim a.1 [
-    | inl h ↦ absurd (cc)
-    | inr h ↦ absurd (cc)
-  ];
+sound_none = grind arith
+
+-- the call that has taken a slot, or one that has had another
+pub taken_cases : (slots new : List (Option ℕ)) (c t slot call : ℕ) → TakesSlot slots c t new
+    → HasSlot new slot call → ((slot ≡ t) × (call ≡ c)) ⊎ ((slot ≢ t) × HasSlot slots slot call)
+taken_cases slots new c t slot call takes has = grind (arith, cases_eq, slot_once)
+
+pub taken_still : (slots new : List (Option ℕ)) (c t slot call : ℕ) → TakesSlot slots c t new
+    → HasSlot slots slot call → HasSlot new slot call
+taken_still slots new c t slot call takes has = grind (arith, cases_eq)
+
+pub taken_other : (slots new : List (Option ℕ)) (c t slot call : ℕ) → TakesSlot slots c t new
+    → HasSlot slots slot call → slot ≢ t
+taken_other slots new c t slot call takes has e = grind arith
+
+-- a call that still has a slot had it
+pub freed_before : (slots new : List (Option ℕ)) (t slot call : ℕ) → FreesSlot slots t new
+    → HasSlot new slot call → (slot ≢ t) × HasSlot slots slot call
+freed_before slots new t slot call frees has = grind (arith, cases_eq)
+
+pub freed_still : (slots new : List (Option ℕ)) (t slot call : ℕ) → FreesSlot slots t new
+    → slot ≢ t → HasSlot slots slot call → HasSlot new slot call
+freed_still slots new t slot call frees ne has = frees.others slot ne ∙ has
+
+pub table_begin : (es : List Event) (slots new : List (Option ℕ)) (c t : ℕ) → IsSound es
+    → begins c es ≡ 0 → IsTable es slots → TakesSlot slots c t new
+    → IsTable (es ++ Begin c ∷ []) new
+table_begin es slots new c t s fresh table takes = record {
+  each = λ slot call has.
+      elim (taken_cases slots new c t slot call takes has) [
+        | inl now ↦ subst (λ x. IsOpen (es ++ Begin c ∷ []) x) (sym now.1)
+            (open_begin_now es c s fresh)
+        | inr before ↦ open_begin_still es c call (table.each slot call before.1)
+      ];
+  all = λ call is. grind (arith, open_begin_cases, taken_still);
+  apart = λ one other call a b. grind (arith, taken_cases);
+  few = takes.few;
+}
+
+pub table_end : (es : List Event) (slots new : List (Option ℕ)) (e : Event) (c t : ℕ) → Ends e c
+    → IsTable es slots → HasSlot slots t c → FreesSlot slots t new → IsTable (es ++ e ∷ []) new
+table_end es slots new e c t ends table here frees = record {
+  each = λ slot call has.
+      let before = freed_before slots new t slot call frees has in
+      open_end_still es e c call ends (table.each slot call before.1)
+      (λ same. before.0 (table.apart slot t call before.1 (subst (λ x. HasSlot slots t x) (sym
+      same) here)));
+  all = λ call is.
+      let at = table.all call (open_end_before es e c call ends is) in (
+        at.0,
+        freed_still slots new t at.0 call frees
+            (λ same. open_end_other es e c call ends is
+            (slot_once slots t call c (subst (λ s. HasSlot slots s call) same at.1) here)) at.1,
+      );
+  apart = λ one other call a b. grind (arith, freed_before);
+  few = omega (arith, frees.few, table.few);
 }

@@ -1,54 +1,32 @@
 -- What explains a history, and one event more.
-use Rattle.std.proofs.Common.{◌≡◌, ℕ, suc, ◌+◌, ◌<◌, List, [], ◌∷◌, ◌++◌, length, get_or, refl, sym, ◌∙◌, subst, arith, inl, inr, Option, length-append, append-nil, append_assoc}
-use Rattle.std.specs.Prelude.{AllPairs}
-use Rattle.std.proofs.Math.ListN.{get_or-append}
-use Rattle.std.proofs.Math.Seq.{get_or-append_seam}
+use Rattle.std.proofs.Common.{◌≡◌, ℕ, ◌+◌, ◌<◌, List, [], ◌∷◌, ◌++◌, get_or, sym, subst, arith, inl, inr, Option, append-nil, append_assoc}
 use Rattle.std.proofs.lemmas.Bool.{cases_lt}
-use Rattle.std.proofs.lemmas.List.{get_or-append-add}
 use Rattle.std.proofs.lemmas.List.Quantifiers.{all_pairs_push}
 use Rattle.histories.specs.declared.event.Event.{Event}
 use Rattle.histories.specs.declared.event.Event.TheVariants.{Begin, End}
 use Rattle.histories.specs.Histories.{begins, times, Explains, HasEnded, IsOpen, IsOver, Leads}
 use Rattle.histories.specs.Advances.{Ends}
 use Rattle.histories.specs.Frontier.{IsSound, IsTable, IsWaiting, Leaves, Runs, cleared}
-use Rattle.histories.proofs.Counting.{at_times, times-append, times-cons, times_at, times_one, times_other, times_same}
-use Rattle.histories.proofs.Events.{answered_cases, answered_ended, answered_still, begin_no_end, begins_begin, begins_ends, ends_one, over_cases, over_ended, over_now, over_still}
+use Rattle.histories.proofs.Counting.{all_pairs_behind, all_pairs_front, apart, times-append, times-cons, times_at, times_one, times_other, times_same}
+use Rattle.histories.proofs.Events.{answered_cases, answered_ended, answered_left, begin_no_end, begins_begin, begins_ends, ends_one, over_cases, over_ended, over_now, over_left}
 use Rattle.histories.proofs.Running.{leads_push, leaves_made}
 
--- it is the empty list where no number stands in it
-pub no_times : (xs : List ℕ) → ((c : ℕ) → times c xs ≡ 0) → xs ≡ []
-no_times [] none = refl
-no_times (x ∷ xs) none =
-    absurd (omega (arith, none x, times-cons x x xs, times_one x))
-
--- what is true of all pairs of a list is true of those of its front
-pub all_pairs_front : (P : ℕ → ℕ → Type 0) (xs ys : List ℕ) → AllPairs P (xs ++ ys)
-    → AllPairs P xs
-all_pairs_front P xs ys all = λ i j d less within.
-    subst (λ y. P (get_or xs i d) y) (get_or-append xs ys d j within)
-    (subst (λ x. P x (get_or (xs ++ ys) j d)) (get_or-append xs ys d i (omega arith))
-    (all i j d less (omega (arith, length-append xs ys))))
-
--- and of a number with each behind it
-pub all_pairs_behind : (P : ℕ → ℕ → Type 0) (xs ys : List ℕ) (x y : ℕ)
-    → AllPairs P (xs ++ x ∷ ys) → 0 < times y ys → P x y
-all_pairs_behind P xs ys x y all h =
-    let at = at_times y ys h in
-    let first : get_or (xs ++ x ∷ ys) (length xs) 0 ≡ x = get_or-append_seam xs x ys 0 in
-    let second : get_or (xs ++ x ∷ ys) (length xs + suc at.0) 0 ≡ y =
-    get_or-append-add xs (x ∷ ys) (suc at.0) 0 ∙ at.2 in
-    subst (λ b. P x b) second
-    (subst (λ a. P a (get_or (xs ++ x ∷ ys) (length xs + suc at.0) 0)) first
-    (all (length xs) (length xs + suc at.0) 0 (omega arith)
-    (omega (arith, at.1, length-append xs (x ∷ ys)))))
-
--- a number that stands in the order is not one that does not
-pub apart : (order : List ℕ) (call c : ℕ) → times call order ≡ 0 → 0 < times c order
-    → times c (call ∷ []) ≡ 0
-apart order call c none some =
-    times_other c call (λ e. absurd (omega (arith, subst (λ x. times x order ≡ 0) e none, some)))
-
 module _ {S : Type 0} (Step : S → ℕ → S → Type 0) where
+  -- an open call is made after an order
+  pub explains_pushed : (es : List Event) (old mid new : S) (order : List ℕ) (call : ℕ)
+      → IsOpen es call → times call order ≡ 0 → Explains Step es old order mid
+      → Step mid call new → Explains Step es old (order ++ call ∷ []) new
+  explains_pushed es old mid new order call o fresh ex step =
+      let counts : (c : ℕ) → times c (order ++ call ∷ []) ≡ times c order + times c (call ∷ []) =
+      λ c. times-append c order (call ∷ []) in record {
+        once = λ c. grind (arith, cases_lt, times_same, times_one);
+        begun = λ c some. grind (arith, cases_lt, times_same);
+        answered = λ c a. omega (arith, ex.answered c a, counts c);
+        real_time = all_pairs_push (λ first second. ¬ (IsOver es second first)) order call
+            ex.real_time (λ k d within over. o.1 (over_ended es call (get_or order k d) over));
+        leads = leads_push Step old mid new order call ex.leads step;
+      }
+
   -- a call that waits is made after an order
   pub explains_made : (es : List Event) (slots : List (Option ℕ)) (old mid new : S)
       (order : List ℕ) (waiting slot call : ℕ)
@@ -56,35 +34,11 @@ module _ {S : Type 0} (Step : S → ℕ → S → Type 0) where
       → IsWaiting slots waiting slot call → Step mid call new
       → Explains Step es old (order ++ call ∷ []) new
       × Leaves slots (order ++ call ∷ []) (cleared waiting slot)
-  explains_made es slots old mid new order waiting slot call table ex leaves is step =
-      let o : IsOpen es call = table.each slot call is.0 in
-      let fresh : times call order ≡ 0 = omega (arith, leaves slot call is.0, is.1) in
-      let counts : (c : ℕ) → times c (order ++ call ∷ []) ≡ times c order + times c (call ∷ []) =
-      λ c. times-append c order (call ∷ []) in (
-        record {
-          once = λ c.
-              elim (cases_lt 0 (times c (call ∷ []))) [
-                | inl here ↦
-                    let same : call ≡ c = times_same c call here in
-                    let none : times c order ≡ 0 = subst (λ x. times x order ≡ 0) same fresh in
-                    let one : times c (call ∷ []) ≡ 1 =
-                    subst (λ x. times x (call ∷ []) ≡ 1) same (times_one call) in
-                    omega (arith, counts c, none, one)
-                | inr away ↦ omega (arith, counts c, away, ex.once c)
-              ];
-          begun = λ c some.
-              elim (cases_lt 0 (times c (call ∷ []))) [
-                | inl here ↦ subst (λ x. 0 < begins x es) (times_same c call here) o.0
-                | inr away ↦ ex.begun c (omega (arith, some, counts c, away))
-              ];
-          answered = λ c a. omega (arith, ex.answered c a, counts c);
-          real_time = all_pairs_push (λ first second. ¬ (IsOver es second first)) order call
-              ex.real_time
-              (λ k d within over. o.1 (over_ended es call (get_or order k d) over));
-          leads = leads_push Step old mid new order call ex.leads step;
-        },
-        leaves_made Step slots order waiting slot call table.few table.apart leaves is,
-      )
+  explains_made es slots old mid new order waiting slot call table ex leaves is step = (
+    explains_pushed es old mid new order call (table.each slot call is.0)
+        (omega (arith, leaves slot call is.0, is.1)) ex step,
+    leaves_made Step slots order waiting slot call table.few table.apart leaves is,
+  )
 
   -- calls that wait are made after an order
   pub explains_run : (es : List Event) (slots : List (Option ℕ)) (old mid new : S)
@@ -115,10 +69,10 @@ module _ {S : Type 0} (Step : S → ℕ → S → Type 0) where
     once = ex.once;
     begun = λ c some.
         omega (arith, ex.begun c some, begins_begin c call es, apart order call c none some);
-    answered = λ c a. ex.answered c (answered_still es (Begin call) c a);
+    answered = λ c a. ex.answered c (answered_left es (Begin call ∷ []) c a);
     real_time = λ i j d less within over.
         ex.real_time i j d less within
-        (over_still es (Begin call) (get_or order j d) (get_or order i d) over);
+        (over_left es (Begin call ∷ []) (get_or order j d) (get_or order i d) over);
     leads = ex.leads;
   }
 
@@ -144,15 +98,9 @@ module _ {S : Type 0} (Step : S → ℕ → S → Type 0) where
       let absent : times call before ≡ 0 =
       omega (arith, counts call, ex.once call, times_one call) in record {
         once = λ c. omega (arith, counts c, ex.once c);
-        begun = λ c some.
-            omega (
-              arith,
-              ex.begun c (omega (arith, counts c, some)),
-              begins_begin c call es,
-              apart before call c absent some,
-            );
+        begun = λ c some. grind (arith, begins_begin, apart);
         answered = λ c a.
-            let made : 0 < times c order = ex.answered c (answered_still es (Begin call) c a) in
+            let made : 0 < times c order = ex.answered c (answered_left es (Begin call ∷ []) c a) in
             let begun : 0 < begins c es = s.begun c (answered_ended es c a) in
             let other : times c (call ∷ []) ≡ 0 =
             times_other c call
@@ -167,7 +115,7 @@ module _ {S : Type 0} (Step : S → ℕ → S → Type 0) where
         real_time = λ i j d less within over.
             all_pairs_front (λ first second. ¬ (IsOver (es ++ Begin call ∷ []) second first))
             before (call ∷ after) ex.real_time i j d less within
-            (over_still es (Begin call) (get_or before j d) (get_or before i d) over);
+            (over_left es (Begin call ∷ []) (get_or before j d) (get_or before i d) over);
         leads = leads;
       }
 
@@ -222,9 +170,9 @@ module _ {S : Type 0} (Step : S → ℕ → S → Type 0) where
   explains_open es e old new order call ends ex = record {
     once = ex.once;
     begun = λ c some. omega (arith, ex.begun c some, begins_ends c call es e ends);
-    answered = λ c a. ex.answered c (answered_still es e c a);
+    answered = λ c a. ex.answered c (answered_left es (e ∷ []) c a);
     real_time = λ i j d less within over.
         ex.real_time i j d less within
-        (over_still es e (get_or order j d) (get_or order i d) over);
+        (over_left es (e ∷ []) (get_or order j d) (get_or order i d) over);
     leads = ex.leads;
   }

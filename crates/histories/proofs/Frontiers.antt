@@ -1,5 +1,5 @@
 -- The configurations after one event more.
-use Rattle.std.proofs.Common.{◌≡◌, ◌≢◌, ℕ, ◌<◌, ◌≤◌, ◌⊎◌, List, [], ◌∷◌, ◌++◌, length, refl, sym, ◌∙◌, ap, subst, arith, inl, inr, Option}
+use Rattle.std.proofs.Common.{◌≡◌, ◌≢◌, ℕ, ◌<◌, ◌≤◌, List, [], ◌∷◌, ◌++◌, length, refl, sym, ◌∙◌, ap, subst, arith, inl, inr, Option}
 use Rattle.std.specs.Prelude.{AllPairs}
 use Rattle.std.specs.Int.{bit_at}
 use Rattle.std.specs.List.{Contains}
@@ -12,13 +12,13 @@ use Rattle.histories.specs.Advances.{Ends}
 use Rattle.histories.specs.Frontier.{HasManyOrders, HasSlot, IsFollowed, IsFrontier, IsLighter, IsSame, IsTable, LeadTo, Leaves, Path, cleared, no_path, order_at, order_of, path_of}
 use Rattle.histories.specs.Gathering.{AreSettled, FreesSlot, FromOne, Gathers, HasMany, IsClosed, IsDropped, IsFirst, IsMadeFrom, Spot, spot_of}
 use Rattle.histories.proofs.Bits.{bit_cases, cleared_other, cleared_same, slot_64, slot_within}
-use Rattle.histories.proofs.Counting.{not_some, times_none}
-use Rattle.histories.proofs.Events.{answered_now, begins_none}
-use Rattle.histories.proofs.Tables.{freed_before, table_end}
+use Rattle.histories.proofs.Counting.{not_some, times_none, no_times}
+use Rattle.histories.proofs.Events.{answered_now, begins_none, freed_before, table_end}
 use Rattle.histories.proofs.Running.{lighter_cleared, runs_fewer, runs_in, runs_without}
 use Rattle.histories.proofs.Running.{lighter_without}
-use Rattle.histories.proofs.Explaining.{explains_end, explains_open, explains_run, no_times}
-use Rattle.histories.proofs.Closing.{leads_found, leads_kept, leads_settled, made_settled, none_same, nothing_in, path_none}
+use Rattle.histories.proofs.Explaining.{explains_end, explains_open, explains_run}
+use Rattle.histories.proofs.Closing.{leads_found, leads_kept, leads_settled, made_settled, none_same, path_none}
+use Rattle.histories.proofs.Places.{nothing_in}
 use Rattle.histories.proofs.Chains.{order_more, order_none}
 
 module _ {S : Type 0} (Step : S → ℕ → S → Type 0) where
@@ -109,182 +109,142 @@ module _ {S : Type 0} (Step : S → ℕ → S → Type 0) where
           ),
         )
 
-    -- a configuration in which the call was made
-    done_sound : (links : List Link) (es : List Event) (e : Event) (olds : List S)
-        (configs done : List (Config S)) (c : ℕ) → Ends e c → HasSlot slots t c
-        → IsTable es slots → AreSound links slots es olds configs
-        → IsClosed Step slots configs t done
-        → AreSound links more (es ++ e ∷ []) olds done
-    done_sound links es e olds configs done c ends here table sound g k has =
-        let closed = g.sound k has in
-        let is = followed_made links slots es olds configs k table sound closed.0 in record {
-          old = is.old;
-          from = is.from;
-          explains = explains_end Step es e is.old k.state (order_of links k) c ends
-              (λ is_end. omega (arith, is.leaves t c here, closed.1)) is.explains;
-          leaves = leaves_freed (order_of links k) k.waiting is.leaves;
-          within = is.within;
-        }
-
-    -- a call that was answered is made
-    pub frontier_end : (links : List Link) (es : List Event) (olds : List S)
-        (configs done : List (Config S)) (c : ℕ) → HasSlot slots t c
-        → IsFrontier Step links slots es olds configs → IsClosed Step slots configs t done
-        → IsFrontier Step links more (es ++ End c ∷ []) olds done
-    frontier_end links es olds configs done c here f g = record {
-      sound = done_sound links es (End c) olds configs done c (inl refl) here f.table f.sound g;
-      complete = λ old order new from ex.
-          let lead = f.complete old order new from
-          (explains_open Step es (End c) old new order c (inl refl) ex) in
-          let made : 0 < times c order = ex.answered c (answered_now es c) in (
-            lead.0,
-            leaves_freed order lead.0 lead.1,
-            leads_freed done new lead.0 (λ k has. (g.sound k has).1)
-                (g.complete new lead.0 lead.2 (omega (arith, made, lead.1 t c here))),
-          );
-      once = g.once;
-      table = table_end es slots more (End c) c t (inl refl) f.table here frees;
-    }
-
-    -- a configuration in which it was dropped
-    dropped_sound : (links : List Link) (es : List Event) (olds : List S)
-        (configs : List (Config S)) (c : ℕ) (k : Config S) → HasSlot slots t c
-        → AreSound links slots es olds configs → FromOne (IsDropped t) configs (spot_of k)
-        → IsFollowed Step links more (es ++ Crash c ∷ []) olds k
-    dropped_sound links es olds configs c k here sound found =
-        let from = found.0 in
-        let is = sound from found.1 in
-        let drop = found.2 in
-        let order : order_of links k ≡ order_of links from = ap (λ (p : Path). order_at links p)
-        drop.3
-        in record {
-          old = is.old;
-          from = is.from;
-          explains = subst (λ (m : List ℕ). Explains Step (es ++ Crash c ∷ []) is.old m k.state)
-              (sym order)
-              (subst (λ x. Explains Step (es ++ Crash c ∷ []) is.old (order_of links from) x)
-              (sym drop.1)
-              (explains_end Step es (Crash c) is.old from.state (order_of links from) c (inr refl)
-              (λ is_end. absurd (cc)) is.explains));
-          leaves = λ slot call has.
-              let before = freed_before slots more t slot call frees has in
-              omega (
-                arith,
-                is.leaves slot call before.1,
-                ap (times call) order,
-                ap (λ w. bit_at w slot) drop.2,
-                cleared_other from.waiting t slot (slot_64 slots t c few here)
-                    (slot_64 slots slot call few before.1) before.0,
-              );
-          within = omega (arith, is.within, ap (λ (p : Path). p.base) drop.3);
-        }
-
-    crash_sound : (links : List Link) (es : List Event) (olds : List S)
-        (configs done all : List (Config S)) (c : ℕ) → HasSlot slots t c → IsTable es slots
-        → AreSound links slots es olds configs → IsClosed Step slots configs t done
-        → Gathers (FromOne (IsDropped t) configs) done all
-        → AreSound links more (es ++ Crash c ∷ []) olds all
-    crash_sound links es olds configs done all c here table sound g d k has =
-        elim (d.sound k has) [
-          | inl closed ↦
-              done_sound links es (Crash c) olds configs done c (inr refl) here table sound g k
-              closed
-          | inr found ↦ dropped_sound links es olds configs c k here sound found
-        ]
-
-    crash_gone : (configs done all : List (Config S)) (c : ℕ) → HasSlot slots t c
-        → IsClosed Step slots configs t done → Gathers (FromOne (IsDropped t) configs) done all
-        → (k : Config S) → Contains all k → bit_at k.waiting t ≡ 0
-    crash_gone configs done all c here g d k has =
-        elim (d.sound k has) [
-          | inl closed ↦ (g.sound k closed).1
-          | inr found ↦
-              ap (λ w. bit_at w t) found.2.2
-              ∙ cleared_same found.0.waiting t (slot_64 slots t c few here)
-        ]
-
-    -- what is led to where the call is not made
-    crash_leads : (configs done all : List (Config S)) (c : ℕ) (new : S) (rest : ℕ)
-        → HasSlot slots t c → IsClosed Step slots configs t done
-        → Gathers (FromOne (IsDropped t) configs) done all
-        → bit_at rest t ≡ 1 → LeadTo Step slots configs new rest
-        → LeadTo Step slots all new (cleared rest t)
-    crash_leads configs done all c new rest here g d waits l =
-        let h = slot_64 slots t c few here in
-        let from = l.0 in
-        let fewer = l.2.1 in
-        elim (bit_cases fewer t) [
-          | inl none ↦
-              leads_kept Step slots (FromOne (IsDropped t) configs) done all new (cleared rest t) d
-              (g.complete new (cleared rest t) (
-                from,
-                l.1,
-                (
-                  l.2.0,
-                  fewer,
-                  l.2.2,
-                  lighter_without Step slots fewer rest t few h none
-                      l.2.3,
-                ),
-              )
-              (cleared_same rest t h))
-          | inr some ↦
-              let there : bit_at from.waiting t ≡ 1 =
-              one_of (bit_at from.waiting t)
-              (runs_fewer Step slots from.state new from.waiting fewer t l.2.0 few h l.2.2) some
-              (bit_cases from.waiting t) in
-              let spot : Spot S = record {
-                state = from.state;
-                waiting = cleared from.waiting t;
-                made = path_of from;
-              } in
-              leads_found Step slots (FromOne (IsDropped t) configs) done all spot l.2.0 new
-              (cleared fewer t) (cleared rest t) d (from, l.1, (there, refl, refl, refl))
-              (runs_without Step slots from.state new from.waiting fewer t l.2.0 few h some l.2.2)
-              (lighter_cleared Step slots fewer rest t few h l.2.3)
-        ]
+    module _ (links : List Link) (es : List Event) (olds : List S)
+        (configs done : List (Config S)) (c : ℕ) (here : HasSlot slots t c)
+        (f : IsFrontier Step links slots es olds configs) (g : IsClosed Step slots configs t done)
       where
-        one_of : (n : ℕ) → bit_at l.2.1 t ≤ n → bit_at l.2.1 t ≡ 1 → (n ≡ 0) ⊎ (n ≡ 1) → n ≡ 1
-        one_of n le one (inl zero) = absurd (omega (arith, le, one, zero))
-        one_of n le one (inr is) = is
+        -- a configuration in which the call was made
+        done_sound : (e : Event) → Ends e c → AreSound links more (es ++ e ∷ []) olds done
+        done_sound e ends k has =
+            let closed = g.sound k has in
+            let is = followed_made links slots es olds configs k f.table f.sound closed.0 in
+            record {
+              old = is.old;
+              from = is.from;
+              explains = explains_end Step es e is.old k.state (order_of links k) c ends
+                  (λ is_end. omega (arith, is.leaves t c here, closed.1)) is.explains;
+              leaves = leaves_freed (order_of links k) k.waiting is.leaves;
+              within = is.within;
+            }
 
-    -- a call whose caller crashed is made, or never
-    pub frontier_crash : (links : List Link) (es : List Event) (olds : List S)
-        (configs done all : List (Config S)) (c : ℕ) → HasSlot slots t c
-        → IsFrontier Step links slots es olds configs → IsClosed Step slots configs t done
-        → Gathers (FromOne (IsDropped t) configs) done all
-        → IsFrontier Step links more (es ++ Crash c ∷ []) olds all
-    frontier_crash links es olds configs done all c here f g d = record {
-      sound = crash_sound links es olds configs done all c here f.table f.sound g d;
-      complete = λ old order new from ex.
-          let lead = f.complete old order new from
-          (explains_open Step es (Crash c) old new order c (inr refl) ex) in
-          let gone = crash_gone configs done all c here g d in
-          elim (bit_cases lead.0 t) [
-            | inl none ↦ (
-              lead.0,
-              leaves_freed order lead.0 lead.1,
-              leads_freed all new lead.0 gone
-                  (leads_kept Step slots (FromOne (IsDropped t) configs) done all new lead.0 d
-                  (g.complete new lead.0 lead.2 none)),
-            )
-            | inr some ↦ (
-              cleared lead.0 t,
-              λ slot call has.
-                  let before = freed_before slots more t slot call frees has in
-                  omega (
-                    arith,
-                    lead.1 slot call before.1,
-                    cleared_other lead.0 t slot (slot_64 slots t c few here)
-                        (slot_64 slots slot call few before.1) before.0,
-                  ),
-              leads_freed all new (cleared lead.0 t) gone
-                  (crash_leads configs done all c new lead.0 here g d some lead.2),
-            )
-          ];
-      once = d.once g.once;
-      table = table_end es slots more (Crash c) c t (inr refl) f.table here frees;
-    }
+        -- a call that was answered is made
+        pub frontier_end : IsFrontier Step links more (es ++ End c ∷ []) olds done
+        frontier_end = record {
+          sound = done_sound (End c) (inl refl);
+          complete = λ old order new from ex.
+              let lead = f.complete old order new from
+              (explains_open Step es (End c) old new order c (inl refl) ex) in
+              let made : 0 < times c order = ex.answered c (answered_now es c) in (
+                lead.0,
+                leaves_freed order lead.0 lead.1,
+                leads_freed done new lead.0 (λ k has. (g.sound k has).1)
+                    (g.complete new lead.0 lead.2 (omega (arith, made, lead.1 t c here))),
+              );
+          once = g.once;
+          table = table_end es slots more (End c) c t (inl refl) f.table here frees;
+        }
+
+        module _ (all : List (Config S)) (d : Gathers (FromOne (IsDropped t) configs) done all)
+          where
+            -- a configuration in which it was dropped
+            dropped_sound : (k : Config S) → FromOne (IsDropped t) configs (spot_of k)
+                → IsFollowed Step links more (es ++ Crash c ∷ []) olds k
+            dropped_sound k found =
+                let from = found.0 in
+                let is = f.sound from found.1 in
+                let drop = found.2 in
+                let order : order_of links k ≡ order_of links from =
+                ap (λ (p : Path). order_at links p) drop.3 in record {
+                  old = is.old;
+                  from = is.from;
+                  explains = subst
+                      (λ (m : List ℕ). Explains Step (es ++ Crash c ∷ []) is.old m k.state)
+                      (sym order)
+                      (subst
+                      (λ x. Explains Step (es ++ Crash c ∷ []) is.old (order_of links from) x)
+                      (sym drop.1)
+                      (explains_end Step es (Crash c) is.old from.state (order_of links from) c
+                      (inr refl) (λ is_end. absurd (cc)) is.explains));
+                  leaves = λ slot call has. grind (arith, freed_before, cleared_other, slot_64);
+                  within = omega (arith, is.within, ap (λ (p : Path). p.base) drop.3);
+                }
+
+            crash_gone : (k : Config S) → Contains all k → bit_at k.waiting t ≡ 0
+            crash_gone k has =
+                elim (d.sound k has) [
+                  | inl closed ↦ (g.sound k closed).1
+                  | inr found ↦ grind (arith, cleared_same, slot_64)
+                ]
+
+            -- what is led to where the call is not made
+            crash_leads : (new : S) (rest : ℕ) → bit_at rest t ≡ 1
+                → LeadTo Step slots configs new rest → LeadTo Step slots all new (cleared rest t)
+            crash_leads new rest waits l =
+                let h = slot_64 slots t c few here in
+                let from = l.0 in
+                let fewer = l.2.1 in
+                elim (bit_cases fewer t) [
+                  | inl none ↦
+                      leads_kept Step slots (FromOne (IsDropped t) configs) done all new
+                      (cleared rest t) d
+                      (g.complete new (cleared rest t) (
+                        from,
+                        l.1,
+                        (
+                          l.2.0,
+                          fewer,
+                          l.2.2,
+                          lighter_without Step slots fewer rest t few h none l.2.3,
+                        ),
+                      )
+                      (cleared_same rest t h))
+                  | inr some ↦
+                      let there : bit_at from.waiting t ≡ 1 = grind (
+                        arith,
+                        bit_cases,
+                        runs_fewer Step slots from.state new from.waiting fewer t l.2.0 few h l.2.2,
+                      ) in
+                      let spot : Spot S = record {
+                        state = from.state;
+                        waiting = cleared from.waiting t;
+                        made = path_of from;
+                      } in
+                      leads_found Step slots (FromOne (IsDropped t) configs) done all spot l.2.0
+                      new (cleared fewer t) (cleared rest t) d
+                      (from, l.1, (there, refl, refl, refl))
+                      (runs_without Step slots from.state new from.waiting fewer t l.2.0 few h some
+                      l.2.2)
+                      (lighter_cleared Step slots fewer rest t few h l.2.3)
+                ]
+
+            -- a call whose caller crashed is made, or never
+            pub frontier_crash : IsFrontier Step links more (es ++ Crash c ∷ []) olds all
+            frontier_crash = record {
+              sound = λ k has. elim (d.sound k has) [
+                | inl closed ↦ done_sound (Crash c) (inr refl) k closed
+                | inr found ↦ dropped_sound k found
+              ];
+              complete = λ old order new from ex.
+                  let lead = f.complete old order new from
+                  (explains_open Step es (Crash c) old new order c (inr refl) ex) in
+                  elim (bit_cases lead.0 t) [
+                    | inl none ↦ (
+                      lead.0,
+                      leaves_freed order lead.0 lead.1,
+                      leads_freed all new lead.0 crash_gone
+                          (leads_kept Step slots (FromOne (IsDropped t) configs) done all new lead.0
+                          d (g.complete new lead.0 lead.2 none)),
+                    )
+                    | inr some ↦ (
+                      cleared lead.0 t,
+                      λ slot call has. grind (arith, freed_before, cleared_other, slot_64),
+                      leads_freed all new (cleared lead.0 t) crash_gone
+                          (crash_leads new lead.0 some lead.2),
+                    )
+                  ];
+              once = d.once g.once;
+              table = table_end es slots more (Crash c) c t (inr refl) f.table here frees;
+            }
 
   pub many_orders : (links : List Link) (slots : List (Option ℕ)) (es : List Event)
       (olds : List S) (configs : List (Config S)) → IsFrontier Step links slots es olds configs
@@ -307,13 +267,7 @@ module _ {S : Type 0} (Step : S → ℕ → S → Type 0) where
 
   -- an order of no calls
   pub explains_none : (old : S) → Explains Step [] old [] old
-  explains_none old = record {
-    once = λ c. omega (arith, times_none c);
-    begun = λ c some. absurd (omega (arith, times_none c));
-    answered = λ c a. absurd (let e = a.1 in cc);
-    real_time = λ i j d less h. absurd (omega arith);
-    leads = refl;
-  }
+  explains_none old = grind (arith, times_none)
 
   pub no_calls : (old new : S) (order : List ℕ) → Explains Step [] old order new
       → (order ≡ []) × (new ≡ old)
@@ -365,12 +319,7 @@ module _ {S : Type 0} (Step : S → ℕ → S → Type 0) where
   }
 
   pub table_none : IsTable [] []
-  table_none = record {
-    each = λ slot call has. absurd (omega (arith, slot_within [] slot call has));
-    all = λ call is. absurd (omega (arith, is.0, begins_none call));
-    apart = λ one other call a b. absurd (omega (arith, slot_within [] one call a));
-    few = omega arith;
-  }
+  table_none = grind (arith, slot_within, begins_none)
 
   -- before any event
   pub frontier_first : (links : List Link) (olds : List S) (configs : List (Config S))
@@ -378,7 +327,7 @@ module _ {S : Type 0} (Step : S → ℕ → S → Type 0) where
   frontier_first links olds configs g =
       frontier_fresh links [] olds configs table_none
       (λ k has. elim (g.sound k has) [
-        | inl none ↦ absurd (nothing_in Step [] k none)
+        | inl none ↦ absurd (nothing_in k none)
         | inr found ↦ (found.0, found.2)
       ])
       (λ old has.

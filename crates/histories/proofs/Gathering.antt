@@ -1,16 +1,19 @@
--- Configurations that are gathered.
-use Rattle.std.proofs.Common.{◌≡◌, Option, ℕ, zero, suc, ◌+◌, ◌<◌, ◌⊎◌, List, [], ◌∷◌, ◌++◌, length, take, get_or, refl, sym, ◌∙◌, ap, subst, arith, inl, inr, true, false}
+-- Configurations that are gathered, and put into chains.
+use Rattle.std.proofs.Common.{◌≡◌, Option, ℕ, zero, suc, ◌+◌, ◌<◌, ◌⊎◌, List, [], ◌∷◌, ◌++◌, length, take, get_or, refl, sym, ◌∙◌, ap, subst, arith, inl, inr, true, false, ◌≢◌, ◌-◌, ◌≤◌, Bool, All, drop, set, replicate}
 use Rattle.std.specs.Int.{bit_at}
 use Rattle.std.specs.List.{Contains}
-use Rattle.std.proofs.lemmas.Bool.{cases_order}
-use Rattle.std.proofs.lemmas.List.{take_more}
+use Rattle.std.proofs.lemmas.Bool.{cases_order, cases_eq, cases_lt}
+use Rattle.std.proofs.lemmas.List.{take_more, get_or-drop, get_or-replicate, get_or-set_other, get_or-set_same, get_or_default, get_or_past, length-drop, length-replicate, length_push}
 use Rattle.std.proofs.lemmas.List.Elements.{All-contains, Contains-append_left, Contains-push, Contains-push_cases}
 use Rattle.std.proofs.lemmas.List.Quantifiers.{all_pairs_push}
 use Rattle.histories.specs.declared.front.Config.{Config}
 use Rattle.histories.specs.Histories.{AreAll}
 use Rattle.histories.specs.Frontier.{IsSame, IsWaiting, Path, cleared, no_path, path_more, path_of}
-use Rattle.histories.specs.Gathering.{FromOne, Gathers, IsCopy, IsDone, IsDropped, IsFirst, IsKnown, IsNext, IsMadeIn, IsNextAt, IsNextBeside, IsNextIn, IsNextOther, Spot, spot_of}
+use Rattle.histories.specs.Gathering.{FromOne, Gathers, IsCopy, IsDone, IsDropped, IsFirst, IsKnown, IsNext, IsMadeIn, IsNextAt, IsNextBeside, IsNextIn, IsNextOther, Spot, spot_of, AreChained, AreLinked, AreOther, chain_at, chain_of}
 use Rattle.histories.proofs.Bits.{slot_once}
+use Rattle.std.proofs.Math.ListN.{get_or-append}
+use Rattle.std.proofs.Math.Seq.{get_or-append_seam}
+use Rattle.histories.proofs.Places.{less_of}
 
 spot_with : {S : Type 0} → S → ℕ → Path → Spot S
 spot_with state waiting made = record { state = state; waiting = waiting; made = made }
@@ -19,47 +22,25 @@ spot_with state waiting made = record { state = state; waiting = waiting; made =
 spot_is : {S : Type 0} (one other : Spot S) → one.state ≡ other.state
     → one.waiting ≡ other.waiting → one.made ≡ other.made → one ≡ other
 unfolding spot_with
-spot_is {S} one other state waiting made =
-    ap (λ s. spot_with s one.waiting one.made) state
-    ∙ (ap (λ w. spot_with other.state w one.made) waiting
-    ∙ ap (λ (p : Path). spot_with other.state other.waiting p) made)
+spot_is {S} one other state waiting made = grind (arith, spot_with)
 
 module _ {S : Type 0} where
   pub gathers_none : (Found : Spot S → Type 0) (old : List (Config S))
       → ((k : Spot S) → ¬ (Found k)) → Gathers Found old old
-  gathers_none Found old none = record {
-    sound = λ k has. inl has;
-    kept = λ k has. has;
-    complete = λ k f. absurd (none k f);
-    once = λ a. a;
-  }
+  gathers_none Found old none = grind arith
 
   -- the same, found by other words
   pub gathers_as : (P Q : Spot S → Type 0) (old new : List (Config S))
       → ((k : Spot S) → P k → Q k) → ((k : Spot S) → Q k → P k) → Gathers P old new
       → Gathers Q old new
-  gathers_as P Q old new there back g = record {
-    sound = λ k has. elim (g.sound k has) [
-      | inl m ↦ inl m
-      | inr p ↦ inr (there (spot_of k) p)
-    ];
-    kept = g.kept;
-    complete = λ k q. g.complete k (back k q);
-    once = g.once;
-  }
+  gathers_as P Q old new there back g = grind arith
 
   -- first some are found, and then others
   pub gathers_then : (P Q R : Spot S → Type 0) (old mid new : List (Config S))
       → ((k : Spot S) → R k → P k ⊎ Q k) → ((k : Spot S) → P k → R k)
       → ((k : Spot S) → Q k → R k) → Gathers P old mid → Gathers Q mid new → Gathers R old new
   gathers_then P Q R old mid new either first second f g = record {
-    sound = λ k has. elim (g.sound k has) [
-      | inl m ↦ elim (f.sound k m) [
-        | inl n ↦ inl n
-        | inr p ↦ inr (first (spot_of k) p)
-      ]
-      | inr q ↦ inr (second (spot_of k) q)
-    ];
+    sound = λ k has. grind arith;
     kept = λ k has. g.kept k (f.kept k has);
     complete = λ k r.
         elim (either k r) [
@@ -105,13 +86,7 @@ module _ {S : Type 0} where
       → path_of next ≡ path_more (path_of from) (call ∷ []) → Gathers (IsCopy next) mid new
       → Gathers (IsNextIn from slot call (state ∷ [])) mid new
   gathers_state from next slot call state mid new same waits made g =
-      gathers_as (IsCopy next) (IsNextIn from slot call (state ∷ [])) mid new
-      (λ k q. ((0, omega arith, sym (q.0 ∙ same)), q.1 ∙ waits, q.2 ∙ made))
-      (λ k r. (
-        only_state state k.state r.0.0 r.0.1 r.0.2 ∙ sym same,
-        r.1 ∙ sym waits,
-        r.2 ∙ sym made,
-      )) g
+      grind (arith, gathers_as, only_state)
 
   -- there is the same already
   pub gathers_had : (from : Config S) (slot call : ℕ) (state : S) (old : List (Config S))
@@ -159,27 +134,7 @@ module _ {S : Type 0} where
         → Gathers (IsNextIn from slot call states) old new
         → Gathers (IsNextAt Step slots from slot) old new
     gathers_call from slot call states old new waits all g =
-        gathers_as (IsNextIn from slot call states) (IsNextAt Step slots from slot) old new
-        (λ k p. (
-          call,
-          waits,
-          All-contains (Step from.state call) states k.state all.0 p.0,
-          p.1,
-          p.2,
-        ))
-        (λ k p.
-        let same : p.0 ≡ call = slot_once slots slot p.0 call p.1.0 waits.0 in (
-          all.1 k.state (subst (λ c. Step from.state c k.state) same p.2),
-          p.3,
-          subst (λ c. k.made ≡ path_more (path_of from) (c ∷ [])) same p.4,
-        )) g
-
-    -- where no call waits in the slot
-    pub gathers_empty : (from : Config S) (slot : ℕ) (old : List (Config S))
-        → ((call : ℕ) → IsWaiting slots from.waiting slot call → ⊥)
-        → Gathers (IsNextAt Step slots from slot) old old
-    gathers_empty from slot old none =
-        gathers_none (IsNextAt Step slots from slot) old (λ k f. none f.0 f.1)
+        grind (arith, gathers_as, All-contains, slot_once)
 
     -- where the call was made in place
     pub gathers_made : (from next : Config S) (made : Config S) (slot call : ℕ)
@@ -213,17 +168,10 @@ module _ {S : Type 0} where
     gathers_no_slot from slot old =
         gathers_none (IsNextBeside Step slots from slot 0) old (λ k f. absurd (omega (arith, f.1)))
 
-    pub gathers_not_other : (from : Config S) (slot other : ℕ) (old : List (Config S))
-        → other ≡ slot → Gathers (IsNextOther Step slots from slot other) old old
-    gathers_not_other from slot other old same =
-        gathers_none (IsNextOther Step slots from slot other) old (λ k f. f.0 same)
-
     pub gathers_other : (from : Config S) (slot other : ℕ) (old new : List (Config S))
         → (other ≡ slot → ⊥) → Gathers (IsNextAt Step slots from other) old new
         → Gathers (IsNextOther Step slots from slot other) old new
-    gathers_other from slot other old new apart g =
-        gathers_as (IsNextAt Step slots from other) (IsNextOther Step slots from slot other) old new
-        (λ k p. (apart, p)) (λ k p. p.1) g
+    gathers_other from slot other old new apart g = grind (arith, gathers_as)
 
     -- and that one
     pub gathers_last : (from : Config S) (slot : ℕ) (old mid new : List (Config S))
@@ -304,13 +252,7 @@ module _ {S : Type 0} where
   gathers_through Fact others old new f g = record {
     sound = λ k has. elim (g.sound k has) [
       | inl before ↦ inl before
-      | inr copy ↦
-          elim (f.sound copy.0 copy.1) [
-            | inl none ↦ absurd (omega (arith, none.1))
-            | inr found ↦ inr
-                (subst (λ (s : Spot S). Fact s)
-                (sym (spot_is (spot_of k) (spot_of copy.0) copy.2.0 copy.2.1 copy.2.2)) found)
-          ]
+      | inr copy ↦ grind (arith, spot_is)
     ];
     kept = g.kept;
     complete = λ spot found.
@@ -337,12 +279,209 @@ module _ {S : Type 0} where
       → bit_at config.waiting slot ≡ 1 → dropped.state ≡ config.state
       → dropped.waiting ≡ cleared config.waiting slot → path_of dropped ≡ path_of config
       → Gathers (IsCopy dropped) old new → Gathers (IsDropped slot config) old new
-  gathers_dropped slot config dropped old new waits state set made g =
-      gathers_as (IsCopy dropped) (IsDropped slot config) old new
-      (λ k p. (waits, p.0 ∙ state, p.1 ∙ set, p.2 ∙ made))
-      (λ k p. (p.1 ∙ sym state, p.2 ∙ sym set, p.3 ∙ sym made)) g
+  gathers_dropped slot config dropped old new waits state set made g = grind (arith, gathers_as)
 
-  pub gathers_not_dropped : (slot : ℕ) (config : Config S) (old : List (Config S))
-      → bit_at config.waiting slot ≡ 0 → Gathers (IsDropped slot config) old old
-  gathers_not_dropped slot config old gone =
-      gathers_none (IsDropped slot config) old (λ k f. absurd (omega (arith, f.0)))
+-- where no place is in a chain
+pub linked_none : (chain : ℕ → ℕ) (heads before : List ℕ) → length before ≡ 0
+    → ((number : ℕ) → get_or heads number 0 ≡ 0) → AreLinked chain heads before
+linked_none chain heads before none empty = grind arith
+
+-- the same chains by other words
+pub linked_as : (one other : ℕ → ℕ) (heads before : List ℕ)
+    → ((index : ℕ) → index < length before → other index ≡ one index)
+    → AreLinked one heads before → AreLinked other heads before
+linked_as one other heads before same l = record {
+  reached = λ index h. subst (λ c. index < get_or heads c 0) (sym (same index h))
+      (l.reached index h);
+  head = λ number index e.
+      let is = l.head number index e in (is.0, same index is.0 ∙ is.1);
+  kept = λ index at h below e.
+      l.kept index at h below
+      (sym (same index (omega (arith, h, below))) ∙ (e ∙ same at below));
+  link = λ at index below e.
+      let is = l.link at index below e in (
+        is.0,
+        same index (omega (arith, is.0, below)) ∙ (is.1 ∙ sym (same at below)),
+      );
+}
+
+-- one place more
+pub linked_more : (chain : ℕ → ℕ) (heads before : List ℕ) (number : ℕ)
+    → number ≡ chain (length before) → number < length heads → AreLinked chain heads before
+    → AreLinked chain (set heads number (length before + 1))
+    (before ++ get_or heads number 0 ∷ [])
+linked_more chain heads before number is within l =
+    let last = length before in
+    let head = get_or heads number 0 in
+    let more : List ℕ = before ++ head ∷ [] in
+    let now : List ℕ = set heads number (last + 1) in
+    let many : length more ≡ last + 1 = length_push before head in
+    let here : get_or now number 0 ≡ last + 1 = get_or-set_same heads number (last + 1) 0 within in
+    let there : (other : ℕ) → other ≢ number → get_or now other 0 ≡ get_or heads other 0 = λ other
+    ne.
+    get_or-set_other heads number other (last + 1) 0 ne in
+    let was : (at : ℕ) → at < last → get_or more at 0 ≡ get_or before at 0 = λ at below.
+    get_or-append before (head ∷ []) 0 at below in
+    let end : get_or more last 0 ≡ head = get_or-append_seam before head [] 0 in
+    record {
+      reached = λ index h. grind (arith, cases_eq, here, less_of);
+      head = λ other index e.
+          elim (cases_eq other number) [
+            | inl same ↦ grind (arith, here)
+            | inr ne ↦
+                let before_ = l.head other index (sym (there other ne) ∙ e) in
+                (omega (arith, before_.0, many), before_.1)
+          ];
+      kept = λ index at h below e. grind (arith, cases_eq, less_of);
+      link = λ at index below e.
+          elim (cases_eq at last) [
+            | inl same ↦
+                let before_ = l.head number index
+                (sym end ∙ (ap (λ i. get_or more i 0) (sym same) ∙ e)) in
+                (omega (arith, before_.0, same), before_.1 ∙ (is ∙ ap chain (sym same)))
+            | inr ne ↦
+                let less : at < last = less_of at last (omega (arith, below, many)) ne in
+                l.link at index less (sym (was at less) ∙ e)
+          ];
+    }
+
+-- each of many copies of a number is that
+pub copies : (count index number : ℕ) → get_or (replicate count number) index number ≡ number
+copies count index number =
+    elim (cases_lt index count) [
+      | inl within ↦ get_or-replicate count index number number within
+      | inr past ↦
+          get_or_past (replicate count number) index number
+          (omega (arith, length-replicate count number, past))
+    ]
+
+module _ {S : Type 0} where
+  -- a configuration more, which is in no chain yet
+  pub chained_push : (configs : List (Config S)) (config : Config S) (heads before : List ℕ)
+      → AreChained configs heads before → AreChained (configs ++ config ∷ []) heads before
+  chained_push configs config heads before c = (
+    omega (arith, c.0, length_push configs config),
+    λ d. linked_as (chain_at configs d) (chain_at (configs ++ config ∷ []) d) heads before
+        (λ index h.
+        ap (λ (k : Config S). chain_of k.waiting)
+        (get_or-append configs (config ∷ []) d index (omega (arith, h, c.0))))
+        (c.1 d),
+  )
+
+  -- where none is in a chain
+  pub chained_none : (configs : List (Config S)) (heads before : List ℕ) → length before ≡ 0
+      → ((number : ℕ) → get_or heads number 0 ≡ 0) → AreChained configs heads before
+  chained_none configs heads before none empty = grind (arith, linked_none)
+
+  -- one configuration more is in its chain
+  pub chained_more : (configs : List (Config S)) (item : Config S) (heads before : List ℕ)
+      (number : ℕ) → number ≡ chain_of item.waiting
+      → item ≡ get_or configs (length before) item → number < length heads
+      → length before < length configs → AreChained configs heads before
+      → AreChained configs (set heads number (length before + 1))
+      (before ++ get_or heads number 0 ∷ [])
+  chained_more configs item heads before number is at within more c =
+      grind (arith, length_push, linked_more, get_or_default, within)
+
+  -- How far a chain was followed: those from here on are others.
+  pub record IsFollowing (configs : List (Config S)) (before : List ℕ) (config : Config S)
+      (left : ℕ) : Type 0 where
+    pub within : left ≤ length before
+    pub here : (index : ℕ) (d : Config S) → left ≡ index + 1
+        → chain_at configs d index ≡ chain_of config.waiting
+    pub others : AreOther configs left (length before) config
+
+  pub following_head : (configs : List (Config S)) (heads before : List ℕ) (config : Config S)
+      (left : ℕ) → left ≡ get_or heads (chain_of config.waiting) 0
+      → AreChained configs heads before → IsFollowing configs before config left
+  following_head configs heads before config left is c =
+      let linked = c.1 config in record {
+        within = elim (cases_eq left 0) [
+          | inl none ↦ omega (arith, none)
+          | inr some ↦
+              let at = linked.head (chain_of config.waiting) (left - 1) (omega (arith, is, some)) in
+              omega (arith, at.0, some)
+        ];
+        here = λ index d e.
+            ((c.1 d).head (chain_of config.waiting) index (sym is ∙ e)).1;
+        others = λ index d from below same.
+            let chained : chain_at configs d index ≡ chain_of config.waiting =
+            ap chain_of same.1 in
+            absurd (omega (
+              arith,
+              from,
+              is,
+              ap (λ n. get_or heads n 0) chained,
+              (c.1 d).reached index below,
+            ));
+      }
+
+  pub following_more : (configs : List (Config S)) (heads before : List ℕ)
+      (config known : Config S) (at left next : ℕ) → left ≡ at + 1
+      → next ≡ get_or before at 0 → known ≡ get_or configs at known
+      → ¬ (IsSame known config) → AreChained configs heads before
+      → IsFollowing configs before config left
+      → IsFollowing configs before config next × (next < left)
+  following_more configs heads before config known at left next one is item other c f =
+      let below : at < length before = omega (arith, f.within, one) in
+      let less : next < left = elim (cases_eq next 0) [
+        | inl none ↦ omega (arith, none, one)
+        | inr some ↦
+            let to = (c.1 config).link at (next - 1) below (omega (arith, is, some)) in
+            omega (arith, to.0, some, one)
+      ] in (
+        record {
+          within = omega (arith, less, f.within);
+          here = λ index d e.
+              ((c.1 d).link at index below (sym is ∙ e)).1 ∙ f.here at d one;
+          others = λ index d from end same.
+              elim (cases_order index at) [
+                | inl e ↦ grind (arith, get_or_default)
+                | inr (inl before_) ↦
+                    let chained : chain_at configs d index ≡ chain_at configs d at =
+                    ap chain_of same.1 ∙ sym (f.here at d one) in
+                    absurd (omega (
+                      arith,
+                      from,
+                      is,
+                      (c.1 d).kept index at before_ below chained,
+                    ))
+                | inr (inr behind) ↦
+                    f.others index d (omega (arith, behind, one)) end same
+              ];
+        },
+        less,
+      )
+
+  -- the first ones are others, and so are the rest
+  pub all_other : (configs : List (Config S)) (config : Config S) (from : ℕ)
+      → AreOther configs 0 from config
+      → All (λ known. ¬ (IsSame known config)) (drop from configs)
+      → All (λ known. ¬ (IsSame known config)) configs
+  all_other configs config from first rest index d below =
+      elim (cases_lt index from) [
+        | inl less ↦ first index d (omega arith) less
+        | inr past ↦
+            let at : from + (index - from) ≡ index = omega (arith, past) in
+            subst (λ i. ¬ (IsSame (get_or configs i d) config)) at
+            (subst (λ (k : Config S). ¬ (IsSame k config))
+            (get_or-drop from configs (index - from) d)
+            (rest (index - from) d
+            (omega (arith, length-drop from configs, below, past))))
+      ]
+
+  -- whether one of the rest is the same, where the first ones are others
+  pub known_rest : (configs : List (Config S)) (config : Config S) (from : ℕ) (r : Bool)
+      → AreOther configs 0 from config → IsKnown (drop from configs) config r
+      → IsKnown configs config r
+  known_rest configs config from true first is =
+      let at = is.1.0 in (
+        is.0,
+        (
+          from + at,
+          omega (arith, length-drop from configs, is.1.1),
+          sym (get_or-drop from configs at is.0) ∙ is.1.2,
+        ),
+        is.2,
+      )
+  known_rest configs config from false first is = all_other configs config from first is

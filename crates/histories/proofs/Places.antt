@@ -1,7 +1,11 @@
 -- Lists that are changed place by place.
-use Rattle.std.proofs.Common.{◌≡◌, ◌≢◌, ℕ, ◌+◌, ◌<◌, ◌≤◌, List, ◌++◌, take, drop, append-nil, take_all, length, get_or, set, refl, sym, ◌∙◌, ap, subst, arith, inl, inr}
+use Rattle.std.proofs.Common.{zero, suc, [], ◌∷◌, ◌≡◌, ◌≢◌, ℕ, ◌+◌, ◌<◌, ◌≤◌, List, ◌++◌, take, drop, append-nil, take_all, length, get_or, set, refl, sym, ◌∙◌, ap, subst, arith, inl, inr}
+use Rattle.std.specs.List.{Contains}
+use Rattle.std.specs.Prelude.{map}
+use Rattle.std.proofs.Math.ListN.{get_or-map}
 use Rattle.std.proofs.lemmas.Bool.{cases_eq, cases_lt}
-use Rattle.std.proofs.lemmas.List.{drop_all, get_or-set_other, get_or-set_same, get_or_default, length-set, set-get_or}
+use Rattle.std.proofs.lemmas.List.Elements.{Contains-push_cases}
+use Rattle.std.proofs.lemmas.List.{drop_all, get_or-set_other, get_or-set_same, get_or_default, length-set, set-get_or, length-map}
 
 -- up to a place each value is related to the one that was there, and from there on it is that one
 pub record AreDone {X : Type 0} (R : X → X → Type 0) (olds now : List X) (at : ℕ) : Type 0 where
@@ -47,6 +51,15 @@ done_more {X} R olds now at item one h is r a = record {
       ∙ a.rest index d (omega (arith, past));
 }
 
+-- the same by a relation that follows
+pub done_as : {X : Type 0} (P Q : X → X → Type 0) (olds now : List X) (at : ℕ)
+    → ((x y : X) → P x y → Q x y) → AreDone P olds now at → AreDone Q olds now at
+done_as P Q olds now at follows a = record {
+  many = a.many;
+  done = λ index d h. follows (get_or olds index d) (get_or now index d) (a.done index d h);
+  rest = a.rest;
+}
+
 -- an element is put where it stood
 pub same_set : {X : Type 0} (now : List X) (at : ℕ) (item one : X) → at < length now
     → item ≡ get_or now at item → one ≡ item → set now at one ≡ now
@@ -59,3 +72,34 @@ pub put_back : {X : Type 0} (new old : List X) (len : ℕ) → length new ≡ le
 put_back new old len many is =
     ap (λ l. take len (new ++ l)) (drop_all (length new) old (omega (arith, many)))
     ∙ (ap (λ l. take len l) (append-nil new) ∙ take_all len new (omega (arith, many, is)))
+
+-- a list of none has none
+pub nothing_in : {X : Type 0} (k : X) → ¬ (Contains [] k)
+nothing_in k has = absurd (omega (arith, has.1))
+
+-- the one that a list of one has
+pub only : {X : Type 0} (x k : X) → Contains (x ∷ []) k → k ≡ x
+only x k has =
+    elim (Contains-push_cases [] x k has) [
+      | inl none ↦ absurd (omega (arith, none.1))
+      | inr e ↦ sym e
+    ]
+
+-- what stands in the list of the values of others
+pub contains_map_of : {X Y : Type 0} (f : X → Y) (xs : List X) (x : X) → Contains xs x
+    → Contains (map f xs) (f x)
+contains_map_of f xs x has =
+    (has.0, omega (arith, has.1, length-map xs f), get_or-map f xs has.0 x ∙ ap f has.2)
+
+contains_map_at : {X Y : Type 0} (f : X → Y) (xs : List X) (y : Y) (i : ℕ)
+    → i < length (map f xs) → get_or (map f xs) i y ≡ y
+    → (x : X) × Contains xs x × (f x ≡ y)
+contains_map_at f [] y i h is = absurd (omega (arith, h))
+contains_map_at f (x ∷ xs) y zero h is = (x, (0, omega arith, refl), is)
+contains_map_at f (x ∷ xs) y (suc i) h is =
+    let r = contains_map_at f xs y i (omega (arith, h)) is in
+    (r.0, (suc r.1.0, omega (arith, r.1.1), r.1.2), r.2)
+
+pub contains_of_map : {X Y : Type 0} (f : X → Y) (xs : List X) (y : Y) → Contains (map f xs) y
+    → (x : X) × Contains xs x × (f x ≡ y)
+contains_of_map f xs y has = contains_map_at f xs y has.0 has.1 has.2

@@ -1,8 +1,9 @@
 -- Calls that wait and are made.
-use Rattle.std.proofs.Common.{◌≡◌, ◌≢◌, ◌⊎◌, ℕ, ◌<◌, ◌≤◌, List, [], ◌∷◌, ◌++◌, length, refl, sym, ◌∙◌, ap, subst, arith, inl, inr, Option, append-nil, append_assoc}
+use Rattle.std.proofs.Common.{◌≡◌, ◌≢◌, ℕ, ◌<◌, ◌≤◌, List, [], ◌∷◌, ◌++◌, length, refl, sym, ◌∙◌, ap, subst, arith, inl, inr, Option, append-nil, append_assoc}
 use Rattle.std.specs.Int.{bit_at}
 use Rattle.std.proofs.lemmas.Bool.{cases_eq}
 use Rattle.histories.specs.Histories.{times, Leads}
+use Rattle.histories.specs.Gathering.{IsBeside}
 use Rattle.histories.specs.Frontier.{HasSlot, IsIdle, IsLighter, IsWaiting, Leaves, MovesBefore, Runs, cleared}
 use Rattle.histories.proofs.Bits.{bit_cases, cleared_le, cleared_other, cleared_same, cleared_swap, slot_64, slot_once}
 use Rattle.histories.proofs.Counting.{times-append, times-cons, times_one, times_other}
@@ -27,9 +28,7 @@ module _ {S : Type 0} (Step : S → ℕ → S → Type 0) where
     pub runs_then : (old mid new : S) (waiting rest last : ℕ) (first second : List ℕ)
         → Runs Step slots old waiting first mid rest → Runs Step slots mid rest second new last
         → Runs Step slots old waiting (first ++ second) new last
-    runs_then old mid new waiting rest last [] second f g =
-        subst (λ s. Runs Step slots s waiting second new last) f.0
-        (subst (λ w. Runs Step slots mid w second new last) f.1 g)
+    runs_then old mid new waiting rest last [] second f g = grind arith
     runs_then old mid new waiting rest last (c ∷ first) second f g = (
       f.0,
       f.1,
@@ -40,22 +39,12 @@ module _ {S : Type 0} (Step : S → ℕ → S → Type 0) where
       ),
     )
 
-    pub lighter_same : (waiting : ℕ) → IsLighter Step slots waiting waiting
-    lighter_same waiting slot call has = inl refl
-
     pub lighter_is : (fewer waiting : ℕ) → fewer ≡ waiting → IsLighter Step slots fewer waiting
     lighter_is fewer waiting e slot call has = inl (ap (λ w. bit_at w slot) e)
 
     pub lighter_then : (few fewer waiting : ℕ) → IsLighter Step slots few fewer
         → IsLighter Step slots fewer waiting → IsLighter Step slots few waiting
-    lighter_then few fewer waiting a b slot call has =
-        elim (a slot call has) [
-          | inl x ↦ elim (b slot call has) [
-            | inl y ↦ inl (x ∙ y)
-            | inr y ↦ inr (x ∙ y.0, y.1)
-          ]
-          | inr x ↦ inr x
-        ]
+    lighter_then few fewer waiting a b slot call has = grind arith
 
     -- the same slot goes from both
     pub lighter_cleared : (fewer waiting slot : ℕ) → length slots ≤ 64 → slot < 64
@@ -63,18 +52,8 @@ module _ {S : Type 0} (Step : S → ℕ → S → Type 0) where
         → IsLighter Step slots (cleared fewer slot) (cleared waiting slot)
     lighter_cleared fewer waiting slot few h l other call has =
         elim (cases_eq other slot) [
-          | inl e ↦ inl
-              (subst
-              (λ x. bit_at (cleared fewer slot) x ≡ bit_at (cleared waiting slot) x) (sym e)
-              (cleared_same fewer slot h ∙ sym (cleared_same waiting slot h)))
-          | inr ne ↦
-              let k = slot_64 slots other call few has in
-              elim (l other call has) [
-                | inl x ↦ inl
-                    (cleared_other fewer slot other h k ne
-                    ∙ (x ∙ sym (cleared_other waiting slot other h k ne)))
-                | inr x ↦ inr (cleared_other fewer slot other h k ne ∙ x.0, x.1)
-              ]
+          | inl e ↦ grind (arith, cleared_same)
+          | inr ne ↦ grind (arith, slot_64, cleared_other)
         ]
 
     -- a slot of a call that changes nothing goes from the second, which the first does not have
@@ -82,33 +61,13 @@ module _ {S : Type 0} (Step : S → ℕ → S → Type 0) where
         → bit_at fewer slot ≡ 0 → IsLighter Step slots fewer waiting
         → IsLighter Step slots fewer (cleared waiting slot)
     lighter_without fewer waiting slot few h none l other call has =
-        elim (cases_eq other slot) [
-          | inl e ↦ inl
-              (subst (λ x. bit_at fewer x ≡ bit_at (cleared waiting slot) x) (sym e)
-              (none ∙ sym (cleared_same waiting slot h)))
-          | inr ne ↦
-              let k = slot_64 slots other call few has in
-              elim (l other call has) [
-                | inl x ↦ inl (x ∙ sym (cleared_other waiting slot other h k ne))
-                | inr x ↦ inr x
-              ]
-        ]
+        grind (arith, cases_eq, cleared_same, slot_64, cleared_other)
 
     -- a slot of a call that changes nothing goes from the first
     pub lighter_idle : (waiting slot call : ℕ) → length slots ≤ 64 → HasSlot slots slot call
         → IsIdle Step call → IsLighter Step slots (cleared waiting slot) waiting
     lighter_idle waiting slot call few here idle other c has =
-        elim (cases_eq other slot) [
-          | inl e ↦ inr (
-            subst (λ x. bit_at (cleared waiting slot) x ≡ 0) (sym e)
-                (cleared_same waiting slot (slot_64 slots slot call few here)),
-            subst (λ x. IsIdle Step x)
-                (slot_once slots slot call c here (subst (λ x. HasSlot slots x c) e has)) idle,
-          )
-          | inr ne ↦ inl
-              (cleared_other waiting slot other (slot_64 slots slot call few here)
-              (slot_64 slots other c few has) ne)
-        ]
+        grind (arith, cases_eq, cleared_same, slot_64, slot_once, cleared_other)
 
     -- Calls that change nothing need not be made: where fewer calls wait, but for such, the others
     -- still lead to the same state.
@@ -117,13 +76,7 @@ module _ {S : Type 0} (Step : S → ℕ → S → Type 0) where
         → Runs Step slots old waiting calls new rest
         → (less : List ℕ) × (last : ℕ) × Runs Step slots old fewer less new last
         × IsLighter Step slots last rest
-    runs_lighter old new fewer waiting rest [] few l run = (
-      [],
-      fewer,
-      (run.0, refl),
-      λ slot call has. subst (λ w. (bit_at fewer slot ≡ bit_at w
-          slot) ⊎ ((bit_at fewer slot ≡ 0) × IsIdle Step call)) (sym run.1) (l slot call has),
-    )
+    runs_lighter old new fewer waiting rest [] few l run = grind arith
     runs_lighter old new fewer waiting rest (call ∷ calls) few l run =
         let slot = run.0 in
         let here = run.1.0 in
@@ -155,20 +108,13 @@ module _ {S : Type 0} (Step : S → ℕ → S → Type 0) where
     -- what waits without a slot waits with it
     waits_before : (waiting slot at call : ℕ) → length slots ≤ 64 → slot < 64
         → IsWaiting slots (cleared waiting slot) at call → bit_at waiting at ≡ 1
-    waits_before waiting slot at call few h is =
-        elim (bit_cases waiting at) [
-          | inr some ↦ some
-          | inl none ↦ absurd
-              (omega
-              (arith, cleared_le waiting slot at h (slot_64 slots at call few is.0), is.1, none))
-        ]
+    waits_before waiting slot at call few h is = grind (arith, bit_cases, cleared_le, slot_64)
 
     -- a call that moves before all others that wait is made before them
     pub runs_first : (old new : S) (waiting rest slot call : ℕ) (calls : List ℕ)
         → length slots ≤ 64 → HasSlot slots slot call → bit_at waiting slot ≡ 1
         → bit_at rest slot ≡ 0
-        → ((at other : ℕ) → (at ≡ slot → ⊥) → IsWaiting slots waiting at other
-        → MovesBefore Step call other)
+        → ((at other : ℕ) → IsBeside slots waiting slot at other → MovesBefore Step call other)
         → Runs Step slots old waiting calls new rest
         → (mid : S) × Step old call mid
         × ((others : List ℕ) × Runs Step slots mid (cleared waiting slot) others new rest)
@@ -194,9 +140,9 @@ module _ {S : Type 0} (Step : S → ℕ → S → Type 0) where
               cleared_other waiting at slot k h (λ e. ne (sym e)) ∙ waits in
               let more = runs_first run.2.0 new (cleared waiting at) rest slot call calls few here
               still gone
-              (λ i other apart is.
-              moves i other apart (is.0, waits_before waiting at i other few k is)) run.2.2 in
-              let moved = moves at c ne run.1 old run.2.0 more.0 run.2.1 more.1 in (
+              (λ i other is.
+              moves i other (is.0, (is.1.0, waits_before waiting at i other few k is.1))) run.2.2 in
+              let moved = moves at c (ne, run.1) old run.2.0 more.0 run.2.1 more.1 in (
                 moved.0,
                 moved.1,
                 (
@@ -221,27 +167,17 @@ module _ {S : Type 0} (Step : S → ℕ → S → Type 0) where
         → Leaves slots order waiting → IsWaiting slots waiting slot call
         → Leaves slots (order ++ call ∷ []) (cleared waiting slot)
     leaves_made order waiting slot call few apart leaves is other c has =
-        let h = slot_64 slots slot call few is.0 in
-        elim (cases_eq other slot) [
-          | inl e ↦
-              let same : call ≡ c =
-              slot_once slots slot call c is.0 (subst (λ x. HasSlot slots x c) e has) in
-              let gone : bit_at (cleared waiting slot) other ≡ 0 =
-              subst (λ x. bit_at (cleared waiting slot) x ≡ 0) (sym e) (cleared_same waiting slot h)
-              in
-              let one : times c (call ∷ []) ≡ 1 =
-              subst (λ x. times c (x ∷ []) ≡ 1) (sym same) (times_one c) in
-              let was : bit_at waiting other ≡ 1 =
-              subst (λ x. bit_at waiting x ≡ 1) (sym e) is.1 in
-              omega (arith, leaves other c has, was, gone, one, times-append c order (call ∷ []))
-          | inr ne ↦
-              let stays : bit_at (cleared waiting slot) other ≡ bit_at waiting other =
-              cleared_other waiting slot other h (slot_64 slots other c few has) ne in
-              let none : times c (call ∷ []) ≡ 0 =
-              times_other c call
-              (λ same. ne (apart other slot c has (subst (λ x. HasSlot slots slot x) same is.0))) in
-              omega (arith, leaves other c has, stays, none, times-append c order (call ∷ []))
-        ]
+        grind (
+          arith,
+          slot_64,
+          cases_eq,
+          slot_once,
+          cleared_same,
+          times_one,
+          times-append,
+          cleared_other,
+          times_other,
+        )
 
     pub leaves_run : (order : List ℕ) (old new : S) (waiting rest : ℕ) (calls : List ℕ)
         → length slots ≤ 64
@@ -317,13 +253,7 @@ module _ {S : Type 0} (Step : S → ℕ → S → Type 0) where
               keeps few
               (λ s c has some. still s c has
               (elim (cases_eq s slot) [
-                | inl e ↦
-                    absurd (omega (
-                      arith,
-                      some,
-                      subst (λ x. bit_at (cleared waiting slot) x ≡ 0)
-                          (sym e) (cleared_same waiting slot h),
-                    ))
+                | inl e ↦ grind (arith, cleared_same)
                 | inr ne ↦ sym (cleared_other waiting slot s h (slot_64 slots s c few has) ne) ∙ some
               ])) run.2.2),
         ),

@@ -1,5 +1,5 @@
 -- What is found of a whole history.
-use Rattle.std.proofs.Common.{◌≡◌, ◌≢◌, ℕ, zero, suc, ◌+◌, ◌-◌, ◌<◌, ◌≤◌, List, [], ◌∷◌, ◌++◌, length, take, get_or, refl, sym, ◌∙◌, ap, subst, arith, inl, inr, Option, add-zero, take_all}
+use Rattle.std.proofs.Common.{◌≡◌, ℕ, zero, suc, ◌+◌, ◌-◌, ◌<◌, ◌≤◌, List, [], ◌∷◌, ◌++◌, length, take, get_or, refl, sym, ◌∙◌, ap, subst, arith, inl, inr, Option, add-zero, take_all}
 use Rattle.std.proofs.lemmas.Bool.{cases_lt, cases_order}
 use Rattle.std.proofs.lemmas.List.{take_more}
 use Rattle.std.proofs.lemmas.Option.{slice_get-get_or}
@@ -8,18 +8,18 @@ use Rattle.histories.specs.declared.event.Event.TheVariants.{Begin, End, Crash}
 use Rattle.histories.specs.declared.front.Advance.{Advance}
 use Rattle.histories.specs.declared.front.Advance.TheVariants as advance
 use Rattle.histories.specs.declared.front.Front.{Front}
-use Rattle.histories.specs.declared.verdict.Verdict.TheVariants as verdict
+use Rattle.histories.specs.declared.whole.Verdict.TheVariants as verdict
 use Rattle.histories.specs.declared.front.Config.{Config}
 use Rattle.histories.specs.declared.front.Link.{Link}
 use Rattle.histories.specs.Histories.{begins, begun, times, Explains, IsExplained, IsHistory, IsNext, IsOpen, MayFollow, StandsAt}
-use Rattle.histories.specs.Advances.{AdvancesIn, Agrees, EndsOpen, IsAdvance}
-use Rattle.histories.specs.Verdicts.{IsVerdict}
-use Rattle.histories.specs.Frontier.{HasManyOpen, HasManyOrders, IsFrontOf, IsFrontier, IsSound, order_of}
+use Rattle.histories.specs.Advances.{AdvancesIn, Agrees, EndsOpen, IsAdvance, IsVerdict}
+use Rattle.histories.specs.Frontier.{IsFrontOf, IsFrontier, IsSound, order_of}
 use Rattle.histories.proofs.Counting.{not_some, split_times, times_same}
 use Rattle.histories.proofs.Events.{begin_no_end, begins_begin, begins_ends, begins_none, ends_one, sound_begin, sound_end, sound_none, stands_within}
 use Rattle.histories.proofs.Running.{leads_split}
 use Rattle.histories.proofs.Frontiers.{explains_none}
 use Rattle.histories.proofs.Explaining.{explains_front, explains_open, explains_without}
+use Rattle.histories.specs.Laws.{VerdictsExclude}
 
 begun_begin : (es : List Event) (c : ℕ) → begun (es ++ Begin c ∷ []) ≡ begun es + 1
 unfolding begun
@@ -73,10 +73,6 @@ pub count_crash : (count call : ℕ) (es : List Event) → count ≡ begun es
     → (count ≡ begun (es ++ Crash call ∷ [])) × IsNext es (Crash call)
 count_crash count call es is = (counts_crash count call es is, λ c e. absurd (cc))
 
-pub count_none : (count call : ℕ) (es : List Event) → call ≢ count → count ≡ begun es
-    → ¬ (MayFollow es (Begin call))
-count_none count call es ne is may = ne (may ∙ sym is)
-
 -- the calls that have begun have numbers below their count
 abbrev pub AreNumbered : List Event → Type 0
 AreNumbered es = (c : ℕ) → 0 < begins c es → c < begun es
@@ -87,12 +83,7 @@ numbered_none c h = absurd (omega (arith, h, begins_none c))
 pub numbered_more : (es : List Event) (e : Event) → AreNumbered es → IsNext es e
     → AreNumbered (es ++ e ∷ [])
 numbered_more es (Begin b) n next c h =
-    elim (cases_lt 0 (begins c es)) [
-      | inl before ↦ omega (arith, n c before, begun_begin es b)
-      | inr none ↦
-          let here : 0 < times c (b ∷ []) = omega (arith, h, none, begins_begin c b es) in
-          omega (arith, times_same c b here, next b refl, begun_begin es b)
-    ]
+    grind (arith, cases_lt, begun_begin, begins_begin, times_same)
 numbered_more es (End b) n next c h =
     omega (arith, n c (omega (arith, h, begins_ends c b es (End b) (inl refl))), begun_end es b)
 numbered_more es (Crash b) n next c h =
@@ -251,19 +242,10 @@ stands_get es i d e h at =
 
 pub history_more : (es : List Event) (i : ℕ) (d : Event) → i < length es
     → MayFollow (take i es) (get_or es i d) → IsHistoryTo es i → IsHistoryTo es (i + 1)
-history_more es i d h may all index event less at =
-    elim (cases_order index i) [
-      | inl e ↦ subst (λ k. MayFollow (take k es) event) (sym e)
-          (subst (λ (x : Event). MayFollow (take i es) x)
-          (sym (stands_get es i d event h (subst (λ k. StandsAt es k event) e at))) may)
-      | inr (inl below) ↦ all index event below at
-      | inr (inr above) ↦ absurd (omega arith)
-    ]
+history_more es i d h may all index event less at = grind (arith, cases_order, stands_get)
 
 pub history_whole : (es : List Event) (i : ℕ) → length es ≤ i → IsHistoryTo es i → IsHistory es
-history_whole es i h all = λ index event at.
-    let within : index < length es = stands_within es index event at in
-    all index event (omega arith) at
+history_whole es i h all = λ index event at. grind (arith, stands_within)
 
 module _ {S : Type 0} (Step : S → ℕ → S → Type 0) where
   -- the front is that of the events before a place, all of which may follow
@@ -337,24 +319,13 @@ module _ {S : Type 0} (Step : S → ℕ → S → Type 0) where
       → at < length events
       → AdvancesIn Step (take at events) olds (get_or events at d) new advance.ManyConfigs
       → IsVerdict Step olds events (verdict.ManyConfigs at)
-  judged_many new events olds at d h a = (
-    h,
-    elim a [
-      | inl before ↦ inl before
-      | inr after ↦ inr
-          (subst (λ (l : List Event). HasManyOrders Step l olds) (sym (one_more events at d
-          h)) after)
-    ],
-  )
+  judged_many new events olds at d h a = grind (arith, one_more)
 
   pub judged_open : (new : Front S) (events : List Event) (olds : List S) (at : ℕ) (d : Event)
       → at < length events
       → AdvancesIn Step (take at events) olds (get_or events at d) new advance.ManyOpen
       → IsVerdict Step olds events (verdict.ManyOpen at)
-  judged_open new events olds at d h a = (
-    h,
-    subst (λ (l : List Event). HasManyOpen l) (sym (one_more events at d h)) a,
-  )
+  judged_open new events olds at d h a = grind (arith, one_more)
 
   pub judged_none : (events : List Event) (olds : List S) (at : ℕ) (d : Event)
       → at < length events → ¬ (MayFollow (take at events) (get_or events at d))
@@ -392,3 +363,29 @@ judged_advance StepOf machine old new events olds count at more d result j next 
     advances machine es olds (agrees_same (StepOf machine) es)
     (agrees_same (StepOf machine) (es ++ e ∷ [])) j.sound
     (next_fresh es e j.numbered (next es j.counts).1) j.front_of
+
+module _ {S : Type 0} (Step : S → ℕ → S → Type 0) where
+  -- an order explains no less than what is refused earlier
+  not_before : (olds : List S) (events : List Event) (index other : ℕ) → IsHistory events
+      → index < other → IsVerdict Step olds events (verdict.Refused index)
+      → IsVerdict Step olds events (verdict.Refused other) → ⊥
+  not_before olds events index other history less a b =
+      let more = other - (index + 1) in
+      a.2 (explained_take Step events olds (index + 1) more history (omega (arith, less, b.0))
+      (subst (λ n. IsExplained Step (take n events) olds) (back index other less) b.1))
+    where
+      back : (index other : ℕ) → index < other → other ≡ index + 1 + (other - (index + 1))
+      back index other less = omega (arith, less)
+
+  -- verdicts exclude each other
+  pub verdicts_exclude : VerdictsExclude Step
+  verdicts_exclude olds events front index other history = (
+    λ a b. b.3 history
+        (frontier_explained Step front.links.items front.slots.items events olds front.configs.items
+        a.0 a.1),
+    λ a b. elim (cases_order index other) [
+      | inl same ↦ same
+      | inr (inl less) ↦ absurd (not_before olds events index other history less a b)
+      | inr (inr more) ↦ absurd (not_before olds events other index history more b a)
+    ],
+  )

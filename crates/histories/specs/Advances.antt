@@ -1,14 +1,16 @@
--- What an event does to a front.
-use Rattle.std.specs.Prelude.{◌≡◌, ℕ, ◌<◌, ◌⊎◌, ◌↔◌, AllPairs, List, [], ◌∷◌, ◌++◌, length, Bool, true, false, Option, Some, None}
+-- What events do to a front, where it begins anew, and what a search finds.
+use Rattle.std.specs.Prelude.{◌≡◌, ℕ, ◌<◌, ◌⊎◌, ◌↔◌, AllPairs, List, [], ◌∷◌, ◌++◌, length, Bool, true, false, Option, Some, None, ◌+◌, take}
 use Rattle.histories.specs.declared.event.Event.{Event}
 use Rattle.histories.specs.declared.event.Event.TheVariants.{Begin, End, Crash}
 use Rattle.histories.specs.declared.front.Advance.{Advance}
 use Rattle.histories.specs.declared.front.Advance.TheVariants as advance
 use Rattle.histories.specs.declared.front.Config.{Config}
 use Rattle.histories.specs.declared.front.Front.{Front}
-use Rattle.histories.specs.Histories.{IsOpen, begins}
+use Rattle.histories.specs.Histories.{IsOpen, begins, HasEnded, IsExplained, IsHistory, MayFollow, StandsAt}
 use Rattle.histories.specs.Frontier.{HasManyOpen, HasManyOrders, IsFrontOf, IsSame, IsSound}
 use Rattle.histories.specs.Gathering.{Finishes, IsClosed}
+use Rattle.histories.specs.declared.whole.Verdict.{Verdict}
+use Rattle.histories.specs.declared.whole.Verdict.TheVariants as verdict
 
 -- of the calls that are open, the machine makes each as the history has it
 abbrev pub Agrees : {S : Type 0} → (S → ℕ → S → Type 0) → (S → ℕ → S → Type 0) → List Event → Type 0
@@ -82,3 +84,45 @@ IsMadeAlone {M} {S} Step machine old call new true =
     → IsFrontOf (Step whole) new ((events ++ Begin call ∷ []) ++ End call ∷ []) olds
     × (0 < length new.configs.items)
 IsMadeAlone Step machine old call new false = IsSameFront old new
+
+-- no call is open
+abbrev pub IsQuiet : List Event → Type 0
+IsQuiet events = (call : ℕ) → 0 < begins call events → HasEnded events call
+
+-- Where no call is open, a new front begins with the states that the calls have left, and what
+-- comes next is judged from these alone: an order explains the whole history exactly where one
+-- explains the rest from one of these states. Else a call is open, and the front stays.
+abbrev pub BeginsAnew : {S : Type 0} → (S → ℕ → S → Type 0) → Front S → Front S → Bool → Type 0
+BeginsAnew {S} Step old new true =
+    (events : List Event) (olds : List S) → IsSound events → IsFrontOf Step old events olds
+    → IsQuiet events
+    × ((states : List S) × IsFrontOf Step new [] states
+    × ((rest : List Event) → IsSound rest → IsSound (events ++ rest)
+    → IsExplained Step (events ++ rest) olds ↔ IsExplained Step rest states))
+BeginsAnew {S} Step old new false =
+    (new ≡ old)
+    × ((events : List Event) (olds : List S) → IsFrontOf Step old events olds
+    → (call : ℕ) × IsOpen events call)
+
+-- Explained: the configurations are those of the orders that explain the history, and there is one.
+-- Refused: an order explains the events before this place, and none those up to it, nor all.
+-- ManyConfigs: orders that explain the events before this place, or those up to it, lead to more
+-- than 4,096 configurations.
+-- ManyOpen: more than 64 calls are open after the events up to this place.
+-- NoHistory: the event at this place may not follow those before it.
+abbrev pub IsVerdict : {S : Type 0} → (S → ℕ → S → Type 0) → List S → List Event → Verdict S
+    → Type 0
+IsVerdict Step olds events (verdict.Explained front) =
+    IsFrontOf Step front events olds × (0 < length front.configs.items) × IsHistory events
+IsVerdict Step olds events (verdict.Refused index) =
+    (index < length events) × IsExplained Step (take index events) olds
+    × (¬ (IsExplained Step (take (index + 1) events) olds))
+    × (IsHistory events → ¬ (IsExplained Step events olds))
+IsVerdict Step olds events (verdict.ManyConfigs index) =
+    (index < length events)
+    × (HasManyOrders Step (take index events) olds
+    ⊎ HasManyOrders Step (take (index + 1) events) olds)
+IsVerdict Step olds events (verdict.ManyOpen index) =
+    (index < length events) × HasManyOpen (take (index + 1) events)
+IsVerdict Step olds events (verdict.NoHistory index) =
+    (event : Event) × StandsAt events index event × (¬ (MayFollow (take index events) event))

@@ -1,5 +1,6 @@
--- How configurations are gathered, and calls are made in them.
-use Rattle.std.specs.Prelude.{◌≡◌, ℕ, zero, suc, ◌+◌, ◌<◌, ◌≤◌, ◌⊎◌, List, [], ◌∷◌, ◌++◌, length, get_or, Bool, true, false, All, AllPairs, Option, Some, None}
+-- How configurations are gathered, put into chains by the calls that wait, and calls are made in
+-- them.
+use Rattle.std.specs.Prelude.{◌≡◌, ℕ, zero, suc, ◌+◌, ◌<◌, ◌≤◌, ◌⊎◌, List, [], ◌∷◌, ◌++◌, length, get_or, Bool, true, false, All, AllPairs, Option, Some, None, ◌%◌}
 use Rattle.std.specs.Int.{bit_at}
 use Rattle.std.specs.Global.{Vec}
 use Rattle.std.specs.List.{Contains}
@@ -171,28 +172,21 @@ IsDropped slot config dropped =
     (bit_at config.waiting slot ≡ 1) × (dropped.state ≡ config.state)
     × (dropped.waiting ≡ cleared config.waiting slot) × (dropped.made ≡ path_of config)
 
--- the call of the first slot moves before that of the other one, if this waits
-abbrev pub MovesBeforeAt : {S : Type 0} → (S → ℕ → S → Type 0) → List (Option ℕ) → ℕ → ℕ → ℕ → ℕ
-    → Type 0
-MovesBeforeAt Step slots waiting slot call at =
-    (other : ℕ) → (at ≡ slot → ⊥) → IsWaiting slots waiting at other → MovesBefore Step call other
+-- the call has a slot that is not the other one, and waits
+abbrev pub IsBeside : List (Option ℕ) → ℕ → ℕ → ℕ → ℕ → Type 0
+IsBeside slots waiting slot at call = (at ≡ slot → ⊥) × IsWaiting slots waiting at call
 
 -- the call in the slot moves before all others that wait
 abbrev pub MovesFirst : {S : Type 0} → (S → ℕ → S → Type 0) → List (Option ℕ) → ℕ → ℕ → Type 0
 MovesFirst Step slots slot waiting =
     (call : ℕ) × HasSlot slots slot call
-    × ((at : ℕ) → MovesBeforeAt Step slots waiting slot call at)
-
--- a call in the slot that waits cannot be made, if it is not in the other one
-abbrev pub IsBlockedAt : {S : Type 0} → (S → ℕ → S → Type 0) → List (Option ℕ) → Config S → ℕ → ℕ
-    → Type 0
-IsBlockedAt {S} Step slots config slot at =
-    (other : ℕ) (new : S) → (at ≡ slot → ⊥) → IsWaiting slots config.waiting at other
-    → ¬ (Step config.state other new)
+    × ((at other : ℕ) → IsBeside slots waiting slot at other → MovesBefore Step call other)
 
 -- no call that waits can be made but that in the slot
 abbrev pub IsAlone : {S : Type 0} → (S → ℕ → S → Type 0) → List (Option ℕ) → Config S → ℕ → Type 0
-IsAlone Step slots config slot = (at : ℕ) → IsBlockedAt Step slots config slot at
+IsAlone {S} Step slots config slot =
+    (at other : ℕ) (new : S) → IsBeside slots config.waiting slot at other
+    → ¬ (Step config.state other new)
 
 -- the call in the slot is made first of those that wait, or moves before them
 abbrev pub ComesFirst : {S : Type 0} → (S → ℕ → S → Type 0) → List (Option ℕ) → Config S → ℕ
@@ -362,3 +356,35 @@ Finishes old slot configs new result =
     FreesSlot old.slots.items slot new.slots.items
     × (((4096 < length configs) × (result ≡ advance.ManyConfigs))
     ⊎ AreLaidIn old.links.items configs new result)
+
+-- the chain of a set of slots
+abbrev pub chain_of : ℕ → ℕ
+chain_of set = set % 1021
+
+-- the chain of the configuration at a place
+abbrev pub chain_at : {S : Type 0} → List (Config S) → Config S → ℕ → ℕ
+chain_at configs d index = chain_of (get_or configs index d).waiting
+
+-- Places below the length of `before` are in chains. The head of a chain is above each of its
+-- places, and one above the last of them. The number of a place is above each earlier place of its
+-- chain, and one above the last of these.
+pub record AreLinked (chain : ℕ → ℕ) (heads before : List ℕ) : Type 0 where
+  pub reached : (index : ℕ) → index < length before → index < get_or heads (chain index) 0
+  pub head : (number index : ℕ) → get_or heads number 0 ≡ index + 1
+      → (index < length before) × (chain index ≡ number)
+  pub kept : (index at : ℕ) → index < at → at < length before → chain index ≡ chain at
+      → index < get_or before at 0
+  pub link : (at index : ℕ) → at < length before → get_or before at 0 ≡ index + 1
+      → (index < at) × (chain index ≡ chain at)
+
+-- the first configurations are in chains
+abbrev pub AreChained : {S : Type 0} → List (Config S) → List ℕ → List ℕ → Type 0
+AreChained {S} configs heads before =
+    (length before ≤ length configs)
+    × ((d : Config S) → AreLinked (chain_at configs d) heads before)
+
+-- the configurations between two places are others than this one
+abbrev pub AreOther : {S : Type 0} → List (Config S) → ℕ → ℕ → Config S → Type 0
+AreOther {S} configs from end config =
+    (index : ℕ) (d : Config S) → from ≤ index → index < end
+    → ¬ (IsSame (get_or configs index d) config)

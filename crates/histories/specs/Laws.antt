@@ -3,9 +3,9 @@ use Rattle.std.specs.Prelude.{◌≡◌, ℕ, ◌↔◌, zero, suc, List, [], �
 use Rattle.histories.specs.declared.event.Event.{Event}
 use Rattle.histories.specs.declared.event.Event.TheVariants.{Begin, End}
 use Rattle.histories.specs.declared.front.Front.{Front}
-use Rattle.histories.specs.declared.verdict.Verdict.TheVariants as verdict
+use Rattle.histories.specs.declared.whole.Verdict.TheVariants as verdict
 use Rattle.histories.specs.Histories.{Explains, IsHistory, Leads}
-use Rattle.histories.specs.Verdicts.{IsVerdict}
+use Rattle.histories.specs.Advances.{IsVerdict}
 
 -- A history that is explained is not refused, and it is refused at one place.
 abbrev pub VerdictsExclude : {S : Type 0} → (S → ℕ → S → Type 0) → Type 0

@@ -3,9 +3,8 @@
 //! A chain goes from its last configuration to the one before it. Links name how many
 //! configurations there are up to the one that they lead to, or 0 at the end.
 ghost use Rattle.std.specs.Prelude.{◌≡◌, ◌+◌, ◌<◌, ◌≤◌, ◌↔◌, IfOk, IsFalse, IsTrue, OnOk, get_or, length};
-ghost use Rattle.histories.specs.Chained.{AreChained, AreOther, chain_of};
+ghost use Rattle.histories.specs.Gathering.{AreChained, AreOther, chain_of, HasSame};
 ghost use Rattle.histories.specs.Frontier.{IsSame};
-ghost use Rattle.histories.specs.Gathering.{HasSame};
 
 use super::front::Config;
 use super::machine::Machine;
@@ -60,7 +59,7 @@ pub fn is_in_chain<M: Machine>(
 }
 
 /// Puts one more configuration into its chain.
-#[tactic(auto, using(crate::proofs::Linking::chained_more))]
+#[tactic(auto, using(crate::proofs::Gathering::chained_more))]
 fn link<S>(
     configs: &[Config<S>],
     heads: &mut [usize],

@@ -1,16 +1,16 @@
 //! A call that ends is made.
-ghost use Rattle.std.specs.Prelude.{◌≡◌, ◌<◌, ◌≤◌, ◌++◌, ◌∷◌, [], ℕ, IfOk, IsTrue, OnOk, length};
+ghost use Rattle.std.specs.Prelude.{◌≡◌, ◌<◌, ◌≤◌, ◌++◌, ◌∷◌, [], ℕ, IfNone, IfOk, IfSome, IsTrue, OnOk, length};
 ghost use Rattle.std.specs.Int.{bit_at};
 ghost use Rattle.histories.specs.Frontier.{HasSlot, IsWaiting, cleared};
-ghost use Rattle.histories.specs.Gathering.{FromOne, Gathers, GoesOn, ComesFirst, IsAlone, IsBlockedAt, IsCloseOutcome, IsClosedInPlace, IsDone, IsDropped, IsMadeFirst, IsNextAt, IsNextIn, IsNextLayer, IsNextOther, MovesBeforeAt, MovesFirst, WaitsInNone, spot_of};
+ghost use Rattle.histories.specs.Gathering.{FromOne, Gathers, GoesOn, ComesFirst, IsAlone, IsBeside, IsCloseOutcome, IsClosedInPlace, IsDone, IsDropped, IsMadeFirst, IsNextAt, IsNextIn, IsNextLayer, IsNextOther, MovesFirst, WaitsInNone, spot_of};
 
 use super::front::{Config, MAX_CONFIGS};
 use super::gather::{Gathered, add, add_new, copy_of, has_same};
-use super::in_place::make_in;
 use super::left::Left;
 use super::machine::Machine;
-use super::sets::{ALL, has, without};
+use super::quiet::make_in;
 use super::settle::{settle, settle_all};
+use super::slots::{ALL, has, without};
 use std::alloc::{AllocError, Global};
 
 /// The capacity that is left for calls that are made later in the same step.
@@ -168,26 +168,17 @@ fn make_last<M: Machine>(
     make_call(alloc, machine, slots, &config, slot, call, next)
 }
 
-/// Whether the call moves before the one in the other slot, if another one waits there.
-fn moves_before_slot<M: Machine>(
-    machine: &M,
-    slots: &[Option<usize>],
-    waiting: u64,
-    slot: usize,
-    call: usize,
-    at: usize,
-) -> bool
+/// The call that has a slot and waits, if this is not the other slot.
+fn waits_beside(slots: &[Option<usize>], waiting: u64, slot: usize, at: usize) -> Option<usize>
     requires few { length slots.now ≤ 64 }
     requires within { at < length slots.now }
-    ensures { IsTrue result → MovesBeforeAt (M.Step machine.now) slots.now waiting slot call at }
+    ensures some { IfSome result (λ other. IsBeside slots.now waiting slot at other) }
+    ensures none { IfNone result ((other : ℕ) → IsBeside slots.now waiting slot at other → ⊥) }
 {
     if at == slot || !has(waiting, at) {
-        return true;
+        return None;
     }
-    match slots[at] {
-        Some(other) => machine.moves_before(call, other),
-        None => true,
-    }
+    slots[at]
 }
 
 /// Whether the call in the slot is known to move before all others that wait.
@@ -200,33 +191,13 @@ fn moves_first<M: Machine>(machine: &M, slots: &[Option<usize>], waiting: u64, s
         return false;
     };
     for at in 0..slots.len() {
-        if !moves_before_slot(machine, slots, waiting, slot, call, at) {
-            return false;
+        if let Some(other) = waits_beside(slots, waiting, slot, at) {
+            if !machine.moves_before(call, other) {
+                return false;
+            }
         }
     }
     true
-}
-
-/// Whether the call in the slot cannot be made in the configuration, if it waits and is not this
-/// one.
-fn is_blocked_at<M: Machine>(
-    machine: &M,
-    slots: &[Option<usize>],
-    config: &Config<M::State>,
-    slot: usize,
-    at: usize,
-) -> bool
-    requires few { length slots.now ≤ 64 }
-    requires within { at < length slots.now }
-    ensures { IsTrue result → IsBlockedAt (M.Step machine.now) slots.now config.now slot at }
-{
-    if at == slot || !has(config.waiting, at) {
-        return true;
-    }
-    match slots[at] {
-        Some(other) => machine.is_blocked(&config.state, other),
-        None => true,
-    }
 }
 
 /// Whether no call that waits but that in the slot can be made in the configuration.
@@ -240,8 +211,10 @@ fn is_alone<M: Machine>(
     ensures { IsTrue result → IsAlone (M.Step machine.now) slots.now config.now slot }
 {
     for at in 0..slots.len() {
-        if !is_blocked_at(machine, slots, config, slot, at) {
-            return false;
+        if let Some(other) = waits_beside(slots, config.waiting, slot, at) {
+            if !machine.is_blocked(&config.state, other) {
+                return false;
+            }
         }
     }
     true
@@ -291,12 +264,7 @@ fn waits_in_none<S>(configs: &[Config<S>], slot: usize) -> bool
     requires { slot < 64 }
     ensures { IsTrue result → WaitsInNone slot configs.now }
 {
-    for config in configs {
-        if has(config.waiting, slot) {
-            return false;
-        }
-    }
-    true
+    configs.iter().all(|config| !has(config.waiting, slot))
 }
 
 /// Closes the configurations in place, where that can be: the call in the slot waits in none of

@@ -1,9 +1,8 @@
 //! Configurations that are gathered, each once.
 ghost use Rattle.std.specs.Prelude.{◌≡◌, ◌↔◌, ◌∷◌, List, [], IfOk, OnOk, IsTrue, false};
 ghost use Rattle.histories.specs.declared.front.Link.{Link};
-ghost use Rattle.histories.specs.Chained.{AreChained};
+ghost use Rattle.histories.specs.Gathering.{AreChained, FromOne, Gathers, IsCopy, IsKnown, spot_of};
 ghost use Rattle.histories.specs.Frontier.{IsFrontOf, IsSame};
-ghost use Rattle.histories.specs.Gathering.{FromOne, Gathers, IsCopy, IsKnown, spot_of};
 
 use super::chained::{is_in_chain, is_same, link_all};
 use super::front::{Config, Front};
@@ -25,7 +24,7 @@ pub struct Gathered<S> {
 impl<S> Model for Gathered<S> {
     ghost use Rattle.std.specs.Prelude.{List};
     ghost use Rattle.histories.specs.declared.front.Config.{Config};
-    ghost use Rattle.histories.specs.Chained.{AreChained};
+    ghost use Rattle.histories.specs.Gathering.{AreChained};
 
     ghost Value = { List (Config S) };
 

@@ -6,7 +6,7 @@ ghost use Rattle.histories.specs.Gathering.{AreSame, AreSettled, AreSettledEach,
 use super::front::Config;
 use super::gather::joined;
 use super::machine::Machine;
-use super::sets::{has, without};
+use super::slots::{has, without};
 use std::alloc::{AllocError, Global};
 use std::mem;
 

@@ -1,7 +1,8 @@
-//! The slots of the calls that are open.
-ghost use Rattle.std.specs.Prelude.{◌≡◌, ◌<◌, ◌≤◌, None, IfNone, IfOk, IfSome, IsFalse, IsTrue, ℕ, length, get_or};
-ghost use Rattle.histories.specs.Frontier.{HasSlot};
+//! The slots of the calls that are open, and sets of slots: the bit of each slot of a set is set.
+ghost use Rattle.std.specs.Prelude.{◌≡◌, ◌<◌, ◌≤◌, None, IfNone, IfOk, IfSome, IsFalse, IsTrue, ℕ, length, get_or, ◌↔◌};
+ghost use Rattle.histories.specs.Frontier.{HasSlot, cleared, put};
 ghost use Rattle.histories.specs.Gathering.{AreTaken, FreesSlot, TakesSlot};
+ghost use Rattle.std.specs.Int.{bit_at};
 
 use super::front::MAX_OPEN;
 use std::alloc::AllocError;
@@ -73,4 +74,33 @@ pub fn are_free(slots: &[Option<usize>]) -> bool
         }
     }
     true
+}
+
+/// The set of all slots.
+pub const ALL: u64 = u64::MAX;
+
+/// Whether the slot is in the set.
+pub fn has(set: u64, slot: usize) -> bool
+    requires { slot < 64 }
+    ensures { IsTrue result ↔ (bit_at set slot ≡ 1) }
+{
+    set >> slot & 1 == 1
+}
+
+/// The set without the slot.
+#[tactic(auto, unfolding(crate::specs::Frontier::cleared))]
+pub fn without(set: u64, slot: usize) -> u64
+    requires { slot < 64 }
+    ensures { result ≡ cleared set slot }
+{
+    set & !(1 << slot)
+}
+
+/// The set with the slot.
+#[tactic(auto, unfolding(crate::specs::Frontier::put))]
+pub fn with(set: u64, slot: usize) -> u64
+    requires { slot < 64 }
+    ensures { result ≡ put set slot }
+{
+    set | 1 << slot
 }

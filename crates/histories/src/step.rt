@@ -12,9 +12,8 @@ use super::front::{Advance, Config, Front, MAX_CONFIGS};
 use super::gather::joined;
 use super::links::lay_all;
 use super::machine::Machine;
-use super::sets::{has, with};
 use super::settle::settle_all;
-use super::slots::{free, slot_of, take_slot};
+use super::slots::{free, has, slot_of, take_slot, with};
 use std::alloc::{AllocError, Global};
 use std::mem;
 

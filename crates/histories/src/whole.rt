@@ -1,16 +1,31 @@
-//! A whole history.
+//! A whole history, and what is found of it.
 ghost use Rattle.std.specs.Prelude.{◌≡◌, ◌<◌, ◌≤◌, ◌+◌, ◌^◌, ◌++◌, ◌∷◌, List, [], IfNone, IfOk, IfSome, length};
 ghost use Rattle.histories.specs.declared.event.Event.{Event};
 ghost use Rattle.histories.specs.Histories.{IsNext, MayFollow, begun};
-ghost use Rattle.histories.specs.Verdicts.{IsVerdict};
+ghost use Rattle.histories.specs.Advances.{IsVerdict};
 
 use super::event::Event;
-use super::front::Advance;
+use super::front::{Advance, Front};
 use super::gather::start;
 use super::machine::Machine;
 use super::step::advance;
-use super::verdict::Verdict;
 use std::alloc::{AllocError, Global};
+
+/// Whether orders explain a history.
+#[derive(Debug, Drop)]
+pub enum Verdict<S> {
+    /// The configurations of this front are those of all orders that do, with the calls that wait
+    /// still to be made or not: at least one. Their orders are read from its links.
+    Explained(Front<S>),
+    /// No order explains the events up to this one, and one does explain those before it.
+    Refused(usize),
+    /// At this event more than `MAX_CONFIGS` configurations were to be followed: not decided.
+    ManyConfigs(usize),
+    /// From this event on more than `MAX_OPEN` calls are open: not decided.
+    ManyOpen(usize),
+    /// This event may not follow those before it.
+    NoHistory(usize),
+}
 
 /// How many calls have begun after the event, or `None` where a call begins that does not have the
 /// next number.

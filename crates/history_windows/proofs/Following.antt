@@ -1,5 +1,5 @@
 -- Windows that go on event by event.
-use Rattle.std.proofs.Common.{◌≡◌, ◌⊎◌, ℕ, zero, suc, ◌+◌, ◌-◌, ◌<◌, ◌≤◌, List, [], ◌∷◌, ◌++◌, length, take, get_or, refl, sym, ◌∙◌, ap, subst, arith, take_all, true, Option, Some}
+use Rattle.std.proofs.Common.{◌≡◌, ◌⊎◌, ℕ, zero, suc, ◌+◌, ◌-◌, ◌<◌, ◌≤◌, List, [], ◌∷◌, ◌++◌, length, take, get_or, refl, sym, ◌∙◌, ap, subst, arith, take_all, true, Some}
 use Rattle.std.proofs.lemmas.List.{length-take-le, take-take}
 use Rattle.std.proofs.lemmas.Option.{slice_get-get_or}
 use Rattle.histories.specs.declared.event.Event.{Event}
@@ -8,10 +8,9 @@ use Rattle.histories.specs.declared.front.Advance.{Advance}
 use Rattle.histories.specs.declared.front.Advance.TheVariants as advance
 use Rattle.histories.specs.declared.front.Config.{Config}
 use Rattle.histories.specs.declared.front.Front.{Front}
-use Rattle.histories.specs.declared.front.Link.{Link}
 use Rattle.histories.specs.Advances.{AdvancesIn, IsAdvance, IsMadeAlone, IsSameFront}
 use Rattle.histories.specs.Histories.{begins, IsExplained, IsHistory, MayFollow, StandsAt}
-use Rattle.histories.specs.Frontier.{HasManyOpen, IsFrontOf, IsFrontier, IsSound}
+use Rattle.histories.specs.Frontier.{HasManyOpen, IsFrontOf, IsSound}
 use Rattle.histories.proofs.Advancing.{front_same}
 use Rattle.histories.proofs.Events.{stands_within}
 use Rattle.histories.proofs.Verdicts.{agrees_same, explained_take, next_fresh, next_of, one_more}
@@ -102,18 +101,19 @@ follows_cut {S} Step olds cut.Never es count old new is goes whole same =
 
 -- the front has the same slots, configurations and links
 pub follows_same : {S : Type 0} (Step : S → ℕ → S → Type 0) (olds : List S) (c : Cut)
-    (es : List Event) (w same : Window S) → same.begin ≡ w.begin → IsSameFront w.front same.front
-    → FollowsTo Step olds c es w → FollowsTo Step olds c es same
-follows_same {S} Step olds c es w same begins is f =
+    (es : List Event) (w : Window S) (front : Front S) → IsSameFront w.front front
+    → FollowsTo Step olds c es w
+    → FollowsTo Step olds c es (record { begin = w.begin; front = front })
+follows_same {S} Step olds c es w front is f =
     let front_of : (events : List Event) (states : List S) → IsFrontOf Step w.front events states
-    → IsFrontOf Step same.front events states =
-    λ events states. front_same Step events states w.front same.front is in record {
+    → IsFrontOf Step front events states =
+    λ events states. front_same Step events states w.front front is in record {
       goes = record {
         is = record {
           past = f.goes.is.past;
           inside = f.goes.is.inside;
           split = f.goes.is.split;
-          begins = begins ∙ f.goes.is.begins;
+          begins = f.goes.is.begins;
           states = f.goes.is.states;
           cut = f.goes.is.cut;
           front = front_of f.goes.is.inside f.goes.is.states f.goes.is.front;
@@ -193,26 +193,29 @@ module _ {M S : Type 0} (StepOf : M → S → ℕ → S → Type 0) (machine : M
     stops advance.NoEvent closed = goes_closed Step olds first w g e may new closed
 
   -- of a window whose front is the same
-  module _ (c : Cut) (w same : Window S) (f : FollowsTo Step olds c first w)
-      (is : (same.begin ≡ w.begin) × IsSameFront w.front same.front) (new : Front S) where
-    kept : FollowsTo Step olds c first same
-    kept = follows_same Step olds c first w same is.0 is.1 f
+  module _ (c : Cut) (w : Window S) (front : Front S) (f : FollowsTo Step olds c first w)
+      (is : IsSameFront w.front front) (new : Front S) where
+    abbrev same : Window S
+    same = record { begin = w.begin; front = front }
 
-    pub stopped : (result : Advance) → IsAdvance StepOf machine same.front e new result
+    kept : FollowsTo Step olds c first same
+    kept = follows_same Step olds c first w front is f
+
+    pub stopped : (result : Advance) → IsAdvance StepOf machine front e new result
         → StopsBy Step olds es at result
     stopped result advances =
         stops same kept.goes new result (does same kept.goes new result advances)
 
     pub follows_done : (window : Window S)
-        → IsAdvance StepOf machine same.front e new advance.Done
-        → CutsAt Step c (at + 1) (record { begin = same.begin; front = new }) window
+        → IsAdvance StepOf machine front e new advance.Done
+        → CutsAt Step c (at + 1) (record { begin = w.begin; front = new }) window
         → FollowsTo Step olds c (take (at + 1) es) window
     follows_done window advances cuts =
         follows_cut Step olds c (take (at + 1) es) (at + 1)
-        (record { begin = same.begin; front = new }) window
+        (record { begin = w.begin; front = new }) window
         (sym (length-take-le (at + 1) es (omega arith)))
         (subst
-        (λ (l : List Event). GoesTo Step olds l (record { begin = same.begin; front = new }))
+        (λ (l : List Event). GoesTo Step olds l (record { begin = w.begin; front = new }))
         (sym more)
         (goes_done Step olds first same kept.goes e may new
         (does same kept.goes new advance.Done advances)))

@@ -9,11 +9,10 @@ use Rattle.histories.specs.declared.event.Event.{Event}
 use Rattle.histories.specs.declared.event.Event.TheVariants.{Begin, End}
 use Rattle.histories.specs.declared.front.Advance.TheVariants as advance
 use Rattle.histories.specs.declared.front.Front.{Front}
-use Rattle.histories.specs.Advances.{Agrees, IsAdvance, IsMadeAlone, IsSameFront}
+use Rattle.histories.specs.Advances.{Agrees, IsAdvance, IsMadeAlone, IsSameFront, BeginsAnew}
 use Rattle.histories.specs.Histories.{begins, IsOpen, MayFollow, StandsAt}
 use Rattle.histories.specs.Frontier.{HasSlot, IsFrontOf, LeadTo, Runs, order_of}
 use Rattle.histories.specs.Histories.{Explains, Leads, times}
-use Rattle.histories.specs.Splitting.{BeginsAnew}
 use Rattle.histories.proofs.Counting.{times-cons, times_one}
 use Rattle.histories.proofs.Cutting.{begins-append}
 use Rattle.histories.proofs.Events.{begins_none}
@@ -92,8 +91,7 @@ pub same_front : {S : Type 0} (Step : S → ℕ → S → Type 0) (olds : List S
     → IsFrontAfter Step olds es old → IsFrontAfter Step olds es new
 same_front Step olds es old new same f = (
   f.0,
-  (follows_same Step olds cut.WhereQuiet es (record { begin = f.0; front = old })
-      (record { begin = f.0; front = new }) refl same
+  (follows_same Step olds cut.WhereQuiet es (record { begin = f.0; front = old }) new same
       (record { goes = f.1; whole = λ never. absurd (cc) })).goes,
 )
 

@@ -4,10 +4,9 @@ use Rattle.histories.specs.declared.event.Event.{Event}
 use Rattle.histories.specs.declared.event.Event.TheVariants.{Begin, End, Crash}
 use Rattle.histories.specs.declared.front.Advance.TheVariants as advance
 use Rattle.histories.specs.declared.front.Front.{Front}
-use Rattle.histories.specs.Advances.{AdvancesIn}
+use Rattle.histories.specs.Advances.{AdvancesIn, BeginsAnew, IsQuiet}
 use Rattle.histories.specs.Histories.{begins, IsExplained, IsOpen, MayFollow}
 use Rattle.histories.specs.Frontier.{HasManyOpen, IsFrontOf, IsSound}
-use Rattle.histories.specs.Splitting.{BeginsAnew, IsQuiet}
 use Rattle.histories.proofs.Events.{begins_none, open_begin_now, sound_end, sound_none}
 use Rattle.histories.proofs.Explaining.{explains_begin, explains_end}
 use Rattle.histories.proofs.Cutting.{begins-append}

@@ -1,56 +1,24 @@
 -- Histories that are made of two parts.
-use Rattle.std.proofs.Common.{ℕ, zero, suc, ◌<◌, ◌⊎◌, List, [], ◌∷◌, ◌++◌, arith, inl, inr}
+use Rattle.std.proofs.Common.{ℕ, ◌<◌, ◌⊎◌, List, ◌++◌, arith, inl, inr}
 use Rattle.std.proofs.lemmas.Bool.{cases_lt}
 use Rattle.histories.specs.declared.event.Event.{Event}
-use Rattle.histories.specs.declared.event.Event.TheVariants.{End, Crash}
-use Rattle.histories.specs.Histories.{begins, HasEnded, IsOpen, StandsAt}
+use Rattle.histories.specs.Histories.{begins, HasEnded, IsOpen}
 use Rattle.histories.specs.Frontier.{IsSound}
-use Rattle.histories.specs.Splitting.{IsQuiet}
-use Rattle.histories.proofs.Cutting.{begins-append}
-
-stands_left : (es fs : List Event) (k : ℕ) (x : Event) → StandsAt es k x
-    → StandsAt (es ++ fs) k x
-stands_left [] fs k x at = absurd (cc)
-stands_left (y ∷ es) fs zero x at = at
-stands_left (y ∷ es) fs (suc k) x at = stands_left es fs k x at
-
-stands_right : (es fs : List Event) (k : ℕ) (x : Event) → StandsAt fs k x
-    → (index : ℕ) × StandsAt (es ++ fs) index x
-stands_right [] fs k x at = (k, at)
-stands_right (y ∷ es) fs k x at = let r = stands_right es fs k x at in (suc r.0, r.1)
-
-stands_either : (es fs : List Event) (k : ℕ) (x : Event) → StandsAt (es ++ fs) k x
-    → StandsAt es k x ⊎ ((j : ℕ) × StandsAt fs j x)
-stands_either [] fs k x at = inr (k, at)
-stands_either (y ∷ es) fs zero x at = inl at
-stands_either (y ∷ es) fs (suc k) x at = stands_either es fs k x at
+use Rattle.histories.specs.Advances.{IsQuiet}
+use Rattle.histories.proofs.Events.{begins-append, ends_either, ends_left, ends_right}
 
 pub ended_left : (es fs : List Event) (c : ℕ) → HasEnded es c → HasEnded (es ++ fs) c
-ended_left es fs c h =
-    elim h.1 [
-      | inl x ↦ (h.0, inl (stands_left es fs h.0 (End c) x))
-      | inr x ↦ (h.0, inr (stands_left es fs h.0 (Crash c) x))
-    ]
+ended_left es fs c h = (h.0, ends_left es fs h.0 c h.1)
 
 pub ended_right : (es fs : List Event) (c : ℕ) → HasEnded fs c → HasEnded (es ++ fs) c
-ended_right es fs c h =
-    elim h.1 [
-      | inl x ↦ let r = stands_right es fs h.0 (End c) x in (r.0, inl r.1)
-      | inr x ↦ let r = stands_right es fs h.0 (Crash c) x in (r.0, inr r.1)
-    ]
+ended_right es fs c h = let r = ends_right es fs h.0 c h.1 in (r.0, r.2)
 
 pub ended_either : (es fs : List Event) (c : ℕ) → HasEnded (es ++ fs) c
     → HasEnded es c ⊎ HasEnded fs c
 ended_either es fs c h =
-    elim h.1 [
-      | inl x ↦ elim (stands_either es fs h.0 (End c) x) [
-        | inl y ↦ inl (h.0, inl y)
-        | inr r ↦ inr (r.0, inl r.1)
-      ]
-      | inr x ↦ elim (stands_either es fs h.0 (Crash c) x) [
-        | inl y ↦ inl (h.0, inr y)
-        | inr r ↦ inr (r.0, inr r.1)
-      ]
+    elim (ends_either es fs h.0 c h.1) [
+      | inl x ↦ inl (h.0, x)
+      | inr r ↦ inr (r.0, r.2)
     ]
 
 -- where both parts are sound, and none begins a call of the other, so is the whole

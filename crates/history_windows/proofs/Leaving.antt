@@ -20,9 +20,7 @@ module _ (kept : ℕ → Bool) where
   from_kept : (x : Event) (es rest : List Event) → kept (call_of x) ≡ true
       → ((p : ℕ) (e : Event) → StandsAt rest p e → IsFrom es rest p e)
       → (p : ℕ) (e : Event) → StandsAt (x ∷ rest) p e → IsFrom (x ∷ es) (x ∷ rest) p e
-  from_kept x es rest t more zero e at =
-      let same : x ≡ e = cc in
-      (0, at, refl, subst (λ (y : Event). kept (call_of y) ≡ true) same t)
+  from_kept x es rest t more zero e at = grind arith
   from_kept x es rest t more (suc p) e at =
       let r = more p e at in
       (suc r.0, r.1, rw t (ap (λ (l : List Event). x ∷ l) r.2), r.3)
@@ -85,30 +83,14 @@ module _ (kept : ℕ → Bool) where
 
   pub ended_of : (es : List Event) (c : ℕ) → HasEnded (events_of kept es) c
       → HasEnded es c × (kept c ≡ true)
-  ended_of es c h =
-      elim h.1 [
-        | inl x ↦ let r = stands_of es h.0 (End c) x in ((r.0, inl r.1), r.3)
-        | inr x ↦ let r = stands_of es h.0 (Crash c) x in ((r.0, inr r.1), r.3)
-      ]
+  ended_of es c h = grind (arith, stands_of)
 
   over_of : (es : List Event) (c d : ℕ) → IsOver (events_of kept es) c d → IsOver es c d
-  over_of es c d o =
-      elim o.3 [
-        | inl x ↦
-            let r = both_of es o.0 o.1 (End c) (Begin d) o.2 x o.4 in
-            (r.0, r.1, r.2, inl r.3, r.4)
-        | inr x ↦
-            let r = both_of es o.0 o.1 (Crash c) (Begin d) o.2 x o.4 in
-            (r.0, r.1, r.2, inr r.3, r.4)
-      ]
+  over_of es c d o = grind (arith, both_of)
 
   -- how often a call begins that is kept, and any call
   other_call : (b c : ℕ) → kept b ≡ false → kept c ≡ true → eqb b c ≡ false
-  other_call b c f t =
-      elim (eqb_tells b c) [
-        | inl same ↦ absurd (let e : kept b ≡ kept c = ap kept same.1 in cc)
-        | inr other ↦ other.0
-      ]
+  other_call b c f t = grind (arith, eqb_tells)
 
   pub begins_of : (c : ℕ) (es : List Event) → kept c ≡ true
       → begins c (events_of kept es) ≡ begins c es
@@ -203,10 +185,7 @@ module _ (kept : ℕ → Bool) where
         → Explains Step (events_of kept es) old (filter kept order) new
     explains_of es old new order ex = record {
       once = λ c. omega (arith, times_fewer c order, ex.once c);
-      begun = λ c some.
-          let t = times_kept c order some in
-          let made : 0 < times c order = omega (arith, times_of c order t, some) in
-          omega (arith, begins_of c es t, ex.begun c made);
+      begun = λ c some. grind (arith, times_kept, times_of, begins_of);
       answered = λ c a.
           let r = answered_of es c a in
           omega (arith, times_of c order r.1, ex.answered c r.0);

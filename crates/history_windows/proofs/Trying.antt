@@ -6,10 +6,9 @@ use Rattle.histories.specs.declared.event.Event.TheVariants.{Begin}
 use Rattle.histories.specs.declared.front.Advance.{Advance}
 use Rattle.histories.specs.declared.front.Advance.TheVariants as advance
 use Rattle.histories.specs.declared.front.Front.{Front}
-use Rattle.histories.specs.Advances.{AdvancesIn, EndsOpen, Ends, IsAdvance}
+use Rattle.histories.specs.Advances.{AdvancesIn, EndsOpen, Ends, IsAdvance, IsQuiet}
 use Rattle.histories.specs.Histories.{begins, IsExplained, IsHistory, IsOpen, MayFollow, StandsAt}
 use Rattle.histories.specs.Frontier.{IsFrontOf, IsSound}
-use Rattle.histories.specs.Splitting.{IsQuiet}
 use Rattle.histories.proofs.Cutting.{begins-append}
 use Rattle.histories.proofs.Events.{begins_none, sound_none, stands_within}
 use Rattle.histories.proofs.Verdicts.{AreNumbered, agrees_same, ends_of, frontier_refused, next_fresh, next_of, numbered_more, numbered_none, one_more, sound_more}

@@ -1,14 +1,13 @@
 -- Windows of histories, and what is found of a history.
-use Rattle.std.specs.Prelude.{◌≡◌, ℕ, ◌+◌, ◌<◌, ◌⊎◌, ◌↔◌, List, ◌++◌, get_or, length, take, Bool, true, false}
+use Rattle.std.specs.Prelude.{◌≡◌, ℕ, ◌+◌, ◌<◌, ◌⊎◌, ◌↔◌, List, ◌++◌, get_or, length, take, true, false}
 use Rattle.std.specs.List.{Contains}
 use Rattle.histories.specs.declared.event.Event.{Event}
-use Rattle.histories.specs.declared.event.Event.TheVariants.{Begin, End}
+use Rattle.histories.specs.declared.event.Event.TheVariants.{End}
 use Rattle.histories.specs.declared.front.Config.{Config}
 use Rattle.histories.specs.declared.front.Front.{Front}
-use Rattle.histories.specs.Advances.{IsMadeAlone, IsSameFront}
+use Rattle.histories.specs.Advances.{BeginsAnew, IsQuiet}
 use Rattle.histories.specs.Histories.{Explains, IsExplained, StandsAt}
 use Rattle.histories.specs.Frontier.{HasManyOpen, HasManyOrders, IsFrontOf, IsSound, order_of}
-use Rattle.histories.specs.Splitting.{BeginsAnew, IsQuiet}
 use Rattle.history_windows.specs.declared.window.Cut.{Cut}
 use Rattle.history_windows.specs.declared.window.Cut.TheVariants as cut
 use Rattle.history_windows.specs.declared.window.Stop.{Stop}
@@ -108,14 +107,3 @@ BeginsWindow Step count old new =
 abbrev pub CutsAt : {S : Type 0} → (S → ℕ → S → Type 0) → Cut → ℕ → Window S → Window S → Type 0
 CutsAt Step cut.WhereQuiet count old new = BeginsWindow Step count old new
 CutsAt Step cut.Never count old new = new ≡ old
-
--- the call that begins at this place is answered next, and both events were followed in the window;
--- or nothing changed
-abbrev pub IsMadeAt : {M S : Type 0} → (M → S → ℕ → S → Type 0) → M → List Event → ℕ → Window S
-    → Window S → Bool → Type 0
-IsMadeAt Step machine events at old new true =
-    (new.begin ≡ old.begin)
-    × ((call : ℕ) × StandsAt events at (Begin call) × StandsAt events (at + 1) (End call)
-    × IsMadeAlone Step machine old.front call new.front true)
-IsMadeAt Step machine events at old new false =
-    (new.begin ≡ old.begin) × IsSameFront old.front new.front

@@ -1,12 +1,13 @@
-//! Following a history event by event.
-ghost use Rattle.std.specs.Prelude.{◌≡◌, ◌+◌, ◌<◌, IfErr, IfOk, IfSome, OnOk, length};
+//! Following a history event by event, also while replies are still to come.
+ghost use Rattle.std.specs.Prelude.{◌≡◌, ◌+◌, ◌<◌, IfErr, IfOk, IfSome, OnOk, length, []};
 ghost use Rattle.histories.specs.declared.event.Event.TheVariants.{Begin, End};
 ghost use Rattle.histories.specs.Frontier.{IsFrontOf};
 ghost use Rattle.histories.specs.Histories.{IsExplained, IsHistory, StandsAt};
-ghost use Rattle.history_windows.specs.Windows.{BeginsWindow, CutsAt, IsMadeAt, IsStop, IsWindowOf};
+ghost use Rattle.history_windows.specs.Goings.{IsMadeNext, GoesOn, HasPast, IsFrontAfter};
+ghost use Rattle.history_windows.specs.Windows.{BeginsWindow, CutsAt, IsStop, IsWindowOf};
 
 use super::window::{Cut, Stop, Window};
-use histories::{Advance, Event, Machine, advance, begin_anew, make_alone, start};
+use histories::{Advance, Event, Front, Machine, advance, begin_anew, make_alone, start};
 use std::alloc::{AllocError, Global};
 
 /// Begins a new window after so many events, where no call is open.
@@ -30,7 +31,7 @@ fn cut_at<M: Machine>(machine: &M, window: &mut Window<M::State>, count: usize, 
 }
 
 /// The call that the event at this index begins, if the next event is its end.
-pub(super) fn call_alone(events: &[Event], at: usize) -> Option<usize>
+fn call_alone(events: &[Event], at: usize) -> Option<usize>
     requires { at < length events.now }
     ensures { IfSome result (λ call. StandsAt events.now at (Begin call)
         × StandsAt events.now (at + 1) (End call)) }
@@ -46,17 +47,17 @@ pub(super) fn call_alone(events: &[Event], at: usize) -> Option<usize>
 
 /// Goes on with the event at this index and the next one, if they are the begin and the end of a
 /// call that can be made in place. Returns whether it did; else nothing changed.
-fn make_at<M: Machine>(
+fn make_next<M: Machine>(
     machine: &M,
-    window: &mut Window<M::State>,
+    front: &mut Front<M::State>,
     events: &[Event],
     at: usize,
 ) -> Result<bool, AllocError>
     requires { at < length events.now }
-    ensures { IfOk result (IsMadeAt M.Step machine.now events.now at window.old window.new) }
+    ensures { IfOk result (IsMadeNext M.Step machine.now events.now at front.old front.new) }
 {
     match call_alone(events, at) {
-        Some(call) => make_alone(machine, &mut window.front, call),
+        Some(call) => make_alone(machine, front, call),
         None => Ok(false),
     }
 }
@@ -85,7 +86,7 @@ pub(super) fn follow<M: Machine>(
     let mut window = Window { begin: 0, front };
     let mut at = 0;
     while at < events.len() {
-        if make_at(machine, &mut window, events, at)? {
+        if make_next(machine, &mut window.front, events, at)? {
             at += 2;
             cut_at(machine, &mut window, at, cut);
             continue;
@@ -101,4 +102,50 @@ pub(super) fn follow<M: Machine>(
         cut_at(machine, &mut window, at, cut);
     }
     Ok(Ok(window))
+}
+
+/// The front before any event, in these states. It is that of each machine: no call has begun.
+pub fn first_front<M: Machine>(
+    alloc: Global,
+    machine: &M,
+    states: &[M::State],
+) -> Result<Front<M::State>, AllocError>
+    requires { 0 < length states.now }
+    ensures { IfOk result (λ front. (whole : M)
+        → IsFrontAfter (M.Step whole) states.now [] front) }
+{
+    start(alloc, machine, states)
+}
+
+/// Goes on with more events of the history that the front is of. Returns whether orders explain
+/// all. Where it returns false, or memory was refused, the front is of no history any more. False
+/// is returned also where a bound of `histories` is passed.
+///
+/// The machine needs only the calls that are open in the front or begin in these events, with their
+/// replies. So a history is judged while it is still written, and what is kept grows with the calls
+/// that are open and with the links, which are dropped where no call is open.
+pub fn go_on<M: Machine>(
+    alloc: Global,
+    machine: &M,
+    front: &mut Front<M::State>,
+    events: &[Event],
+) -> Result<bool, AllocError>
+    requires { HasPast M.Step machine.now front.old events.now }
+    ensures { IfOk result (GoesOn M.Step machine.now front.old events.now front.new) }
+{
+    let mut at = 0;
+    while at < events.len() {
+        if make_next(machine, front, events, at)? {
+            at += 2;
+            begin_anew(machine, front);
+            continue;
+        }
+        match advance(alloc, machine, front, events[at])? {
+            Advance::Done => (),
+            _ => return Ok(false),
+        }
+        at += 1;
+        begin_anew(machine, front);
+    }
+    Ok(true)
 }

@@ -3,15 +3,10 @@
 #![tactic(auto)]
 
 mod follow;
-mod going;
-mod judge;
 pub mod laws;
 mod needed;
-mod order;
 mod window;
 
-pub use going::{first_front, go_on};
-pub use judge::judge_windows;
+pub use follow::{first_front, go_on};
 pub use needed::{MAX_TRIED, calls_left_out, is_kept};
-pub use order::order_in;
-pub use window::{Cut, Stop, Verdict, Window};
+pub use window::{Cut, Stop, Verdict, Window, judge_windows, order_in};

@@ -1,5 +1,5 @@
 use Rattle.std.proofs.Common.{◌-◌, arith, refl, sym}
-use Rattle.histories.proofs.Linking.{following_head, following_more}
+use Rattle.histories.proofs.Gathering.{following_head, following_more}
 use Rattle.histories.proofs.chained.is_in_chain.Goals as goal
 
 pub loop-left-init : goal.loop-left-init

@@ -1,5 +1,5 @@
 use Rattle.std.proofs.Common.{◌≡◌, length, replicate, ap}
-use Rattle.histories.proofs.Linking.{chained_none, copies}
+use Rattle.histories.proofs.Gathering.{chained_none, copies}
 use Rattle.histories.proofs.chained.link_all.Goals as goal
 
 pub link_rest-requires-2-clause-chained : goal.link_rest-requires-2-clause-chained

@@ -1,8 +1,8 @@
 use Rattle.std.proofs.Common.{ℕ, ◌<◌}
-use Rattle.histories.specs.Gathering.{IsBlockedAt}
+use Rattle.histories.specs.Gathering.{IsBeside}
 use Rattle.histories.proofs.close.is_alone.Given as goal
 
 abbrev pub invariant-loop-at : goal.invariant-loop-at
 invariant-loop-at g l =
-    (at : ℕ) → at < l.at
-    → IsBlockedAt (g.M.Machine.Step l.machine) l.slots l.config l.slot at
+    (at other : ℕ) (new : _) → at < l.at → IsBeside l.slots l.config.waiting l.slot at other
+    → ¬ (g.M.Machine.Step l.machine l.config.state other new)

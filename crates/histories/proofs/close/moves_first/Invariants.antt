@@ -1,8 +1,9 @@
 use Rattle.std.proofs.Common.{ℕ, ◌<◌}
-use Rattle.histories.specs.Gathering.{MovesBeforeAt}
+use Rattle.histories.specs.Frontier.{MovesBefore}
+use Rattle.histories.specs.Gathering.{IsBeside}
 use Rattle.histories.proofs.close.moves_first.Given as goal
 
 abbrev pub invariant-loop-at : goal.invariant-loop-at
 invariant-loop-at g l =
-    (at : ℕ) → at < l.at
-    → MovesBeforeAt (g.M.Machine.Step l.machine) l.slots l.waiting l.slot l.call at
+    (at other : ℕ) → at < l.at → IsBeside l.slots l.waiting l.slot at other
+    → MovesBefore (g.M.Machine.Step l.machine) l.call other

@@ -1,4 +1,4 @@
-use Rattle.histories.proofs.Linking.{chained_push}
+use Rattle.histories.proofs.Gathering.{chained_push}
 use Rattle.histories.proofs.gather.add_new.Goals as goal
 
 pub invariant_of-gathered-2 : goal.invariant_of-gathered-2

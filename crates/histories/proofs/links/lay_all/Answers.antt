@@ -1,39 +1,34 @@
-use Rattle.std.proofs.Common.{◌<◌, ◌∙◌, arith, get_or, length, refl, set}
-use Rattle.std.proofs.lemmas.List.{get_or-set_other, get_or_default, length-set}
-use Rattle.histories.proofs.Chains.{are_laid_more, grows_none, grows_then}
+use Rattle.std.proofs.Common.{◌<◌, arith, get_or, length}
+use Rattle.std.proofs.lemmas.List.{get_or_default}
+use Rattle.histories.specs.Gathering.{IsLaid}
+use Rattle.histories.proofs.Chains.{grows_none, grows_then, laid_before, laid_grows}
+use Rattle.histories.proofs.Places.{done_as, done_more, done_none}
 use Rattle.histories.proofs.links.lay_all.Goals as goal
 
 pub loop-config-init : goal.loop-config-init
 loop-config-init g c = (
-  record {
-    many = refl;
-    done = λ index d h. absurd (omega (arith, h));
-    rest = λ index d h. refl;
-  },
+  done_none (IsLaid c.args.links.now.items c.args.links.now.items) c.args.configs.now,
   grows_none c.args.links.now.items,
 )
 
 pub loop-config-preserved : goal.loop-config-preserved
 loop-config-preserved g c =
-    let configs = c.args.configs.now in
+    let links = c.args.links.now.items in
+    let mid = c.loop-config.links.items in
+    let more = c.lay_one.new.links.items in
     let now = c.loop-config.configs in
     let at = c.loop-config.config-index in
     let one = c.lay_one.new.config in
-    let before = c.loop-config.invariant.0 in
-    let h : at < length now = omega (arith, c.loop-config-test.true, before.many) in
+    let before = c.loop-config.invariant in
+    let laid = c.in_ok-lay_one.ensures in
+    let h : at < length now = omega (arith, c.loop-config-test.true, before.0.many) in
     let config = get_or now at c.config-item.result in (
-      record {
-        many = length-set now at one ∙ before.many;
-        done = are_laid_more c.args.links.now.items c.loop-config.links.items
-            c.lay_one.new.links.items configs now (set now at one) at config one h before.many
-            before.done before.rest c.loop-config.invariant.1
-            (get_or_default now at c.config-item.result config h) refl c.in_ok-lay_one.ensures;
-        rest = λ index d past.
-            get_or-set_other now at index one d (λ e. absurd (omega (arith, past, e)))
-            ∙ before.rest index d (omega (arith, past));
-      },
-      grows_then c.args.links.now.items c.loop-config.links.items c.lay_one.new.links.items
-          c.loop-config.invariant.1 c.in_ok-lay_one.ensures.2,
+      done_more (IsLaid links more) c.args.configs.now now at config one h
+          (get_or_default now at c.config-item.result config h)
+          (laid_before links mid more config one before.1 laid)
+          (done_as (IsLaid links mid) (IsLaid links more) c.args.configs.now now at
+          (λ x y l. laid_grows links mid more x y laid.2 l) before.0),
+      grows_then links mid more before.1 laid.2,
     )
 
 pub returns : goal.returns

@@ -1,17 +1,12 @@
-use Rattle.std.proofs.Common.{◌<◌, ◌∙◌, ap, arith, get_or, length, refl, sym, true≢false}
+use Rattle.std.proofs.Common.{rules, ◌<◌, ◌∙◌, ap, arith, get_or, length, refl, sym, true≢false}
 use Rattle.std.proofs.lemmas.List.{get_or_default}
 use Rattle.histories.specs.Gathering.{IsSettled, spot_of}
-use Rattle.histories.proofs.Places.{done_more, done_none, same_set}
+use Rattle.histories.proofs.Places.{done_more, same_set}
 use Rattle.histories.proofs.settle.settle_each.Goals.{then-branch, else-branch}
 use Rattle.histories.proofs.settle.settle_each.Goals as goal
 
 pub loop-config-init : goal.loop-config-init
-loop-config-init g c = (
-  done_none
-      (λ x y. IsSettled (g.M.Machine.Step c.args.machine.now) c.args.slots.now x (spot_of y))
-      c.args.configs.now,
-  λ none index d. refl,
-)
+loop-config-init g c = (search rules, λ none index d. refl)
 
 pub loop-config-preserved : goal.loop-config-preserved
 loop-config-preserved g c =
@@ -33,11 +28,4 @@ loop-config-preserved g c =
                 (same_set now at config one h is (c.in_ok-any.ensures.same w.if-branch.false))
                 ∙ c.loop-config.invariant.1 (sym w.any-is ∙ none) index d
           ],
-    )
-
-pub returns-clause-settled : goal.returns-clause-settled
-returns-clause-settled g c =
-    let done = c.loop-config.invariant.0 in (
-      done.many,
-      λ index d h. done.done index d (omega (arith, h, done.many, c.loop-config-test.false)),
     )

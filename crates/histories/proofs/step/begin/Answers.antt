@@ -5,13 +5,12 @@ use Rattle.histories.specs.declared.event.Event.TheVariants.{Begin}
 use Rattle.histories.specs.declared.front.Config.{Config}
 use Rattle.histories.specs.Frontier.{IsFrontier, IsSame}
 use Rattle.histories.specs.Gathering.{AreOpened, AreSettled, AreTaken, TakesSlot}
-use Rattle.histories.proofs.Advancing.{agrees_slots, begin_ends, laid_out, many_open}
+use Rattle.histories.proofs.Advancing.{agrees_slots, begin_ends, laid_out, many_open, frontier_begin}
 use Rattle.histories.proofs.Closing.{settled_as}
-use Rattle.histories.proofs.Beginning.{frontier_begin}
 use Rattle.histories.proofs.Places.{put_back}
 use Rattle.histories.proofs.Settlings.{opened_apart}
-use Rattle.histories.proofs.Tables.{table_begin}
 use Rattle.histories.proofs.step.begin.Goals as goal
+use Rattle.histories.proofs.Events.{table_begin}
 
 pub returns : goal.returns
 returns g c =
@@ -43,8 +42,8 @@ returns g c =
     (subst
     (λ (s : Vec (Option ℕ)). IsFrontier Step links s.items (events ++ Begin call ∷ []) olds settled)
     (sym lies.0)
-    (frontier_begin Step links slots more events olds configs opened settled call slot sound
-    (fresh call refl) takes f o
+    (frontier_begin Step slots more call slot takes f.table.few links events olds configs opened
+    sound (fresh call refl) f o settled
     (settled_as Made Step more
     (agrees_slots Made Step (events ++ Begin call ∷ []) more next after) opened settled all)))
     lies.1 (begin_ends events call)) c.lay.ensures

@@ -31,9 +31,9 @@ returns-in_ok-more-in-Some-2 g c =
     finished Step events olds (Crash call) front c.finish.new.front slot all r
     (λ more frees.
     frontier_crash Step slots more slot frees f.table.few front.links.items events olds configs
-    closed all call here f
+    closed call here f
     (closed_as Made Step slots (agrees_slots Made Step events slots f.table before) configs closed
-    slot made) drops)
+    slot made) all drops)
     (slot_ends events (Crash call) slots slot call (inr refl) f.table here) is) c.finish.ensures
 
 pub returns-in_default : goal.returns-in_default

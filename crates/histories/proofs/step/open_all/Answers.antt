@@ -1,18 +1,14 @@
-use Rattle.std.proofs.Common.{◌<◌, ◌∙◌, ap, arith, get_or, inl, inr, length, sym, true≢false}
+use Rattle.std.proofs.Common.{rules, ◌<◌, ◌∙◌, ap, arith, get_or, inl, inr, length, sym, true≢false}
 use Rattle.std.specs.Int.{bit_at}
 use Rattle.std.proofs.lemmas.Bool.{cases_eq}
 use Rattle.std.proofs.lemmas.List.{get_or_default}
 use Rattle.histories.specs.declared.front.Config.{Config}
-use Rattle.histories.specs.Gathering.{IsOpened}
-use Rattle.histories.proofs.Places.{done_more, done_none, less_of}
+use Rattle.histories.proofs.Places.{done_more, less_of}
 use Rattle.histories.proofs.step.open_all.Goals.{then-open, else-open}
 use Rattle.histories.proofs.step.open_all.Goals as goal
 
 pub loop-config-init : goal.loop-config-init
-loop-config-init g c = (
-  done_none (IsOpened c.args.slot) c.args.configs.now,
-  λ is index d h. absurd (omega (arith, h)),
-)
+loop-config-init g c = (search rules, λ is index d h. absurd (omega (arith, h)))
 
 pub loop-config-preserved : goal.loop-config-preserved
 loop-config-preserved g c =
@@ -25,8 +21,7 @@ loop-config-preserved g c =
     let before = c.loop-config.invariant in
     let h : at < length now = omega (arith, c.loop-config-test.true, c.loop-config.auto.configs) in
     let config = get_or now at item in (
-      done_more (IsOpened slot) olds now at config c.open.new.config h
-          (get_or_default now at item config h) c.open.ensures.opened before.0,
+      search (rules, done_more),
       λ is index d less.
           elim c.if-open.branch [
             | then-open w ↦
@@ -42,15 +37,3 @@ loop-config-preserved g c =
             | else-open w ↦ absurd (true≢false (sym is ∙ (w.is_new-is ∙ w.if-open.false)))
           ],
     )
-
-pub returns-clause-opened : goal.returns-clause-opened
-returns-clause-opened g c =
-    let done = c.loop-config.invariant.0 in (
-      done.many,
-      λ index d h. done.done index d (omega (arith, h, done.many, c.loop-config-test.false)),
-    )
-
-pub returns-clause-new : goal.returns-clause-new
-returns-clause-new g c is index d h =
-    c.loop-config.invariant.1 is index d
-    (omega (arith, h, c.loop-config.invariant.0.many, c.loop-config-test.false))

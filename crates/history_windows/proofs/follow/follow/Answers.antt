@@ -11,46 +11,45 @@ loop-at-init g c =
 
 pub loop-at-preserved-then-branch : goal.loop-at-preserved-then-branch
 loop-at-preserved-then-branch g c =
-    let is = rw c.if-branch.true at c.in_ok-make_at.ensures in
+    let is = rw c.if-branch.true at c.in_ok-make_next.ensures in
     follows_alone g.M.Machine.Step c.args.machine.now c.args.states.now c.args.events.now
-    c.loop-at.at is.1.0 c.loop-at.window c.make_at.new.window.front c.requires.history is.1.1 is.1.2
-    c.args.cut c.cut_at.new.window c.loop-at.invariant is.1.3
-    (rw is.0 at c.cut_at.ensures)
+    c.loop-at.at is.0 c.loop-at.window c.make_next.new.front c.requires.history is.1 is.2
+    c.args.cut c.cut_at.new.window c.loop-at.invariant is.3 c.cut_at.ensures
 
 pub loop-at-preserved : goal.loop-at-preserved
 loop-at-preserved g c =
     follows_done g.M.Machine.Step c.args.machine.now c.args.states.now c.args.events.now
     c.loop-at.at _ c.loop-at-test.true c.requires.history c.args.cut c.loop-at.window
-    c.make_at.new.window c.loop-at.invariant (rw c.if-branch.false at c.in_ok-make_at.ensures)
+    c.make_next.new.front c.loop-at.invariant (rw c.if-branch.false at c.in_ok-make_next.ensures)
     c.advance.new.front c.cut_at-in-loop-at.new.window
     (rw c.in-Done.is at c.in_ok-advance.ensures) c.cut_at-in-loop-at.ensures
 
 pub returns-in-Refused-clause-stop : goal.returns-in-Refused-clause-stop
 returns-in-Refused-clause-stop g c =
     stopped g.M.Machine.Step c.args.machine.now c.args.states.now c.args.events.now c.loop-at.at _
-    c.loop-at-test.true c.requires.history c.args.cut c.loop-at.window c.make_at.new.window
-    c.loop-at.invariant (rw c.if-branch.false at c.in_ok-make_at.ensures) c.advance.new.front
+    c.loop-at-test.true c.requires.history c.args.cut c.loop-at.window c.make_next.new.front
+    c.loop-at.invariant (rw c.if-branch.false at c.in_ok-make_next.ensures) c.advance.new.front
     advance.Refused (rw c.in-Refused.is at c.in_ok-advance.ensures)
 
 pub returns-in-ManyConfigs-clause-stop : goal.returns-in-ManyConfigs-clause-stop
 returns-in-ManyConfigs-clause-stop g c =
     stopped g.M.Machine.Step c.args.machine.now c.args.states.now c.args.events.now c.loop-at.at _
-    c.loop-at-test.true c.requires.history c.args.cut c.loop-at.window c.make_at.new.window
-    c.loop-at.invariant (rw c.if-branch.false at c.in_ok-make_at.ensures) c.advance.new.front
+    c.loop-at-test.true c.requires.history c.args.cut c.loop-at.window c.make_next.new.front
+    c.loop-at.invariant (rw c.if-branch.false at c.in_ok-make_next.ensures) c.advance.new.front
     advance.ManyConfigs (rw c.in-ManyConfigs.is at c.in_ok-advance.ensures)
 
 pub returns-in-ManyOpen-clause-stop : goal.returns-in-ManyOpen-clause-stop
 returns-in-ManyOpen-clause-stop g c =
     stopped g.M.Machine.Step c.args.machine.now c.args.states.now c.args.events.now c.loop-at.at _
-    c.loop-at-test.true c.requires.history c.args.cut c.loop-at.window c.make_at.new.window
-    c.loop-at.invariant (rw c.if-branch.false at c.in_ok-make_at.ensures) c.advance.new.front
+    c.loop-at-test.true c.requires.history c.args.cut c.loop-at.window c.make_next.new.front
+    c.loop-at.invariant (rw c.if-branch.false at c.in_ok-make_next.ensures) c.advance.new.front
     advance.ManyOpen (rw c.in-ManyOpen.is at c.in_ok-advance.ensures)
 
 pub unreachable-requires : goal.unreachable-requires
 unreachable-requires g c =
     stopped g.M.Machine.Step c.args.machine.now c.args.states.now c.args.events.now c.loop-at.at _
-    c.loop-at-test.true c.requires.history c.args.cut c.loop-at.window c.make_at.new.window
-    c.loop-at.invariant (rw c.if-branch.false at c.in_ok-make_at.ensures) c.advance.new.front
+    c.loop-at-test.true c.requires.history c.args.cut c.loop-at.window c.make_next.new.front
+    c.loop-at.invariant (rw c.if-branch.false at c.in_ok-make_next.ensures) c.advance.new.front
     advance.NoEvent (rw c.in-NoEvent.is at c.in_ok-advance.ensures)
 
 pub returns-clause-all : goal.returns-clause-all

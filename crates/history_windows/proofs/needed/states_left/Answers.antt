@@ -1,4 +1,4 @@
-use Rattle.history_windows.proofs.Starts.{cut_states}
+use Rattle.history_windows.proofs.Shrinking.{cut_states}
 use Rattle.history_windows.proofs.needed.states_left.Goals as goal
 
 pub returns : goal.returns

@@ -1,7 +1,7 @@
-//! Calls that overlap nothing.
+//! Where no call is open: a call that overlaps nothing, and a new beginning.
 ghost use Rattle.std.specs.Prelude.{IfOk};
-ghost use Rattle.histories.specs.Advances.{IsMadeAlone};
-ghost use Rattle.histories.specs.Gathering.{IsMadeIn};
+ghost use Rattle.histories.specs.Advances.{IsMadeAlone, BeginsAnew};
+ghost use Rattle.histories.specs.Gathering.{IsMadeIn, AreUnlinked};
 
 use super::front::{Config, Front};
 use super::links::lay_all;
@@ -44,4 +44,27 @@ pub fn make_alone<M: Machine>(
     }
     lay_all(&mut front.links, &mut front.configs)?;
     Ok(true)
+}
+
+/// The configurations, of orders of no calls.
+fn unlink<S>(configs: &mut [Config<S>])
+    ensures { AreUnlinked configs.old configs.new }
+{
+    for config in configs.iter_mut() {
+        config.base = 0;
+        config.made.clear();
+    }
+}
+
+/// Begins anew with the states that the calls have left, where no call is open, and drops the
+/// links. Returns whether it did.
+pub fn begin_anew<M: Machine>(_machine: &M, front: &mut Front<M::State>) -> bool
+    ensures { (whole : M) → BeginsAnew (M.Step whole) front.old front.new result }
+{
+    if !are_free(&front.slots) {
+        return false;
+    }
+    unlink(&mut front.configs);
+    front.links.clear();
+    true
 }

@@ -1,5 +1,5 @@
 use Rattle.history_windows.proofs.Goings.{any_machine}
-use Rattle.history_windows.proofs.going.first_front.Goals as goal
+use Rattle.history_windows.proofs.follow.first_front.Goals as goal
 
 pub returns : goal.returns
 returns g c =

@@ -6,7 +6,7 @@ use Rattle.histories.specs.Frontier.{IsFrontier}
 use Rattle.histories.specs.Gathering.{AreLaid, IsMadeIn}
 use Rattle.histories.proofs.Alone.{made_alone, one_of_one}
 use Rattle.histories.proofs.Places.{put_back}
-use Rattle.histories.proofs.in_place.make_alone.Goals as goal
+use Rattle.histories.proofs.quiet.make_alone.Goals as goal
 
 pub returns-then-not-branch : goal.returns-then-not-branch
 returns-then-not-branch g c =

@@ -1,7 +1,7 @@
 use Rattle.std.proofs.Common.{◌≡◌}
 use Rattle.histories.specs.Frontier.{no_path, path_of}
 use Rattle.histories.proofs.Places.{AreDone}
-use Rattle.histories.proofs.anew.unlink.Given as goal
+use Rattle.histories.proofs.quiet.unlink.Given as goal
 
 abbrev pub invariant-loop-config : goal.invariant-loop-config
 invariant-loop-config g l =

@@ -1,6 +1,6 @@
 use Rattle.std.proofs.Common.{take, ◌++◌}
 use Rattle.history_windows.proofs.Goings.{begin_upto, end_upto, few_slots, one_done, same_front, two_done}
-use Rattle.history_windows.proofs.going.go_on.Goals as goal
+use Rattle.history_windows.proofs.follow.go_on.Goals as goal
 
 pub loop-at-init : goal.loop-at-init
 loop-at-init g c whole past olds p =

@@ -1,5 +1,5 @@
 use Rattle.history_windows.proofs.Following.{not_refused}
-use Rattle.history_windows.proofs.judge.refused.Goals as goal
+use Rattle.history_windows.proofs.window.refused.Goals as goal
 
 pub unreachable-requires : goal.unreachable-requires
 unreachable-requires g c =

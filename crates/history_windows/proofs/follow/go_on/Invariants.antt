@@ -1,6 +1,6 @@
 use Rattle.std.proofs.Common.{length, ◌-◌}
 use Rattle.history_windows.specs.Goings.{GoesOnTo}
-use Rattle.history_windows.proofs.going.go_on.Given as goal
+use Rattle.history_windows.proofs.follow.go_on.Given as goal
 
 abbrev pub invariant-loop-at : goal.invariant-loop-at
 invariant-loop-at g l = GoesOnTo g.M.Machine.Step l.machine l.fn.front l.events l.at l.front

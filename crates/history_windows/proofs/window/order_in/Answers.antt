@@ -1,7 +1,7 @@
 use Rattle.std.proofs.Common.{◌∙◌, ◌++◌, List, ℕ, ap}
 use Rattle.histories.specs.Frontier.{read}
 use Rattle.history_windows.proofs.Ordering.{order_first}
-use Rattle.history_windows.proofs.order.order_in.Goals as goal
+use Rattle.history_windows.proofs.window.order_in.Goals as goal
 
 pub returns : goal.returns
 returns g c =

@@ -2,7 +2,7 @@ use Rattle.std.proofs.Common.{◌≡◌, ◌<◌, ◌+◌, ◌-◌, ◌++◌, �
 use Rattle.std.proofs.lemmas.List.{get_or_default}
 use Rattle.histories.specs.Frontier.{read}
 use Rattle.histories.proofs.Chains.{read_bounded, read_more, read_zero}
-use Rattle.histories.proofs.chain.order_up_to.Goals as goal
+use Rattle.histories.proofs.links.order_up_to.Goals as goal
 
 pub loop-left-init : goal.loop-left-init
 loop-left-init c =

@@ -1,7 +1,7 @@
 use Rattle.std.proofs.Common.{◌≡◌, ◌≤◌, ◌++◌, length}
 use Rattle.std.specs.Prelude.{reverse}
 use Rattle.histories.specs.Frontier.{read}
-use Rattle.histories.proofs.chain.order_up_to.Given as goal
+use Rattle.histories.proofs.links.order_up_to.Given as goal
 
 abbrev pub invariant-loop-left : goal.invariant-loop-left
 invariant-loop-left l =

@@ -3,8 +3,8 @@ use Rattle.histories.specs.declared.front.Config.{Config}
 use Rattle.histories.specs.Frontier.{IsFrontier}
 use Rattle.histories.specs.Gathering.{AreUnlinked}
 use Rattle.histories.proofs.Places.{put_back}
-use Rattle.histories.proofs.Splitting.{fresh_anew, quiet_empty, split_anew}
-use Rattle.histories.proofs.anew.begin_anew.Goals as goal
+use Rattle.histories.proofs.quiet.begin_anew.Goals as goal
+use Rattle.histories.proofs.Cutting.{fresh_anew, quiet_empty, split_anew}
 
 pub returns : goal.returns
 returns g c whole events olds sound f =
