@@ -1,10 +1,4 @@
 mod Begins
-mod Drawable
-mod Drawn
-mod Ends
-mod Many
-mod Parts
 mod Placed
 mod Rising
 mod Shown
-mod Split

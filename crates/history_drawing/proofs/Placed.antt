@@ -1,4 +1,4 @@
--- The lines that are told of a refused reply are lines of the log.
+-- Where bars and points are, and that each of a time line has a place.
 use Rattle.std.proofs.Common.{◌≡◌, ◌≢◌, ◌⊎◌, ℕ, zero, suc, ◌+◌, ◌<◌, ◌≤◌, List, [], ◌∷◌, ◌++◌, All, Contains, Option, Some, None, get_or, length, sum_by, take, inl, inr, ap, refl, subst, sym, ◌∙◌, arith}
 use Rattle.std.proofs.lemmas.Bool.{cases_lt}
 use Rattle.std.proofs.lemmas.List.{append-nil, length-append}
@@ -19,6 +19,13 @@ use Rattle.history_logs.specs.Seen.{Service}
 use Rattle.history_logs.specs.declared.logs.verdict.Expected.TheVariants as expected
 use Rattle.history_logs.specs.declared.logs.verdict.Refusal.{Refusal}
 use Rattle.history_logs.specs.declared.logs.verdict.Verdict.TheVariants.{Refused}
+use Rattle.std.specs.Prelude.{All}
+use Rattle.std.specs.Borrow.{Bor}
+use Rattle.history_drawing.specs.Places.{IsDrawable}
+use Rattle.history_drawing.specs.Timelines.{IsPoint, AreBars}
+use Rattle.history_drawing.specs.declared.timeline.Bar.{Bar}
+use Rattle.history_drawing.specs.declared.timeline.Timeline.{Timeline}
+use Rattle.history_drawing.specs.declared.timeline.Window.{Window}
 
 -- what holds of all that was read
 record ReadOn (text : List ℕ) (count : ℕ) (log : Log) : Type 0 where
@@ -170,3 +177,22 @@ window_in bytes reported (count, log, rest, good, refusal) =
     let long : length bytes ≡ length good.text + length rest =
     ap (length {A = ℕ}) good.spelled ∙ length-append good.text rest in
     (omega (arith, rises, opens, there), omega (arith, upto, long))
+
+pub drawable : (lines : List (Bor (List ℕ))) (w : Window) (t : Timeline)
+    → AreBars lines w w.last t.rows.items t.bars.items
+    → All (IsPoint t.bars.items) t.points.items → IsDrawable t
+drawable lines w t h points =
+    let rows : All (λ (b : Bar). b.row ≤ 200) t.bars.items =
+    λ k d fits. let (seen, wanted, is) = h.each k d fits in
+    omega (arith, is.row.0, h.wide, h.few) in
+    record {
+      bars = h.few;
+      rows = omega (arith, h.wide, h.few);
+      bar_rows = rows;
+      point_rows = λ k d fits.
+          let (b, there, within) = points k d fits in
+          let few : b.row ≤ 200 =
+          All-contains (λ (b : Bar). b.row ≤ 200) t.bars.items b rows there in
+          omega (arith, within.row, few);
+      point_parts = λ k d fits. let (b, there, within) = points k d fits in within.few;
+    }

@@ -15,9 +15,8 @@ use Rattle.history_logs.specs.declared.logs.verdict.Refusal.{Refusal}
 use Rattle.history_logs.specs.declared.logs.verdict.Verdict.{Verdict}
 use Rattle.history_logs.specs.declared.logs.verdict.Verdict.TheVariants as verdict
 use Rattle.history_drawing.specs.Calls.{IsFirstService, IsServiceOf, text_at, texts}
-use Rattle.history_drawing.specs.Points.{ArePoints}
+use Rattle.history_drawing.specs.Timelines.{ArePoints, AreBars, HasMany}
 use Rattle.history_drawing.specs.Svg.{svg_text}
-use Rattle.history_drawing.specs.Timelines.{AreBars, HasMany}
 use Rattle.history_drawing.specs.declared.drawing.Drawing.{Drawing}
 use Rattle.history_drawing.specs.declared.drawing.TheConstants.{MANY_CALLS}
 use Rattle.history_drawing.specs.declared.timeline.Timeline.{Timeline}

@@ -3,9 +3,5 @@
 pub mod Drawings
 pub mod Calls
 pub mod Timelines
-pub mod Points
 pub mod Svg
-pub mod Bars
-pub mod Frames
-pub mod Escape
 pub mod Places

@@ -1,12 +1,154 @@
--- The text of a picture.
-use Rattle.std.specs.Prelude.{ℕ, ◌+◌, ◌-◌, ◌*◌, ◌/◌, List, ◌++◌, codes, length, max, min, take}
-use Rattle.std.specs.Borrow.{Bor}
-use Rattle.std.specs.Fmt.{decimal}
+-- The text of a picture: calls and points, what stands around them, and the whole.
+use Rattle.std.specs.Prelude.{ℕ, ◌==◌, ◌&&◌, if◌then◌else◌, leb, List, [], ◌∷◌, ◌++◌, codes, Option, Some, None, ◌+◌, ◌-◌, Bool, true, false, ◌*◌, ◌/◌, length, max, min, take}
 use Rattle.std.specs.List.{flat_map}
-use Rattle.history_drawing.specs.Bars.{bar_text, point_text}
-use Rattle.history_drawing.specs.Frames.{heading_text, marks_text, more_text, name_text, note_text, open_text}
-use Rattle.history_drawing.specs.Places.{right, top}
+use Rattle.std.specs.Fmt.{decimal}
+use Rattle.history_drawing.specs.Places.{left, own_end, begin_of, end_of, point_of, top, right}
+use Rattle.history_drawing.specs.declared.svg.frame.TheConstants.{STYLE}
+use Rattle.history_drawing.specs.declared.timeline.Bar.{Bar}
+use Rattle.history_drawing.specs.declared.timeline.BarEnd.TheVariants.{Answered, Died, Open}
+use Rattle.history_drawing.specs.declared.timeline.BarEnd.{BarEnd}
+use Rattle.history_drawing.specs.declared.timeline.Point.{Point}
+use Rattle.std.specs.Borrow.{Bor}
 use Rattle.history_drawing.specs.declared.timeline.Timeline.{Timeline}
+
+-- A byte as a document has it: a mark of the language by its name, and what is no letter, digit or
+-- mark of ASCII as `?`.
+abbrev pub escaped_byte : ℕ → List ℕ
+escaped_byte b =
+    if b == 38 then codes "&amp;"
+    else (if b == 60 then codes "&lt;"
+    else (if b == 62 then codes "&gt;"
+    else (if leb 32 b && leb b 126 then b ∷ [] else codes "?")))
+
+-- bytes as a document has them
+abbrev pub escaped : List ℕ → List ℕ
+escaped bytes = flat_map escaped_byte bytes
+
+-- bytes as a document has them, between two texts of the language
+unfoldable pub element_text : List ℕ → List ℕ → List ℕ → List ℕ
+element_text front bytes end = front ++ (escaped bytes ++ end)
+
+-- the begin of a document of this size
+unfoldable pub open_text : ℕ → ℕ → List ℕ
+open_text width height =
+    codes "<svg xmlns=\"http://www.w3.org/2000/svg\" viewBox=\"0 0 " ++ (decimal width
+    ++ (codes " " ++ (decimal height ++ (codes "\" width=\"" ++ (decimal width
+    ++ codes "\" role=\"img\" font-family=\"monospace\">\n")))))
+
+-- a line, as the title and above the picture
+unfoldable pub heading_text : List ℕ → List ℕ
+heading_text heading =
+    element_text (codes "<title>") heading (codes "</title>\n")
+    ++ (STYLE.now ++ (codes "<rect class=\"page\" width=\"100%\" height=\"100%\"/>\n"
+    ++ element_text (codes "<text class=\"heading\" x=\"12\" y=\"28\">") heading
+    (codes "</text>\n")))
+
+-- the number of a line, and a line down through the rows
+unfoldable pub mark_text : ℕ → ℕ → ℕ → List ℕ
+mark_text x bottom line =
+    codes "<path class=\"mark\" d=\"M" ++ (decimal x ++ (codes " 48V" ++ (decimal bottom
+    ++ (codes "\"/><text class=\"line\" x=\"" ++ (decimal x ++ (codes "\" y=\"62\" dx=\"5\">"
+    ++ (decimal line ++ codes "</text>\n")))))))
+
+-- the mark of this line, if there is one
+unfoldable pub mark_of : List Bar → ℕ → Option ℕ → List ℕ
+mark_of bars bottom (Some line) = mark_text (left bars line) bottom line
+mark_of bars bottom None = []
+
+-- the marks of the lines in which a call begins and ends
+unfoldable pub marks_text : List Bar → ℕ → Bar → List ℕ
+marks_text bars bottom b =
+    mark_text (left bars b.begin) bottom b.begin ++ mark_of bars bottom (own_end b)
+
+-- what a caller is called: calls alone have none
+abbrev pub label : List ℕ → List ℕ
+label [] = codes "(alone)"
+label (letter ∷ letters) = letter ∷ letters
+
+-- the name of a caller, one row below the one before
+unfoldable pub name_text : List ℕ → List ℕ
+name_text name = element_text (codes "<tspan x=\"12\" dy=\"64\">") (label name) (codes "</tspan>\n")
+
+-- a line of the report, below the one before
+unfoldable pub note_text : List ℕ → List ℕ
+note_text note = element_text (codes "<tspan x=\"12\" dy=\"18\">") note (codes "</tspan>\n")
+
+-- how many further configurations there are
+unfoldable pub more_text : ℕ → List ℕ
+more_text more =
+    if more == 0 then []
+    else codes "<tspan x=\"12\" dy=\"18\">and " ++ (decimal more
+    ++ codes " more configurations</tspan>\n")
+
+-- whether the call is answered in the line of the reply that is refused
+abbrev pub is_refused : BarEnd → Option ℕ → Bool
+is_refused (Answered line words) (Some refused) = line == refused
+is_refused _ _ = false
+
+-- what a call is in the picture
+abbrev pub class_text : Bool → List ℕ
+class_text true = codes "refused"
+class_text false = codes "call"
+
+-- what became of a call
+abbrev pub words_of : BarEnd → List ℕ
+words_of (Answered line words) = words.now
+words_of (Died line) = codes "died"
+words_of Open = codes "open"
+
+-- the outline of a bar from one place to another, which is open on the right
+unfoldable pub outline_text : List ℕ → ℕ → ℕ → ℕ → List ℕ
+outline_text class from to y =
+    codes "<g class=\"" ++ (class ++ (codes "\"><path class=\"bar\" d=\"M" ++ (decimal to
+    ++ (codes " " ++ (decimal y ++ (codes "H" ++ (decimal from ++ (codes "v44H" ++ (decimal to
+    ++ codes "\"/>\n")))))))))
+
+-- the right end of a bar: a line where the call was answered, a cross where its caller died, and
+-- none where it is open
+unfoldable pub end_text : ℕ → ℕ → BarEnd → List ℕ
+end_text to y (Answered line words) =
+    codes "<path class=\"end\" d=\"M" ++ (decimal to ++ (codes " " ++ (decimal y
+    ++ codes "v44\"/>\n")))
+end_text to y (Died line) =
+    codes "<path class=\"cross\" d=\"M" ++ (decimal to ++ (codes " " ++ (decimal y
+    ++ codes "m-8 14l16 16m0 -16l-16 16\"/>\n")))
+end_text to y Open = []
+
+-- what cuts off the words of a call behind its bar
+unfoldable pub frame_text : ℕ → ℕ → ℕ → List ℕ
+frame_text from width y =
+    codes "<svg x=\"" ++ (decimal from ++ (codes "\" y=\"" ++ (decimal y
+    ++ (codes "\" width=\"" ++ (decimal width ++ codes "\" height=\"44\">\n")))))
+
+-- the command of a call, and below it what became of it
+unfoldable pub words_text : Bar → List ℕ
+words_text b =
+    element_text (codes "<text x=\"7\" y=\"18\">") b.command.now (codes "</text>\n")
+    ++ element_text (codes "<text class=\"reply\" x=\"7\" y=\"36\">") (words_of b.end)
+    (codes "</text></svg></g>\n")
+
+-- a call from its left border to its right one
+unfoldable pub drawn_text : List ℕ → ℕ → ℕ → ℕ → Bar → List ℕ
+drawn_text class from to y b =
+    outline_text class from to y
+    ++ (end_text to y b.end ++ (frame_text from (to - from) y ++ words_text b))
+
+-- a call, which has a class of its own where its reply is the one that is refused
+unfoldable pub bar_text : List Bar → Option ℕ → Bar → List ℕ
+bar_text bars refused b =
+    drawn_text (class_text (is_refused b.end refused)) (begin_of bars b.begin) (end_of bars b.end)
+    (top b.row) b
+
+-- a number in a circle
+unfoldable pub circle_text : ℕ → ℕ → ℕ → List ℕ
+circle_text x y number =
+    codes "<circle class=\"point\" cx=\"" ++ (decimal x ++ (codes "\" cy=\"" ++ (decimal y
+    ++ (codes "\" r=\"9\"/><text class=\"number\" x=\"" ++ (decimal x ++ (codes "\" y=\""
+    ++ (decimal y ++ (codes "\" dy=\"4\">" ++ (decimal number ++ codes "</text>\n")))))))))
+
+-- the point at which a call took effect, on the lower border of its bar: its number in the order
+unfoldable pub point_text : List Bar → Point → List ℕ
+point_text bars p = circle_text (point_of bars p.line p.part) (top p.row + 44) p.number
 
 -- the names of some callers, one a row
 abbrev pub rows_text : List (Bor (List ℕ)) → List ℕ

@@ -1,5 +1,5 @@
-//! The calls of a log, by its lines.
-ghost use Rattle.std.specs.Prelude.{◌≡◌, ◌<◌, IfNone, IfOk, IfSome, false};
+//! The lines of a log, and its calls by them.
+ghost use Rattle.std.specs.Prelude.{◌≡◌, ◌<◌, IfNone, IfOk, IfSome, drop, false};
 ghost use Rattle.log_lines.specs.Commands.{Begun, NamedCommand};
 ghost use Rattle.log_lines.specs.Lines.{line_seen};
 ghost use Rattle.log_lines.specs.Lines.Line.{begin, call, reply, service};
@@ -9,11 +9,37 @@ ghost use Rattle.history_drawing.specs.Calls.{text_at};
 ghost use Rattle.service_descriptions.specs.declared.replay.lines.service_line.ServiceLine.{ServiceLine};
 ghost use Rattle.history_drawing.specs.declared.calls.LogCall.{LogCall};
 ghost use Rattle.history_drawing.specs.declared.timeline.BarEnd.{BarEnd};
+ghost use Rattle.history_drawing.specs.Drawings.{AreLines};
 
 use crate::timeline::BarEnd;
 use line_streams::{after_word, before_byte};
 use log_lines::{LogLine, is_note, read_log_line};
 use std::alloc::{AllocError, Global};
+
+/// The whole lines of a text, each at the index of its number. At 0 stands an empty one.
+pub(crate) fn lines_of(alloc: Global, text: &[u8]) -> Result<Vec<&[u8]>, AllocError>
+    ensures { IfOk result (λ lines. AreLines text.now lines.items) }
+{
+    let mut lines = Vec::new(alloc);
+    let none: &[u8] = b"";
+    lines.push(none)?;
+    let mut rest = text;
+    while let Some((line, after)) = before_byte(rest, b'\n') {
+        lines.push(line)?;
+        rest = after;
+    }
+    Ok(lines)
+}
+
+/// The lines below the one with number 1.
+pub(crate) fn below_first<'b, 'a>(lines: &'b [&'a [u8]]) -> &'b [&'a [u8]]
+    ensures { result.now ≡ drop 2 lines.now }
+{
+    match lines {
+        [_, _, below @ ..] => below,
+        _ => &[],
+    }
+}
 
 /// A call that begins in a line.
 #[derive(Clone, Copy)]

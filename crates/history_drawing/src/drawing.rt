@@ -11,8 +11,7 @@ ghost use Rattle.history_drawing.specs.Drawings.{ShowsAll, ShowsWindow};
 ghost use Rattle.history_drawing.specs.declared.drawing.TheConstants.{MANY_CALLS};
 ghost use Rattle.history_drawing.specs.Places.{IsDrawable};
 
-use crate::calls::{LogCall, call_at, first_service, text_at};
-use crate::lines::{below_first, lines_of};
+use crate::calls::{LogCall, below_first, call_at, first_service, lines_of, text_at};
 use crate::points::points_of;
 use crate::svg::write_svg;
 use crate::timeline::{BarEnd, Timeline, Window, timeline_of};

@@ -3,7 +3,6 @@
 
 mod calls;
 mod drawing;
-mod lines;
 mod points;
 mod streams;
 mod svg;

@@ -1,8 +1,8 @@
 //! A time line as a picture.
 ghost use Rattle.std.specs.Prelude.{◌≡◌, ◌++◌, ◌≤◌, ◌<◌, All, OnOk, length, string_bytes};
 ghost use Rattle.std.specs.List.{flat_map};
-ghost use Rattle.history_drawing.specs.Bars.{bar_text, point_text};
-ghost use Rattle.history_drawing.specs.Frames.{marks_text};
+ghost use Rattle.history_drawing.specs.Svg.{bar_text, point_text};
+ghost use Rattle.history_drawing.specs.Svg.{marks_text};
 ghost use Rattle.history_drawing.specs.Places.{IsDrawable};
 ghost use Rattle.history_drawing.specs.Svg.{below_text, calls_text, lines_text, names_text, notes_text};
 ghost use Rattle.history_drawing.specs.Svg.{report_text, tail_text};
@@ -11,7 +11,6 @@ ghost use Rattle.history_drawing.specs.declared.timeline.Bar.{Bar};
 ghost use Rattle.history_drawing.specs.declared.timeline.Point.{Point};
 
 mod bar;
-mod escape;
 mod frame;
 mod place;
 

@@ -1,9 +1,9 @@
 //! Calls as bars, and the points at which they took effect.
 ghost use Rattle.std.specs.Prelude.{◌≡◌, ◌++◌, ◌≤◌, OnOk, length, string_bytes};
-ghost use Rattle.history_drawing.specs.Bars.{bar_text, circle_text, class_text, drawn_text, end_text, frame_text};
-ghost use Rattle.history_drawing.specs.Bars.{is_refused, outline_text, point_text, words_of, words_text};
+ghost use Rattle.history_drawing.specs.Svg.{bar_text, circle_text, class_text, drawn_text, end_text, frame_text};
+ghost use Rattle.history_drawing.specs.Svg.{is_refused, outline_text, point_text, words_of, words_text};
 
-use super::escape::write_element;
+use super::frame::write_element;
 use super::place::{begin_of, end_of, point_of, top};
 use crate::timeline::{Bar, BarEnd, Point};
 use std::alloc::AllocError;
@@ -37,7 +37,7 @@ fn words_of<'a>(end: &BarEnd<'a>) -> &'a [u8]
 }
 
 /// Appends the outline of a bar, which has no line on the right.
-#[tactic(auto, unfolding(crate::specs::Bars::outline_text))]
+#[tactic(auto, unfolding(crate::specs::Svg::outline_text))]
 fn write_outline(
     out: &mut String,
     class: &str,
@@ -56,7 +56,7 @@ fn write_outline(
 
 /// Appends the right end of a bar: a line where the call was answered, a cross where its caller
 /// died, and none where it is open.
-#[tactic(auto, unfolding(crate::specs::Bars::end_text))]
+#[tactic(auto, unfolding(crate::specs::Svg::end_text))]
 fn write_end(out: &mut String, to: usize, y: usize, end: &BarEnd<'_>) -> Result<(), AllocError>
     ensures { OnOk result (string_bytes out.new ≡ string_bytes out.old ++ end_text to y end.now) }
 {
@@ -71,7 +71,7 @@ fn write_end(out: &mut String, to: usize, y: usize, end: &BarEnd<'_>) -> Result<
 }
 
 /// Appends the begin of the frame that cuts off the words of a call at the end of its bar.
-#[tactic(auto, unfolding(crate::specs::Bars::frame_text))]
+#[tactic(auto, unfolding(crate::specs::Svg::frame_text))]
 fn write_frame(out: &mut String, from: usize, width: usize, y: usize) -> Result<(), AllocError>
     ensures { OnOk result (string_bytes out.new ≡ string_bytes out.old ++ frame_text from width y) }
 {
@@ -82,7 +82,7 @@ fn write_frame(out: &mut String, from: usize, width: usize, y: usize) -> Result<
 }
 
 /// Appends the command of a call, and below it what became of it.
-#[tactic(auto, unfolding(crate::specs::Bars::words_text))]
+#[tactic(auto, unfolding(crate::specs::Svg::words_text))]
 fn write_words(out: &mut String, bar: &Bar<'_>) -> Result<(), AllocError>
     ensures { OnOk result (string_bytes out.new ≡ string_bytes out.old ++ words_text bar.now) }
 {
@@ -97,7 +97,7 @@ fn write_words(out: &mut String, bar: &Bar<'_>) -> Result<(), AllocError>
 }
 
 /// Appends a call from its left border to its right one.
-#[tactic(auto, unfolding(crate::specs::Bars::drawn_text))]
+#[tactic(auto, unfolding(crate::specs::Svg::drawn_text))]
 fn write_drawn(
     out: &mut String,
     class: &str,
@@ -117,7 +117,7 @@ fn write_drawn(
 }
 
 /// Appends a call.
-#[tactic(auto, unfolding(crate::specs::Bars::bar_text))]
+#[tactic(auto, unfolding(crate::specs::Svg::bar_text))]
 pub(super) fn write_bar(
     out: &mut String,
     bars: &[Bar<'_>],
@@ -136,7 +136,7 @@ pub(super) fn write_bar(
 }
 
 /// Appends a number in a circle.
-#[tactic(auto, unfolding(crate::specs::Bars::circle_text))]
+#[tactic(auto, unfolding(crate::specs::Svg::circle_text))]
 fn write_circle(out: &mut String, x: usize, y: usize, number: usize) -> Result<(), AllocError>
     ensures { OnOk result (string_bytes out.new ≡ string_bytes out.old ++ circle_text x y number) }
 {
@@ -147,7 +147,7 @@ fn write_circle(out: &mut String, x: usize, y: usize, number: usize) -> Result<(
 }
 
 /// Appends the point at which a call took effect.
-#[tactic(auto, unfolding(crate::specs::Bars::point_text))]
+#[tactic(auto, unfolding(crate::specs::Svg::point_text))]
 pub(super) fn write_point(
     out: &mut String,
     bars: &[Bar<'_>],

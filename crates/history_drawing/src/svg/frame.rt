@@ -1,12 +1,52 @@
-//! What stands around the calls of a picture.
+//! Text in a document, and what stands around the calls of a picture.
 ghost use Rattle.std.specs.Prelude.{◌≡◌, ◌++◌, ◌≤◌, OnOk, length, string_bytes};
-ghost use Rattle.history_drawing.specs.Frames.{heading_text, label, mark_of, mark_text, marks_text};
-ghost use Rattle.history_drawing.specs.Frames.{more_text, name_text, note_text, open_text};
+ghost use Rattle.history_drawing.specs.Svg.{heading_text, label, mark_of, mark_text, marks_text};
+ghost use Rattle.history_drawing.specs.Svg.{more_text, name_text, note_text, open_text};
+ghost use Rattle.history_drawing.specs.Svg.{element_text, escaped, escaped_byte};
 
-use super::escape::write_element;
 use super::place::{left, own_end};
 use crate::timeline::Bar;
 use std::alloc::AllocError;
+
+/// Appends a byte as a document has it: `&`, `<` and `>` by their names, and what is no printable
+/// ASCII as `?`.
+fn write_byte(out: &mut String, byte: u8) -> Result<(), AllocError>
+    ensures { OnOk result (string_bytes out.new ≡ string_bytes out.old ++ escaped_byte byte) }
+{
+    match byte {
+        b'&' => out.push_str("&amp;"),
+        b'<' => out.push_str("&lt;"),
+        b'>' => out.push_str("&gt;"),
+        b' '..=b'~' => out.push(byte as char),
+        _ => out.push_str("?"),
+    }
+}
+
+/// Appends bytes as a document has them.
+fn write_escaped(out: &mut String, bytes: &[u8]) -> Result<(), AllocError>
+    ensures { OnOk result (string_bytes out.new ≡ string_bytes out.old ++ escaped bytes.now) }
+{
+    for byte in bytes {
+        write_byte(out, *byte)?;
+    }
+    Ok(())
+}
+
+/// Appends bytes as a document has them, between the tags that begin and end an element.
+#[tactic(auto, unfolding(crate::specs::Svg::element_text))]
+pub(super) fn write_element(
+    out: &mut String,
+    front: &str,
+    bytes: &[u8],
+    end: &str,
+) -> Result<(), AllocError>
+    ensures { OnOk result (string_bytes out.new
+        ≡ string_bytes out.old ++ element_text front.now bytes.now end.now) }
+{
+    out.push_str(front)?;
+    write_escaped(out, bytes)?;
+    out.push_str(end)
+}
 
 /// The style sheet: fonts, strokes and colours, also for those who read light on dark.
 pub(super) const STYLE: &str = "<style>
@@ -42,7 +82,7 @@ text { fill: #eeeeee }
 ";
 
 /// Appends the begin of a document of this size.
-#[tactic(auto, unfolding(crate::specs::Frames::open_text))]
+#[tactic(auto, unfolding(crate::specs::Svg::open_text))]
 pub(super) fn write_open(out: &mut String, width: usize, height: usize) -> Result<(), AllocError>
     ensures { OnOk result (string_bytes out.new ≡ string_bytes out.old ++ open_text width height) }
 {
@@ -53,7 +93,7 @@ pub(super) fn write_open(out: &mut String, width: usize, height: usize) -> Resul
 }
 
 /// Appends the first line of the report, as the title and above the picture.
-#[tactic(auto, unfolding(crate::specs::Frames::heading_text))]
+#[tactic(auto, unfolding(crate::specs::Svg::heading_text))]
 pub(super) fn write_heading(out: &mut String, heading: &[u8]) -> Result<(), AllocError>
     ensures { OnOk result (string_bytes out.new
         ≡ string_bytes out.old ++ heading_text heading.now) }
@@ -71,7 +111,7 @@ pub(super) fn write_heading(out: &mut String, heading: &[u8]) -> Result<(), Allo
 }
 
 /// Appends the number of a line, and a line down through the rows.
-#[tactic(auto, unfolding(crate::specs::Frames::mark_text))]
+#[tactic(auto, unfolding(crate::specs::Svg::mark_text))]
 fn write_mark(out: &mut String, x: usize, bottom: usize, line: usize) -> Result<(), AllocError>
     ensures { OnOk result (string_bytes out.new
         ≡ string_bytes out.old ++ mark_text x bottom line) }
@@ -83,7 +123,7 @@ fn write_mark(out: &mut String, x: usize, bottom: usize, line: usize) -> Result<
 }
 
 /// Appends the mark of this line, if there is one.
-#[tactic(auto, unfolding(crate::specs::Frames::mark_of))]
+#[tactic(auto, unfolding(crate::specs::Svg::mark_of))]
 fn write_mark_of(
     out: &mut String,
     bars: &[Bar<'_>],
@@ -101,7 +141,7 @@ fn write_mark_of(
 }
 
 /// Appends the marks of the lines in which a call begins and ends.
-#[tactic(auto, unfolding(crate::specs::Frames::marks_text))]
+#[tactic(auto, unfolding(crate::specs::Svg::marks_text))]
 pub(super) fn write_marks(
     out: &mut String,
     bars: &[Bar<'_>],
@@ -128,7 +168,7 @@ fn label(name: &[u8]) -> &[u8]
 }
 
 /// Appends the name of a caller, one row below the one before.
-#[tactic(auto, unfolding(crate::specs::Frames::name_text))]
+#[tactic(auto, unfolding(crate::specs::Svg::name_text))]
 pub(super) fn write_name(out: &mut String, name: &[u8]) -> Result<(), AllocError>
     ensures { OnOk result (string_bytes out.new ≡ string_bytes out.old ++ name_text name.now) }
 {
@@ -136,7 +176,7 @@ pub(super) fn write_name(out: &mut String, name: &[u8]) -> Result<(), AllocError
 }
 
 /// Appends a line of the report, below the one before.
-#[tactic(auto, unfolding(crate::specs::Frames::note_text))]
+#[tactic(auto, unfolding(crate::specs::Svg::note_text))]
 pub(super) fn write_note(out: &mut String, note: &[u8]) -> Result<(), AllocError>
     ensures { OnOk result (string_bytes out.new ≡ string_bytes out.old ++ note_text note.now) }
 {
@@ -144,7 +184,7 @@ pub(super) fn write_note(out: &mut String, note: &[u8]) -> Result<(), AllocError
 }
 
 /// Appends how many further configurations there are.
-#[tactic(auto, unfolding(crate::specs::Frames::more_text))]
+#[tactic(auto, unfolding(crate::specs::Svg::more_text))]
 pub(super) fn write_more(out: &mut String, more: usize) -> Result<(), AllocError>
     ensures { OnOk result (string_bytes out.new ≡ string_bytes out.old ++ more_text more) }
 {

@@ -1,5 +1,5 @@
 use Rattle.std.proofs.Common.{◌∷◌, ◌∙◌, sym}
-use Rattle.history_drawing.proofs.Parts.{behind_first, no_byte, tail_same}
+use Rattle.history_drawing.proofs.Begins.{behind_first, no_byte, tail_same}
 use Rattle.history_drawing.proofs.calls.behind_mark.Goals as goal
 
 pub returns-in_default : goal.returns-in_default

@@ -1,6 +1,5 @@
 use Rattle.std.proofs.Common.{[], ◌∙◌, ℕ, ap, arith, length, sym}
-use Rattle.history_drawing.proofs.Ends.{no_mark}
-use Rattle.history_drawing.proofs.Parts.{tail_same}
+use Rattle.history_drawing.proofs.Begins.{no_mark, tail_same}
 use Rattle.history_drawing.proofs.calls.end_in.Goals as goal
 
 pub returns-in_default-after_word-2-clause-none : goal.returns-in_default-after_word-2-clause-none

@@ -1,7 +1,7 @@
 use Rattle.std.proofs.Common.{ℕ, List, subst}
 use Rattle.line_streams.specs.declared.streams.Status.TheVariants.{Faulty, Good}
 use Rattle.history_logs.proofs.LinesAt.{if_ok}
-use Rattle.history_drawing.proofs.Drawn.{has_both, whole_drawn, window_drawn}
+use Rattle.history_drawing.proofs.Shown.{has_both, whole_drawn, window_drawn}
 use Rattle.history_drawing.proofs.Placed.{window_in}
 use Rattle.history_drawing.specs.Drawings.{IsUndrawn}
 use Rattle.history_drawing.proofs.drawing.draw.Goals as goal

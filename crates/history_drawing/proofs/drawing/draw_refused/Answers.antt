@@ -2,10 +2,9 @@ use Rattle.std.proofs.Common.{ℕ, List, arith, subst, sym}
 use Rattle.std.specs.Prelude.{All}
 use Rattle.std.specs.Borrow.{Bor}
 use Rattle.std.proofs.lemmas.List.Elements.{All-nil}
-use Rattle.history_drawing.proofs.Drawable.{drawable}
+use Rattle.history_drawing.proofs.Placed.{drawable}
 use Rattle.history_drawing.specs.Calls.{IsFirstService, IsServiceOf}
-use Rattle.history_drawing.specs.Points.{IsPoint}
-use Rattle.history_drawing.specs.Timelines.{AreBars, HasMany}
+use Rattle.history_drawing.specs.Timelines.{IsPoint, AreBars, HasMany}
 use Rattle.history_drawing.specs.declared.timeline.Point.{Point}
 use Rattle.history_drawing.proofs.drawing.draw_refused.Goals as goal
 

@@ -1,12 +1,11 @@
 use Rattle.std.proofs.Common.{◌≡◌, ℕ, List, None, length, refl, rules, subst, sym}
 use Rattle.std.specs.Prelude.{◌<◌, AllPairs}
 use Rattle.std.specs.Borrow.{Bor}
-use Rattle.history_drawing.proofs.Drawable.{drawable}
+use Rattle.history_drawing.proofs.Placed.{drawable}
 use Rattle.history_drawing.proofs.Rising.{in_bars}
 use Rattle.history_logs.specs.Orders.{HasOrders}
 use Rattle.history_logs.specs.declared.logs.verdict.Order.{Order}
-use Rattle.history_drawing.specs.Points.{ArePoints}
-use Rattle.history_drawing.specs.Timelines.{AreBars, HasMany}
+use Rattle.history_drawing.specs.Timelines.{ArePoints, AreBars, HasMany}
 use Rattle.history_drawing.specs.declared.timeline.Bar.{Bar}
 use Rattle.history_drawing.specs.declared.timeline.Timeline.{Timeline}
 use Rattle.history_drawing.specs.declared.timeline.Window.{Window}

@@ -1,5 +1,5 @@
 use Rattle.std.proofs.Common.{take}
-use Rattle.history_drawing.specs.Points.{ArePoints}
+use Rattle.history_drawing.specs.Timelines.{ArePoints}
 use Rattle.history_drawing.proofs.points.points_of.Given as goal
 
 abbrev pub invariant-loop-order : goal.invariant-loop-order

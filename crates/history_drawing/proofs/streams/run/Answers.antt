@@ -1,6 +1,6 @@
 use Rattle.std.proofs.Common.{◌≡◌, ◌∙◌, Ok, IfSome, rules, sym}
 use Rattle.history_drawing.specs.Drawings.{IsDrawingOf}
-use Rattle.history_drawing.proofs.Drawn.{drawn_of, drawn_where_written, no_error}
+use Rattle.history_drawing.proofs.Shown.{drawn_of, drawn_where_written, no_error}
 use Rattle.history_drawing.proofs.streams.run.Goals.{in-Ok, in-Err}
 use Rattle.history_drawing.proofs.streams.run.Goals as goal
 

@@ -1,6 +1,6 @@
 use Rattle.std.proofs.Common.{◌≡◌, ◌++◌, string_bytes, take}
 use Rattle.std.specs.List.{flat_map}
-use Rattle.history_drawing.specs.Frames.{marks_text}
+use Rattle.history_drawing.specs.Svg.{marks_text}
 use Rattle.history_drawing.proofs.svg.write_all_marks.Given as goal
 
 abbrev pub invariant-loop-bar : goal.invariant-loop-bar

@@ -1,6 +1,6 @@
 use Rattle.std.proofs.Common.{◌≡◌, ◌++◌, string_bytes, take}
 use Rattle.std.specs.List.{flat_map}
-use Rattle.history_drawing.specs.Bars.{bar_text}
+use Rattle.history_drawing.specs.Svg.{bar_text}
 use Rattle.history_drawing.proofs.svg.write_bars.Given as goal
 
 abbrev pub invariant-loop-bar : goal.invariant-loop-bar

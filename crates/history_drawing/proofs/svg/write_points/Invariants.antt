@@ -1,6 +1,6 @@
 use Rattle.std.proofs.Common.{◌≡◌, ◌++◌, string_bytes, take}
 use Rattle.std.specs.List.{flat_map}
-use Rattle.history_drawing.specs.Bars.{point_text}
+use Rattle.history_drawing.specs.Svg.{point_text}
 use Rattle.history_drawing.proofs.svg.write_points.Given as goal
 
 abbrev pub invariant-loop-point : goal.invariant-loop-point

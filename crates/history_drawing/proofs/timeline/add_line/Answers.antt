@@ -1,5 +1,5 @@
 use Rattle.std.proofs.Common.{◌≡◌, ◌<◌, rules, length}
-use Rattle.history_drawing.proofs.Many.{has_many}
+use Rattle.history_drawing.proofs.Rising.{has_many}
 use Rattle.history_drawing.proofs.Shown.{bars_more, bars_same}
 use Rattle.history_drawing.specs.Timelines.{IsWanted}
 use Rattle.history_drawing.proofs.timeline.add_line.Goals as goal

@@ -1,6 +1,6 @@
 use Rattle.std.proofs.Common.{length}
-use Rattle.history_drawing.proofs.Split.{AreRead}
-use Rattle.history_drawing.proofs.lines.lines_of.Given as goal
+use Rattle.history_drawing.proofs.Begins.{AreRead}
+use Rattle.history_drawing.proofs.calls.lines_of.Given as goal
 
 abbrev pub invariant-loop-line : goal.invariant-loop-line
 invariant-loop-line l = AreRead l.text l.lines.items l.rest

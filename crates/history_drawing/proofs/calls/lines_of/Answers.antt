@@ -1,7 +1,7 @@
 use Rattle.std.proofs.Common.{ℕ, List, subst, sym}
 use Rattle.std.specs.Borrow.{Bor}
-use Rattle.history_drawing.proofs.Split.{AreRead, read_more}
-use Rattle.history_drawing.proofs.lines.lines_of.Goals as goal
+use Rattle.history_drawing.proofs.Begins.{AreRead, read_more}
+use Rattle.history_drawing.proofs.calls.lines_of.Goals as goal
 
 pub loop-line-preserved : goal.loop-line-preserved
 loop-line-preserved c =

@@ -1,6 +1,6 @@
 use Rattle.std.proofs.Common.{◌≡◌, ◌++◌, string_bytes, take}
-use Rattle.history_drawing.specs.Escape.{escaped}
-use Rattle.history_drawing.proofs.svg.escape.write_escaped.Given as goal
+use Rattle.history_drawing.specs.Svg.{escaped}
+use Rattle.history_drawing.proofs.svg.frame.write_escaped.Given as goal
 
 abbrev pub invariant-loop-byte : goal.invariant-loop-byte
 invariant-loop-byte l =
