@@ -63,8 +63,7 @@ def logs(size):
         rounds += [b"%b< list %x\n" % (b"FE"[number % 2 :][:1], 2**96 + 1)] * (number > 0)
         rounds += [b"%b< has-owners\n" % caller for caller, _, _ in calls]
     yield f"{size // 9 * 9} calls of four callers", [], b"".join(rounds), 1
-    note = SERVICE + b"#" * size + b"\n"
-    yield f"a note of {size} bytes", [], note, 1
+    yield f"a note of {size} bytes", [], SERVICE + b"#" * size + b"\n", 1
 
 
 def message(prefix, elements):
