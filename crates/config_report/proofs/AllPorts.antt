@@ -4,7 +4,7 @@ use Rattle.std.specs.Option.{SomeIff}
 use Rattle.std.proofs.lemmas.List.Sums.{sum_by-append}
 use Rattle.iox2_static.proofs.Greatest.{tells}
 use Rattle.iox2_static.specs.Chunks.{IsGreatest, TellsGreatest}
-use Rattle.config_report.specs.Limits.{all_limits}
+use Rattle.config_report.specs.Text.{all_limits}
 
 -- no two numbers are the greatest
 at_most : (limits : List ℕ) (c d : ℕ) → IsGreatest limits c → IsGreatest limits d → c ≤ d

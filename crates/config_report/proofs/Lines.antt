@@ -1,5 +1,5 @@
 -- Lists that are made one item after the other.
-use Rattle.std.proofs.Common.{◌≡◌, ℕ, zero, suc, ◌+◌, ◌≤◌, ◌<◌, List, [], ◌∷◌, ◌++◌, length, map, drop, get_or, refl, sym, ap, add-one, append_assoc, append-nil, arith, drop-cons, drop_of_length-le}
+use Rattle.std.proofs.Common.{◌≡◌, ℕ, zero, suc, ◌+◌, ◌≤◌, ◌<◌, List, [], ◌∷◌, ◌++◌, length, map, drop, get_or, refl, sym, ap, ◌∙◌, add-one, append_assoc, append-nil, arith, drop-cons, drop_of_length-le}
 use Rattle.std.specs.Prelude.{flat_map}
 use Rattle.std.proofs.lemmas.List.{map-append}
 
@@ -17,7 +17,7 @@ one_more view text xs i x out new whole lt is before wrote =
     grind (arith, add-one, drop-cons, append_assoc)
 
 -- one more of some values is listed
-pub one_listed : {A B C D : Type 0} (seen : A → B) (f : B → C) (view : D → C) (xs : List A)
+one_listed : {A B C D : Type 0} (seen : A → B) (f : B → C) (view : D → C) (xs : List A)
     (i : ℕ) (x : A) (old new : List D) (y : D) (whole : List C) → i < length xs
     → x ≡ get_or xs i x → map view old ++ map f (map seen (drop i xs)) ≡ whole
     → new ≡ old ++ y ∷ [] → view y ≡ f (seen x)
@@ -26,11 +26,23 @@ one_listed seen f view xs i x old new y whole lt is before added same =
     grind (arith, add-one, drop-cons, map-append, append_assoc)
 
 -- what a list that is mapped twice has at an index
-pub at_map : {A B C : Type 0} (view : A → B) (f : B → C) (xs : List A) (i : ℕ) (x : A) (d : C)
+at_map : {A B C : Type 0} (view : A → B) (f : B → C) (xs : List A) (i : ℕ) (x : A) (d : C)
     → i < length xs → x ≡ get_or xs i x → get_or (map f (map view xs)) i d ≡ f (view x)
 at_map view f [] i x d lt is = absurd (omega arith)
 at_map view f (y ∷ ys) zero x d lt is = ap (λ z. f (view z)) (sym is)
 at_map view f (y ∷ ys) (suc i) x d lt is = at_map view f ys i x d (omega arith) is
+
+-- one more of some values is listed, by what stands beside it in another list
+pub one_placed : {A B C D P : Type 0} (seen : A → B) (at : B → P) (f : P → B → C) (view : D → C)
+    (xs : List A) (ps : List P) (i j : ℕ) (x : A) (p d : P) (old new : List D) (y : D)
+    (whole : List C) → i < length xs → j ≡ i → x ≡ get_or xs i x → ps ≡ map at (map seen xs)
+    → p ≡ get_or ps j d → view y ≡ f p (seen x) → new ≡ old ++ y ∷ []
+    → map view old ++ map (λ b. f (at b) b) (map seen (drop i xs)) ≡ whole
+    → map view new ++ map (λ b. f (at b) b) (map seen (drop (i + 1) xs)) ≡ whole
+one_placed seen at f view xs ps i j x p d old new y whole lt index is same at_is says added before =
+    let here : p ≡ at (seen x) = at_is ∙ (rw (index, same) (at_map seen at xs i x d lt is)) in
+    one_listed seen (λ b. f (at b) b) view xs i x old new y whole lt is before added
+    (says ∙ ap (λ q. f q (seen x)) here)
 
 -- a value by its index, whatever stands past the end
 pub item_is : {A : Type 0} (xs : List A) (i : ℕ) (d : A) → i < length xs

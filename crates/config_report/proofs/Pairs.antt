@@ -2,14 +2,14 @@
 use Rattle.std.proofs.Common.{◌≡◌, ℕ, ◌+◌, ◌≤◌, ◌<◌, List, [], ◌∷◌, ◌++◌, length, map, drop, get_or, slice_get, Some, None, refl, sym, ap, ◌∙◌, subst, add-one, append_assoc, append-nil, arith, length-append, drop-cons, drop_of_length-le}
 use Rattle.std.proofs.lemmas.List.{length-map}
 use Rattle.iox2_config.specs.declared.config.Config.{Config}
-use Rattle.iox2_config_file.specs.declared.kind.Kind.{Kind}
+use Rattle.iox2_config_file.specs.declared.fault.Kind.{Kind}
 use Rattle.iox2_config_file.specs.declared.section.Row.{Row}
 use Rattle.iox2_config_file.specs.declared.section.Section.{Section}
 use Rattle.iox2_config_file.specs.Read.{row_view}
 use Rattle.iox2_config_file.specs.Settings.{Setting, held_at, settings_in}
 use Rattle.iox2_config_file.specs.Values.{SettingValue}
 use Rattle.iox2_config_file.proofs.Rowed.{past, here, keyed, row_key}
-use Rattle.config_report.specs.Pairs.{Adds, SettingsGive, TablesGive}
+use Rattle.config_report.specs.Text.{Adds, SettingsGive, TablesGive}
 
 -- no settings give nothing
 no_settings : {A : Type 0} (Gives : Setting → Setting → List A → Type 0) (ys : List Setting)

@@ -3,11 +3,8 @@ use Rattle.std.proofs.Common.{rules, arith, ◌≡◌, ◌∙◌, ◌++◌, ◌&
 use Rattle.std.proofs.lemmas.List.Elements.{All-cons, All-nil}
 use Rattle.std.proofs.lemmas.List.Sorted.{All-permutation}
 use Rattle.config_report.specs.Contradictions.{Contradiction, Side, contradiction_note, placed_note, side_note}
-use Rattle.config_report.specs.Findings.{Checks}
-use Rattle.config_report.specs.InLine.{AreInLine, is_in_line, key_in_line}
-use Rattle.config_report.specs.Lines.{has_no_control, in_line}
-use Rattle.config_report.specs.Notes.{Note, Topic, fault, unknown, note, note_in, topic_note, finding_view}
-use Rattle.config_report.specs.Unread.{IsNoFile, error_behind}
+use Rattle.config_report.specs.Findings.{Checks, AreInLine, is_in_line, key_in_line, IsNoFile, error_behind}
+use Rattle.config_report.specs.Notes.{has_no_control, in_line, Note, Topic, fault, unknown, note, note_in, topic_note, finding_view}
 use Rattle.config_report.specs.declared.contradiction.Effect.{Effect}
 use Rattle.config_report.specs.declared.finding.Finding.{Finding}
 use Rattle.config_report.specs.declared.finding.Findings.{Findings}

@@ -1,5 +1,13 @@
--- What is found in a file of settings, and in which order it is listed.
-use Rattle.std.specs.Prelude.{◌≡◌, ◌⊎◌, ◌-◌, ◌^◌, ℕ, List, [], ◌∷◌, ◌++◌, codes, map, flat_map, Option, Some, None}
+-- What is found in a file of settings, in which order it is listed, and what is reported of it.
+use Rattle.std.specs.Prelude.{◌≡◌, ◌≤◌, ◌⊎◌, ℕ, List, codes, length, take, Some, None, IsUtf8, ⊤, ◌-◌, ◌^◌, [], ◌∷◌, ◌++◌, map, flat_map, Option, Bool, true, ◌&&◌, Result, Ok, Err, string_bytes}
+use Rattle.std.specs.Str.{IsValidUpTo}
+use Rattle.iox2_config_file.specs.Depth.{too_deep}
+use Rattle.config_report.specs.Notes.{Note, finding_view, note, Topic, fault, unknown, note_in, note_text, has_no_control}
+use Rattle.config_report.specs.declared.finding.Severity.TheVariants.{Error}
+use Rattle.config_report.specs.declared.check.Unread.{Unread}
+use Rattle.config_report.specs.declared.check.Unread.TheVariants.{NotUtf8, TooDeep, NotToml, NoMemory}
+use Rattle.toml.specs.Parse.{parse_document}
+use Rattle.toml_positions.specs.Position.{position_after}
 use Rattle.std.specs.List.Sorted.{IsPermutation, IsSortedByKey, IsStableByKey}
 use Rattle.std.specs.Ordering.{nat_cmp, ordering_then}
 use Rattle.std.specs.declared.cmp.Ordering.{Ordering}
@@ -10,13 +18,56 @@ use Rattle.iox2_config_file.specs.Read.{fault_view, faults_in}
 use Rattle.iox2_config_file.specs.Unknown.{unknown_in, unknown_view}
 use Rattle.iox2_config_file.specs.declared.read.FileContents.{FileContents}
 use Rattle.config_report.specs.Contradictions.{contradiction_note, contradictions_in}
-use Rattle.config_report.specs.Notes.{Note, Topic, fault, finding_view, unknown, note_in, note_text}
-use Rattle.config_report.specs.Unread.{IsNoFile, IsText}
 use Rattle.config_report.specs.declared.finding.Finding.{Finding}
 use Rattle.config_report.specs.declared.finding.Findings.{Findings}
 use Rattle.toml.specs.Data.{Members}
-use Rattle.toml.specs.Parse.{parse_document}
 use Rattle.toml_positions.specs.declared.position.Position.{Position}
+use Rattle.std.specs.List.{All}
+use Rattle.iox2_config_file.specs.Write.{IsConfigText}
+use Rattle.config_report.specs.Text.{IsReportText}
+use Rattle.config_report.specs.declared.report.FileConfig.{FileConfig}
+use Rattle.config_report.specs.declared.report.Report.{Report}
+use Rattle.config_report.specs.declared.report.ReportError.{ReportError}
+use Rattle.config_report.specs.declared.report.ReportError.TheVariants as refusal
+
+-- an error behind the first n bytes, of no key
+abbrev pub error_behind : ℕ → List ℕ → List ℕ → Note
+error_behind n bytes words = note (Some (position_after (take n bytes))) Error None words
+
+-- the bytes are a text whose tables and arrays are at most 32 deep in one another
+abbrev pub IsText : List ℕ → Type 0
+IsText bytes = IsUtf8 bytes × (too_deep bytes ≡ None)
+
+-- the bytes are no UTF-8, which is said behind their longest front that is
+abbrev pub IsNoUtf8 : List ℕ → Note → Type 0
+IsNoUtf8 bytes said =
+    (n : ℕ) × (¬ IsUtf8 bytes) × IsValidUpTo bytes n
+    × (said ≡ error_behind n bytes (codes "the file is no UTF-8"))
+
+-- tables and arrays are too deep in one another, which is said of the first byte that opens one
+-- within 32 others
+abbrev pub IsTooDeep : List ℕ → Note → Type 0
+IsTooDeep bytes said =
+    (n : ℕ) × IsUtf8 bytes × (too_deep bytes ≡ Some n)
+    × (said
+    ≡ error_behind n bytes (codes "tables and arrays are more than 32 deep in one another"))
+
+-- the bytes are no TOML, which is said of a byte among them, or of their end, in some words
+abbrev pub IsNoToml : List ℕ → Note → Type 0
+IsNoToml bytes said =
+    (n : ℕ) × (words : List ℕ) × (n ≤ length bytes) × IsText bytes
+    × (parse_document bytes ≡ None) × (said ≡ error_behind n bytes words)
+
+-- the bytes are no file of settings, for one of these reasons
+abbrev pub IsNoFile : List ℕ → Note → Type 0
+IsNoFile bytes said = IsNoUtf8 bytes said ⊎ (IsTooDeep bytes said ⊎ IsNoToml bytes said)
+
+-- why bytes are no file of settings, or memory was refused
+abbrev pub IsUnread : List ℕ → Unread → Type 0
+IsUnread bytes (NotUtf8 finding) = IsNoUtf8 bytes (finding_view finding)
+IsUnread bytes (TooDeep finding) = IsTooDeep bytes (finding_view finding)
+IsUnread bytes (NotToml finding) = IsNoToml bytes (finding_view finding)
+IsUnread bytes (NoMemory e) = ⊤
 
 -- where it stands among others: by its line and its column, and without them behind all
 abbrev pub place_of : Option Position → ℕ × ℕ
@@ -85,3 +136,55 @@ note_line n = note_text n ++ codes "\n"
 
 abbrev pub lines_of : List Finding → List ℕ
 lines_of list = flat_map note_line (map finding_view list)
+
+-- a key has no control character, if there is one
+abbrev pub key_in_line : Option (List ℕ) → Bool
+key_in_line None = true
+key_in_line (Some key) = has_no_control key
+
+-- a key and words that have no control character
+abbrev pub is_in_line : Note → Bool
+is_in_line n = key_in_line n.key && has_no_control n.message
+
+-- no finding has a newline, or another control character below 32
+abbrev pub AreInLine : List Finding → Type 0
+AreInLine list = All (λ f. is_in_line (finding_view f) ≡ true) list
+
+-- the bytes are a file of these settings, and this has a line for each thing that is found in them
+abbrev pub HasConfig : List ℕ → Config → List ℕ → Type 0
+HasConfig bytes config warnings =
+    (found : Findings) × Checks bytes found × (found.config ≡ Some config)
+    × (warnings ≡ lines_of found.list.items)
+
+-- the bytes are a file of settings, and this is their text
+abbrev pub HasReport : List ℕ → List ℕ → List ℕ → Type 0
+HasReport bytes text warnings =
+    (config : Config) × HasConfig bytes config warnings × IsReportText config text
+
+-- the bytes are no file of settings, and this has a line for each thing that is found in them
+abbrev pub IsRefusal : List ℕ → List ℕ → Type 0
+IsRefusal bytes lines =
+    (found : Findings) × Checks bytes found × (found.config ≡ None)
+    × (lines ≡ lines_of found.list.items)
+
+-- why there are no settings
+abbrev pub Refusal : List ℕ → ReportError → Type 0
+Refusal bytes (refusal.Refused lines) = IsRefusal bytes (string_bytes lines)
+Refusal bytes refusal.NoMemory = Unit {0}
+
+-- what is read of a file of settings
+abbrev pub ReadsFile : List ℕ → Result FileConfig ReportError → Type 0
+ReadsFile bytes (Ok file) = HasConfig bytes file.config (string_bytes file.warnings)
+ReadsFile bytes (Err error) = Refusal bytes error
+
+-- what is said of a file of settings
+abbrev pub Reports : List ℕ → Result Report ReportError → Type 0
+Reports bytes (Ok report) =
+    HasReport bytes (string_bytes report.text) (string_bytes report.warnings)
+Reports bytes (Err error) = Refusal bytes error
+
+-- the text is that of the default settings
+abbrev pub HasDefaults : List ℕ → Type 0
+HasDefaults text =
+    (default : Config) × (config : Config) × IsDefaultConfig default × IsDefaultConfig config
+    × IsConfigText default config text

@@ -1,12 +1,4 @@
 pub mod Contradictions
 pub mod Findings
-pub mod InLine
-pub mod Limits
-pub mod Lines
 pub mod Notes
-pub mod Pairs
-pub mod Positions
-pub mod Report
-pub mod Subjects
 pub mod Text
-pub mod Unread

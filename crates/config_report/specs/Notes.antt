@@ -1,20 +1,50 @@
--- What is said of a file of settings, and how it is written.
-use Rattle.std.specs.Prelude.{ℕ, List, [], ◌∷◌, ◌++◌, codes, Option, Some, None, option_map, string_bytes}
-use Rattle.iox2_config_file.specs.Faults.{reason_text}
-use Rattle.iox2_config_file.specs.Read.{Located}
-use Rattle.iox2_config_file.specs.Proposals.{Proposed}
-use Rattle.iox2_config_file.specs.Rows.{prefix_of, table_name}
-use Rattle.iox2_config_file.specs.Unknown.{Unknown}
-use Rattle.iox2_config_file.specs.declared.proposal.Likeness.TheVariants.{Spelling, OtherTable, Quoted, Near}
+-- What is said of a file of settings, and where in it the keys stand.
+use Rattle.std.specs.Prelude.{ℕ, List, [], ◌∷◌, ◌++◌, codes, length, nat_le, if◌then◌else◌, Option, Some, None, Bool, option_map, string_bytes}
+use Rattle.std.specs.Fmt.{decimal}
 use Rattle.iox2_config_file.specs.declared.section.Section.{Section}
 use Rattle.iox2_config_file.specs.declared.section.Section.TheVariants as section
-use Rattle.config_report.specs.Lines.{in_line}
-use Rattle.config_report.specs.Positions.{at_text, position_for, table_path}
+use Rattle.toml_positions.specs.declared.position.Position.{Position}
+use Rattle.toml_positions.specs.Written.{position_in}
+use Rattle.std.specs.List.{list_all}
+use Rattle.iox2_config_file.specs.Read.{reason_text, Located, fault_view}
+use Rattle.iox2_config_file.specs.Unknown.{Proposed, Unknown, unknown_view}
+use Rattle.iox2_config_file.specs.Settings.{prefix_of, table_name}
+use Rattle.iox2_config_file.specs.declared.proposal.Likeness.TheVariants.{Spelling, OtherTable, Quoted, Near}
 use Rattle.config_report.specs.declared.finding.Finding.{Finding}
 use Rattle.config_report.specs.declared.finding.Severity.{Severity}
 use Rattle.config_report.specs.declared.finding.Severity.TheVariants.{Error, Warning}
-use Rattle.toml_positions.specs.declared.position.Position.{Position}
 use Rattle.toml_writer.specs.Text.{key_text}
+use Rattle.config_report.specs.declared.subject.Subject.{Subject}
+use Rattle.config_report.specs.declared.subject.Subject.TheVariants as subject
+
+-- the keys that lead to a table
+abbrev pub table_path : Section → List (List ℕ)
+table_path section.Root = []
+table_path section.Global = codes "global" ∷ []
+table_path section.Service = codes "global" ∷ codes "service" ∷ []
+table_path section.Node = codes "global" ∷ codes "node" ∷ []
+table_path section.Defaults = codes "defaults" ∷ []
+table_path section.PublishSubscribe = codes "defaults" ∷ codes "publish-subscribe" ∷ []
+table_path section.Event = codes "defaults" ∷ codes "event" ∷ []
+table_path section.RequestResponse = codes "defaults" ∷ codes "request-response" ∷ []
+table_path section.Blackboard = codes "defaults" ∷ codes "blackboard" ∷ []
+
+-- the position of a path in a file of at most 128 KiB, if an expression writes it
+abbrev pub position_for : List ℕ → List (List ℕ) → Option Position
+position_for bytes path = if nat_le (length bytes) 131_072 then position_in bytes path else None
+
+-- a position, in front of what is reported there
+abbrev pub at_text : Option Position → List ℕ
+at_text None = []
+at_text (Some p) = decimal p.line ++ (codes ":" ++ (decimal p.column ++ codes ": "))
+
+-- no byte is a control character below 32
+abbrev pub has_no_control : List ℕ → Bool
+has_no_control text = list_all (λ c. nat_le 32 c) text
+
+-- a text, unless it has a control character
+abbrev pub in_line : List ℕ → List ℕ
+in_line text = if has_no_control text then text else codes "a text with control characters"
 
 -- something that is said of a file: where, how much it weighs, of which key, and what
 pub record Note : Type 0 where
@@ -105,3 +135,7 @@ abbrev pub note_text : Note → List ℕ
 note_text n =
     at_text n.position
     ++ (severity_text n.severity ++ (codes ": " ++ (of_key n.key ++ n.message)))
+
+abbrev pub subject_view : Subject → Topic
+subject_view (subject.Fault f) = fault (fault_view f.now)
+subject_view (subject.Unknown key) = unknown (unknown_view key.now)

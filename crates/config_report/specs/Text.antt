@@ -1,22 +1,68 @@
 -- The text of settings, and of what follows from them.
-use Rattle.std.specs.Prelude.{◌≡◌, ◌≢◌, ◌⊎◌, ◌-◌, ◌^◌, ℕ, List, [], ◌∷◌, ◌++◌, codes, flat_map, length, nat_lt, if◌then◌else◌, Option, Some, None}
+use Rattle.std.specs.Prelude.{◌≡◌, ℕ, List, [], ◌∷◌, ◌++◌, replicate, ◌≢◌, ◌⊎◌, ◌-◌, ◌^◌, codes, flat_map, length, nat_lt, if◌then◌else◌, Option, Some, None}
+use Rattle.iox2_config.specs.declared.config.Config.{Config}
+use Rattle.iox2_config_file.specs.declared.section.Section.{Section}
+use Rattle.iox2_config_file.specs.Settings.{Setting, settings_in, prefix_of}
+use Rattle.iox2_config_file.specs.Values.{SettingValue}
+use Rattle.std.specs.List.{concat}
+use Rattle.iox2_config.specs.declared.config.defaults.Defaults.{Defaults}
+use Rattle.iox2_static.specs.PublishSubscribe.{publish_subscribe_of, sample_limits}
+use Rattle.iox2_static.specs.RequestResponse.{request_response_of, client_limits, server_limits}
 use Rattle.std.specs.Fmt.{decimal, padded, format_spec}
 use Rattle.iox2_config.specs.Defaults.{IsDefaultConfig}
-use Rattle.iox2_config.specs.declared.config.Config.{Config}
-use Rattle.iox2_config.specs.declared.config.defaults.Defaults.{Defaults}
 use Rattle.iox2_config.specs.declared.config.node.Node.{Node}
 use Rattle.iox2_config.specs.declared.config.service.Service.{Service}
-use Rattle.iox2_config_file.specs.declared.section.Section.{Section}
 use Rattle.iox2_config_file.specs.Read.{sections}
-use Rattle.iox2_config_file.specs.Rows.{prefix_of}
-use Rattle.iox2_config_file.specs.Settings.{Setting}
-use Rattle.iox2_config_file.specs.Values.{SettingValue}
 use Rattle.iox2_config_file.specs.Write.{value_text}
 use Rattle.iox2_static.specs.Chunks.{TellsGreatest}
 use Rattle.iox2_texts.specs.Path.{join}
-use Rattle.config_report.specs.declared.files.FileKind.{FileKind}
-use Rattle.config_report.specs.Pairs.{TablesGive}
-use Rattle.config_report.specs.Limits.{all_limits, sample_limits_of, request_limits_of, response_limits_of}
+use Rattle.config_report.specs.declared.text.FileKind.{FileKind}
+
+-- what the settings of a table give, one after the other, each beside that of the same key
+abbrev pub SettingsGive : {A : Type 0} → (Setting → Setting → List A → Type 0) → List Setting
+    → List Setting → List A → Type 0
+SettingsGive {A} Gives (x ∷ xs) (y ∷ ys) all =
+    (first : List A) × (more : List A) × (all ≡ first ++ more) × Gives x y first
+    × SettingsGive Gives xs ys more
+SettingsGive Gives _ _ all = all ≡ []
+
+-- what all settings of some tables give, in the order of the tables
+abbrev pub TablesGive : {A : Type 0} → (Section → Setting → Setting → List A → Type 0) → Config
+    → Config → List Section → List A → Type 0
+TablesGive Gives a b [] all = all ≡ []
+TablesGive {A} Gives a b (s ∷ ss) all =
+    (table : List A) × (more : List A) × (all ≡ table ++ more)
+    × SettingsGive (Gives s) (settings_in s a) (settings_in s b) table
+    × TablesGive Gives a b ss more
+
+-- what a setting of this key and this value gives, beside this other value, is added
+abbrev pub Adds : {A : Type 0} → (Setting → Setting → List A → Type 0) → List ℕ → SettingValue
+    → SettingValue → List A → List A → Type 0
+Adds {A} Gives key value other old new =
+    (x : Setting) (y : Setting) → x.key ≡ key → x.value ≡ value → y.value ≡ other
+    → (more : List A) × (new ≡ old ++ more) × Gives x y more
+
+-- the limits on the samples of a publisher
+abbrev pub sample_limits_of : Defaults → List ℕ
+sample_limits_of d =
+    sample_limits
+    (publish_subscribe_of d.publish_subscribe) d.publish_subscribe.publisher_max_loaned_samples
+
+-- the limits on the requests of a client
+abbrev pub request_limits_of : Defaults → List ℕ
+request_limits_of d =
+    client_limits (request_response_of d.request_response) d.request_response.max_loaned_requests
+
+-- the limits on the responses of a server
+abbrev pub response_limits_of : Defaults → List ℕ
+response_limits_of d =
+    server_limits
+    (request_response_of d.request_response)
+    d.request_response.server_max_loaned_responses_per_request
+
+-- the limits of all of some ports, of which each has the same ones
+abbrev pub all_limits : ℕ → List ℕ → List ℕ
+all_limits ports limits = concat (replicate ports limits)
 
 -- the line of a setting whose value is its default: its path and its value
 abbrev pub usual_line : Section → List ℕ → SettingValue → List ℕ

@@ -8,8 +8,8 @@ ghost use Rattle.config_report.specs.Contradictions.{contradiction_note, contrad
 ghost use Rattle.config_report.specs.Contradictions.{contradictions_in};
 ghost use Rattle.config_report.specs.Findings.{Checks, FindsInFile, FindsNoFile, Lists, topics_of};
 ghost use Rattle.config_report.specs.Notes.{finding_view, note, note_in, topic_position};
-ghost use Rattle.config_report.specs.Subjects.{subject_view};
-ghost use Rattle.config_report.specs.Unread.{IsNoFile, IsText, IsUnread};
+ghost use Rattle.config_report.specs.Notes.{subject_view};
+ghost use Rattle.config_report.specs.Findings.{IsNoFile, IsText, IsUnread};
 ghost use Rattle.config_report.specs.declared.finding.Severity.TheVariants as severity;
 ghost use Rattle.toml.specs.Parse.{parse_document};
 ghost use Rattle.toml_positions.specs.Position.{position_after};

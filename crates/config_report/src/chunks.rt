@@ -1,8 +1,8 @@
 //! How many messages a port's data segment must hold.
 ghost use Rattle.std.specs.Prelude.{◌≡◌, ◌++◌, ℕ, List, OnOk, Some, string_bytes};
 ghost use Rattle.iox2_static.specs.Chunks.{TellsGreatest};
-ghost use Rattle.config_report.specs.Limits.{sample_limits_of, request_limits_of};
-ghost use Rattle.config_report.specs.Limits.{all_limits, response_limits_of};
+ghost use Rattle.config_report.specs.Text.{sample_limits_of, request_limits_of};
+ghost use Rattle.config_report.specs.Text.{all_limits, response_limits_of};
 ghost use Rattle.config_report.specs.Text.{need_line, need_text, IsNeedLine, IsNeedsText};
 
 use iox2_config::config::Config;
@@ -45,6 +45,7 @@ pub fn responses(config: &Config) -> Option<usize>
 }
 
 /// How many chunks all ports of a kind can have in use at once, by how many one of them can.
+#[tactic(auto, using(crate::proofs::AllPorts::all_of_some, crate::proofs::AllPorts::all_of_many))]
 fn of_all(one: Option<usize>, ports: usize) -> Option<usize>
     ensures { (limits : List ℕ) → TellsGreatest limits one
         → TellsGreatest (all_limits ports limits) result }

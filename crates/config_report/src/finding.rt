@@ -1,8 +1,8 @@
 //! What is found in a file of settings. Its texts stand in one line.
 ghost use Rattle.std.specs.Prelude.{◌≡◌, Some, IfOk, string_bytes};
 ghost use Rattle.config_report.specs.Findings.{place_of};
-ghost use Rattle.config_report.specs.Lines.{has_no_control, in_line};
-ghost use Rattle.config_report.specs.Positions.{at_text};
+ghost use Rattle.config_report.specs.Notes.{has_no_control, in_line};
+ghost use Rattle.config_report.specs.Notes.{at_text};
 ghost use Rattle.config_report.specs.Notes.{severity_text, note_text, finding_view};
 
 use iox2_config::config::Config;
@@ -19,14 +19,23 @@ pub enum Severity {
     Warning,
 }
 
+impl Severity {
+    /// The severity in a word.
+    pub fn word(self) -> &'static str
+        ensures { result.now ≡ severity_text self }
+    {
+        match self {
+            Severity::Error => "error",
+            Severity::Warning => "warning",
+        }
+    }
+}
+
 impl fmt::Display for Severity {
     ghost output = { λ severity. Some (severity_text severity) };
 
     fn fmt<W: fmt::Write>(&self, f: &mut fmt::Formatter<W>) -> fmt::Result {
-        f.write_str(match self {
-            Severity::Error => "error",
-            Severity::Warning => "warning",
-        })
+        f.write_str(self.word())
     }
 }
 

@@ -2,20 +2,15 @@
 //! or all settings with the files and the memory that follow.
 //!
 //! The text, a line for each setting and for each fault, is that of `specs/Text.antt` and
-//! `specs/Report.antt`.
+//! `specs/Findings.antt`.
 #![tactic(auto)]
 
 mod check;
 mod chunks;
 mod contradiction;
 mod contradictions;
-mod files;
 mod finding;
-mod key;
-mod keys;
 pub mod laws;
-mod meant;
-mod named;
 mod report;
 mod subject;
 mod text;
@@ -23,10 +18,9 @@ mod text;
 pub use check::{Unread, check_file, contents_of, text_of};
 pub use chunks::{requests, responses, samples};
 pub use finding::{Finding, Findings, Severity};
-pub use keys::{fault_positions, unknown_positions};
 pub use report::{
     FileConfig, Report, ReportError, default_file, read_file, report_file, settings_text,
 };
-pub use subject::{Subject, position_at};
+pub use subject::{Subject, fault_positions, position_at, unknown_positions};
 pub use text::is_same;
 pub use toml_positions::Position;

@@ -1,8 +1,6 @@
 //! What is said of a file of settings.
-
-ghost use Rattle.std.specs.Prelude.{◌≡◌, ◌++◌, OnOk, IfOk, string_bytes};
-ghost use Rattle.config_report.specs.Findings.{lines_of};
-ghost use Rattle.config_report.specs.Report.{ReadsFile, Reports, HasDefaults};
+ghost use Rattle.std.specs.Prelude.{◌≡◌, IfOk, string_bytes};
+ghost use Rattle.config_report.specs.Findings.{lines_of, ReadsFile, Reports, HasDefaults};
 ghost use Rattle.config_report.specs.Text.{IsReportText};
 
 use crate::check::check_file;
@@ -76,22 +74,15 @@ pub fn report_file(alloc: Global, bytes: &[u8]) -> Result<Report, ReportError>
 }
 
 /// A line for each of some findings.
+#[tactic(auto, using(crate::proofs::Lines::one_more))]
 fn lines_of(alloc: Global, list: &[Finding]) -> Result<String, AllocError>
     ensures { IfOk result (λ lines. string_bytes lines ≡ lines_of list.now) }
 {
     let mut lines = String::new(alloc);
-    write_lines(&mut lines, list)?;
-    Ok(lines)
-}
-
-/// Appends a line for each of some findings.
-fn write_lines(out: &mut String, list: &[Finding]) -> Result<(), AllocError>
-    ensures { OnOk result (string_bytes out.new ≡ string_bytes out.old ++ lines_of list.now) }
-{
     for finding in list {
-        write!(out, "{finding}\n")?;
+        write!(lines, "{finding}\n")?;
     }
-    Ok(())
+    Ok(lines)
 }
 
 /// All settings, each marked where it differs from its default, and the directories, the files and

@@ -1,20 +1,22 @@
 //! What there is to say something of in a file, and where its keys stand.
 ghost use Rattle.std.specs.Prelude.{◌≡◌, ◌++◌, ◌∷◌, [], IfOk, IsSome, None, map, slice_index_or};
+ghost use Rattle.std.specs.Prelude.{Some, option_map};
 ghost use Rattle.iox2_config_file.specs.Read.{fault_view};
-ghost use Rattle.iox2_config_file.specs.Unknown.{unknown_view};
+ghost use Rattle.iox2_config_file.specs.Unknown.{unknown_view, proposal_view};
 ghost use Rattle.config_report.specs.Notes.{fault, finding_view, topic_note, topic_path};
-ghost use Rattle.config_report.specs.Notes.{topic_position, unknown};
-ghost use Rattle.config_report.specs.Positions.{position_for, table_path};
-ghost use Rattle.config_report.specs.Subjects.{subject_view};
+ghost use Rattle.config_report.specs.Notes.{topic_position, unknown, meant_text, proposed_text};
+ghost use Rattle.config_report.specs.Notes.{table_text, fault_position, unknown_position};
+ghost use Rattle.config_report.specs.Notes.{position_for, table_path, subject_view};
 ghost use Rattle.toml.specs.Parse.{parse_document};
 ghost use Rattle.toml_positions.specs.Written.{path_view};
+ghost use Rattle.toml_writer.specs.Text.{key_text};
 
 use crate::finding::{Finding, Severity, in_line};
-use crate::key::TomlKey;
-use crate::meant::Meant;
-use iox2_config_file::{Section, SettingFault, UnknownKey};
+use iox2_config_file::{Likeness, Proposal, Section, SettingFault, UnknownKey};
 use std::alloc::{AllocError, Global};
+use std::fmt;
 use toml_positions::{KeyPath, Position, positions_of};
+use toml_writer::write_key;
 
 /// What there is to say something of.
 #[derive(Clone, Copy)]
@@ -191,4 +193,103 @@ pub fn position_at(positions: &[Option<Position>], index: usize) -> Option<Posit
         Some(position) => *position,
         None => None,
     }
+}
+
+/// A key, as TOML writes it.
+#[derive(Clone, Copy)]
+pub(crate) struct TomlKey<'a>(pub(crate) &'a str);
+
+impl fmt::Display for TomlKey<'_> {
+    ghost output = { λ key. Some (key_text key.0.now) };
+
+    fn fmt<W: fmt::Write>(&self, f: &mut fmt::Formatter<W>) -> fmt::Result {
+        write_key(f, self.0)
+    }
+}
+
+/// A table, as a header names it.
+#[derive(Clone, Copy)]
+struct Table(Section);
+
+impl fmt::Display for Table {
+    ghost output = { λ table. Some (table_text table.0) };
+
+    fn fmt<W: fmt::Write>(&self, f: &mut fmt::Formatter<W>) -> fmt::Result {
+        match self.0 {
+            Section::Root => f.write_str("the top of the file"),
+            section => write!(f, "[{}]", section.name()),
+        }
+    }
+}
+
+/// A known key that was probably meant.
+#[derive(Clone, Copy)]
+struct Proposed(Proposal);
+
+impl fmt::Display for Proposed {
+    ghost output = { λ proposed. Some (proposed_text (proposal_view proposed.0)) };
+
+    fn fmt<W: fmt::Write>(&self, f: &mut fmt::Formatter<W>) -> fmt::Result {
+        let Proposal {
+            section,
+            key,
+            likeness,
+        } = self.0;
+        let prefix = section.prefix();
+        match likeness {
+            Likeness::Spelling | Likeness::Near => write!(f, "{prefix}{key} may be meant"),
+            Likeness::OtherTable => write!(f, "it belongs to {}", Table(section)),
+            Likeness::Quoted => write!(f, "{prefix}{key} without the quotes may be meant"),
+        }
+    }
+}
+
+/// That a table has no such key, and what was probably meant.
+#[derive(Clone, Copy)]
+pub(crate) struct Meant(pub(crate) Option<Proposal>);
+
+impl fmt::Display for Meant {
+    ghost output = { λ meant. Some (meant_text (option_map proposal_view meant.0)) };
+
+    fn fmt<W: fmt::Write>(&self, f: &mut fmt::Formatter<W>) -> fmt::Result {
+        match self.0 {
+            Some(proposal) => write!(f, "this table has no such key, {}", Proposed(proposal)),
+            None => f.write_str("this table has no such key"),
+        }
+    }
+}
+
+/// The positions of the keys of some faults of a text that is TOML. One past 128 KiB is not
+/// searched.
+pub fn fault_positions(
+    alloc: Global,
+    text: &str,
+    faults: &[SettingFault],
+) -> Result<Vec<Option<Position>>, AllocError>
+    requires { IsSome (parse_document text.now) }
+    ensures { IfOk result (λ found.
+        found.items ≡ map (fault_position text.now) (map fault_view faults.now)) }
+{
+    if faults.is_empty() {
+        return Ok(Vec::new(alloc));
+    }
+    let subjects = subjects_of(alloc, faults, &[])?;
+    subject_positions(alloc, text, subjects.as_slice())
+}
+
+/// The same of some keys that no setting has.
+pub fn unknown_positions(
+    alloc: Global,
+    text: &str,
+    keys: &[UnknownKey],
+) -> Result<Vec<Option<Position>>, AllocError>
+    requires { IsSome (parse_document text.now) }
+    ensures { IfOk result (λ found.
+        found.items ≡ map (unknown_position text.now) (map unknown_view keys.now)) }
+{
+    if keys.is_empty() {
+        return Ok(Vec::new(alloc));
+    }
+    let subjects = subjects_of(alloc, &[], keys)?;
+    subject_positions(alloc, text, subjects.as_slice())
 }

@@ -1,17 +1,21 @@
-//! All settings, and what follows from them, as text.
-ghost use Rattle.std.specs.Prelude.{◌≡◌, ◌++◌, ◌↔◌, ℕ, List, IsTrue, OnOk, string_bytes};
+//! All settings, and the directories, the files and the chunks that follow, as text.
+ghost use Rattle.std.specs.Prelude.{◌≡◌, ◌++◌, ◌↔◌, ℕ, List, IsTrue, OnOk, string_bytes, map};
+ghost use Rattle.std.specs.Prelude.{flat_map};
 ghost use Rattle.iox2_config_file.specs.Settings.{settings_in};
 ghost use Rattle.iox2_config_file.specs.Write.{value_view};
-ghost use Rattle.config_report.specs.Pairs.{Adds, SettingsGive, TablesGive};
-ghost use Rattle.config_report.specs.Text.{IsSettingLine, IsSettingsText, IsReportOver};
-ghost use Rattle.config_report.specs.Text.{usual_line, marked_line};
+ghost use Rattle.config_report.specs.Text.{Adds, SettingsGive, TablesGive, IsSettingLine};
+ghost use Rattle.config_report.specs.Text.{IsReportOver, usual_line, marked_line, named_line};
+ghost use Rattle.config_report.specs.Text.{directory_text, directories_text, file_line, files_text};
+ghost use Rattle.config_report.specs.Text.{kind_view, service_files_of, node_files_of};
 ghost use Rattle.std.specs.Duration.{as_nanos};
 ghost use Rattle.iox2_config_file.specs.Values.{duration};
+ghost use Rattle.iox2_texts.specs.Path.{MakesJoined};
 
 use crate::chunks::write_needs;
-use crate::files::{write_directories, write_files};
-use iox2_config::config::Config;
+use iox2_config::config::{Config, Node, Service};
 use iox2_config_file::{Row, SECTIONS, Section, SettingValue, rows, value_at};
+use iox2_texts::bounded::SemanticStringError;
+use iox2_texts::paths::{FileName, Path};
 use std::alloc::AllocError;
 use std::time::Duration;
 
@@ -25,23 +29,14 @@ pub(crate) fn write_text(
         × (string_bytes out.new ≡ string_bytes out.old ++ text)
         × IsReportOver default.now config.now text) }
 {
-    write_settings(out, config, default)?;
-    write_directories(out, config)?;
-    write_files(out, config)?;
-    write_needs(out, config)
-}
-
-/// Appends all settings.
-fn write_settings(out: &mut String, config: &Config, default: &Config) -> Result<(), AllocError>
-    ensures { OnOk result ((text : List ℕ)
-        × (string_bytes out.new ≡ string_bytes out.old ++ text)
-        × IsSettingsText default.now config.now text) }
-{
     write!(
         out,
         "settings, with ! where they differ from the defaults\n"
     )?;
-    write_tables(out, &SECTIONS, config, default)
+    write_tables(out, &SECTIONS, config, default)?;
+    write_directories(out, config)?;
+    write_files(out, config)?;
+    write_needs(out, config)
 }
 
 /// Appends the settings of some tables.
@@ -154,4 +149,126 @@ fn is_time(value: SettingValue<'_>, time: Duration) -> bool
         SettingValue::Duration(other) => time.as_nanos() == other.as_nanos(),
         _ => false,
     }
+}
+
+/// Appends the directories.
+pub(crate) fn write_directories(out: &mut String, config: &Config) -> Result<(), AllocError>
+    ensures { OnOk result
+        (string_bytes out.new ≡ string_bytes out.old ++ directories_text config.now) }
+{
+    write!(out, "\ndirectories\n")?;
+    write_named(out, "root", config.global.root_path().as_str())?;
+    write_directory(out, "services", config.global.service_dir())?;
+    write_directory(out, "nodes", config.global.node_dir())
+}
+
+/// Appends a directory.
+fn write_directory(
+    out: &mut String,
+    name: &str,
+    directory: Result<Path, SemanticStringError>,
+) -> Result<(), AllocError>
+    ensures { OnOk result ((root entry : List ℕ) → MakesJoined root entry directory
+        → string_bytes out.new
+        ≡ string_bytes out.old ++ named_line name.now (directory_text root entry)) }
+{
+    match directory {
+        Ok(path) => write_named(out, name, path.as_str()),
+        Err(_) => write_named(out, name, "none: its path would have more than 255 bytes"),
+    }
+}
+
+/// A kind of files.
+#[derive(Clone, Copy)]
+struct FileKind<'a> {
+    /// What the files are.
+    name: &'static str,
+    /// How their names end.
+    suffix: &'a FileName,
+}
+
+/// A kind of files with this name and this suffix.
+fn kind<'a>(name: &'static str, suffix: &'a FileName) -> FileKind<'a>
+    ensures { kind_view result ≡ (name.now, suffix.now) }
+{
+    FileKind { name, suffix }
+}
+
+/// The kinds of services' files.
+fn service_files(service: &Service) -> [FileKind<'_>; 7]
+    ensures { map kind_view result ≡ service_files_of service.now }
+{
+    [
+        kind(
+            "static configuration",
+            &service.static_config_storage_suffix,
+        ),
+        kind(
+            "dynamic configuration",
+            &service.dynamic_config_storage_suffix,
+        ),
+        kind("data segments", &service.data_segment_suffix),
+        kind("connections", &service.connection_suffix),
+        kind("event connections", &service.event_connection_suffix),
+        kind("blackboard management", &service.blackboard_mgmt_suffix),
+        kind("blackboard data", &service.blackboard_data_suffix),
+    ]
+}
+
+/// The kinds of nodes' files.
+fn node_files(node: &Node) -> [FileKind<'_>; 5]
+    ensures { map kind_view result ≡ node_files_of node.now }
+{
+    [
+        kind("node monitors", &node.monitor_suffix),
+        kind("node details", &node.static_config_suffix),
+        kind("service tags", &node.service_tag_suffix),
+        kind("port tags", &node.port_tag_suffix),
+        kind("global management", &node.global_mgmt_suffix),
+    ]
+}
+
+/// Appends the names of files.
+pub(crate) fn write_files(out: &mut String, config: &Config) -> Result<(), AllocError>
+    ensures { OnOk result (string_bytes out.new ≡ string_bytes out.old ++ files_text config.now) }
+{
+    let prefix = &config.global.prefix;
+    write!(
+        out,
+        "\nfiles, with * for what the configuration does not fix\n"
+    )?;
+    write_kinds(out, prefix, &service_files(&config.global.service))?;
+    write_kinds(out, prefix, &node_files(&config.global.node))
+}
+
+/// Appends a line for each kind of files.
+fn write_kinds(
+    out: &mut String,
+    prefix: &FileName,
+    kinds: &[FileKind<'_>],
+) -> Result<(), AllocError>
+    ensures { OnOk result (string_bytes out.new
+        ≡ string_bytes out.old ++ flat_map (file_line prefix.now) (map kind_view kinds.now)) }
+{
+    for kind in kinds {
+        write_kind(out, prefix, kind)?;
+    }
+    Ok(())
+}
+
+/// Appends how the names of files of a kind begin and end.
+fn write_kind(out: &mut String, prefix: &FileName, kind: &FileKind<'_>) -> Result<(), AllocError>
+    ensures { OnOk result (string_bytes out.new
+        ≡ string_bytes out.old ++ file_line prefix.now (kind_view kind.now)) }
+{
+    let FileKind { name, suffix } = *kind;
+    write!(out, "  {name:<22} {prefix}*{suffix}\n")
+}
+
+/// Appends a name, filled with spaces to 22 characters, and what stands beside it.
+pub(crate) fn write_named(out: &mut String, name: &str, text: &str) -> Result<(), AllocError>
+    ensures { OnOk result
+        (string_bytes out.new ≡ string_bytes out.old ++ named_line name.now text.now) }
+{
+    write!(out, "  {name:<22} {text}\n")
 }

@@ -3,7 +3,7 @@ use Rattle.std.proofs.Common.{ℕ, zero, suc, ◌+◌, ◌≤◌, List, [], ◌�
 use Rattle.std.proofs.lemmas.Int.{clamps}
 use Rattle.std.specs.Str.{chars}
 use Rattle.strsim.specs.Edits.{cost_at, next_row, rows}
-use Rattle.iox2_config_file.specs.Proposals.{edit_distance}
+use Rattle.iox2_config_file.specs.Unknown.{edit_distance}
 
 -- a cell of the row after n elements is no less than the steps by which its place and n differ
 abbrev IsFar : ℕ → (ℕ → ℕ) → Type 0

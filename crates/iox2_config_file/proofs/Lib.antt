@@ -1,14 +1,9 @@
-pub mod Building
 pub mod Complete
-pub mod Counting
 pub mod Distances
 pub mod Filling
-pub mod First
-pub mod FoundKeys
-pub mod Legal
 pub mod ReadBack
 pub mod Reading
 pub mod Rowed
-pub mod Sections
+pub mod Values
 pub mod Written
 pub mod WrittenTables

@@ -1,27 +1,24 @@
 -- What is read of the text of a configuration.
-use Rattle.std.proofs.Common.{◌≡◌, ℕ, true, List, [], ◌∷◌, ◌++◌, map, Option, Some, None, option_map, Result, Ok, Err, IfOk, IfErr, string_bytes, ◌∙◌, refl, sym, ap, subst, length, arith}
-use Rattle.std.specs.Prelude.{not, ◌||◌}
+use Rattle.std.proofs.Common.{◌≡◌, ℕ, true, List, [], ◌∷◌, ◌++◌, map, Option, Some, None, option_map, Result, Ok, Err, IfOk, IfErr, string_bytes, ◌∙◌, refl, sym, ap, subst, length, arith, rules}
+use Rattle.std.specs.Prelude.{not, ◌||◌, String}
 use Rattle.std.specs.List.{filter_map}
 use Rattle.std.proofs.lemmas.List.Elements.{filter_map-append}
-use Rattle.std.proofs.Common.{rules}
-use Rattle.std.specs.Prelude.{String}
 use Rattle.std.specs.declared.alloc.Global.{Global}
 use Rattle.toml.specs.Data.{Data, Members, get_member}
 use Rattle.toml.specs.Parse.{parse_document}
 use Rattle.toml.specs.Tables.{Nodes, no_nodes, node, value, get_node, close}
 use Rattle.iox2_config.specs.Defaults.{IsDefaultConfig}
 use Rattle.iox2_config.specs.declared.config.Config.{Config}
-use Rattle.iox2_config_file.specs.declared.kind.Kind.{Kind}
-use Rattle.iox2_config_file.specs.declared.kind.Kind.TheVariants as kind
+use Rattle.iox2_config_file.specs.declared.fault.Kind.{Kind}
+use Rattle.iox2_config_file.specs.declared.fault.Kind.TheVariants as kind
 use Rattle.iox2_config_file.specs.declared.section.Section.{Section}
 use Rattle.iox2_config_file.specs.declared.section.Section.TheVariants as section
 use Rattle.iox2_config_file.specs.Read.{IsSettingsOf, fault_view, read_setting, section_members, rows_in, row_fault, section_faults, faults_in}
-use Rattle.iox2_config_file.specs.declared.error.ConfigFileError.{ConfigFileError}
-use Rattle.iox2_config_file.specs.declared.error.ConfigFileError.TheVariants as error
+use Rattle.iox2_config_file.specs.declared.read.ConfigFileError.{ConfigFileError}
+use Rattle.iox2_config_file.specs.declared.read.ConfigFileError.TheVariants as error
 use Rattle.iox2_config_file.specs.declared.read.FileContents.{FileContents}
 use Rattle.iox2_config_file.specs.declared.write.ConfigWriteError.{ConfigWriteError}
-use Rattle.iox2_config_file.specs.Answers.{HasNoFault, IsConfigOf, IsUnparsed, ReadsAll}
-use Rattle.iox2_config_file.specs.ReadBack.{AreConfig, AreLegal, AreSame, ReadsBack, IsNoMemory}
+use Rattle.iox2_config_file.specs.Answers.{HasNoFault, IsConfigOf, IsUnparsed, ReadsAll, AreConfig, AreLegal, AreSame, ReadsBack, IsNoMemory}
 use Rattle.iox2_config_file.specs.Settings.{Setting, settings_in, tables_in, global_settings, service_settings, node_settings}
 use Rattle.iox2_config_file.specs.Unknown.{is_known, unknown_view, unknown_at, unknown_among, section_unknown, unknown_in}
 use Rattle.iox2_config_file.specs.Values.{SettingValue, value_or}

@@ -1,14 +1,17 @@
--- The settings of a table beside its rows, one after the other.
-use Rattle.std.proofs.Common.{◌≡◌, ℕ, zero, suc, ◌+◌, ◌≤◌, true, false, cond, List, [], ◌∷◌, ◌++◌, length, map, drop, slice_get, Option, Some, None, refl, sym, ap, add-one, append_assoc, arith, length-append, drop_of_length-le, rules}
+-- The settings of a table beside its rows, and the tables of a file, one after the other.
+use Rattle.std.proofs.Common.{◌≡◌, ℕ, zero, suc, ◌+◌, ◌≤◌, true, false, cond, List, [], ◌∷◌, ◌++◌, length, map, drop, slice_get, Option, Some, None, refl, sym, ap, add-one, append_assoc, arith, length-append, drop_of_length-le, rules, ◌<◌, get_or, drop-cons}
 use Rattle.std.specs.List.{filter_map}
 use Rattle.std.proofs.lemmas.List.{length-map, length-drop}
 use Rattle.std.proofs.lemmas.Option.{none-some, same_Some, slice_get-map}
-use Rattle.iox2_config_file.specs.declared.kind.Kind.{Kind}
+use Rattle.iox2_config_file.specs.declared.fault.Kind.{Kind}
 use Rattle.iox2_config_file.specs.declared.section.Row.{Row}
 use Rattle.iox2_config_file.specs.Read.{row_view}
 use Rattle.iox2_config_file.specs.Settings.{Setting, held_at}
 use Rattle.iox2_config_file.specs.Values.{SettingValue}
-use Rattle.iox2_config_file.specs.Write.{value_fits, entry_text, entries_text}
+use Rattle.iox2_config_file.specs.Write.{value_fits, entry_text, entries_text, section_misfits, located_misfits, IsTableText, IsTablesText}
+use Rattle.std.specs.Prelude.{flat_map}
+use Rattle.iox2_config.specs.declared.config.Config.{Config}
+use Rattle.iox2_config_file.specs.declared.section.Section.{Section}
 
 -- the key of a setting whose value TOML does not have
 abbrev pub misfit : Setting → Option (List ℕ)
@@ -115,3 +118,48 @@ entries_next rows ds xs i r d v out new whole before wrote row default value =
 -- all is written where nothing is left
 pub all_written : (out rest whole : List ℕ) → out ++ rest ≡ whole → rest ≡ [] → out ≡ whole
 all_written out rest whole before none = search rules
+
+some_first : (xs : List (List ℕ)) (x : List ℕ) → Some x ≡ slice_get xs 0
+    → (more : List (List ℕ)) × (xs ≡ x ∷ more)
+some_first [] x h = absurd (none-some x (sym h))
+some_first (y ∷ ys) x h = (ys, ap (λ z. z ∷ ys) (sym (same_Some x y h)))
+
+-- from this table on, it comes first
+split_at : (ss : List Section) (i : ℕ) (d : Section) → i < length ss
+    → drop i ss ≡ get_or ss i d ∷ drop (i + 1) ss
+split_at ss i d lt = grind (arith, add-one, drop-cons)
+
+-- the first setting of this table that does not fit is the first of all
+pub misfit_first : (config : Config) (ss : List Section) (i : ℕ) (d : Section) (key : List ℕ)
+    → i < length ss → Some key ≡ slice_get (section_misfits (get_or ss i d) config) 0
+    → flat_map (located_misfits config) ss ≡ flat_map (located_misfits config) (drop i ss)
+    → (more : List (Section × List ℕ))
+    × (flat_map (located_misfits config) ss ≡ (get_or ss i d, key) ∷ more)
+misfit_first config ss i d key lt h same =
+    let (more, is) = some_first (section_misfits (get_or ss i d) config) key h in
+    let split = split_at ss i d lt in
+    let s = get_or ss i d in
+    (map (λ k. (s, k)) more ++ flat_map (located_misfits config) (drop (i + 1) ss), grind arith)
+
+-- a table whose settings fit is passed over
+pub misfit_next : (config : Config) (ss : List Section) (i : ℕ) (d : Section) → i < length ss
+    → None ≡ slice_get (section_misfits (get_or ss i d) config) 0
+    → flat_map (located_misfits config) (drop (i + 1) ss)
+    ≡ flat_map (located_misfits config) (drop i ss)
+misfit_next config ss i d lt h = grind (arith, none-some, split_at)
+
+-- one table more is written
+pub tables_next : (default config : Config) (ss : List Section) (i : ℕ) (d : Section)
+    (before old new done table : List ℕ) → i < length ss → old ≡ before ++ done
+    → new ≡ old ++ table → IsTableText default config (get_or ss i d) table
+    → ((more : List ℕ) → IsTablesText default config (drop i ss) more
+    → IsTablesText default config ss (done ++ more))
+    → (all : List ℕ) × (new ≡ before ++ all)
+    × ((more : List ℕ) → IsTablesText default config (drop (i + 1) ss) more
+    → IsTablesText default config ss (all ++ more))
+tables_next default config ss i d before old new done table lt was now h rest = (
+  done ++ table,
+  grind (arith, append_assoc),
+  λ more tables. rw (append_assoc done table more) (rest (table ++ more)
+      (rw (split_at ss i d lt) (table, more, refl, h, tables))),
+)

@@ -16,17 +16,16 @@ use Rattle.iox2_texts.specs.Name.{IsAllowed}
 use Rattle.iox2_texts.specs.Path.{IsPlain}
 use Rattle.iox2_config.specs.declared.config.choices.BackpressureStrategy.TheVariants.{RetryUntilDelivered, DiscardData}
 use Rattle.iox2_config.specs.declared.config.choices.AllocationStrategy.TheVariants.{BestFit, PowerOfTwo, Static}
-use Rattle.iox2_config_file.specs.declared.kind.Kind.{Kind}
-use Rattle.iox2_config_file.specs.declared.kind.Kind.TheVariants as kind
+use Rattle.iox2_config_file.specs.declared.fault.Kind.{Kind}
+use Rattle.iox2_config_file.specs.declared.fault.Kind.TheVariants as kind
 use Rattle.iox2_config_file.specs.declared.section.Row.{Row}
 use Rattle.iox2_config_file.specs.Read.{row_view}
-use Rattle.iox2_config_file.specs.ReadBack.{IsLegal, AreLegal}
-use Rattle.iox2_config_file.specs.Rows.{is_line, are_lines}
-use Rattle.iox2_config_file.specs.Settings.{Setting}
+use Rattle.iox2_config_file.specs.Answers.{IsLegal, AreLegal}
+use Rattle.iox2_config_file.specs.Settings.{is_line, are_lines, Setting}
 use Rattle.iox2_config_file.specs.Values.{SettingValue, number, flag, text, backpressure, allocation, duration, absent, settings, value_in, text_in, is_path, is_file_name}
 use Rattle.iox2_config_file.specs.Write.{value_text, value_fits, value_is_set, assignment, entry_text, entries_text}
 use Rattle.iox2_config_file.proofs.Filling.{Pair, lines_of, more_lines}
-use Rattle.iox2_config_file.proofs.Legal.{any_path, plain, made_text}
+use Rattle.iox2_config_file.proofs.Values.{any_path, plain, made_text}
 use Rattle.iox2_config_file.proofs.Rowed.{no_entries}
 use Rattle.iox2_config_file.proofs.Reading.{Block, block_append, block_none, block_newline, block_comment, block_pair}
 

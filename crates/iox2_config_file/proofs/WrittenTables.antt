@@ -18,9 +18,8 @@ use Rattle.iox2_config.specs.declared.config.Config.{Config}
 use Rattle.iox2_config_file.specs.declared.section.Section.{Section}
 use Rattle.iox2_config_file.specs.declared.section.Section.TheVariants as section
 use Rattle.iox2_config_file.specs.Read.{sections}
-use Rattle.iox2_config_file.specs.ReadBack.{AreLegal}
-use Rattle.iox2_config_file.specs.Rows.{is_line}
-use Rattle.iox2_config_file.specs.Settings.{Setting, settings_in}
+use Rattle.iox2_config_file.specs.Answers.{AreLegal}
+use Rattle.iox2_config_file.specs.Settings.{is_line, Setting, settings_in}
 use Rattle.iox2_config_file.specs.Values.{SettingValue, text, settings}
 use Rattle.iox2_config_file.specs.Write.{value_text, value_fits, section_misfits, located_misfits, misfits, IsHeaderText, IsTableText, IsTablesText, IsConfigText}
 use Rattle.iox2_config_file.proofs.Filling.{Pair, lines_of, keys_of, set_all, are_distinct, Focus, focus_root, focus_child, run_table, run_first}

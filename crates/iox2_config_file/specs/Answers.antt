@@ -1,9 +1,9 @@
--- What the reader of a file answers.
-use Rattle.std.specs.Prelude.{◌≡◌, ℕ, List, [], ◌∷◌, map, Option, Some, None, ⊤}
+-- What the reader of a file answers, also of a text that was written.
+use Rattle.std.specs.Prelude.{◌≡◌, ℕ, List, [], ◌∷◌, map, Option, Some, None, ⊤, option_map}
 use Rattle.iox2_config.specs.Defaults.{IsDefaultConfig}
 use Rattle.iox2_config.specs.declared.config.Config.{Config}
-use Rattle.iox2_config_file.specs.declared.error.ConfigFileError.{ConfigFileError}
-use Rattle.iox2_config_file.specs.declared.error.ConfigFileError.TheVariants as error
+use Rattle.iox2_config_file.specs.declared.read.ConfigFileError.{ConfigFileError}
+use Rattle.iox2_config_file.specs.declared.read.ConfigFileError.TheVariants as error
 use Rattle.iox2_config_file.specs.declared.fault.SettingFault.{SettingFault}
 use Rattle.iox2_config_file.specs.declared.read.FileContents.{FileContents}
 use Rattle.iox2_config_file.specs.declared.unknown.UnknownKey.{UnknownKey}
@@ -11,6 +11,15 @@ use Rattle.iox2_config_file.specs.Read.{IsSettingsOf, Located, faults_in, fault_
 use Rattle.iox2_config_file.specs.Unknown.{unknown_view, unknown_in}
 use Rattle.toml.specs.Data.{Members}
 use Rattle.toml.specs.Parse.{parse_document}
+use Rattle.iox2_texts.specs.Text.{IsTextUpTo}
+use Rattle.iox2_texts.specs.Name.{IsAllowed}
+use Rattle.iox2_texts.specs.Path.{IsPlain}
+use Rattle.iox2_config_file.specs.declared.fault.Kind.{Kind}
+use Rattle.iox2_config_file.specs.declared.fault.Kind.TheVariants as kind
+use Rattle.iox2_config_file.specs.declared.section.Section.{Section}
+use Rattle.iox2_config_file.specs.Settings.{Setting, settings_in}
+use Rattle.iox2_config_file.specs.Values.{SettingValue, text}
+use Rattle.std.specs.Duration.{as_nanos}
 
 -- no value of the file is refused; the configuration given is looked at for the keys alone
 abbrev pub HasNoFault : Members → Type 0
@@ -49,3 +58,65 @@ pub record ReadsAll (bytes : List ℕ) (contents : FileContents) : Type 0 where
 abbrev pub IsUnparsed : List ℕ → ConfigFileError → Type 0
 IsUnparsed bytes (error.Syntax e) = parse_document bytes ≡ None
 IsUnparsed bytes (error.NoMemory e) = ⊤
+
+-- all settings are the same
+abbrev pub AreSame : Config → Config → Type 0
+AreSame one other = (s : Section) → settings_in s one ≡ settings_in s other
+
+-- the text is a file without faults and unknown keys, and over the defaults of the middleware its
+-- settings are this configuration
+abbrev pub ReadsBack : Config → List ℕ → Type 0
+ReadsBack config bytes =
+    (file : Members) × (parse_document bytes ≡ Some file) × HasNoFault file
+    × ((default : Config) → IsDefaultConfig default → IsSettingsOf default file config)
+    × ((c : Config) → unknown_in c file ≡ [])
+
+-- the contents of a file are this configuration and nothing else
+pub record AreConfig (config : Config) (contents : FileContents) : Type 0 where
+  pub back : Config
+  pub read : contents.config ≡ Some back
+  pub same : AreSame back config
+  pub allowed : contents.faults.items ≡ []
+  pub known : contents.unknown.items ≡ []
+
+-- memory was refused
+abbrev pub IsNoMemory : ConfigFileError → Type 0
+IsNoMemory (error.NoMemory e) = ⊤
+IsNoMemory _ = ⊥
+
+-- a text is a path, or the name of a file
+abbrev pub IsLegal : Kind → SettingValue → Type 0
+IsLegal kind.Path (text s) = IsTextUpTo 255 s
+IsLegal kind.FileName (text s) = IsAllowed IsPlain 255 s
+IsLegal _ _ = ⊤
+
+-- all texts among some settings are
+abbrev pub AreLegal : List Setting → Type 0
+AreLegal [] = ⊤
+AreLegal (x ∷ xs) = IsLegal x.kind x.value × AreLegal xs
+
+-- a configuration with the times of another one
+abbrev pub with_times_of : Config → Config → Config
+with_times_of other c = record c {
+  global = record c.global { creation_timeout = other.global.creation_timeout };
+  defaults = record c.defaults {
+    event = record c.defaults.event { deadline = other.defaults.event.deadline };
+  };
+}
+
+-- how long one who opens a thing waits, and how long an event may be late, in nanoseconds
+abbrev pub timeout_nanos : Config → ℕ
+timeout_nanos c = as_nanos c.global.creation_timeout
+
+abbrev pub deadline_nanos : Config → Option ℕ
+deadline_nanos c = option_map as_nanos c.defaults.event.deadline
+
+-- all fields are equal, durations by their nanoseconds
+pub record HaveEqualFields (one other : Config) : Type 0 where
+  pub timeout : timeout_nanos one ≡ timeout_nanos other
+  pub deadline : deadline_nanos one ≡ deadline_nanos other
+  pub others : with_times_of other one ≡ other
+
+-- what is equal in each row of the table of settings is equal in all fields
+abbrev pub TableIsComplete : Type 0
+TableIsComplete = (one other : Config) → AreSame one other → HaveEqualFields one other

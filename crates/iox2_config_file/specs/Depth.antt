@@ -1,13 +1,13 @@
 -- How deep the tables and arrays of a file are in one another.
 use Rattle.std.specs.Prelude.{◌≡◌, ℕ, ◌+◌, ◌<◌, ◌≤◌, ◌||◌, ◌&&◌, ◌==◌, Bool, true, false, not, nat_le, nat_lt, if◌then◌else◌, List, [], ◌∷◌, Option, Some, None, option_map, length}
-use Rattle.iox2_config_file.specs.declared.depth.lexing.Inside.{Inside}
-use Rattle.iox2_config_file.specs.declared.depth.lexing.Inside.TheVariants as inside
-use Rattle.iox2_config_file.specs.declared.depth.marks.Mark.{Mark}
-use Rattle.iox2_config_file.specs.declared.depth.marks.Mark.TheVariants as mark
-use Rattle.iox2_config_file.specs.declared.depth.scan.Nesting.{Nesting}
-use Rattle.iox2_config_file.specs.declared.depth.scan.Position.{Position}
-use Rattle.iox2_config_file.specs.declared.depth.scan.Position.TheVariants as position
-use Rattle.iox2_config_file.specs.declared.depth.scan.Scan.{Scan}
+use Rattle.iox2_config_file.specs.declared.depth.Inside.{Inside}
+use Rattle.iox2_config_file.specs.declared.depth.Inside.TheVariants as inside
+use Rattle.iox2_config_file.specs.declared.depth.Mark.{Mark}
+use Rattle.iox2_config_file.specs.declared.depth.Mark.TheVariants as mark
+use Rattle.iox2_config_file.specs.declared.depth.Nesting.{Nesting}
+use Rattle.iox2_config_file.specs.declared.depth.Position.{Position}
+use Rattle.iox2_config_file.specs.declared.depth.Position.TheVariants as position
+use Rattle.iox2_config_file.specs.declared.depth.Scan.{Scan}
 
 -- what a byte begins: a comment (`#`), a text (`"`, `'`), or neither
 abbrev pub begun : ℕ → Inside

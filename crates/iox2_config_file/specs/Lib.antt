@@ -1,11 +1,6 @@
 pub mod Answers
-pub mod Complete
 pub mod Depth
-pub mod Faults
-pub mod Proposals
 pub mod Read
-pub mod ReadBack
-pub mod Rows
 pub mod Settings
 pub mod Unknown
 pub mod Values

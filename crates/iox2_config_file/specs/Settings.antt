@@ -1,5 +1,11 @@
--- The table of settings: the key of each, what it may be, and where it lies in the configuration.
-use Rattle.std.specs.Prelude.{Bool, Option, option_map, slice_get, List, [], ◌∷◌, ℕ, codes}
+-- The tables of the file, and the settings in each: the key of each, what it may be, and where it
+-- lies in the configuration.
+use Rattle.std.specs.Prelude.{ℕ, Bool, List, [], Option, Some, None, codes, option_map, slice_get, ◌∷◌, ◌++◌}
+use Rattle.std.specs.List.{list_all}
+use Rattle.iox2_config_file.specs.declared.section.Row.{Row}
+use Rattle.iox2_config_file.specs.declared.section.Section.{Section}
+use Rattle.iox2_config_file.specs.declared.section.Section.TheVariants as section
+use Rattle.toml_parser.specs.Lexical.{is_non_eol}
 use Rattle.std.specs.Duration.{as_nanos}
 use Rattle.std.specs.declared.time.Duration.{Duration}
 use Rattle.iox2_config.specs.declared.config.choices.BackpressureStrategy.{BackpressureStrategy}
@@ -12,11 +18,40 @@ use Rattle.iox2_config.specs.declared.config.publish_subscribe.PublishSubscribe.
 use Rattle.iox2_config.specs.declared.config.event.Event.{Event}
 use Rattle.iox2_config.specs.declared.config.request_response.RequestResonse.{RequestResonse}
 use Rattle.iox2_config.specs.declared.config.blackboard.Blackboard.{Blackboard}
-use Rattle.iox2_config_file.specs.declared.kind.Kind.{Kind}
-use Rattle.iox2_config_file.specs.declared.kind.Kind.TheVariants as kind
-use Rattle.iox2_config_file.specs.declared.section.Section.{Section}
-use Rattle.iox2_config_file.specs.declared.section.Section.TheVariants as section
+use Rattle.iox2_config_file.specs.declared.fault.Kind.{Kind}
+use Rattle.iox2_config_file.specs.declared.fault.Kind.TheVariants as kind
 use Rattle.iox2_config_file.specs.Values.{SettingValue, number, flag, text, backpressure, allocation, duration, option_value}
+
+-- the name of a table, as a header spells it: nothing for the whole file
+abbrev pub table_name : Section → List ℕ
+table_name section.Root = []
+table_name section.Global = codes "global"
+table_name section.Service = codes "global.service"
+table_name section.Node = codes "global.node"
+table_name section.Defaults = codes "defaults"
+table_name section.PublishSubscribe = codes "defaults.publish-subscribe"
+table_name section.Event = codes "defaults.event"
+table_name section.RequestResponse = codes "defaults.request-response"
+table_name section.Blackboard = codes "defaults.blackboard"
+
+-- what stands before the keys of a table in their paths
+abbrev pub prefix_of : Section → List ℕ
+prefix_of section.Root = []
+prefix_of s = table_name s ++ codes "."
+
+-- the name of a table that has settings, as its header spells it
+abbrev pub header_name : Section → Option (List ℕ)
+header_name section.Root = None
+header_name section.Defaults = None
+header_name s = Some (table_name s)
+
+-- the text may stand in a comment: it has no end of a line
+abbrev pub is_line : List ℕ → Bool
+is_line line = list_all is_non_eol line
+
+-- what is said of each row may stand in a comment
+abbrev pub are_lines : List Row → Bool
+are_lines rows = list_all (λ row. is_line row.about.now) rows
 
 -- one setting: its key in its table, what it may be, and what it is
 pub record Setting : Type 0 where

@@ -9,12 +9,12 @@ use Rattle.iox2_config.specs.declared.config.choices.BackpressureStrategy.{Backp
 use Rattle.iox2_config.specs.declared.config.choices.BackpressureStrategy.TheVariants.{RetryUntilDelivered, DiscardData}
 use Rattle.iox2_config.specs.declared.config.choices.AllocationStrategy.{AllocationStrategy}
 use Rattle.iox2_config.specs.declared.config.choices.AllocationStrategy.TheVariants as grow
-use Rattle.iox2_config_file.specs.declared.kind.Kind.{Kind}
-use Rattle.iox2_config_file.specs.declared.kind.Kind.TheVariants as kind
-use Rattle.iox2_config_file.specs.declared.kind.TomlType.{TomlType}
-use Rattle.iox2_config_file.specs.declared.kind.TomlType.TheVariants as type
-use Rattle.iox2_config_file.specs.declared.kind.Fault.{Fault}
-use Rattle.iox2_config_file.specs.declared.kind.Fault.TheVariants.{WrongType, OutOfRange, NoPath, NoFileName, UnknownVariant, NoDuration, NanosTooLarge}
+use Rattle.iox2_config_file.specs.declared.fault.Kind.{Kind}
+use Rattle.iox2_config_file.specs.declared.fault.Kind.TheVariants as kind
+use Rattle.iox2_config_file.specs.declared.fault.TomlType.{TomlType}
+use Rattle.iox2_config_file.specs.declared.fault.TomlType.TheVariants as type
+use Rattle.iox2_config_file.specs.declared.fault.Fault.{Fault}
+use Rattle.iox2_config_file.specs.declared.fault.Fault.TheVariants.{WrongType, OutOfRange, NoPath, NoFileName, UnknownVariant, NoDuration, NanosTooLarge}
 use Rattle.toml.specs.Data.{Data, string, integer, float, boolean, datetime, array, table, Members, no_members, member, get_member}
 
 -- what a setting holds; a duration is known by its nanoseconds

@@ -17,8 +17,7 @@ use Rattle.iox2_config_file.specs.declared.write.ConfigWriteError.TheVariants.{O
 use Rattle.iox2_config_file.specs.declared.write.Misfit.{Misfit}
 use Rattle.iox2_config_file.specs.declared.write.TheConstants.{TITLE}
 use Rattle.iox2_config_file.specs.Read.{sections, rows_in, row_view}
-use Rattle.iox2_config_file.specs.Rows.{header_name, is_line, are_lines}
-use Rattle.iox2_config_file.specs.Settings.{Setting, settings_in}
+use Rattle.iox2_config_file.specs.Settings.{header_name, is_line, are_lines, Setting, settings_in}
 use Rattle.iox2_config_file.specs.Values.{SettingValue, number, flag, text, backpressure, allocation, duration, absent, settings}
 use Rattle.toml_writer.specs.Text.{string_text}
 

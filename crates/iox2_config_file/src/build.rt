@@ -6,9 +6,8 @@ ghost use Rattle.iox2_config_file.specs.declared.section.Section.TheVariants as 
 ghost use Rattle.toml.specs.Data.{no_members};
 ghost use Rattle.iox2_config_file.specs.Settings as table_of;
 
-use crate::section::Section;
+use crate::section::{Section, section_table};
 use crate::table::{node_settings, service_settings};
-use crate::tables::section_table;
 use crate::value::read;
 use crate::{
     blackboard_settings, event_settings, publish_subscribe_settings, request_response_settings,

@@ -1,12 +1,10 @@
 //! Laws of files of settings that no single call carries, and how values are copied.
 ghost use Rattle.std.specs.Prelude.{◌≡◌, IfOk, IfErr, IsOkAnd};
-ghost use Rattle.iox2_config_file.specs.Complete.{TableIsComplete};
-ghost use Rattle.iox2_config_file.specs.ReadBack.{AreConfig, IsNoMemory};
+ghost use Rattle.iox2_config_file.specs.Answers.{TableIsComplete};
+ghost use Rattle.iox2_config_file.specs.Answers.{AreConfig, IsNoMemory};
 
-use crate::error::ConfigFileError;
-use crate::fault::SettingFault;
-use crate::kind::{Fault, Kind, TomlType};
-use crate::read::{FileContents, read_config};
+use crate::fault::{Fault, Kind, SettingFault, TomlType};
+use crate::read::{ConfigFileError, FileContents, read_config};
 use crate::section::{Row, Section};
 use crate::setting::SettingValue;
 use crate::write::{ConfigWriteError, Misfit, write_config};

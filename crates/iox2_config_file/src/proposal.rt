@@ -1,19 +1,143 @@
 //! What was probably meant by a key that no setting has.
-ghost use Rattle.std.specs.Prelude.{◌≡◌, ◌==◌, ◌++◌, IfOk, length, map, option_map, string_bytes};
-ghost use Rattle.std.specs.List.{list_any};
-ghost use Rattle.std.specs.Str.{chars};
+ghost use Rattle.std.specs.Prelude.{◌≡◌, ◌∷◌, ◌<◌, [], length, bytes_eq, MatchOption, map};
+ghost use Rattle.std.specs.Prelude.{option_map, ◌==◌, IfOk};
+ghost use Rattle.iox2_config_file.specs.Unknown.{is_dash, spelling, respelled, is_path, is_wanted};
+ghost use Rattle.iox2_config_file.specs.Unknown.{keys_in, keys_of, wanted_in, wanted_view};
+ghost use Rattle.iox2_config_file.specs.Unknown.{distance_below, edit_distance, nearest, of_any};
+ghost use Rattle.iox2_config_file.specs.Unknown.{of_table, nearest_below, proposal_view, proposed};
+ghost use Rattle.iox2_config_file.specs.Unknown.{unquoted};
+ghost use Rattle.iox2_config_file.specs.Read.{row_view};
+ghost use Rattle.std.specs.List.{find, list_any};
 ghost use Rattle.iox2_config.specs.declared.config.Config.{Config};
-ghost use Rattle.iox2_config_file.specs.Proposals.{distance_below, edit_distance, elsewhere};
-ghost use Rattle.iox2_config_file.specs.Proposals.{nearest, of_any, of_table};
-ghost use Rattle.iox2_config_file.specs.Proposals.{nearest_below, proposal_view, proposed, unquoted};
-ghost use Rattle.iox2_config_file.specs.Read.{row_view, rows_in};
-ghost use Rattle.iox2_config_file.specs.Rows.{prefix_of};
+ghost use Rattle.iox2_config_file.specs.Settings.{prefix_of};
+ghost use Rattle.std.specs.Str.{chars};
 
-use crate::search::{Wanted, find_wanted};
-use crate::section::{Row, Section, rows};
-use crate::spelling::respelled;
+use crate::section::{Row, SECTIONS, Section, rows};
 use std::alloc::{AllocError, Global};
 use strsim::levenshtein;
+
+/// Whether a byte is `-` or `_`.
+fn is_dash(byte: u8) -> bool
+    ensures { result ≡ is_dash byte }
+{
+    byte == b'-' || byte == b'_'
+}
+
+/// The first letter of a key, in its small form, and what follows it.
+#[tactic(auto, unfolding(crate::specs::Unknown::spelling))]
+fn next_letter(key: &[u8]) -> Option<(u8, &[u8])>
+    ensures { MatchOption result (spelling key.now ≡ []) (λ p.
+        (spelling key.now ≡ p.0 ∷ spelling p.1.now) × (length p.1.now < length key.now)) }
+{
+    let mut rest = key;
+    while let Some((byte, more)) = rest.split_first() {
+        if !is_dash(*byte) {
+            return Some((byte.to_ascii_lowercase(), more));
+        }
+        rest = more;
+    }
+    None
+}
+
+/// Whether two keys are the same but for `-`, `_` and the case of letters.
+fn is_respelled(key: &[u8], known: &[u8]) -> bool
+    ensures { result ≡ bytes_eq (spelling key.now) (spelling known.now) }
+{
+    let mut left = key;
+    let mut right = known;
+    while let Some((letter, more)) = next_letter(left) {
+        let Some((other, rest)) = next_letter(right) else {
+            return false;
+        };
+        if letter != other {
+            return false;
+        }
+        left = more;
+        right = rest;
+    }
+    match next_letter(right) {
+        Some(_) => false,
+        None => true,
+    }
+}
+
+/// The first of the rows that is the same but for `-`, `_` and the case of letters.
+pub(crate) fn respelled(key: &str, rows: &[Row]) -> Option<&'static str>
+    ensures { option_map (λ t. t.now) result ≡ respelled key.now (map row_view rows.now) }
+{
+    for row in rows {
+        if is_respelled(key.as_bytes(), row.key.as_bytes()) {
+            return Some(row.key);
+        }
+    }
+    None
+}
+
+/// Which key is looked for.
+#[derive(Clone, Copy)]
+pub(crate) enum Wanted<'a> {
+    /// This key.
+    Key(&'a str),
+    /// The key whose path is one of these two texts.
+    Path(&'a str, &'a str),
+}
+
+/// Whether a text is the path of a key of a table: a prefix, and then the key.
+fn is_path_of(text: &str, section: Section, key: &str) -> bool
+    ensures { result ≡ is_path text.now (prefix_of section) key.now }
+{
+    match text.as_bytes().strip_prefix(section.prefix().as_bytes()) {
+        Some(rest) => rest == key.as_bytes(),
+        None => false,
+    }
+}
+
+/// Whether a key of a table is the one that is wanted.
+fn is_wanted(wanted: Wanted<'_>, section: Section, key: &str) -> bool
+    ensures { result ≡ is_wanted (wanted_view wanted.entry) (section, key.now) }
+{
+    match wanted {
+        Wanted::Key(name) => name == key,
+        Wanted::Path(text, other) => {
+            is_path_of(text, section, key) || is_path_of(other, section, key)
+        }
+    }
+}
+
+/// The first key of a table that is wanted.
+fn find_among(wanted: Wanted<'_>, section: Section, rows: &[Row]) -> Option<&'static str>
+    ensures { option_map (λ key. (section, key.now)) result
+        ≡ find (is_wanted (wanted_view wanted.entry)) (keys_of section (map row_view rows.now)) }
+{
+    for row in rows {
+        if is_wanted(wanted, section, row.key) {
+            return Some(row.key);
+        }
+    }
+    None
+}
+
+/// The first key of some tables that is wanted.
+fn find_in(wanted: Wanted<'_>, sections: &[Section]) -> Option<(Section, &'static str)>
+    ensures { (c : Config) → option_map (λ p. (p.0, p.1.now)) result
+        ≡ find (is_wanted (wanted_view wanted.entry)) (keys_in c sections.now) }
+{
+    for section in sections {
+        if let Some(key) = find_among(wanted, *section, rows(*section)) {
+            return Some((*section, key));
+        }
+    }
+    None
+}
+
+/// The first known key of all tables that is wanted.
+#[tactic(auto, unfolding(crate::specs::Unknown::wanted_in))]
+pub(crate) fn find_wanted(wanted: Wanted<'_>) -> Option<(Section, &'static str)>
+    ensures { (c : Config)
+        → option_map (λ p. (p.0, p.1.now)) result ≡ wanted_in c (wanted_view wanted.entry) }
+{
+    find_in(wanted, &SECTIONS)
+}
 
 /// How a known key is like one that is not known.
 #[derive(Clone, Copy, Debug, PartialEq, Eq)]
@@ -43,7 +167,7 @@ pub struct Proposal {
 const LONGEST_NEAR: usize = 64;
 
 /// How many characters have to be put in, taken out or changed.
-#[tactic(auto, unfolding(crate::specs::Proposals::edit_distance))]
+#[tactic(auto, unfolding(crate::specs::Unknown::edit_distance))]
 fn distance(alloc: Global, key: &str, known: &str) -> Result<usize, AllocError>
     ensures { IfOk result (λ n. n ≡ edit_distance key.now known.now) }
 {
@@ -99,7 +223,7 @@ fn nearest_below(
 
 /// The nearest of the rows: at most two characters have to be put in, taken out or changed, or a
 /// third of the key's bytes.
-#[tactic(auto, unfolding(crate::specs::Proposals::nearest))]
+#[tactic(auto, unfolding(crate::specs::Unknown::nearest))]
 fn nearest(alloc: Global, key: &str, rows: &[Row]) -> Result<Option<&'static str>, AllocError>
     ensures { IfOk result (λ found.
         option_map (λ t. t.now) found ≡ nearest key.now (map row_view rows.now)) }
@@ -141,13 +265,6 @@ fn of_any(likeness: Likeness, found: Option<(Section, &'static str)>) -> Option<
     }
 }
 
-/// The same key in another table.
-fn elsewhere(key: &str) -> Option<Proposal>
-    ensures { (c : Config) → option_map proposal_view result ≡ elsewhere c key.now }
-{
-    of_any(Likeness::OtherTable, find_wanted(Wanted::Key(key)))
-}
-
 /// Whether a byte of a key is a dot.
 fn has_dot(key: &[u8]) -> bool
     ensures { result ≡ list_any (λ b. b == 46) key.now }
@@ -173,7 +290,7 @@ fn unquoted(alloc: Global, section: Section, key: &str) -> Result<Option<Proposa
 /// What was probably meant by a key that a table does not have: the same key but for `-`, `_` and
 /// the case of letters; or else the same key in another table; or else the key whose path stands in
 /// quotes; or else the nearest key.
-#[tactic(auto, unfolding(crate::specs::Proposals::proposed))]
+#[tactic(auto, unfolding(crate::specs::Unknown::proposed))]
 pub(crate) fn propose(
     alloc: Global,
     section: Section,
@@ -186,7 +303,7 @@ pub(crate) fn propose(
     if let Some(found) = of_table(section, Likeness::Spelling, respelled(key, rows)) {
         return Ok(Some(found));
     }
-    if let Some(found) = elsewhere(key) {
+    if let Some(found) = of_any(Likeness::OtherTable, find_wanted(Wanted::Key(key))) {
         return Ok(Some(found));
     }
     if let Some(found) = unquoted(alloc, section, key)? {

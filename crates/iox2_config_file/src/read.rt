@@ -8,12 +8,23 @@ ghost use Rattle.toml.specs.View.{table_view};
 ghost use Rattle.toml.specs.Parse.{parse_document};
 
 use crate::build::config;
-use crate::error::ConfigFileError;
 use crate::fault::{SettingFault, file_faults};
 use crate::unknown::{UnknownKey, unknown_keys};
 use iox2_config::config::Config;
 use std::alloc::{AllocError, Global};
+use thiserror::Error;
 use toml::Table;
+
+/// Why the text of a file gives no settings.
+#[derive(Debug, Drop, Error)]
+pub enum ConfigFileError {
+    /// The text is no TOML.
+    #[error("{0}")]
+    Syntax(toml::de::Error),
+    /// Memory was refused.
+    #[error("no memory")]
+    NoMemory(AllocError),
+}
 
 /// All that a file says: its settings, and what is wrong with it.
 #[derive(Debug, Drop)]

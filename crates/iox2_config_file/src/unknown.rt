@@ -1,5 +1,5 @@
 //! The keys of a file that no setting has.
-ghost use Rattle.std.specs.Prelude.{◌≡◌, ◌++◌, Some, map, flat_map, option_map, string_bytes, OnOk, IfOk};
+ghost use Rattle.std.specs.Prelude.{◌≡◌, ◌++◌, Some, map, flat_map, option_map, OnOk, IfOk};
 ghost use Rattle.iox2_config.specs.declared.config.Config.{Config};
 ghost use Rattle.iox2_config_file.specs.Read.{row_view};
 ghost use Rattle.iox2_config_file.specs.Unknown.{is_known, unknown_view, unknown_at, unknown_among};
@@ -8,8 +8,7 @@ ghost use Rattle.toml.specs.Data.{no_members};
 ghost use Rattle.toml.specs.View.{table_view};
 
 use crate::proposal::{Proposal, propose};
-use crate::section::{Row, SECTIONS, Section, rows};
-use crate::tables::section_table;
+use crate::section::{Row, SECTIONS, Section, rows, section_table};
 use std::alloc::{AllocError, Global};
 use toml::Table;
 

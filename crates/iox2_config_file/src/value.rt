@@ -1,26 +1,28 @@
 //! How the value of a key is read.
-ghost use Rattle.std.specs.Prelude.{◌≡◌, ◌<◌, ◌^◌, pos, Some, IfSome, length};
+ghost use Rattle.std.specs.Prelude.{◌≡◌, ◌<◌, ◌^◌, Some, IfSome};
 ghost use Rattle.std.specs.Result.{result_map_both, result_err};
 ghost use Rattle.std.specs.Duration.{as_nanos};
 ghost use Rattle.toml.specs.Data.{get_member};
 ghost use Rattle.toml.specs.View.{view, table_view};
-ghost use Rattle.iox2_config_file.specs.Values.{type_in, value_in, value_or, duration_in, part_in, flag};
+ghost use Rattle.iox2_config_file.specs.Values.{type_in, value_in, value_or, duration_in, part_in};
+ghost use Rattle.iox2_config_file.specs.Values.{flag, text as text_value, text_in, is_path};
+ghost use Rattle.iox2_config_file.specs.Values.{is_file_name};
 ghost use Rattle.iox2_config_file.specs.Values as values;
-ghost use Rattle.iox2_config_file.specs.declared.kind.Kind.TheVariants as kind;
+ghost use Rattle.iox2_config_file.specs.declared.fault.Kind.TheVariants as kind;
 ghost use Rattle.iox2_config_file.specs.Write.{value_view};
 
-use crate::kind::{Fault, Kind, TomlType};
+use crate::fault::{Fault, Kind, TomlType};
+use crate::section::{get, member_count};
 use crate::setting::SettingValue;
-use crate::tables::{get, member_count};
-use crate::texts::{file_name, path};
 use iox2_config::config::{AllocationStrategy, BackpressureStrategy};
+use iox2_texts::bounded::SemanticStringError;
 use iox2_texts::paths::{FileName, Path};
 use std::time::Duration;
 use toml::{Table, Value};
 
 /// Types of settings, as the value of a key gives them.
 pub(crate) trait FromToml {
-    ghost use Rattle.iox2_config_file.specs.declared.kind.Kind.{Kind};
+    ghost use Rattle.iox2_config_file.specs.declared.fault.Kind.{Kind};
     ghost use Rattle.iox2_config_file.specs.Values.{SettingValue};
 
     /// The value, as the definitions see it.
@@ -279,4 +281,18 @@ fn type_of(value: &Value) -> TomlType
         Value::Array(_) => TomlType::Array,
         Value::Table(_) => TomlType::Table,
     }
+}
+
+/// The path that a text is.
+pub(crate) fn path(bytes: &[u8]) -> Result<Path, SemanticStringError>
+    ensures { result_map_both text_value (λ e. e) result ≡ text_in is_path bytes.now }
+{
+    Path::new(bytes)
+}
+
+/// The name of a file that a text is.
+pub(crate) fn file_name(bytes: &[u8]) -> Result<FileName, SemanticStringError>
+    ensures { result_map_both text_value (λ e. e) result ≡ text_in is_file_name bytes.now }
+{
+    FileName::new(bytes)
 }

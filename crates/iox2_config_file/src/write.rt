@@ -1,15 +1,16 @@
 //! How a configuration is written as the text of a file.
-ghost use Rattle.std.specs.Prelude.{◌≡◌, ◌++◌, ℕ, List, [], Some, OnOk, IfOk, option_map, slice_get, flat_map, string_bytes};
+ghost use Rattle.std.specs.Prelude.{◌≡◌, ◌++◌, ℕ, List, Some, OnOk, IfOk, option_map, slice_get};
+ghost use Rattle.std.specs.Prelude.{flat_map, string_bytes};
 ghost use Rattle.iox2_config_file.specs.Write.{value_view, entry_text, assignment, section_misfits};
-ghost use Rattle.iox2_config_file.specs.Write.{located_misfits, FirstMisfit, FirstMisfitOf};
-ghost use Rattle.iox2_config_file.specs.Write.{IsHeaderText, IsEntriesText, IsTableText};
-ghost use Rattle.iox2_config_file.specs.Write.{IsTablesText, IsConfigText, Writes, WritesOver};
-ghost use Rattle.iox2_config_file.specs.ReadBack.{ReadsBack};
+ghost use Rattle.iox2_config_file.specs.Write.{located_misfits, FirstMisfitOf, IsHeaderText};
+ghost use Rattle.iox2_config_file.specs.Write.{IsEntriesText, IsTableText, IsTablesText};
+ghost use Rattle.iox2_config_file.specs.Write.{IsConfigText, Writes, WritesOver};
+ghost use Rattle.iox2_config_file.specs.Answers.{ReadsBack, AreLegal};
+ghost use Rattle.iox2_config_file.specs.Settings as table_of;
 
 use crate::section::{Row, SECTIONS, Section, header, rows};
 use crate::setting::{SettingValue, value_at};
-use crate::texts::texts_are_legal;
-use iox2_config::config::Config;
+use iox2_config::config::{Config, Node, Service};
 use std::alloc::{AllocError, Global};
 use std::fmt;
 use thiserror::Error;
@@ -101,7 +102,7 @@ pub fn write_config(alloc: Global, config: &Config) -> Result<String, ConfigWrit
 fn written(alloc: Global, config: &Config, default: &Config) -> Result<String, ConfigWriteError>
     ensures { WritesOver default.now config.now result }
 {
-    if let Some(misfit) = first_misfit(config) {
+    if let Some(misfit) = misfit_among(config, &SECTIONS) {
         return Err(ConfigWriteError::OutOfRange(misfit));
     }
     match text_of(alloc, config, default) {
@@ -110,15 +111,8 @@ fn written(alloc: Global, config: &Config, default: &Config) -> Result<String, C
     }
 }
 
-/// The first setting whose value TOML does not have.
-fn first_misfit(config: &Config) -> Option<Misfit>
-    ensures { FirstMisfit config.now result }
-{
-    misfit_among(config, &SECTIONS)
-}
-
 /// The first setting of some tables whose value TOML does not have.
-#[tactic(auto, using(crate::proofs::Sections::misfit_first, crate::proofs::Sections::misfit_next))]
+#[tactic(auto, using(crate::proofs::Rowed::misfit_first, crate::proofs::Rowed::misfit_next))]
 fn misfit_among(config: &Config, sections: &[Section]) -> Option<Misfit>
     ensures { FirstMisfitOf (flat_map (located_misfits config.now) sections.now) result }
 {
@@ -155,14 +149,9 @@ fn text_of(alloc: Global, config: &Config, default: &Config) -> Result<String, A
     ensures { IfOk result (λ text. IsConfigText default.now config.now (string_bytes text)) }
 {
     let mut out = String::new(alloc);
-    match out.push_str(TITLE) {
-        Ok(()) => {}
-        Err(_) => return Err(AllocError),
-    }
-    match write_tables(&mut out, &SECTIONS, config, default) {
-        Ok(()) => Ok(out),
-        Err(_) => Err(AllocError),
-    }
+    out.push_str(TITLE)?;
+    write_tables(&mut out, &SECTIONS, config, default)?;
+    Ok(out)
 }
 
 /// Appends some tables.
@@ -177,10 +166,7 @@ fn write_tables(
         × IsTablesText default.now config.now sections.now tables) }
 {
     for section in sections {
-        match write_table(out, *section, config, default) {
-            Ok(()) => {}
-            Err(e) => return Err(e),
-        }
+        write_table(out, *section, config, default)?;
     }
     Ok(())
 }
@@ -196,10 +182,8 @@ fn write_table(
         × (string_bytes out.new ≡ string_bytes out.old ++ table)
         × IsTableText default.now config.now section table) }
 {
-    match write_header(out, section) {
-        Ok(()) => write_entries(out, section, config, default),
-        Err(e) => Err(e),
-    }
+    write_header(out, section)?;
+    write_entries(out, section, config, default)
 }
 
 /// Appends the header of a table that has settings.
@@ -237,10 +221,45 @@ fn write_entries(
             default: usual,
             value,
         };
-        match write!(out, "{entry}") {
-            Ok(()) => {}
-            Err(e) => return Err(e),
-        }
+        write!(out, "{entry}")?;
     }
     Ok(())
+}
+
+/// Read for what they promise alone: the texts of a configuration are legal.
+fn texts_are_legal(config: &Config)
+    ensures global { AreLegal (table_of.global_settings config.now.global) }
+    ensures service { AreLegal (table_of.service_settings config.now.global.service) }
+    ensures node { AreLegal (table_of.node_settings config.now.global.node) }
+{
+    let _path = config.global.root_path().as_bytes();
+    let _name = config.global.prefix.as_bytes();
+    service_texts_are_legal(&config.global.service);
+    node_texts_are_legal(&config.global.node);
+}
+
+/// Those of services' files.
+fn service_texts_are_legal(settings: &Service)
+    ensures { AreLegal (table_of.service_settings settings.now) }
+{
+    let _path = settings.directory.as_bytes();
+    let _name = settings.data_segment_suffix.as_bytes();
+    let _name = settings.static_config_storage_suffix.as_bytes();
+    let _name = settings.dynamic_config_storage_suffix.as_bytes();
+    let _name = settings.connection_suffix.as_bytes();
+    let _name = settings.event_connection_suffix.as_bytes();
+    let _name = settings.blackboard_mgmt_suffix.as_bytes();
+    let _name = settings.blackboard_data_suffix.as_bytes();
+}
+
+/// Those of nodes' files.
+fn node_texts_are_legal(settings: &Node)
+    ensures { AreLegal (table_of.node_settings settings.now) }
+{
+    let _path = settings.directory.as_bytes();
+    let _name = settings.monitor_suffix.as_bytes();
+    let _name = settings.static_config_suffix.as_bytes();
+    let _name = settings.service_tag_suffix.as_bytes();
+    let _name = settings.port_tag_suffix.as_bytes();
+    let _name = settings.global_mgmt_suffix.as_bytes();
 }

@@ -1,16 +1,16 @@
 -- What is wrong with a file of settings, as plain values.
-use Rattle.std.specs.Prelude.{ℕ, List, [], ◌++◌, length, take, replicate, Option, Some, None}
+use Rattle.std.specs.Prelude.{ℕ, List, [], ◌++◌, length, take, replicate, Option, Some, None, ◌-◌, ◌^◌, ◌==◌, if◌then◌else◌}
 use Rattle.config_report.specs.Notes.{Note, fault, fault_position, finding_view, topic_note}
 use Rattle.config_report.specs.declared.check.Unread.{Unread}
 use Rattle.config_report.specs.declared.check.Unread.TheVariants.{NotUtf8, TooDeep, NotToml, NoMemory}
 use Rattle.iox2_config_file.specs.Read.{Located}
-use Rattle.iox2_config_file.specs.Rows.{prefix_of}
-use Rattle.iox2_config_file.specs.declared.kind.Fault.{Fault}
-use Rattle.iox2_config_file.specs.declared.kind.Fault.TheVariants.{WrongType, OutOfRange, NoPath, NoFileName, UnknownVariant, NoDuration, NanosTooLarge}
-use Rattle.iox2_config_file.specs.declared.kind.Kind.{Kind}
-use Rattle.iox2_config_file.specs.declared.kind.Kind.TheVariants as kind
-use Rattle.iox2_config_file.specs.declared.kind.TomlType.{TomlType}
-use Rattle.iox2_config_file.specs.declared.kind.TomlType.TheVariants as type
+use Rattle.iox2_config_file.specs.Settings.{prefix_of}
+use Rattle.iox2_config_file.specs.declared.fault.Fault.{Fault}
+use Rattle.iox2_config_file.specs.declared.fault.Fault.TheVariants.{WrongType, OutOfRange, NoPath, NoFileName, UnknownVariant, NoDuration, NanosTooLarge}
+use Rattle.iox2_config_file.specs.declared.fault.Kind.{Kind}
+use Rattle.iox2_config_file.specs.declared.fault.Kind.TheVariants as kind
+use Rattle.iox2_config_file.specs.declared.fault.TomlType.{TomlType}
+use Rattle.iox2_config_file.specs.declared.fault.TomlType.TheVariants as type
 use Rattle.iox2_config_file.specs.declared.section.Section.{Section}
 use Rattle.iox2_config_file.specs.declared.section.Section.TheVariants as section
 use Rattle.iox2_texts.specs.declared.bounded.SemanticStringError.TheVariants.{InvalidContent, ExceedsMaximumLength}
@@ -20,6 +20,8 @@ use Rattle.iox2sd_common.specs.declared.status.Status.{Status}
 use Rattle.iox2sd_common.specs.declared.status.Status.TheVariants as status
 use Rattle.iox2sd_config.specs.declared.fault.PlainFault.{PlainFault}
 use Rattle.toml_positions.specs.declared.position.Position.{Position}
+use Rattle.std.specs.List.Sorted.{IsPermutation, IsSortedByKey, IsStableByKey}
+use Rattle.config_report.specs.Findings.{place_cmp}
 
 -- the number of a table of the file
 abbrev pub section_number : Section → ℕ
@@ -192,3 +194,13 @@ unread_status (NotUtf8 finding) = status.NotUtf8
 unread_status (TooDeep finding) = status.TooDeep
 unread_status (NotToml finding) = status.NotToml
 unread_status (NoMemory e) = status.NoMemory
+
+-- where something with this line and this column stands among others: what has none comes last
+abbrev pub place_at : ℕ → ℕ → ℕ × ℕ
+place_at line column = if line == 0 then (2 ^ 64 - 1, 2 ^ 64 - 1) else (line, column)
+
+-- the same things, in the order of the file; those of one position in the order that they had
+abbrev pub IsInOrder : {A : Type 0} → (A → ℕ × ℕ) → List A → List A → Type 0
+IsInOrder place found listed =
+    IsPermutation found listed × IsSortedByKey place place_cmp listed
+    × IsStableByKey place place_cmp found listed

@@ -2,6 +2,5 @@
 pub mod Configs
 pub mod Faults
 pub mod Files
-pub mod Order
 pub mod Unknown
 pub mod Writing

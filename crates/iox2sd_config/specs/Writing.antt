@@ -8,7 +8,7 @@ use Rattle.iox2_config.specs.declared.config.Config.{Config}
 use Rattle.iox2_config.specs.declared.config.defaults.Defaults.{Defaults}
 use Rattle.iox2_config.specs.declared.config.node.Node.{Node}
 use Rattle.iox2_config.specs.declared.config.service.Service.{Service}
-use Rattle.iox2_config_file.specs.ReadBack.{ReadsBack}
+use Rattle.iox2_config_file.specs.Answers.{ReadsBack}
 use Rattle.iox2_config_file.specs.Write.{Writes as WritesFile}
 use Rattle.iox2_config_file.specs.declared.write.ConfigWriteError.{ConfigWriteError}
 use Rattle.iox2_config_file.specs.declared.write.ConfigWriteError.TheVariants.{OutOfRange, NoMemory}

@@ -1,12 +1,13 @@
-//! What is wrong with a file of settings, as plain values.
-ghost use Rattle.std.specs.Prelude.{◌≡◌, ◌++◌, IfOk, map, option_map, string_bytes, take};
+//! What is wrong with a file of settings, as plain values, and in which order.
+ghost use Rattle.std.specs.Prelude.{◌≡◌, IfOk, string_bytes, take};
 ghost use Rattle.config_report.specs.Notes.{finding_view};
 ghost use Rattle.iox2_config_file.specs.Read.{fault_view};
 ghost use Rattle.iox2sd_common.specs.Answers.{zero_padded};
-ghost use Rattle.iox2sd_config.specs.Faults.{section_number, type_number, kind_number, fault_status};
-ghost use Rattle.iox2sd_config.specs.Faults.{found_number, wanted_number, key_path, cut_key, key_of};
-ghost use Rattle.iox2sd_config.specs.Faults.{known_of, no_place, worded, line_of, column_of};
-ghost use Rattle.iox2sd_config.specs.Faults.{c_note, c_at, c_unread, unread_status};
+ghost use Rattle.iox2sd_config.specs.Faults.{section_number, type_number, kind_number};
+ghost use Rattle.iox2sd_config.specs.Faults.{fault_status, found_number, wanted_number, key_path};
+ghost use Rattle.iox2sd_config.specs.Faults.{key_of, known_of, no_place, worded, line_of};
+ghost use Rattle.iox2sd_config.specs.Faults.{column_of, c_note, c_at, c_unread, unread_status};
+ghost use Rattle.iox2sd_config.specs.Faults.{place_at};
 
 use config_report::{Finding, Subject, Unread};
 use iox2_config_file::{Fault, Kind, Section, SettingFault, TomlType};
@@ -270,5 +271,16 @@ pub(crate) fn unread_status(unread: &Unread) -> Status
         Unread::TooDeep(_) => Status::TooDeep,
         Unread::NotToml(_) => Status::NotToml,
         Unread::NoMemory(_) => Status::NoMemory,
+    }
+}
+
+/// Where something with this line and this column stands among others: what has none comes last.
+pub(crate) fn place_at(line: usize, column: usize) -> (usize, usize)
+    ensures { result ≡ place_at line column }
+{
+    if line == 0 {
+        (usize::MAX, usize::MAX)
+    } else {
+        (line, column)
     }
 }

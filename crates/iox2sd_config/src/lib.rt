@@ -5,7 +5,6 @@
 
 pub mod config;
 pub mod fault;
-mod order;
 pub mod read;
 pub mod unknown;
 pub mod write;

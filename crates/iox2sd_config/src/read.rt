@@ -1,19 +1,18 @@
 //! The text of a file of settings: its settings, or what is wrong with it.
-ghost use Rattle.std.specs.Prelude.{◌≡◌, ◌<◌, ℕ, List, IfOk, IsSome, OnOk, Some, length, map, slice_get};
+ghost use Rattle.std.specs.Prelude.{◌≡◌, ◌<◌, ℕ, List, IfOk, IsSome, OnOk, Some, length, map};
+ghost use Rattle.std.specs.Prelude.{slice_get};
 ghost use Rattle.config_report.specs.Notes.{fault_position};
-ghost use Rattle.config_report.specs.Unread.{IsText};
+ghost use Rattle.config_report.specs.Findings.{IsText};
 ghost use Rattle.iox2_config_file.specs.Answers.{ReadsAll};
 ghost use Rattle.iox2_config_file.specs.Read.{fault_view};
-ghost use Rattle.iox2sd_config.specs.Faults.{known_of, c_fault};
+ghost use Rattle.iox2sd_config.specs.Faults.{known_of, c_fault, IsInOrder};
 ghost use Rattle.iox2sd_config.specs.Files.{Answers, ListsFaults, PutsFaults, PutsListed};
 ghost use Rattle.iox2sd_config.specs.Files.{ReadsContents, ReadsInto, ReportsFile, TellsFirst};
 ghost use Rattle.iox2sd_config.specs.Files.{fault_place, known_answer, read_answer, refused_answer};
-ghost use Rattle.iox2sd_config.specs.Order.{IsInOrder};
 ghost use Rattle.toml.specs.Parse.{parse_document};
 
 use crate::config::{PlainConfig, config_of};
-use crate::fault::{PlainFault, plain_fault, plain_unread, unread_status};
-use crate::order::place_at;
+use crate::fault::{PlainFault, place_at, plain_fault, plain_unread, unread_status};
 use config_report::{contents_of, fault_positions, position_at, text_of};
 use iox2_config_file::{FileContents, SettingFault};
 use iox2sd_common::answers::{CountAnswer, count, put};

@@ -1,18 +1,19 @@
 //! The keys of a file that no setting has.
-ghost use Rattle.std.specs.Prelude.{◌≡◌, ℕ, List, IfOk, IsSome, OnOk, map, option_map, string_bytes};
+ghost use Rattle.std.specs.Prelude.{◌≡◌, ℕ, List, IfOk, IsSome, OnOk, map, option_map};
+ghost use Rattle.std.specs.Prelude.{string_bytes};
 ghost use Rattle.config_report.specs.Notes.{finding_view, unknown_position};
-ghost use Rattle.config_report.specs.Unread.{IsText};
-ghost use Rattle.iox2_config_file.specs.Proposals.{proposal_view};
-ghost use Rattle.iox2_config_file.specs.Unknown.{unknown_view};
-ghost use Rattle.iox2sd_config.specs.Order.{IsInOrder};
-ghost use Rattle.iox2sd_config.specs.Unknown.{likeness_number, meant_number, meant_path, named_place};
-ghost use Rattle.iox2sd_config.specs.Unknown.{named_view, paths_of, plain_of, c_key, c_key_at};
-ghost use Rattle.iox2sd_config.specs.Unknown.{c_unknown, unknown_answer, ListsKeys, ListsUnknown};
-ghost use Rattle.iox2sd_config.specs.Unknown.{PutsKeys, PutsUnknown};
+ghost use Rattle.config_report.specs.Findings.{IsText};
+ghost use Rattle.iox2_config_file.specs.Unknown.{proposal_view, unknown_view};
+ghost use Rattle.iox2sd_config.specs.Faults.{IsInOrder};
+ghost use Rattle.iox2sd_config.specs.Unknown.{likeness_number, meant_number, meant_path};
+ghost use Rattle.iox2sd_config.specs.Unknown.{named_place, named_view, paths_of, plain_of, c_key};
+ghost use Rattle.iox2sd_config.specs.Unknown.{c_key_at, c_unknown, unknown_answer, ListsKeys};
+ghost use Rattle.iox2sd_config.specs.Unknown.{ListsUnknown, PutsKeys, PutsUnknown};
 ghost use Rattle.toml.specs.Parse.{parse_document};
 
-use crate::fault::{column_of, cut, key_of, key_path, line_of, section_number, unread_status};
-use crate::order::place_at;
+use crate::fault::{
+    column_of, cut, key_of, key_path, line_of, place_at, section_number, unread_status,
+};
 use config_report::{Finding, Subject, contents_of, position_at, text_of, unknown_positions};
 use iox2_config_file::{Likeness, Proposal, UnknownKey};
 use iox2sd_common::answers::put;

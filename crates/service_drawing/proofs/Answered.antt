@@ -6,16 +6,14 @@ use Rattle.std.specs.declared.io.Error.{Error}
 use Rattle.std.specs.declared.vec.IntoIter.{IntoIter}
 use Rattle.std.specs.Result.{IsErr, IsErrAnd, MatchResult}
 use Rattle.iox2_config.specs.declared.config.Config.{Config}
-use Rattle.service_drawing.specs.Descriptions.{StopsReading}
-use Rattle.service_drawing.specs.Fronts.{IsOver}
+use Rattle.service_drawing.specs.Descriptions.{StopsReading, IsOver}
 use Rattle.service_drawing.specs.Reasons.{IsReason}
-use Rattle.service_drawing.specs.Arguments.{IsRequestOf, IsRead}
-use Rattle.service_drawing.specs.Streams.{status_of, output_text, error_text, TellsBadLine, Draws, Answers, Reported}
-use Rattle.service_drawing.specs.declared.arguments.Asked.{Asked}
+use Rattle.service_drawing.specs.Streams.{IsRequestOf, IsRead, status_of, output_text, error_text, TellsBadLine, Draws, Answers, Reported}
+use Rattle.service_drawing.specs.declared.streams.Asked.{Asked}
 use Rattle.service_drawing.specs.declared.fault.Fault.{Fault}
 use Rattle.service_drawing.specs.declared.fault.Fault.TheVariants.{BadArgument, BadLine, BadSettings, NoEnd, NoMemory}
 use Rattle.service_drawing.specs.declared.streams.Written.{Written}
-use Rattle.service_drawing.specs.declared.reading.expected.Expected.{Expected}
+use Rattle.service_drawing.specs.declared.reading.cause.Expected.{Expected}
 use Rattle.service_drawing.proofs.Reasons.{one_reason}
 
 -- the status 0 is that of an answer

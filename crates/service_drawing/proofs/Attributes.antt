@@ -1,10 +1,56 @@
--- Attributes that were read, and what no further one may be.
-use Rattle.std.proofs.Common.{◌≡◌, ℕ, ◌<◌, ◌≤◌, true, false, List, [], ◌∷◌, ◌++◌, ◌⊎◌, inl, inr, codes, length, refl, arith}
+-- Attributes and requirements that were read, and what no further one may be.
+use Rattle.std.proofs.Common.{◌≡◌, ℕ, List, ◌∷◌, ◌++◌, Ok, Err, sym, ◌∙◌, arith, ◌<◌, ◌≤◌, true, false, [], ◌⊎◌, inl, inr, codes, length, refl, ◌+◌, filter_map, length-append}
+use Rattle.iox2_texts.specs.Pair.{Pair}
+use Rattle.iox2_texts.specs.Name.{IsName, MakesName}
+use Rattle.iox2_texts.specs.declared.bounded.SemanticStringError.{SemanticStringError}
+use Rattle.line_streams.specs.OneWay.{before_one}
+use Rattle.line_streams.specs.Spelling.{HasNo}
+use Rattle.line_streams.proofs.Places.{has_one}
+use Rattle.service_drawing.specs.Lines.{IsKey, IsPair, pair_text, IsLine, GivesPair, AreAttributes, HasAttributes, StopsAt, Requirement, OfPair, OfKey, GivesRequirement, RequiresToo, number_required, RequiresMore, RequiresNoMore, pair_of, key_of, AreRequired, HasRequirements}
 use Rattle.std.proofs.lemmas.List.Sorted.{IsPermutation-cons, IsPermutation-to_front, IsPermutation-trans, length_permutation}
 use Rattle.iox2_texts.specs.Attribute.{IsListing}
-use Rattle.iox2_texts.specs.Pair.{Pair}
-use Rattle.service_drawing.specs.Lines.{IsLine, IsPair, pair_text, GivesPair, AreAttributes, HasAttributes, StopsAt}
 use Rattle.service_drawing.proofs.LinesOf.{ReadMany, one_read, many_stops, longer_by_one, no_key}
+use Rattle.std.proofs.lemmas.List.{append-nil}
+use Rattle.std.proofs.lemmas.List.Elements.{filter_map-append}
+use Rattle.iox2_texts.specs.Verify.{Requirements}
+
+-- the pair of one text
+pub same_pair : (text key value : List ℕ) → HasNo 32 key → text ≡ key ++ 32 ∷ value
+    → (pair : Pair) → IsPair pair → text ≡ pair_text pair → (key ≡ pair.key) × (value ≡ pair.value)
+same_pair text key value word spelled pair is other =
+    (before_one 32).same (key, value) (pair.key, pair.value) word is.key.word
+    (sym spelled ∙ other)
+
+-- a text that no name can be
+pub no_name_of : (n : ℕ) (bytes : List ℕ) (why : SemanticStringError) → MakesName n bytes (Err why)
+    → ¬ IsName n bytes
+no_name_of n bytes why h legal = grind arith
+
+-- a key that is refused
+pub no_key_of : (text key value : List ℕ) → HasNo 32 key → text ≡ key ++ 32 ∷ value
+    → ¬ IsName 64 key → (pair : Pair) → IsPair pair → ¬ (text ≡ pair_text pair)
+no_key_of text key value word spelled bad pair is other =
+    bad (rw (same_pair text key value word spelled pair is other).0 is.key.name)
+
+-- a value that is refused
+pub no_value_of : (text key value : List ℕ) → HasNo 32 key → text ≡ key ++ 32 ∷ value
+    → ¬ IsName 256 value → (pair : Pair) → IsPair pair → ¬ (text ≡ pair_text pair)
+no_value_of text key value word spelled bad pair is other =
+    bad (rw (same_pair text key value word spelled pair is other).1 is.value)
+
+-- a text with a space is no key
+pub no_key_in : (text word rest : List ℕ) → text ≡ word ++ 32 ∷ rest → (key : List ℕ) → IsKey key
+    → ¬ (text ≡ key)
+no_key_in text word rest e key is same = has_one 32 word rest (rw (sym same ∙ e) at is.word)
+
+abbrev of : List ℕ → List ℕ → Pair
+of k v = record { key = k; value = v }
+
+-- the pair that a text spells
+pub found_pair : (text key value k v : List ℕ) → MakesName 64 key (Ok k)
+    → MakesName 256 value (Ok v) → HasNo 32 key → text ≡ key ++ 32 ∷ value
+    → IsPair (of k v) × (text ≡ pair_text (of k v))
+found_pair text key value k v first second word spelled = grind arith
 
 -- what was read so far
 abbrev pub Reading : List Pair → List ℕ → List ℕ → Type 0
@@ -48,3 +94,52 @@ stops_at_attribute set at bytes text tail r l bad =
 -- where there is no room, there are 16
 pub many : (n : ℕ) → (n < 16 → false ≡ true) → 16 ≤ n
 many n h = grind arith
+
+-- what was read so far
+abbrev pub Requiring : Requirements → List ℕ → List ℕ → Type 0
+Requiring = ReadMany (codes "require") GivesRequirement AreRequired
+
+each_counts : (each : List Requirement)
+    → length each ≡ length (filter_map pair_of each) + length (filter_map key_of each)
+each_counts [] = refl
+each_counts (OfPair pair ∷ each) = omega (arith, each_counts each)
+each_counts (OfKey key ∷ each) = omega (arith, each_counts each)
+
+-- as many were read as are required
+as_many : (each : List Requirement) (required : Requirements) → AreRequired each required
+    → length each ≡ number_required required
+as_many each required made = grind (arith, each_counts, length_permutation)
+
+-- one more was read
+pub one_more_required : (old new : Requirements) (at next bytes text : List ℕ)
+    → Requiring old at bytes → IsLine (codes "require" ++ text) next at → RequiresMore old text new
+    → Requiring new next bytes
+one_more_required old new at next bytes text r l more =
+    one_read (codes "require") GivesRequirement AreRequired old new at next bytes text more.each r l
+    more.gives (
+      grind (arith, length-append, as_many r.each old r.make, more.room),
+      rw (filter_map-append pair_of r.each (more.each ∷ [])) (pairs more.each more.added),
+      rw (filter_map-append key_of r.each (more.each ∷ [])) (keys more.each more.added),
+    )
+  where
+    pairs : (one : Requirement) → RequiresToo old one new
+        → IsListing (filter_map pair_of r.each ++ filter_map pair_of (one ∷ [])) new.pairs
+    pairs (OfPair pair) a = listed_more _ old.pairs new.pairs pair r.make.1 a.0
+    pairs (OfKey key) a = rw (append-nil (filter_map pair_of r.each), a) r.make.1
+
+    keys : (one : Requirement) → RequiresToo old one new
+        → filter_map key_of r.each ++ filter_map key_of (one ∷ []) ≡ new.keys
+    keys one a = grind (arith, append-nil, r.make.2)
+
+-- the next line is one too many, or requires nothing
+pub stops_at_required : (required : Requirements) (at bytes text tail : List ℕ)
+    → Requiring required at bytes → IsLine (codes "require" ++ text) tail at
+    → RequiresNoMore required text → StopsAt HasRequirements at bytes
+stops_at_required required at bytes text tail r l bad =
+    many_stops (codes "require") GivesRequirement AreRequired (λ s. s) no_key
+    (λ x y t p q. refl) required at bytes text tail r l (λ ys other made one. elim bad [
+      | inl full ↦
+          let longer = longer_by_one GivesRequirement no_key r.each ys text one in
+          omega (arith, full, as_many r.each required r.make, made.0)
+      | inr none ↦ none one.one one.spelled
+    ])

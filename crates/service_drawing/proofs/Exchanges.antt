@@ -12,13 +12,11 @@ use Rattle.iox2_config.specs.declared.hash.input.PatternKind.TheVariants.{Publis
 use Rattle.iox2_config.specs.declared.types.message_details.MessageTypeDetails.{MessageTypeDetails}
 use Rattle.iox2_config.specs.declared.types.type_detail.TypeVariant.{TypeVariant}
 use Rattle.iox2_config.specs.declared.types.type_detail.TypeVariant.TheVariants.{FixedSize, Dynamic}
-use Rattle.service_drawing.specs.Causes.{is_plain}
-use Rattle.service_drawing.specs.Lines.{IsPlain, HasNoLine, HasSameLine, Begins, no_lines, IsDescribed, IsFixed, type_text, payload_text, alignments_text, type_line, payload_line, elements_line, HasOpener, opener_line, message_of, message, exchange}
+use Rattle.service_drawing.specs.Lines.{is_plain, IsPlain, HasNoLine, HasSameLine, Begins, no_lines, IsDescribed, IsFixed, type_text, payload_text, alignments_text, type_line, payload_line, elements_line, HasOpener, opener_line, message_of, message, exchange}
 use Rattle.service_drawing.specs.declared.description.Exchange.TheVariants as exchanged
 use Rattle.service_drawing.specs.declared.description.Message.{Message}
 use Rattle.service_drawing.proofs.Forms.{Lawful, IsPart, line_like, none_like, none_begins, stops_at_once, line_lawful, then_lawful, sequence_lawful, made_lawful}
-use Rattle.service_drawing.proofs.Messages.{same_variant}
-use Rattle.service_drawing.proofs.Words.{line_one}
+use Rattle.service_drawing.proofs.Words.{same_variant, line_one}
 
 -- no lines
 nothing_lawful : {A : Type 0} (only : A) → Lawful [] [] (no_lines only)

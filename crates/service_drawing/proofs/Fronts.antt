@@ -5,7 +5,7 @@ use Rattle.std.proofs.Math.Seq.{take-append_seam}
 use Rattle.std.proofs.lemmas.List.Elements.{All-head, All-tail, All-cons}
 use Rattle.line_streams.specs.OneWay.{before_one}
 use Rattle.line_streams.specs.Spelling.{HasNo}
-use Rattle.service_drawing.specs.Fronts.{IsInside, lines_text, Ends}
+use Rattle.service_drawing.specs.Descriptions.{IsInside, lines_text, Ends}
 
 -- the word `end` is no newline
 end_lacks : HasNo 10 (codes "end")

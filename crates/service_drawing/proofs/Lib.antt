@@ -6,12 +6,7 @@ mod Forms
 mod Fronts
 mod Inside
 mod LinesOf
-mod Messages
-mod Naming
-mod Pairs
 mod Reasons
-mod Required
 mod ServiceNames
 mod SettingLines
 mod Words
-mod Writes

@@ -3,8 +3,7 @@ use Rattle.std.proofs.Common.{◌≡◌, ◌<◌, ℕ, List, [], ◌∷◌, ◌+
 use Rattle.std.proofs.lemmas.List.{length-map}
 use Rattle.service_drawing.specs.Lines.{IsLine, AreLines, HasNoLine, StopsAt, HasMany, UpTo, line_by_line}
 use Rattle.service_drawing.proofs.Forms.{Lawful, lines_before, line_like, none_like, none_begins}
-use Rattle.service_drawing.proofs.Messages.{same_text}
-use Rattle.service_drawing.proofs.Words.{line_one}
+use Rattle.service_drawing.proofs.Words.{same_text, line_one}
 
 -- one more line
 pub more_lines : {A : Type 0} (begin : List ℕ) (Spells : A → List ℕ → Type 0) (xs : List A) (x : A)

@@ -8,13 +8,12 @@ use Rattle.service_drawing.specs.Reasons.{BeginsInternal, IsServiceReason, AtSet
 use Rattle.service_drawing.specs.Settings.{GivesSetting, HasConfiguration, IsNotSet, NamesMarked, section, word_of}
 use Rattle.service_drawing.specs.declared.reading.cause.Reason.{Reason}
 use Rattle.service_drawing.specs.declared.reading.cause.Reason.TheVariants.{InternalName, UnknownSetting, SetTwice, OtherForm}
-use Rattle.service_drawing.specs.declared.settings.value.Value.{Value}
+use Rattle.service_drawing.specs.declared.settings.Value.{Value}
 use Rattle.service_drawing.proofs.Descriptions.{Breaks, broken, service_same, after_settings_lawful, stops_behind_service}
 use Rattle.service_drawing.proofs.LinesOf.{up_lines}
-use Rattle.service_drawing.proofs.Messages.{same_text}
+use Rattle.service_drawing.proofs.Words.{same_text, line_one}
 use Rattle.service_drawing.proofs.ServiceNames.{same_pattern}
 use Rattle.service_drawing.proofs.SettingLines.{Setting, one_setting, same_setting}
-use Rattle.service_drawing.proofs.Words.{line_one}
 
 line_within : (text rest bytes : List ℕ) → IsLine text rest bytes → length rest < length bytes
 line_within text rest bytes l = grind (arith, length-append, l.spelled)

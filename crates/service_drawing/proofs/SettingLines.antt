@@ -1,5 +1,8 @@
--- Settings that were read, and what no further line may be.
-use Rattle.std.proofs.Common.{◌≡◌, ◌≢◌, ℕ, zero, suc, replicate, true, false, Bool, List, [], ◌∷◌, ◌++◌, inl, inr, Some, codes, map, nat_eq, slice_get, slice_set, refl, sym, ◌∙◌, ap, subst, arith}
+-- Settings that are found by their names, and the lines of settings.
+use Rattle.std.proofs.Common.{◌≡◌, ◌≢◌, ℕ, ◌<◌, ◌≤◌, ◌∷◌, ◌++◌, List, Bool, false, length, get_or, ap, Some, None, slice_get, subst, sym, ◌∙◌, arith, zero, suc, replicate, true, [], inl, inr, codes, map, nat_eq, slice_set, refl}
+use Rattle.std.proofs.lemmas.Option.{none-some, slice_get_within, slice_get_cases, slice_get-get_or}
+use Rattle.service_drawing.specs.Settings.{HasName, IsSetting, IsNamed, word_of, MayBecome, Assignment, GivesSetting, assigned, AreSettings, HasSettings, Sets, NamesMarked, IsNotSet, value_text}
+use Rattle.service_drawing.proofs.Words.{longer}
 use Rattle.std.specs.List.{AllByRecursion, IsDistinct, list_any}
 use Rattle.std.proofs.Math.Bool.{or-false, or-true}
 use Rattle.std.proofs.lemmas.Bool.{eqb-false, eqb-true, ne_eqb}
@@ -8,12 +11,38 @@ use Rattle.std.proofs.lemmas.List.{append_cancel_left, map-append}
 use Rattle.std.proofs.lemmas.List.Folds.{list_any-append}
 use Rattle.std.proofs.lemmas.Map.Keys.{IsDistinct-push}
 use Rattle.service_drawing.specs.Lines.{IsLine, StopsAt}
-use Rattle.service_drawing.specs.Settings.{IsSetting, MayBecome, Assignment, GivesSetting, assigned, AreSettings, HasSettings, Sets, NamesMarked, IsNotSet, word_of, value_text}
 use Rattle.service_drawing.specs.declared.reading.cause.Reason.{Reason}
 use Rattle.service_drawing.specs.declared.reading.cause.Reason.TheVariants.{InternalName, UnknownSetting, SetTwice, OtherForm}
-use Rattle.service_drawing.specs.declared.settings.value.Value.{Value}
+use Rattle.service_drawing.specs.declared.settings.Value.{Value}
 use Rattle.service_drawing.proofs.LinesOf.{ReadMany, one_read, many_stops, GoesOn}
-use Rattle.service_drawing.proofs.Words.{longer}
+
+-- the setting of this number has another name
+pub not_named : (names : List (List ℕ)) (i : ℕ) (word name : List ℕ) → Some name ≡ slice_get names i
+    → (IsNamed word name → ⊥) → HasName names i word → ⊥
+not_named names i word name there other h = grind (arith, h.stands, h.named)
+
+past_end : (names : List (List ℕ)) (i : ℕ) → slice_get names i ≡ None → length names ≤ i
+past_end names i e = grind (arith, slice_get_cases, none-some)
+
+-- there is no setting from this number on
+pub none_named : (names : List (List ℕ)) (i : ℕ) (word : List ℕ) → None ≡ slice_get names i
+    → ((k : ℕ) → k < i → HasName names k word → ⊥) → (k : ℕ) → HasName names k word → ⊥
+none_named names i word past before k h = grind (arith, slice_get_within, past_end)
+
+-- the setting of the same word
+pub as_word : (names : List (List ℕ)) (i : ℕ) (word other : List ℕ) → word ≡ other
+    → IsSetting names i word → IsSetting names i other
+as_word names i word other e h = subst (λ (w : List ℕ). IsSetting names i w) e h
+
+-- the mark of this number
+pub marked_at : (given : List Bool) (index : ℕ) (mark : Bool) → index < length given
+    → get_or given index false ≡ mark → slice_get given index ≡ Some mark
+marked_at given index mark within e = slice_get-get_or given index false within ∙ ap Some e
+
+-- a space stands behind the word
+pub spaced : (text word rest : List ℕ) → word_of text ≡ word → text ≡ word ++ 32 ∷ rest
+    → word_of text ≢ text
+spaced text word rest e f same = longer word rest 32 (sym e ∙ same ∙ f)
 
 -- the numbers of the settings
 abbrev pub numbers : List Assignment → List ℕ

@@ -1,12 +1,21 @@
--- Lines, and numbers before a space, in one way.
-use Rattle.std.proofs.Common.{◌≡◌, ◌≢◌, ℕ, ◌<◌, ◌^◌, List, [], ◌∷◌, ◌++◌, length, arith, sym, ◌∙◌, ap, subst, append_assoc, length-append}
+-- Lines, numbers and the lines of a message, in one way.
+use Rattle.std.proofs.Common.{◌≡◌, ◌≢◌, ℕ, ◌<◌, ◌^◌, List, [], ◌∷◌, ◌++◌, length, arith, sym, ◌∙◌, ap, subst, append_assoc, length-append, rules, ◌≤◌, cond, codes, Option, Some, None, Err, refl, IsTrue}
 use Rattle.std.specs.Fmt.{decimal}
 use Rattle.std.proofs.lemmas.List.{append_cancel_left, append-nil}
 use Rattle.line_streams.specs.Numerals.{cons_same}
 use Rattle.line_streams.specs.Numerals as numerals
 use Rattle.line_streams.specs.OneWay.{before_one}
 use Rattle.line_streams.specs.Spelling.{EndsNumber, HasNo}
-use Rattle.service_drawing.specs.Lines.{IsPlain, IsLine, HasNoLine}
+use Rattle.service_drawing.specs.Lines.{IsPlain, IsLine, HasNoLine, HasLine, HasOpener, IsDescribed, AreAlignments, type_text, alignments_text, variant_word}
+use Rattle.std.specs.Prelude.{◌==◌}
+use Rattle.std.specs.Int.{is_power_of_two}
+use Rattle.std.proofs.lemmas.Fmt.{decimal_injective}
+use Rattle.iox2_config.specs.TypeDetailParts.{TypeDetailParts}
+use Rattle.iox2_config.specs.TypeDetails.{IsTypeName, MakesDetail}
+use Rattle.iox2_config.specs.declared.types.message_details.MessageTypeDetails.{MessageTypeDetails}
+use Rattle.iox2_config.specs.declared.types.type_detail.TypeDetailError.{TypeDetailError}
+use Rattle.iox2_config.specs.declared.types.type_detail.TypeVariant.{TypeVariant}
+use Rattle.iox2_config.specs.declared.types.type_detail.TypeVariant.TheVariants.{FixedSize, Dynamic}
 
 -- a plain byte is no newline
 pub plain_lacks : (text : List ℕ) → IsPlain text → HasNo 10 text
@@ -72,3 +81,88 @@ same_number text m n x y p q e f =
 -- nothing is longer than itself
 pub longer : (xs ys : List ℕ) (y : ℕ) → xs ≡ xs ++ y ∷ ys → ⊥
 longer xs ys y e = omega (arith, ap length e, length-append xs (y ∷ ys))
+
+-- no second number
+pub no_second : (text rest : List ℕ) (size : ℕ) → size < 2 ^ 64 → text ≡ decimal size ++ 32 ∷ rest
+    → ((n : ℕ) (x : List ℕ) → n < 2 ^ 64 → ¬ (rest ≡ decimal n ++ 32 ∷ x)) → (m n : ℕ)
+    (x : List ℕ) → m < 2 ^ 64 → n < 2 ^ 64 → ¬ (text ≡ decimal m ++ 32 ∷ (decimal n ++ 32 ∷ x))
+no_second text rest size fits e bad m n x p q is =
+    bad n x q (same_number text size m rest (decimal n ++ 32 ∷ x) fits p e is).1
+
+-- two numbers, of one text
+pub same_numbers : (text : List ℕ) (a b m n : ℕ) (x y : List ℕ) → a < 2 ^ 64 → b < 2 ^ 64
+    → m < 2 ^ 64 → n < 2 ^ 64 → text ≡ decimal a ++ 32 ∷ (decimal b ++ 32 ∷ x)
+    → text ≡ decimal m ++ 32 ∷ (decimal n ++ 32 ∷ y) → (a ≡ m) × (b ≡ n) × (x ≡ y)
+same_numbers text a b m n x y pa pb pm pn e f =
+    let first = same_number text a m (decimal b ++ 32 ∷ x) (decimal n ++ 32 ∷ y) pa pm e f in
+    let second = same_number (decimal b ++ 32 ∷ x) b n x y pb pn refl first.1 in
+    (first.0, second.0, second.1)
+
+-- what no type of the one text may have
+pub no_type : (text name : List ℕ) (a b : ℕ) → a < 2 ^ 64 → b < 2 ^ 64
+    → text ≡ decimal a ++ 32 ∷ (decimal b ++ 32 ∷ name)
+    → ¬ ((1 ≤ length name) × IsTypeName name × IsTrue (is_power_of_two b))
+    → (t : TypeDetailParts) → IsDescribed t → ¬ (text ≡ type_text t)
+no_type text name a b pa pb e bad t d is =
+    let same =
+    same_numbers text a b t.size t.alignment name t.type_name pa pb d.size d.alignment.0 e is in
+    bad (rw (same.1, same.2) (d.named, d.type_name, d.alignment.1))
+
+-- the parts of a type that is refused
+pub not_made : (parts : TypeDetailParts) (why : TypeDetailError) → MakesDetail parts (Err why)
+    → ¬ (IsTypeName parts.type_name × IsTrue (is_power_of_two parts.alignment))
+not_made parts why h legal = grind arith
+
+abbrev variant_at : List ℕ → TypeVariant
+variant_at [] = FixedSize
+variant_at (b ∷ bs) = cond (b == 102) FixedSize Dynamic
+
+variant_front : (v : TypeVariant) (x : List ℕ) → variant_at (variant_word v ++ x) ≡ v
+variant_front v x = grind arith
+
+-- the variant, of one text
+pub same_variant : (v w : TypeVariant) (x y : List ℕ) → variant_word v ++ x ≡ variant_word w ++ y
+    → v ≡ w
+same_variant v w x y e = sym (variant_front v x) ∙ ap variant_at e ∙ variant_front w y
+
+-- the last of three alignments is no number
+pub no_third : (text payload : List ℕ) (a b : ℕ) → a < 2 ^ 64 → b < 2 ^ 64
+    → text ≡ decimal a ++ 32 ∷ (decimal b ++ 32 ∷ payload)
+    → ((n : ℕ) → n < 2 ^ 64 → ¬ (payload ≡ decimal n)) → (d : MessageTypeDetails)
+    → AreAlignments d → ¬ (text ≡ alignments_text d)
+no_third text payload a b pa pb e bad d are is =
+    bad d.payload.alignment are.payload.0
+    (same_numbers text a b d.header.alignment d.user_header.alignment payload _ pa pb are.header.0
+    are.user_header.0 e is).2
+
+-- three numbers, not all of which are powers of two
+pub no_alignments : (text payload : List ℕ) (a b k : ℕ) → a < 2 ^ 64 → b < 2 ^ 64 → k < 2 ^ 64
+    → text ≡ decimal a ++ 32 ∷ (decimal b ++ 32 ∷ payload) → payload ≡ decimal k
+    → ¬ (IsTrue (is_power_of_two a) × IsTrue (is_power_of_two b) × IsTrue (is_power_of_two k))
+    → (d : MessageTypeDetails) → AreAlignments d → ¬ (text ≡ alignments_text d)
+no_alignments text payload a b k pa pb pk e third bad d are is =
+    let same = same_numbers text a b d.header.alignment d.user_header.alignment payload _ pa pb
+    are.header.0 are.user_header.0 e is in
+    let last = decimal_injective k d.payload.alignment pk are.payload.0 (sym third ∙ same.2) in
+    bad (rw (same.0, same.1, last) (are.header.1, are.user_header.1, are.payload.1))
+
+-- what one line says after the same beginning
+pub same_text : (begin text rest bytes : List ℕ) → IsLine (begin ++ text) rest bytes
+    → (t x : List ℕ) → IsLine (begin ++ t) x bytes → text ≡ t
+same_text begin text rest bytes l t x m =
+    append_cancel_left begin text t (line_one _ _ rest x bytes l m).0
+
+-- the line says something that no value of this kind is
+pub no_line : {A : Type 0} (begin : List ℕ) (IsLegal : A → Type 0) (spelled : A → List ℕ)
+    (text rest bytes : List ℕ) → IsLine (begin ++ text) rest bytes
+    → ((x : A) → IsLegal x → ¬ (text ≡ spelled x)) → (x : A) (r : List ℕ)
+    → ¬ HasLine begin IsLegal spelled x r bytes
+no_line begin IsLegal spelled text rest bytes l bad x r h = search (rules, same_text)
+
+-- the line of an opener that is refused
+pub no_opener : (prefix text rest bytes : List ℕ)
+    → IsLine (prefix ++ codes "opener " ++ text) rest bytes
+    → ((d : MessageTypeDetails) → AreAlignments d → ¬ (text ≡ alignments_text d))
+    → (o : Option MessageTypeDetails) (x : List ℕ) → ¬ HasOpener prefix o x bytes
+no_opener prefix text rest bytes l bad None x h = search rules
+no_opener prefix text rest bytes l bad (Some d) x h = search (rules, no_line)

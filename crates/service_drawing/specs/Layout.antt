@@ -1,11 +1,20 @@
--- Where the parts of one message lie.
-use Rattle.std.specs.Prelude.{◌≡◌, ℕ, ◌+◌, ◌*◌, ◌^◌, ◌<◌, ◌≤◌}
+-- Where the parts of one message lie, and how many of them the ports send.
+use Rattle.std.specs.Prelude.{ℕ, ◌<◌, ◌≤◌, ◌≡◌, ◌+◌, ◌*◌, ◌^◌, List, [], ◌∷◌, codes, Option, Some, None, ◌++◌, cond, nat_eq}
 use Rattle.iox2_config.specs.Layout.{user_header_place, payload_place, sample_size}
 use Rattle.iox2_config.specs.declared.types.message_details.MessageTypeDetails.{MessageTypeDetails}
-use Rattle.service_drawing.specs.Extent.{Extent, InExtent}
 use Rattle.service_drawing.specs.declared.layout.MessageLayout.{MessageLayout}
 use Rattle.service_drawing.specs.declared.layout.Part.{Part}
 use Rattle.service_drawing.specs.declared.layout.Part.TheVariants as part
+use Rattle.iox2_config.specs.declared.config.defaults.Defaults.{Defaults}
+use Rattle.iox2_static.specs.Chunks.{TellsGreatest}
+use Rattle.config_report.specs.Text.{sample_limits_of, request_limits_of, response_limits_of}
+use Rattle.service_drawing.specs.declared.description.Exchange.{Exchange}
+use Rattle.service_drawing.specs.declared.description.Exchange.TheVariants.{PublishSubscribe, Event, RequestResponse, Blackboard}
+use Rattle.service_drawing.specs.declared.description.Message.{Message}
+use Rattle.service_drawing.specs.declared.description.Segment.{Segment}
+use Rattle.std.specs.Fmt.{decimal}
+use Rattle.service_drawing.specs.declared.sentences.Counted.{Counted}
+use Rattle.service_drawing.specs.Extent.{Extent, InExtent}
 
 -- the span of this many bytes from this place on
 abbrev pub span : ℕ → ℕ → Extent
@@ -44,3 +53,36 @@ IsPartAt l offset (part.Element i) =
 IsPartAt l offset part.Gap = (¬ InExtent l.header offset) × (¬ InExtent l.user_header offset)
     × (offset < l.payload.start)
 IsPartAt l offset part.Spare = l.payload.end ≤ offset
+
+-- so many ports of this name, at most, send this message, which is called so, and of one port that
+-- many are in use at most
+pub record IsSegmentOf (s : Segment) (title port : List ℕ) (message : Message)
+    (limits : List ℕ) (most : ℕ) : Type 0 where
+  pub called : s.title.now ≡ title
+  pub sender : s.port.now ≡ port
+  pub sent : s.message.now ≡ message
+  pub chunks : TellsGreatest limits s.chunks
+  pub ports : s.ports ≡ most
+
+-- the messages that ports of this kind of exchange send
+abbrev pub AreSegments : List (Option Segment) → Exchange → Defaults → Type 0
+AreSegments segments (PublishSubscribe message) d =
+    (s : Segment) × (segments ≡ Some s ∷ None ∷ [])
+    × IsSegmentOf s (codes "message") (codes "publisher") message (sample_limits_of d)
+    d.publish_subscribe.max_publishers
+AreSegments segments (RequestResponse request response) d =
+    (s : Segment) × (t : Segment) × (segments ≡ Some s ∷ Some t ∷ [])
+    × IsSegmentOf s (codes "request") (codes "client") request (request_limits_of d)
+    d.request_response.max_clients
+    × IsSegmentOf t (codes "response") (codes "server") response (response_limits_of d)
+    d.request_response.max_servers
+AreSegments segments Event d = segments ≡ None ∷ None ∷ []
+AreSegments segments (Blackboard key) d = segments ≡ None ∷ None ∷ []
+
+-- the ending of a word for this many things
+abbrev pub plural : ℕ → List ℕ
+plural n = cond (nat_eq n 1) [] (codes "s")
+
+-- a number of things
+abbrev pub counted_text : Counted → List ℕ
+counted_text c = decimal c.number ++ 32 ∷ (c.name.now ++ plural c.number)

@@ -1,8 +1,5 @@
 -- Promises: how a description is spelled, and what the streams of the program get.
-pub mod Arguments
-pub mod Causes
 pub mod Descriptions
-pub mod Fronts
 pub mod Lines
 pub mod Reasons
 pub mod Settings
@@ -10,5 +7,3 @@ pub mod Streams
 -- Inner facts: where the parts of a drawn message lie, and which messages the ports send.
 pub mod Extent
 pub mod Layout
-pub mod Segments
-pub mod Sentences

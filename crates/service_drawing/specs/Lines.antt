@@ -1,5 +1,5 @@
 -- How a description is spelled.
-use Rattle.std.specs.Prelude.{◌≡◌, ℕ, ◌<◌, ◌≤◌, ◌^◌, List, [], ◌∷◌, ◌++◌, ◌+◌, ◌⊎◌, codes, length, filter_map, option_map, Option, Some, None, IsTrue, nat_eq}
+use Rattle.std.specs.Prelude.{◌≡◌, ◌&&◌, Bool, ℕ, ◌<◌, ◌≤◌, ◌^◌, List, [], ◌∷◌, ◌++◌, ◌+◌, ◌⊎◌, codes, length, filter_map, option_map, Option, Some, None, IsTrue, nat_eq}
 use Rattle.std.specs.List.{starts_with, AllPass}
 use Rattle.std.specs.Int.{is_power_of_two}
 use Rattle.std.specs.Fmt.{decimal}
@@ -17,14 +17,18 @@ use Rattle.iox2_config.specs.declared.types.message_details.MessageTypeDetails.{
 use Rattle.iox2_config.specs.declared.types.type_detail.TypeVariant.{TypeVariant}
 use Rattle.iox2_config.specs.declared.types.type_detail.TypeVariant.TheVariants.{FixedSize, Dynamic}
 use Rattle.line_streams.specs.Spelling.{HasNo}
-use Rattle.service_drawing.specs.Causes.{is_plain}
+use Rattle.std.proofs.Math.Dec.{leb}
 use Rattle.service_drawing.specs.declared.description.Exchange.{Exchange}
 use Rattle.service_drawing.specs.declared.description.Exchange.TheVariants as exchanged
 use Rattle.service_drawing.specs.declared.description.Message.{Message}
 use Rattle.service_drawing.specs.declared.reading.cause.Reason.{Reason}
 use Rattle.service_drawing.specs.declared.reading.cause.Reason.TheVariants as reason
-use Rattle.service_drawing.specs.declared.reading.expected.Expected.{Expected}
+use Rattle.service_drawing.specs.declared.reading.cause.Expected.{Expected}
 use Rattle.service_drawing.specs.declared.reading.service.Service.{Service}
+
+-- a line may hold the byte
+abbrev pub is_plain : ℕ → Bool
+is_plain b = leb 32 b && leb b 126
 
 -- a line may hold the text: each byte is from 32 to 126
 abbrev pub IsPlain : List ℕ → Type 0

@@ -18,8 +18,8 @@ use Rattle.iox2_config_file.specs.Settings.{Setting, publish_subscribe_settings,
 use Rattle.service_drawing.specs.Lines.{HasMany}
 use Rattle.service_drawing.specs.declared.reading.cause.Reason.{Reason}
 use Rattle.service_drawing.specs.declared.reading.cause.Reason.TheVariants.{InternalName, UnknownSetting, SetTwice, OtherForm}
-use Rattle.service_drawing.specs.declared.settings.value.Value.{Value}
-use Rattle.service_drawing.specs.declared.settings.value.Value.TheVariants.{Number, Switch, Perhaps, Deadline, Backpressure, Allocation}
+use Rattle.service_drawing.specs.declared.settings.Value.{Value}
+use Rattle.service_drawing.specs.declared.settings.Value.TheVariants.{Number, Switch, Perhaps, Deadline, Backpressure, Allocation}
 
 -- how a value is spelled
 abbrev pub value_text : Value → List ℕ

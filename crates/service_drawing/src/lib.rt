@@ -6,17 +6,13 @@
 //! a picture is only tested.
 #![tactic(auto)]
 
-mod arguments;
-mod base;
 mod description;
 mod fault;
-mod files;
+mod front;
 mod layout;
 mod reading;
-mod segments;
 mod sentences;
 mod settings;
-mod span;
 mod streams;
 mod svg;
 mod text;

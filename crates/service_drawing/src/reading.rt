@@ -7,8 +7,6 @@ ghost use Rattle.service_drawing.specs.Settings.{HasConfiguration, section};
 
 mod attributes;
 pub(crate) mod cause;
-mod expected;
-pub(crate) mod front;
 mod message;
 mod service;
 mod settings;
@@ -16,7 +14,7 @@ pub(crate) mod words;
 
 use crate::description::{Description, Exchange};
 use attributes::{attributes_before, required_before};
-pub(crate) use expected::Expected;
+pub(crate) use cause::Expected;
 use iox2_config::config::Config;
 use iox2_config::hash::PatternKind;
 use message::{fixed_before, message_before};

@@ -1,10 +1,9 @@
 //! What text and picture both say.
 ghost use Rattle.std.specs.Prelude.{Some};
-ghost use Rattle.service_drawing.specs.Sentences.{counted_text};
+ghost use Rattle.service_drawing.specs.Layout.{counted_text};
 
-use crate::description::Message;
+use crate::description::{Message, Segment};
 use crate::layout::MessageLayout;
-use crate::segments::Segment;
 use iox2_config::types::Incompatibility;
 use std::alloc::AllocError;
 use std::fmt;

@@ -18,7 +18,7 @@ use Rattle.settings_check.specs.Words.{Requests}
 use Rattle.settings_check.specs.declared.answer.Answer.{Answer}
 use Rattle.settings_check.specs.declared.arguments.Request.{Request}
 use Rattle.settings_check.specs.declared.arguments.RequestError.{RequestError}
-use Rattle.settings_check.specs.declared.files.FileError.{FileError}
+use Rattle.settings_check.specs.declared.found.FileError.{FileError}
 
 -- a configuration is shown
 pub text_is : (first : Option Config) (config : Config) (text : List ℕ) → first ≡ Some config

@@ -5,7 +5,7 @@ use Rattle.std.specs.declared.alloc.Global.{Global}
 use Rattle.settings_check.specs.Found.{Said, Seen, nothing_seen, both_seen, AddsFile, IsFound, AreFound}
 use Rattle.iox2_config.specs.declared.config.Config.{Config}
 use Rattle.settings_check.specs.Words.{texts_of}
-use Rattle.settings_check.specs.declared.files.FileError.{FileError}
+use Rattle.settings_check.specs.declared.found.FileError.{FileError}
 use Rattle.settings_check.proofs.Lists.{split_at}
 
 pub both_assoc : (a b c : Seen) → both_seen (both_seen a b) c ≡ both_seen a (both_seen b c)

@@ -2,7 +2,7 @@
 use Rattle.std.specs.Prelude.{◌≡◌, ℕ, Bool, true, false, ◌&&◌, ◌||◌, nat_lt, List, [], ◌∷◌, ◌++◌, flat_map, if◌then◌else◌, slice_get, Option, Some, None, Result, Ok, Err, String, string_bytes}
 use Rattle.std.specs.declared.alloc.Global.{Global}
 use Rattle.iox2_config.specs.declared.config.Config.{Config}
-use Rattle.config_report.specs.Report.{HasDefaults}
+use Rattle.config_report.specs.Findings.{HasDefaults}
 use Rattle.config_report.specs.Text.{IsReportText}
 use Rattle.settings_check.specs.Compare.{AreAllDifferences}
 use Rattle.settings_check.specs.Found.{Said, Seen, AreFound}
@@ -18,7 +18,7 @@ use Rattle.settings_check.specs.declared.arguments.RequestError.{RequestError}
 use Rattle.settings_check.specs.declared.arguments.RequestError.TheVariants.{BadArguments, NoMemory}
 use Rattle.settings_check.specs.declared.arguments.Task.{Task}
 use Rattle.settings_check.specs.declared.arguments.Task.TheVariants as task
-use Rattle.settings_check.specs.declared.files.FileError.{FileError}
+use Rattle.settings_check.specs.declared.found.FileError.{FileError}
 use Rattle.settings_check.specs.declared.lines.Style.{Style}
 use Rattle.settings_check.specs.declared.lines.Style.TheVariants as style
 

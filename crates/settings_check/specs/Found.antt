@@ -1,6 +1,8 @@
--- What is found in some files.
-use Rattle.std.specs.Prelude.{◌≡◌, ℕ, Bool, List, [], ◌∷◌, ◌++◌, codes, map, Result, Ok, Err, String, string_bytes, option_to_list}
+-- Files, by their names, and what is found in them.
+use Rattle.std.specs.Prelude.{◌≡◌, ◌≢◌, ◌⊎◌, ℕ, List, codes, Result, Ok, Err, Vec, Bool, [], ◌∷◌, ◌++◌, map, String, string_bytes, option_to_list}
 use Rattle.std.specs.declared.alloc.Global.{Global}
+use Rattle.settings_check.specs.declared.found.FileError.{FileError}
+use Rattle.settings_check.specs.declared.found.FileError.TheVariants.{NotFound, PermissionDenied, IsADirectory, Other}
 use Rattle.std.specs.List.{list_any}
 use Rattle.std.specs.Str.{bytes_eq}
 use Rattle.iox2_config.specs.declared.config.Config.{Config}
@@ -8,11 +10,27 @@ use Rattle.config_report.specs.Findings.{Checks}
 use Rattle.config_report.specs.Notes.{Note, finding_view}
 use Rattle.config_report.specs.declared.finding.Finding.{Finding}
 use Rattle.config_report.specs.declared.finding.Findings.{Findings}
-use Rattle.settings_check.specs.Files.{IsGiven}
-use Rattle.settings_check.specs.declared.files.FileError.{FileError}
 use Rattle.settings_check.specs.declared.found.Found.{Found}
 use Rattle.settings_check.specs.declared.found.Report.{Report}
 use Rattle.settings_check.specs.declared.found.Unread.{Unread}
+
+-- what reading a file gives
+abbrev pub given_bytes : Result (Vec ℕ Global) FileError → Result (List ℕ) FileError
+given_bytes (Ok bytes) = Ok bytes.items
+given_bytes (Err why) = Err why
+
+-- why a file cannot be read
+abbrev pub why_text : FileError → List ℕ
+why_text NotFound = codes "there is no such file"
+why_text PermissionDenied = codes "it may not be read"
+why_text IsADirectory = codes "it is a directory"
+why_text Other = codes "it cannot be read"
+
+-- what is given for a name: `-` is the standard input, and else it is the name of a file
+abbrev pub IsGiven : (List ℕ → Result (List ℕ) FileError → Type 0) → List ℕ → List ℕ
+    → Result (List ℕ) FileError → Type 0
+IsGiven Gives input name given =
+    ((name ≡ codes "-") × (given ≡ Ok input)) ⊎ ((name ≢ codes "-") × Gives name given)
 
 -- what is said of a file: its name, and what
 abbrev pub Said : Type 0

@@ -2,10 +2,8 @@
 -- of the program get.
 pub mod Answer
 pub mod Compare
-pub mod Files
 pub mod Found
 pub mod Lines
-pub mod Printable
 pub mod Schema
 pub mod Streams
 pub mod Words

@@ -1,20 +1,29 @@
--- How findings are written.
-use Rattle.std.specs.Prelude.{ℕ, Bool, true, false, not, nat_eq, List, [], ◌∷◌, ◌++◌, codes, count_by, flat_map, if◌then◌else◌, Option, Some, None, option_map}
-use Rattle.std.specs.Fmt.{decimal}
+-- How findings are written, without control characters.
+use Rattle.std.specs.Prelude.{ℕ, false, List, ◌++◌, codes, flat_map, if◌then◌else◌, encode_utf8, Bool, true, not, nat_eq, [], ◌∷◌, count_by, Option, Some, None, option_map}
+use Rattle.std.specs.Str.{chars}
+use Rattle.std.specs.Char.{is_control}
+use Rattle.std.specs.Fmt.{digits, decimal}
 use Rattle.serde_json.specs.Data.{Data, null, number, unsigned, string, object, member, no_members}
 use Rattle.serde_json.specs.Written.{compact_text}
 use Rattle.config_report.specs.Notes.{note_text, severity_text}
 use Rattle.config_report.specs.declared.finding.Severity.{Severity}
 use Rattle.config_report.specs.declared.finding.Severity.TheVariants.{Error, Warning}
-use Rattle.settings_check.specs.Files.{why_text}
-use Rattle.settings_check.specs.Found.{Said}
-use Rattle.settings_check.specs.Printable.{printable}
+use Rattle.settings_check.specs.Found.{why_text, Said}
 use Rattle.settings_check.specs.declared.arguments.Format.{Format}
 use Rattle.settings_check.specs.declared.arguments.Format.TheVariants.{Text, Json}
-use Rattle.settings_check.specs.declared.files.FileError.{FileError}
+use Rattle.settings_check.specs.declared.found.FileError.{FileError}
 use Rattle.settings_check.specs.declared.lines.Style.{Style}
 use Rattle.settings_check.specs.declared.lines.Style.TheVariants as style
 use Rattle.toml_positions.specs.declared.position.Position.{Position}
+
+-- a character, or `\u{..}` with its code where it is a control character
+abbrev pub printable_char : ℕ → List ℕ
+printable_char c =
+    if is_control c then codes "\\u{" ++ (digits 16 false c ++ codes "}") else encode_utf8 c
+
+-- a text, each character of it so
+abbrev pub printable : List ℕ → List ℕ
+printable text = flat_map printable_char (chars text)
 
 -- what stands between the name of a file and what is said of it
 abbrev pub gap : Option Position → List ℕ

@@ -1,13 +1,13 @@
 -- The JSON Schema of files of settings.
 use Rattle.std.specs.Prelude.{◌≡◌, ℕ, Bool, true, false, List, [], ◌∷◌, ◌++◌, codes, map, drop, if◌then◌else◌}
 use Rattle.iox2_config.specs.declared.config.Config.{Config}
-use Rattle.iox2_config_file.specs.declared.kind.Kind.{Kind}
-use Rattle.iox2_config_file.specs.declared.kind.Kind.TheVariants as kind
+use Rattle.iox2_config_file.specs.declared.fault.Kind.{Kind}
+use Rattle.iox2_config_file.specs.declared.fault.Kind.TheVariants as kind
 use Rattle.iox2_config_file.specs.declared.section.Row.{Row}
 use Rattle.iox2_config_file.specs.declared.section.Section.{Section}
 use Rattle.iox2_config_file.specs.declared.section.Section.TheVariants as section
 use Rattle.iox2_config_file.specs.Read.{row_view, rows_in, sections}
-use Rattle.iox2_config_file.specs.Rows.{prefix_of}
+use Rattle.iox2_config_file.specs.Settings.{prefix_of}
 use Rattle.settings_check.specs.declared.schema.TheConstants.{HEAD, DEFINITIONS, TAIL}
 
 -- what the value of a key may be, but for which table

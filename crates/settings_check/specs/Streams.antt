@@ -11,7 +11,7 @@ use Rattle.settings_check.specs.Words.{Requests}
 use Rattle.settings_check.specs.declared.answer.Answer.{Answer}
 use Rattle.settings_check.specs.declared.arguments.Request.{Request}
 use Rattle.settings_check.specs.declared.arguments.RequestError.{RequestError}
-use Rattle.settings_check.specs.declared.files.FileError.{FileError}
+use Rattle.settings_check.specs.declared.found.FileError.{FileError}
 
 -- the standard input is one of the files
 abbrev pub input_is_read : Result Request RequestError → Bool

@@ -1,16 +1,15 @@
 //! What is answered to a request.
 ghost use Rattle.std.specs.Prelude.{◌≡◌, ◌++◌, IfOk, OnOk, List, option_copied, string_bytes};
 ghost use Rattle.line_streams.specs.Filters.{status_number};
-ghost use Rattle.settings_check.specs.Answer.{status_of, end_text, IsChecked, IsTextOf, IsShown};
-ghost use Rattle.settings_check.specs.Answer.{AreCompared, AddsCompared, AnswersFiles, IsTextAnswer};
-ghost use Rattle.settings_check.specs.Answer.{IsDefaultAnswer, IsSchemaAnswer, AnswersRequest};
-ghost use Rattle.settings_check.specs.Answer.{IsRefusedAnswer, Answers};
+ghost use Rattle.settings_check.specs.Answer.{IsDefaultAnswer, IsSchemaAnswer, status_of, end_text};
+ghost use Rattle.settings_check.specs.Answer.{IsChecked, IsTextOf, IsShown, AreCompared};
+ghost use Rattle.settings_check.specs.Answer.{AddsCompared, AnswersFiles, IsTextAnswer};
+ghost use Rattle.settings_check.specs.Answer.{AnswersRequest, IsRefusedAnswer, Answers};
 ghost use Rattle.settings_check.specs.Found.{Said, found_view, reports_of};
 
 use crate::arguments::{Request, RequestError, Task};
 use crate::compare::add_differences;
-use crate::files::Files;
-use crate::found::{Found, Report, find_in};
+use crate::found::{Files, Found, Report, find_in};
 use crate::lines::{
     Style, errors_in, style_of, warnings_in, write_counts, write_lines, write_unread,
 };
@@ -224,14 +223,6 @@ fn text_answer(alloc: Global, text: String) -> Answer
     }
 }
 
-/// A text of the program is answered.
-fn own_text(alloc: Global, text: &str) -> Result<Answer, AllocError>
-    ensures { IfOk result (IsTextAnswer text.now) }
-{
-    let text = String::from_str(alloc, text)?;
-    Ok(text_answer(alloc, text))
-}
-
 /// The file of the default settings is answered.
 fn default_answer(alloc: Global) -> Result<Answer, AllocError>
     ensures { IfOk result IsDefaultAnswer }
@@ -262,8 +253,8 @@ fn answer_request<F: Files>(
     match request.task {
         Task::DefaultFile => default_answer(alloc),
         Task::Schema => schema_answer(alloc),
-        Task::Help => own_text(alloc, HELP),
-        Task::Version => own_text(alloc, VERSION),
+        Task::Help => Ok(text_answer(alloc, String::from_str(alloc, HELP)?)),
+        Task::Version => Ok(text_answer(alloc, String::from_str(alloc, VERSION)?)),
         Task::Check | Task::Show | Task::Compare => {
             answer_files(alloc, coloured, files, input, request)
         }

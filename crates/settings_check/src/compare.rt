@@ -1,6 +1,6 @@
 //! Which settings of two files differ.
 ghost use Rattle.std.specs.Prelude.{◌≡◌, ◌++◌, ℕ, List, IfOk, OnOk};
-ghost use Rattle.config_report.specs.Pairs.{Adds, SettingsGive, TablesGive};
+ghost use Rattle.config_report.specs.Text.{Adds, SettingsGive, TablesGive};
 ghost use Rattle.iox2_config_file.specs.Settings.{settings_in};
 ghost use Rattle.iox2_config_file.specs.Write.{value_view};
 ghost use Rattle.settings_check.specs.Compare.{difference, is_shared, difference_severity};

@@ -5,11 +5,10 @@
 mod answer;
 mod arguments;
 mod compare;
-mod files;
 mod found;
 mod lines;
 mod schema;
 mod streams;
 
-pub use files::{FileError, Files};
+pub use found::{FileError, Files};
 pub use streams::check_streams;

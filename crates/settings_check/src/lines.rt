@@ -1,17 +1,14 @@
 //! How findings are written, so that a terminal takes no text of theirs as a command.
 ghost use Rattle.std.specs.Prelude.{◌≡◌, ◌++◌, IfOk, OnOk, flat_map, string_bytes, option_map};
 ghost use Rattle.serde_json.specs.View.{view};
-ghost use Rattle.config_report.specs.Notes.{severity_text};
 ghost use Rattle.settings_check.specs.Found.{report_of, reports_of, unread_of};
-ghost use Rattle.settings_check.specs.Lines.{style_of, colour_of, text_of, text_line, coloured_line};
-ghost use Rattle.settings_check.specs.Lines.{json_line, line_in, lines_in, note_data};
-ghost use Rattle.settings_check.specs.Lines.{number_data, key_data, is_error, errors_in};
-ghost use Rattle.settings_check.specs.Lines.{warnings_in, plural, counts_text, unread_line, unsought};
-ghost use Rattle.settings_check.specs.Printable.{printable, printable_char};
+ghost use Rattle.settings_check.specs.Lines.{style_of, colour_of, text_of, line_in, lines_in};
+ghost use Rattle.settings_check.specs.Lines.{note_data, number_data, key_data, is_error, errors_in};
+ghost use Rattle.settings_check.specs.Lines.{warnings_in, plural, counts_text, unread_line};
+ghost use Rattle.settings_check.specs.Lines.{unsought, printable, printable_char};
 
 use crate::arguments::Format;
-use crate::files::why_text;
-use crate::found::{Report, Unread};
+use crate::found::{Report, Unread, why_text};
 use config_report::{Finding, Position, Severity};
 use serde_json::{Value, json};
 use std::alloc::{AllocError, Global};
@@ -49,7 +46,7 @@ fn colour_of(severity: Severity) -> &'static str
 }
 
 /// Appends a text with its control characters escaped.
-#[tactic(auto, using(crate::proofs::Escaping::printed_end))]
+#[tactic(auto, using(crate::proofs::Lists::printed_end))]
 pub(crate) fn write_printable(out: &mut String, text: &str) -> Result<(), AllocError>
     ensures { OnOk result (string_bytes out.new ≡ string_bytes out.old ++ printable text.now) }
 {
@@ -88,35 +85,6 @@ fn write_text(
     write_printable(out, line.as_str())
 }
 
-/// Appends what was found in a file as a line for a person.
-fn write_text_line(
-    alloc: Global,
-    out: &mut String,
-    file: &str,
-    finding: &Finding,
-) -> Result<(), AllocError>
-    ensures { OnOk result (string_bytes out.new
-        ≡ string_bytes out.old ++ text_line (report_of file.now finding.now)) }
-{
-    write_text(alloc, out, file, finding)?;
-    out.push_str("\n")
-}
-
-/// Appends what was found in a file as a line in colour.
-fn write_coloured_line(
-    alloc: Global,
-    out: &mut String,
-    file: &str,
-    finding: &Finding,
-) -> Result<(), AllocError>
-    ensures { OnOk result (string_bytes out.new
-        ≡ string_bytes out.old ++ coloured_line (report_of file.now finding.now)) }
-{
-    out.push_str(colour_of(finding.severity))?;
-    write_text(alloc, out, file, finding)?;
-    out.push_str("\x1b[0m\n")
-}
-
 /// The line of a position, if there is one.
 fn line_value(at: Option<Position>) -> Value
     ensures { view result ≡ number_data (option_map (λ p. p.line) at) }
@@ -151,23 +119,13 @@ fn key_value(alloc: Global, key: &Option<String>) -> Result<Value, AllocError>
     }
 }
 
-/// How much a finding weighs, in words.
-fn weight(severity: Severity) -> &'static str
-    ensures { result.now ≡ severity_text severity }
-{
-    match severity {
-        Severity::Error => "error",
-        Severity::Warning => "warning",
-    }
-}
-
 /// What was found in a file, as an object of JSON.
 fn object_of(alloc: Global, file: &str, finding: &Finding) -> Result<Value, AllocError>
     ensures { IfOk result (λ value. view value ≡ note_data (report_of file.now finding.now)) }
 {
     let line = line_value(finding.position);
     let column = column_value(finding.position);
-    let severity = weight(finding.severity);
+    let severity = finding.severity.word();
     let message = finding.message.as_str();
     let key = key_value(alloc, &finding.key)?;
     json!(in alloc; {
@@ -180,21 +138,6 @@ fn object_of(alloc: Global, file: &str, finding: &Finding) -> Result<Value, Allo
     })
 }
 
-/// Appends what was found in a file as an object of JSON on a line.
-fn write_json_line(
-    alloc: Global,
-    out: &mut String,
-    file: &str,
-    finding: &Finding,
-) -> Result<(), AllocError>
-    ensures { OnOk result (string_bytes out.new
-        ≡ string_bytes out.old ++ json_line (report_of file.now finding.now)) }
-{
-    let line = object_of(alloc, file, finding)?.to_string(alloc)?;
-    out.push_str(line.as_str())?;
-    out.push_str("\n")
-}
-
 /// Appends what was found in a file as a line.
 fn write_line(
     alloc: Global,
@@ -205,10 +148,22 @@ fn write_line(
     ensures { OnOk result (string_bytes out.new ≡ string_bytes out.old
         ++ line_in style (report_of report.now.file.now report.now.finding)) }
 {
+    let Report { file, finding } = report;
     match style {
-        Style::Plain => write_text_line(alloc, out, report.file, &report.finding),
-        Style::Coloured => write_coloured_line(alloc, out, report.file, &report.finding),
-        Style::Json => write_json_line(alloc, out, report.file, &report.finding),
+        Style::Plain => {
+            write_text(alloc, out, file, finding)?;
+            out.push_str("\n")
+        }
+        Style::Coloured => {
+            out.push_str(colour_of(finding.severity))?;
+            write_text(alloc, out, file, finding)?;
+            out.push_str("\x1b[0m\n")
+        }
+        Style::Json => {
+            let object = object_of(alloc, file, finding)?.to_string(alloc)?;
+            out.push_str(object.as_str())?;
+            out.push_str("\n")
+        }
     }
 }
 

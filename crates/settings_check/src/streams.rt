@@ -7,8 +7,7 @@ ghost use Rattle.settings_check.specs.Streams.{Ends, RefusesMemory};
 
 use crate::answer::{Answer, respond};
 use crate::arguments::{Request, RequestError, request_of};
-use crate::files::Files;
-use crate::found::reads_input;
+use crate::found::{Files, reads_input};
 use line_streams::{Sink, Source, read_all, write_outcome};
 use std::alloc::{AllocError, Global};
 use std::env::Args;

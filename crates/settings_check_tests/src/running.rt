@@ -1,6 +1,6 @@
 //! A run of the program on files in memory.
 ghost use Rattle.std.specs.Prelude.{ℕ, List, Result, ⊤};
-ghost use Rattle.settings_check.specs.declared.files.FileError.{FileError};
+ghost use Rattle.settings_check.specs.declared.found.FileError.{FileError};
 
 use settings_check::{FileError, Files, check_streams};
 use std::alloc::{AllocError, Global};

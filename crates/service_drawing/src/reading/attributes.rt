@@ -5,7 +5,7 @@ ghost use Rattle.service_drawing.specs.Lines.{IsFailure, line_by_line};
 ghost use Rattle.service_drawing.specs.Lines.{IsKey, IsPair, pair_text, HasAttributes};
 ghost use Rattle.service_drawing.specs.Lines.{HasRequirements, RequiresMore, RequiresNoMore};
 
-use super::expected::Expected;
+use super::cause::Expected;
 use super::words::line_after;
 use iox2_texts::attribute::{AttributeKey, AttributeSet, AttributeValue, AttributeVerifier};
 use line_streams::{after_word, before_byte};
@@ -67,7 +67,7 @@ pub(super) fn attributes_before(bytes: &[u8]) -> Result<(AttributeSet, &[u8]), E
 }
 
 /// The lines of the attributes that an opener requires, at most 16.
-#[tactic(auto, using(crate::proofs::LinesOf::all_read, crate::proofs::Required::one_more_required))]
+#[tactic(auto, using(crate::proofs::LinesOf::all_read, crate::proofs::Attributes::one_more_required))]
 pub(super) fn required_before(bytes: &[u8]) -> Result<(AttributeVerifier, &[u8]), Expected<'_>>
     ensures { MatchResult result (λ found. HasRequirements found.0 found.1.now bytes.now)
         (IsFailure (line_by_line HasRequirements) bytes.now) }

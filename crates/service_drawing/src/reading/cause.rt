@@ -1,8 +1,9 @@
-//! Why a line is bad.
+//! Why a line is bad, and what was expected there.
 ghost use Rattle.std.specs.Prelude.{◌≡◌, ◌==◌, ◌↔◌, ◌≤◌, length, not, IsTrue, MatchOption};
 ghost use Rattle.std.specs.List.{find};
-ghost use Rattle.service_drawing.specs.Causes.{line_of, is_plain, HasTwoSpaces, IsMisspelled};
-ghost use Rattle.service_drawing.specs.Causes.{IsSpelled, IsCause};
+ghost use Rattle.service_drawing.specs.Lines.{is_plain};
+ghost use Rattle.service_drawing.specs.Reasons.{line_of, HasTwoSpaces, IsMisspelled};
+ghost use Rattle.service_drawing.specs.Reasons.{IsSpelled, IsCause};
 
 use line_streams::before_byte;
 
@@ -93,5 +94,43 @@ pub(crate) fn cause_of(bytes: &[u8], reason: Reason) -> Cause
         None if reason == Reason::InternalName => Cause::Read(reason),
         None if has_two_spaces(first_line(bytes)) => Cause::TwoSpaces,
         None => Cause::Read(reason),
+    }
+}
+
+/// What was expected instead of what is left.
+#[derive(Clone, Copy)]
+pub(crate) struct Expected<'a> {
+    /// What is left, from the beginning of the bad line on.
+    pub(crate) rest: &'a [u8],
+    /// What was found out of the bad line.
+    pub(crate) reason: Reason,
+    /// What a line of this message begins with.
+    pub(crate) prefix: &'static str,
+    /// What follows that.
+    pub(crate) form: &'static str,
+}
+
+impl<'a> Expected<'a> {
+    ghost use Rattle.service_drawing.specs.declared.reading.cause.Reason.TheVariants.{OtherForm};
+
+    /// A line of another form, which begins without a prefix.
+    pub(super) fn plain(rest: &'a [u8], form: &'static str) -> Self
+        ensures place { result.rest.now ≡ rest.now }
+        ensures reason { result.reason ≡ OtherForm }
+    {
+        Expected::prefixed(rest, "", form)
+    }
+
+    /// A line of another form, which begins with this prefix.
+    pub(super) fn prefixed(rest: &'a [u8], prefix: &'static str, form: &'static str) -> Self
+        ensures place { result.rest.now ≡ rest.now }
+        ensures reason { result.reason ≡ OtherForm }
+    {
+        Expected {
+            rest,
+            reason: Reason::OtherForm,
+            prefix,
+            form,
+        }
     }
 }

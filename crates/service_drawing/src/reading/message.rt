@@ -12,7 +12,7 @@ ghost use Rattle.service_drawing.specs.Lines.{AreAlignments, IsDescribed, IsFail
 ghost use Rattle.service_drawing.specs.Lines.{type_line, payload_line, elements_line, opener_line};
 ghost use Rattle.service_drawing.specs.Lines.{aligned, message};
 
-use super::expected::Expected;
+use super::cause::Expected;
 use super::words::{line_after, number, number_word};
 use crate::description::Message;
 use iox2_config::types::{MessageTypeDetails, TypeDetail, TypeVariant};
@@ -190,6 +190,7 @@ fn elements_before<'a>(
 }
 
 /// The line of an opener's alignments, if it stands there.
+#[tactic(auto, using(crate::proofs::Words::no_opener))]
 fn opener_before<'a>(
     bytes: &'a [u8],
     prefix: &'static str,

@@ -8,8 +8,7 @@ ghost use Rattle.service_drawing.specs.Lines.{IsHashed, MayBeNamed, HasService};
 ghost use Rattle.service_drawing.specs.Lines.{HasNoPattern, IsNoService};
 ghost use Rattle.service_drawing.specs.Reasons.{IsServiceReason};
 
-use super::cause::Reason;
-use super::expected::Expected;
+use super::cause::{Expected, Reason};
 use super::words::next_line;
 use iox2_config::hash::{PatternKind, ServiceHash, Sha1Hasher};
 use iox2_texts::service_name::{INTERNAL_SERVICE_PREFIX, ServiceName};

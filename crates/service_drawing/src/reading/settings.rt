@@ -6,8 +6,7 @@ ghost use Rattle.service_drawing.specs.Reasons.{IsSettingReason};
 ghost use Rattle.service_drawing.specs.Settings.{HasName, HasSettings, IsDashed, IsNamed, IsNotSet};
 ghost use Rattle.service_drawing.specs.Settings.{IsSetting, Sets, dash_for};
 
-use super::cause::Reason;
-use super::expected::Expected;
+use super::cause::{Expected, Reason};
 use super::words::line_after;
 use crate::settings::{Settings, Value};
 use line_streams::before_byte;
@@ -43,6 +42,7 @@ fn is_named(word: &[u8], name: &str) -> bool
 }
 
 /// The number and the value of the setting of this name, if there is one.
+#[tactic(auto, using(crate::proofs::SettingLines::not_named, crate::proofs::SettingLines::none_named))]
 fn find<S: Settings>(settings: &S, word: &[u8]) -> Option<(usize, Value)>
     ensures name { MatchOption result ((index : ℕ) → ¬ HasName S.names index word.now)
         (λ found. IsSetting S.names found.0 word.now) }

@@ -1,15 +1,210 @@
 //! The layout of a message as a picture.
+ghost use Rattle.std.specs.Prelude.{◌≡◌, ◌+◌, ◌*◌, ◌/◌, ◌≤◌, ◌<◌, max, min};
 ghost use Rattle.service_drawing.specs.Layout.{IsWhole};
 
-use super::bar::{drawn_apart, write_bar};
-use super::sheet::{NOTE, Sheet, TYPE};
-use crate::description::Message;
-use crate::layout::MessageLayout;
-use crate::segments::Segment;
+use super::{NOTE, Sheet, TYPE};
+use crate::description::{Message, Segment};
+use crate::layout::{MessageLayout, Span};
 use crate::sentences::{Counted, opener_sentence, write_memory};
-use crate::span::Span;
 use iox2_config::types::TypeDetail;
+use itoa::Buffer;
 use std::alloc::AllocError;
+
+/// Where a bar begins.
+const LEFT: usize = 200;
+
+/// How wide a bar is.
+const WIDTH: usize = 7200;
+
+/// How many elements are drawn one by one at most.
+const APART: usize = 16;
+
+/// How wide an element that is drawn alone is at least.
+const LEAST: usize = 120;
+
+/// How wide a digit or a letter is at most.
+const LETTER: usize = 70;
+
+/// The width that is kept free beside an offset.
+const MARGIN: usize = 40;
+
+/// How far to the right the byte at this offset is drawn.
+fn place(offset: usize, size: usize) -> usize
+    requires { offset ≤ size }
+    ensures value { result ≡ LEFT + offset * WIDTH / max size 1 }
+    ensures bound { result ≤ LEFT + WIDTH }
+{
+    LEFT + (offset as u128 * WIDTH as u128 / size.max(1) as u128) as usize
+}
+
+/// How many elements are drawn one by one, the first ones: none where they would be too narrow to
+/// be distinguished.
+pub(super) fn drawn_apart(layout: &MessageLayout) -> usize
+    ensures apart { LEAST * max layout.now.size 1 ≤ layout.now.element * WIDTH
+        → result ≡ min layout.now.elements APART }
+    ensures together { layout.now.element * WIDTH < LEAST * max layout.now.size 1 → result ≡ 0 }
+{
+    let width = layout.element as u128 * WIDTH as u128;
+    if LEAST as u128 * layout.size.max(1) as u128 <= width {
+        layout.elements.min(APART)
+    } else {
+        0
+    }
+}
+
+/// Appends the parts of a message, and below them the offsets at which they begin and end.
+pub(super) fn write_bar(out: &mut String, layout: &MessageLayout) -> Result<(), AllocError>
+    requires { IsWhole layout.now }
+{
+    let size = layout.size;
+    write_rectangle(out, layout.header, size, "header")?;
+    write_rectangle(out, layout.first_gap, size, "empty")?;
+    write_rectangle(out, layout.user_header, size, "user-header")?;
+    write_rectangle(out, layout.second_gap, size, "empty")?;
+    write_elements(out, layout)?;
+    write_rectangle(out, layout.spare, size, "empty")?;
+    write_marks(out, layout)
+}
+
+/// Appends the rectangle of bytes that lie within the message, if there are any.
+fn write_rectangle(out: &mut String, span: Span, size: usize, color: &str) -> Result<(), AllocError>
+    requires { span.end ≤ size }
+{
+    if span.len() == 0 {
+        return Ok(());
+    }
+    let left = place(span.start(), size);
+    let width = place(span.end(), size).saturating_sub(left);
+    writeln!(
+        out,
+        "<rect x=\"{left}\" y=\"0\" width=\"{width}\" height=\"460\" class=\"part {color}\"/>"
+    )
+}
+
+/// Appends the first elements, every other one in another color, and all others as one.
+fn write_elements(out: &mut String, layout: &MessageLayout) -> Result<(), AllocError>
+    requires { IsWhole layout.now }
+{
+    let apart = drawn_apart(layout).min(layout.elements);
+    for i in 0..apart {
+        let color = if i % 2 == 0 { "payload" } else { "other" };
+        write_rectangle(out, layout.element(i), layout.size, color)?;
+    }
+    let others = layout.elements - apart;
+    let span = layout.elements_from(apart);
+    write_rectangle(out, span, layout.size, "payload")?;
+    if apart == 0 {
+        write_label(out, span, layout.size, others, " elements")
+    } else {
+        write_label(out, span, layout.size, others, " more")
+    }
+}
+
+/// Appends how many elements are drawn as one: with what they are where that fits, or else the
+/// number alone.
+fn write_label(
+    out: &mut String,
+    span: Span,
+    size: usize,
+    elements: usize,
+    what: &str,
+) -> Result<(), AllocError>
+    requires { span.end ≤ size }
+{
+    let left = place(span.start(), size);
+    let right = place(span.end(), size);
+    let room = right.saturating_sub(left);
+    let x = (left + right) / 2;
+    let width = number_width(elements) + LETTER;
+    let (sign, what) = if width.saturating_add(LETTER.saturating_mul(what.len())) <= room {
+        ("", what)
+    } else {
+        ("+", "")
+    };
+    if room < width {
+        return Ok(());
+    }
+    writeln!(
+        out,
+        "<text x=\"{x}\" y=\"270\" font-size=\"110\" text-anchor=\"middle\" class=\"label\">{sign}{elements}{what}</text>"
+    )
+}
+
+/// How wide a number is drawn at most.
+fn number_width(number: usize) -> usize
+    ensures { result ≤ 1400 }
+{
+    let mut digits = Buffer::new();
+    LETTER * digits.format(number).len()
+}
+
+/// Appends an offset below its position in the bar, where it does not reach left of `free` or into
+/// the last offset. Returns what is left free then.
+fn write_mark(
+    out: &mut String,
+    offset: usize,
+    size: usize,
+    free: usize,
+) -> Result<usize, AllocError>
+    requires { offset ≤ size }
+{
+    let half = number_width(offset) / 2 + MARGIN;
+    let last = LEFT + WIDTH - number_width(size);
+    let x = place(offset, size);
+    if x < free.saturating_add(half) || last < x + half {
+        return Ok(free);
+    }
+    writeln!(
+        out,
+        "<text x=\"{x}\" y=\"610\" font-size=\"110\" text-anchor=\"middle\">{offset}</text>"
+    )?;
+    Ok(x + half)
+}
+
+/// Appends the offsets of the elements that are drawn one by one and of the next one, as far as
+/// they fit.
+#[tactic(auto, using(crate::proofs::Inside::element_inside, crate::proofs::Inside::elements_inside))]
+fn write_element_marks(
+    out: &mut String,
+    layout: &MessageLayout,
+    free: usize,
+) -> Result<usize, AllocError>
+    requires { IsWhole layout.now }
+{
+    let mut free = free;
+    let apart = drawn_apart(layout).min(layout.elements);
+    for i in 0..apart {
+        free = write_mark(out, layout.element(i).start(), layout.size, free)?;
+    }
+    write_mark(out, layout.elements_from(apart).start(), layout.size, free)
+}
+
+/// Appends the offsets at which parts begin and end: the first and the last, and the others as far
+/// as they fit.
+fn write_marks(out: &mut String, layout: &MessageLayout) -> Result<(), AllocError>
+    requires { IsWhole layout.now }
+{
+    let size = layout.size;
+    writeln!(
+        out,
+        "<text x=\"{LEFT}\" y=\"610\" font-size=\"110\">0</text>"
+    )?;
+    if size == 0 {
+        return Ok(());
+    }
+    let free = LEFT + LETTER + MARGIN;
+    let free = write_mark(out, layout.header.end(), size, free)?;
+    let free = write_mark(out, layout.user_header.start(), size, free)?;
+    let free = write_mark(out, layout.user_header.end(), size, free)?;
+    let free = write_mark(out, layout.payload.start(), size, free)?;
+    let free = write_element_marks(out, layout, free)?;
+    write_mark(out, layout.payload.end(), size, free)?;
+    let right = LEFT + WIDTH;
+    writeln!(
+        out,
+        "<text x=\"{right}\" y=\"610\" font-size=\"110\" text-anchor=\"end\">{size}</text>"
+    )
+}
 
 /// Draws the layout of a message, and states the memory of a port that sends it.
 pub(super) fn write_message(sheet: &mut Sheet, segment: Segment<'_>) -> Result<(), AllocError> {

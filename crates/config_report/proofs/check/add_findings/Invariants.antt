@@ -1,7 +1,6 @@
 use Rattle.std.proofs.Common.{◌≡◌, ◌++◌, ℕ, List, drop}
 use Rattle.std.specs.Prelude.{map}
-use Rattle.config_report.specs.Notes.{finding_view, note_in, topic_position}
-use Rattle.config_report.specs.Subjects.{subject_view}
+use Rattle.config_report.specs.Notes.{finding_view, note_in, topic_position, subject_view}
 use Rattle.config_report.proofs.check.add_findings.Given as goal
 
 abbrev pub invariant-loop-subject : goal.invariant-loop-subject

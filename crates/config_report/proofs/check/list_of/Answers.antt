@@ -5,8 +5,7 @@ use Rattle.iox2_config_file.specs.Read.{fault_view}
 use Rattle.iox2_config_file.specs.Unknown.{unknown_view}
 use Rattle.config_report.specs.Contradictions.{contradiction_view, contradictions_in}
 use Rattle.config_report.specs.Findings.{finding_place, topics_of}
-use Rattle.config_report.specs.Notes.{fault, unknown, topic_position}
-use Rattle.config_report.specs.Subjects.{subject_view}
+use Rattle.config_report.specs.Notes.{fault, unknown, topic_position, subject_view}
 use Rattle.config_report.proofs.check.list_of.Goals as goal
 
 pub returns : goal.returns

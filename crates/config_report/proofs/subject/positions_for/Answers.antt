@@ -1,13 +1,12 @@
-use Rattle.std.proofs.Common.{◌≡◌, ◌∙◌, true, false, None, length, refl, arith}
+use Rattle.std.proofs.Common.{◌≡◌, ◌∙◌, true, false, None, length, refl, arith, subst}
 use Rattle.std.specs.Prelude.{map, nat_le, IfOk, IsSome}
-use Rattle.std.proofs.Common.{subst}
 use Rattle.std.proofs.lemmas.Bool.Decides.{nat_tests}
 use Rattle.std.proofs.lemmas.Grind.{common_steps}
 use Rattle.std.proofs.lemmas.List.{length-map}
 use Rattle.std.proofs.lemmas.Simd.{splat_is_map}
 use Rattle.std.proofs.Math.ListN.{replicate}
 use Rattle.config_report.proofs.Lines.{map_same}
-use Rattle.config_report.specs.Positions.{position_for}
+use Rattle.config_report.specs.Notes.{position_for}
 use Rattle.toml.specs.Parse.{parse_document}
 use Rattle.toml_positions.specs.Written.{path_view, position_in}
 use Rattle.config_report.proofs.subject.positions_for.Goals as goal

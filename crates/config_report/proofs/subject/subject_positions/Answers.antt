@@ -1,9 +1,7 @@
 use Rattle.std.proofs.Common.{◌≡◌, ◌∙◌, ap, subst}
 use Rattle.std.specs.Prelude.{map, IfOk, IsSome}
 use Rattle.config_report.proofs.Lines.{all_mapped, map_twice}
-use Rattle.config_report.specs.Notes.{topic_path}
-use Rattle.config_report.specs.Positions.{position_for}
-use Rattle.config_report.specs.Subjects.{subject_view}
+use Rattle.config_report.specs.Notes.{topic_path, position_for, subject_view}
 use Rattle.toml.specs.Parse.{parse_document}
 use Rattle.toml_positions.specs.Written.{path_view}
 use Rattle.config_report.proofs.subject.subject_positions.Goals as goal

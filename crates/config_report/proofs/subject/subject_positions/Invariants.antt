@@ -1,7 +1,6 @@
 use Rattle.std.proofs.Common.{◌≡◌, ◌++◌, drop}
 use Rattle.std.specs.Prelude.{map}
-use Rattle.config_report.specs.Notes.{topic_path}
-use Rattle.config_report.specs.Subjects.{subject_view}
+use Rattle.config_report.specs.Notes.{topic_path, subject_view}
 use Rattle.toml_positions.specs.Written.{path_view}
 use Rattle.config_report.proofs.subject.subject_positions.Given as goal
 

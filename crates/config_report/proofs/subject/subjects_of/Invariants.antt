@@ -2,8 +2,7 @@ use Rattle.std.proofs.Common.{◌≡◌, ◌++◌, drop}
 use Rattle.std.specs.Prelude.{map}
 use Rattle.iox2_config_file.specs.Read.{fault_view}
 use Rattle.iox2_config_file.specs.Unknown.{unknown_view}
-use Rattle.config_report.specs.Notes.{fault, unknown}
-use Rattle.config_report.specs.Subjects.{subject_view}
+use Rattle.config_report.specs.Notes.{fault, unknown, subject_view}
 use Rattle.config_report.proofs.subject.subjects_of.Given as goal
 
 abbrev pub invariant-loop-found : goal.invariant-loop-found

@@ -1,21 +1,25 @@
-use Rattle.std.proofs.Common.{refl, string_bytes}
+use Rattle.std.proofs.Common.{◌≡◌, ◌++◌, codes, refl, string_bytes}
 use Rattle.std.proofs.lemmas.Result.{on_ok_weaker}
 use Rattle.config_report.proofs.Lines.{then}
 use Rattle.config_report.proofs.text.write_text.Goals as goal
 
 pub returns : goal.returns
 returns c =
-    let (settings, first, are) = c.in_ok-write_settings.ensures in
+    let (tables, wrote, are) = c.in_ok-write_tables.ensures in
+    let settings = codes "settings, with ! where they differ from the defaults\n" ++ tables in
     let start = string_bytes c.args.out.now in
-    let set = string_bytes c.write_settings.new.out in
+    let title = string_bytes c.write.new.self in
+    let set = string_bytes c.write_tables.new.out in
     let directories = string_bytes c.write_directories.new.out in
     let files = string_bytes c.write_files.new.out in
     let end = string_bytes c.write_needs.new.out in
+    let first : set ≡ start ++ settings =
+    then start title set _ tables c.in_ok-write.ensures.bytes wrote in
     on_ok_weaker c.write_needs.result
     (λ (needs, last, tell). (
       _,
       then start set end settings _ first
           (then set directories end _ _ c.in_ok-write_directories.ensures
           (then directories files end _ needs c.in_ok-write_files.ensures last)),
-      (settings, needs, refl, are, tell),
+      (settings, needs, refl, (tables, refl, are), tell),
     )) c.write_needs.ensures

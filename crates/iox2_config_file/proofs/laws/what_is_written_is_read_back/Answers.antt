@@ -1,5 +1,5 @@
 use Rattle.std.proofs.Common.{sym, subst}
-use Rattle.iox2_config_file.specs.ReadBack.{ReadsBack}
+use Rattle.iox2_config_file.specs.Answers.{ReadsBack}
 use Rattle.iox2_config_file.proofs.ReadBack.{config_is_back, only_memory}
 use Rattle.iox2_config_file.proofs.laws.what_is_written_is_read_back.Goals as goal
 

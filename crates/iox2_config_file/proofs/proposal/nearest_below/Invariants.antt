@@ -1,7 +1,7 @@
 use Rattle.std.proofs.Common.{◌≡◌, drop, None}
 use Rattle.std.specs.Prelude.{map, option_map}
 use Rattle.iox2_config_file.specs.Read.{row_view}
-use Rattle.iox2_config_file.specs.Proposals.{nearest_below}
+use Rattle.iox2_config_file.specs.Unknown.{nearest_below}
 use Rattle.iox2_config_file.proofs.proposal.nearest_below.Given as goal
 
 abbrev pub invariant-loop-row : goal.invariant-loop-row

@@ -14,5 +14,5 @@ returns-in_default c = (
 pub loop-index-preserved : goal.loop-index-preserved
 loop-index-preserved c =
     entries_next c.rows-rows.result.now _ _ c.loop-index.index _ _ _ _ _ _ c.loop-index.invariant
-    c.in-Ok.ensures.bytes (slice_get-get_or _ _ _ c.loop-index-test.true)
+    c.in_ok-write.ensures.bytes (slice_get-get_or _ _ _ c.loop-index-test.true)
     (sym c.in-Some-value_at.ensures) (sym c.in-Some.ensures)

@@ -1,4 +1,4 @@
-use Rattle.std.proofs.Common.{◌∙◌, ap, inl, refl, subst, sym, arith}
+use Rattle.std.proofs.Common.{◌∙◌, ap, inl, refl, subst, arith}
 use Rattle.std.specs.Prelude.{slice_get}
 use Rattle.iox2sd_config.proofs.Listed.{as_many, front_of}
 use Rattle.iox2sd_config.specs.Files.{ListsFaults}

@@ -1,7 +1,7 @@
 use Rattle.std.proofs.Common.{◌≡◌, ◌∙◌, ℕ, List, Option, ap, length, refl}
 use Rattle.std.specs.Prelude.{option_map}
 use Rattle.config_report.specs.Notes.{Note, finding_view}
-use Rattle.iox2_config_file.specs.Proposals.{Proposed, proposal_view}
+use Rattle.iox2_config_file.specs.Unknown.{Proposed, proposal_view}
 use Rattle.iox2_config_file.specs.declared.section.Section.{Section}
 use Rattle.iox2sd_config.specs.Faults.{column_of, cut_key, cut_reason, key_of, line_of, section_number}
 use Rattle.iox2sd_config.specs.Unknown.{meant_number, meant_path, c_key}

@@ -1,4 +1,4 @@
-use Rattle.service_drawing.specs.declared.arguments.Asked.TheVariants.{Drawing, Help, Version}
+use Rattle.service_drawing.specs.declared.streams.Asked.TheVariants.{Drawing, Help, Version}
 use Rattle.service_drawing.specs.Streams.{Draws}
 use Rattle.service_drawing.proofs.Answered.{answers_for, true_of_given}
 use Rattle.service_drawing.proofs.streams.answer.Goals as goal

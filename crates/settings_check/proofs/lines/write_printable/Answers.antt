@@ -1,5 +1,5 @@
 use Rattle.std.proofs.lemmas.Str.{IsUtf8-past_char}
-use Rattle.settings_check.proofs.Escaping.{printed_next}
+use Rattle.settings_check.proofs.Lists.{printed_next}
 use Rattle.settings_check.proofs.lines.write_printable.Goals as goal
 
 pub loop-c-preserved : goal.loop-c-preserved

@@ -1,4 +1,4 @@
-use Rattle.service_drawing.proofs.Pairs.{no_key_in}
+use Rattle.service_drawing.proofs.Attributes.{no_key_in}
 use Rattle.service_drawing.proofs.reading.attributes.key_in.Goals as goal
 
 pub returns-in-Some : goal.returns-in-Some

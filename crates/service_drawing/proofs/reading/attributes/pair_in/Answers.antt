@@ -1,4 +1,4 @@
-use Rattle.service_drawing.proofs.Pairs.{no_key_of, no_value_of, no_name_of, found_pair}
+use Rattle.service_drawing.proofs.Attributes.{no_key_of, no_value_of, no_name_of, found_pair}
 use Rattle.service_drawing.proofs.reading.attributes.pair_in.Goals as goal
 
 pub returns-in_default : goal.returns-in_default

@@ -1,5 +1,5 @@
 use Rattle.std.proofs.Common.{rules}
-use Rattle.service_drawing.proofs.Required.{stops_at_required}
+use Rattle.service_drawing.proofs.Attributes.{stops_at_required}
 use Rattle.service_drawing.proofs.reading.attributes.required_before.Goals as goal
 
 pub returns-in_default-requiring : goal.returns-in_default-requiring

@@ -1,5 +1,5 @@
 use Rattle.std.proofs.Common.{length}
-use Rattle.service_drawing.proofs.Required.{Requiring}
+use Rattle.service_drawing.proofs.Attributes.{Requiring}
 use Rattle.service_drawing.proofs.reading.attributes.required_before.Given as goal
 
 abbrev pub invariant-loop-text : goal.invariant-loop-text

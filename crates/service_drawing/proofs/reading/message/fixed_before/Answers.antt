@@ -1,6 +1,6 @@
 use Rattle.std.proofs.Common.{◌++◌, rules}
 use Rattle.service_drawing.specs.Lines.{IsFixed, type_text}
-use Rattle.service_drawing.proofs.Messages.{no_line}
+use Rattle.service_drawing.proofs.Words.{no_line}
 use Rattle.service_drawing.proofs.reading.message.fixed_before.Goals as goal
 
 pub returns-in-None : goal.returns-in-None

@@ -1,6 +1,6 @@
 use Rattle.std.proofs.Common.{◌++◌, ◌<◌, ◌^◌, codes, rules}
 use Rattle.std.specs.Fmt.{decimal}
-use Rattle.service_drawing.proofs.Messages.{no_line}
+use Rattle.service_drawing.proofs.Words.{no_line}
 use Rattle.service_drawing.proofs.reading.message.number_of_elements_before.Goals as goal
 
 pub returns-in-None : goal.returns-in-None

@@ -1,5 +1,5 @@
 use Rattle.std.proofs.Common.{rules}
-use Rattle.service_drawing.proofs.Messages.{no_second}
+use Rattle.service_drawing.proofs.Words.{no_second}
 use Rattle.service_drawing.proofs.reading.message.numbers_in.Goals as goal
 
 pub returns-in_default-number_word : goal.returns-in_default-number_word

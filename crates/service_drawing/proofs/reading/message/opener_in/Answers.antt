@@ -1,5 +1,5 @@
 use Rattle.std.proofs.Common.{rules}
-use Rattle.service_drawing.proofs.Messages.{no_third, no_alignments}
+use Rattle.service_drawing.proofs.Words.{no_third, no_alignments}
 use Rattle.service_drawing.proofs.reading.message.opener_in.Goals as goal
 
 pub returns-in_default-number-clause-spelled : goal.returns-in_default-number-clause-spelled

@@ -1,6 +1,6 @@
 use Rattle.std.proofs.Common.{◌++◌, codes, rules}
 use Rattle.service_drawing.specs.Lines.{IsDescribed, payload_text}
-use Rattle.service_drawing.proofs.Messages.{no_line}
+use Rattle.service_drawing.proofs.Words.{no_line}
 use Rattle.service_drawing.proofs.reading.message.payload_before.Goals as goal
 
 pub returns-in-None : goal.returns-in-None

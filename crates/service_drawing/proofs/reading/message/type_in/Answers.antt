@@ -1,7 +1,7 @@
 use Rattle.std.proofs.Common.{◌≡◌, length, arith, rules}
 use Rattle.iox2_config.specs.TypeDetails.{detail}
 use Rattle.iox2_texts.proofs.TextLemmas.{utf8_of_text}
-use Rattle.service_drawing.proofs.Messages.{no_type, not_made}
+use Rattle.service_drawing.proofs.Words.{no_type, not_made}
 use Rattle.service_drawing.proofs.reading.message.type_in.Goals as goal
 
 pub returns-then-is_empty : goal.returns-then-is_empty

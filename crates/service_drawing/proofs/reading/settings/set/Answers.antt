@@ -1,7 +1,6 @@
 use Rattle.std.proofs.Common.{◌≡◌, false, refl, inl, inr, rules}
 use Rattle.service_drawing.specs.Settings.{word_of}
-use Rattle.service_drawing.proofs.Naming.{as_word, marked_at, spaced}
-use Rattle.service_drawing.proofs.SettingLines.{no_value_follows, not_a_value}
+use Rattle.service_drawing.proofs.SettingLines.{as_word, marked_at, spaced, no_value_follows, not_a_value}
 use Rattle.service_drawing.proofs.reading.settings.set.Goals as goal
 
 pub returns-in_default-clause-refused : goal.returns-in_default-clause-refused

@@ -1,8 +1,0 @@
-use Rattle.std.proofs.Common.{◌≡◌, ◌++◌, drop, string_bytes}
-use Rattle.config_report.specs.Findings.{lines_of}
-use Rattle.config_report.proofs.report.write_lines.Given as goal
-
-abbrev pub invariant-loop-finding : goal.invariant-loop-finding
-invariant-loop-finding l =
-    string_bytes l.out ++ lines_of (drop l.finding-index l.list)
-    ≡ string_bytes l.initial.out ++ lines_of l.list

@@ -1,6 +1,0 @@
-use Rattle.std.proofs.Common.{rules}
-use Rattle.iox2_config_file.proofs.Legal.{made_text, plain}
-use Rattle.iox2_config_file.proofs.texts.file_name.Goals as goal
-
-pub returns : goal.returns
-returns c = search (rules, made_text, plain)

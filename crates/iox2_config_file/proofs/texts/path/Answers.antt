@@ -1,6 +1,0 @@
-use Rattle.std.proofs.Common.{rules}
-use Rattle.iox2_config_file.proofs.Legal.{made_text, any_path}
-use Rattle.iox2_config_file.proofs.texts.path.Goals as goal
-
-pub returns : goal.returns
-returns c = search (rules, made_text, any_path)
