@@ -1,6 +1,6 @@
 //! What is judged of a service: calls, and weak listings that start and stop.
 ghost use Rattle.std.specs.Option.{option_map};
-ghost use Rattle.std.specs.Prelude.{◌≡◌, ℕ, IfOk, IfSome, IsTrue, None, OnOk, map};
+ghost use Rattle.std.specs.Prelude.{◌≡◌, ℕ, IfOk, IfSome, IsTrue, None, OnErr, OnOk, map};
 ghost use Rattle.histories.specs.Frontier.{IsMade, states_in};
 ghost use Rattle.histories.specs.Histories.{AreAll};
 ghost use Rattle.service_conformance.specs.Judged.{AreJudgedReplies, IsIdleJudged, IsList, JudgedStep};
@@ -185,7 +185,8 @@ impl JudgedCall {
 
     /// This is the reply to the weak listing that starts. Where memory is refused, nothing changes.
     pub fn show(&mut self, alloc: Global, reply: &SeenReply) -> Result<(), AllocError>
-        ensures { OnOk result (self.new ≡ shown self.old reply.now) }
+        ensures ok { OnOk result (self.new ≡ shown self.old reply.now) }
+        ensures err { OnErr result (self.new ≡ self.old) }
     {
         match &mut self.what {
             What::Starts(_, seen) => {

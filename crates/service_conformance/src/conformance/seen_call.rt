@@ -1,5 +1,5 @@
 //! Calls that were seen.
-ghost use Rattle.std.specs.Prelude.{◌≡◌, ◌+◌, IfOk, IfSome, IsTrue, OnOk};
+ghost use Rattle.std.specs.Prelude.{◌≡◌, ◌+◌, IfOk, IfSome, IsTrue, OnErr, OnOk};
 ghost use Rattle.histories.specs.Frontier.{IsMade, states_in};
 ghost use Rattle.histories.specs.Histories.{AreAll};
 ghost use Rattle.service_conformance.specs.Calls.{AreRepliesOf, CallStep, ChangesNothing, GivesBelow};
@@ -78,8 +78,9 @@ impl SeenCall {
     /// Makes the call in this state, with this reply. Where memory is refused, nothing changes.
     fn make_with(&self, state: &mut ServiceCheck, reply: &LineReply) -> Result<(), AllocError>
         requires { CanServe (ServesCall self.now state.old) (reply_in reply.now) }
-        ensures { OnOk result (LeadsTo (ServesCall self.now state.old) (reply_in reply.now)
+        ensures ok { OnOk result (LeadsTo (ServesCall self.now state.old) (reply_in reply.now)
             state.new) }
+        ensures err { OnErr result (state.new ≡ state.old) }
     {
         state.follow_request(&self.request, reply)
     }

@@ -180,10 +180,11 @@ impl WatchedService {
         part: Part,
         reply: &[u128],
     ) -> Result<(), AllocError>
-        ensures { OnOk result (self.new ≡ record self.old {
+        ensures ok { OnOk result (self.new ≡ record self.old {
           looks = self.old.looks
               ++ looks_after self.old.service (look_of number part reply.now self.old.service ∷ []);
         }) }
+        ensures err { OnErr result (self.new ≡ self.old) }
     {
         let there = self.service.ids_in(alloc, part)?;
         let look = OpenLook::new(alloc, number, part, reply, &there)?;

@@ -17,7 +17,7 @@ pub returns-in_ok-show : goal.returns-in_ok-show
 returns-in_ok-show c =
     shown_set c.args.first c.args.calls.now.items c.args.at c.in-Some.start c.index.result.now
     c.args.reply.now c.requires.within c.index.ensures (sym c.stopped.ensures ∙ c.in-Some.is)
-    _ refl c.index_mut.result.now c.show.new.self c.index_mut.ensures.value c.in_ok-show.ensures
+    _ refl c.index_mut.result.now c.show.new.self c.index_mut.ensures.value c.in_ok-show.ensures.ok
 
 pub returns-else-position-len : goal.returns-else-position-len
 returns-else-position-len c =

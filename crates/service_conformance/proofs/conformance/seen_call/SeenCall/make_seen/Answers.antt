@@ -9,4 +9,4 @@ returns c =
     c.in_ok-possible.ensures.kept c.in_ok-possible.ensures.rest
     c.in_ok-possible.ensures.covered c.in_ok-possible.possible (seen_text c.args.seen.now)
     c.in_ok-possible.ensures.possible (reply_in c.in-Some.reply) c.make_with.new.state
-    c.in-Some.ensures c.in_ok-make_with.ensures
+    c.in-Some.ensures c.in_ok-make_with.ensures.ok
