@@ -1,7 +1,6 @@
 -- What exports return beside a status of their own.
 use Rattle.std.specs.Prelude.{ℕ, Result, Ok, Err}
-use Rattle.iox2sd.specs.Handles.{no_handle}
-use Rattle.iox2sd.specs.Ports.{no_port}
+use Rattle.iox2sd.specs.Ports.{no_handle, no_port}
 use Rattle.iox2sd.specs.Prelude.{Death, Open, Locked, Refused, HandleAnswer, IdAnswer, NumberAnswer, Roles, Handle, Port, Counts, id_of, code, Id, Status}
 use Rattle.iox2sd.specs.declared.values.DeathAnswer.{DeathAnswer}
 use Rattle.iox2sd.specs.declared.values.PortAnswer.{PortAnswer}

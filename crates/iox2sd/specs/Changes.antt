@@ -7,9 +7,8 @@ use Rattle.iox2_dynamic.specs.declared.dynamic_config.answers.DeregisterError.Th
 use Rattle.iox2_dynamic.specs.declared.dynamic_config.answers.RegisterNodeResult.TheVariants as enter
 use Rattle.iox2_dynamic.specs.Service.{Service as Held}
 use Rattle.iox2sd.specs.Answers.{handle_answer}
-use Rattle.iox2sd.specs.Handles.{c_handle, ReadsHandle}
+use Rattle.iox2sd.specs.Ports.{c_handle, ReadsHandle, AttachesPort}
 use Rattle.iox2sd.specs.Objects.{At, Nothing}
-use Rattle.iox2sd.specs.Ports.{AttachesPort}
 use Rattle.iox2sd.specs.declared.service.Service.{Service}
 use Rattle.iox2sd_common.specs.declared.status.Status.TheVariants as status
 

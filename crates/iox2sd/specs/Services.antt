@@ -1,13 +1,16 @@
--- Making and freeing services.
-use Rattle.std.specs.Prelude.{◌≡◌, ℕ, Option, Some, None, List, [], ◌∷◌}
+-- Making and freeing services, and numbers for them.
+use Rattle.std.specs.Prelude.{◌≡◌, ℕ, Option, Some, None, List, [], ◌∷◌, Result, Ok, Err}
 use Rattle.iox2_config.specs.Hashing.{ReadsPattern}
 use Rattle.iox2_config.specs.declared.hash.input.PatternKind.{PatternKind}
-use Rattle.iox2sd.specs.Prelude.{PatternCapacities, fresh_service, code, Status}
+use Rattle.iox2sd.specs.Prelude.{PatternCapacities, fresh_service, code, Status, NumberAnswer}
 use Rattle.iox2_dynamic.specs.Service.{Service as Held}
 use Rattle.iox2sd.specs.Objects.{IsSoundObject, held}
 use Rattle.iox2sd.specs.declared.service.Service.{Service}
 use Rattle.iox2sd.specs.declared.service.making.Capacities.{Capacities}
 use Rattle.iox2sd_common.specs.declared.status.Status.TheVariants as status
+use Rattle.iox2_container.specs.ServiceNumbers.{ReturnsNumber}
+use Rattle.iox2sd.specs.Answers.{number_answer}
+use Rattle.iox2sd.specs.declared.service_numbers.ServiceNumbers.{ServiceNumbers}
 
 -- how many ports of the two kinds of a pattern there may be
 abbrev pub capacities_of : PatternKind → Capacities → PatternCapacities
@@ -49,3 +52,16 @@ FreesAt [] answer new = (answer ≡ code status.Null) × (new ≡ [])
 FreesAt (object ∷ others) answer new =
     (left : Service) × (new ≡ left ∷ others) × IsSoundObject left
     × Frees (held object) answer (held left)
+
+-- the number after the one that is noted, which is noted in its place, or none after the greatest
+abbrev pub NotesNumber : ServiceNumbers → Result ℕ Status → ServiceNumbers → Type 0
+NotesNumber old (Ok number) new = ReturnsNumber old.last (Some number) new.last
+NotesNumber old (Err status.OutOfSpace) new = ReturnsNumber old.last None new.last
+NotesNumber old (Err _) new = ⊥
+
+-- the first counter notes the number that is returned
+abbrev pub GivesNumber : List ServiceNumbers → NumberAnswer → List ServiceNumbers → Type 0
+GivesNumber [] answer new = (answer ≡ number_answer (Err status.Null)) × (new ≡ [])
+GivesNumber (old ∷ rest) answer new =
+    (number : Result ℕ Status) × (noted : ServiceNumbers) × NotesNumber old number noted
+    × (answer ≡ number_answer number) × (new ≡ noted ∷ rest)

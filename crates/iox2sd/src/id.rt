@@ -3,8 +3,7 @@ ghost use Rattle.std.specs.Prelude.{◌≡◌};
 ghost use Rattle.iox2_ids.specs.Packing.{hexadecimal, owner_of};
 ghost use Rattle.iox2sd_common.specs.Answers.{Written};
 ghost use Rattle.iox2sd_common.specs.Ids.{number_of};
-ghost use Rattle.iox2sd.specs.Finding.{TellsId};
-ghost use Rattle.iox2sd.specs.Ids.{is_node, is_before};
+ghost use Rattle.iox2sd.specs.Queries.{is_node, is_before, TellsId};
 
 use crate::values::IdAnswer;
 use iox2_ids::identifiers::Hexadecimal;

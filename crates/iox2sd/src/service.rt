@@ -3,8 +3,7 @@ ghost use Rattle.std.specs.Prelude.{◌≡◌, Option, Some, None, IsSome, IfSom
 ghost use Rattle.std.specs.Borrow.{sem};
 ghost use Rattle.std.specs.Box.Ownership.{box_owns};
 ghost use Rattle.iox2_dynamic.specs.Service.{Service as Held};
-ghost use Rattle.iox2sd.specs.Heap.{block};
-ghost use Rattle.iox2sd.specs.Slots.{slot_owns, slot_coded};
+ghost use Rattle.iox2sd.specs.Slots.{block, slot_owns, slot_coded};
 
 /// The service that the first object holds. Where there is none, the export returns the answer with
 /// the status that says why.

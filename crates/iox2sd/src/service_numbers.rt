@@ -1,5 +1,5 @@
 //! Numbers for services, for callers who have none.
-ghost use Rattle.iox2sd.specs.ServiceNumbers.{NotesNumber, GivesNumber};
+ghost use Rattle.iox2sd.specs.Services.{NotesNumber, GivesNumber};
 
 use crate::values::NumberAnswer;
 use iox2_container::container::ServiceNumbers as Numbers;

@@ -3,7 +3,7 @@
 ghost use Rattle.std.specs.Prelude.{◌≡◌, None};
 ghost use Rattle.iox2sd.specs.Answers.{handle_answer, number_answer, roles_answer, id_answer};
 ghost use Rattle.iox2sd.specs.Answers.{port_answer, told_death, death_answer};
-ghost use Rattle.iox2sd.specs.Handles.{role_number, ReadsRole, c_handle, no_handle, ReadsHandle};
+ghost use Rattle.iox2sd.specs.Ports.{role_number, ReadsRole, c_handle, no_handle, ReadsHandle};
 ghost use Rattle.iox2sd.specs.Ports.{segment_number, ReadsSegment, ReadsPort, blank, c_port};
 
 use crate::service::roles::Counts;
@@ -38,17 +38,7 @@ pub struct Handle {
 pub(crate) fn role_number(role: Role) -> u64
     ensures { result ≡ role_number role }
 {
-    match role {
-        Role::Node => 0,
-        Role::Publisher => 1,
-        Role::Subscriber => 2,
-        Role::Notifier => 3,
-        Role::Listener => 4,
-        Role::Client => 5,
-        Role::Server => 6,
-        Role::Reader => 7,
-        Role::Writer => 8,
-    }
+    role as u64
 }
 
 /// The role of a number.
@@ -150,10 +140,7 @@ pub struct Port {
 fn segment_number(segment: DataSegmentType) -> u32
     ensures { result ≡ segment_number segment }
 {
-    match segment {
-        DataSegmentType::Dynamic => 0,
-        DataSegmentType::Static => 1,
-    }
+    segment as u32
 }
 
 /// The kind of data segment of this number.

@@ -1,28 +1,13 @@
 -- Settings that a caller filled, as the layer has them, or the first field that is invalid.
 use Rattle.std.specs.Prelude.{◌≡◌, ◌≢◌, ℕ, ◌+◌, ◌*◌, ◌<◌, ◌≤◌, true, false, Option, Some, None, Result, Ok, Err}
-use Rattle.std.specs.Duration.{as_nanos}
-use Rattle.std.specs.declared.time.Duration.{Duration}
-use Rattle.iox2_config.specs.declared.config.blackboard.Blackboard.{Blackboard}
-use Rattle.iox2_config.specs.declared.config.choices.AllocationStrategy.{AllocationStrategy}
-use Rattle.iox2_config.specs.declared.config.choices.BackpressureStrategy.{BackpressureStrategy}
-use Rattle.iox2_config.specs.declared.config.event.Event.{Event}
-use Rattle.iox2_config.specs.declared.config.publish_subscribe.PublishSubscribe.{PublishSubscribe}
-use Rattle.iox2_config.specs.declared.config.request_response.RequestResonse.{RequestResonse}
-use Rattle.iox2sd_common.specs.Settings.{allocation_number, backpressure_number, c_blackboard, c_publish_subscribe, c_request_response}
+use Rattle.iox2sd_common.specs.Settings.{AllocationStrategy, BackpressureStrategy, Blackboard, BlackboardSettings, Duration, Event, EventSettings, OptionalDuration, OptionalEventId, PlainDuration, PublishSubscribe, PublishSubscribeSettings, RequestResonse, RequestResponseSettings, allocation_number, as_nanos, backpressure_number, c_blackboard, c_publish_subscribe, c_request_response}
 use Rattle.iox2sd_common.specs.Status.{code}
 use Rattle.iox2sd_common.specs.declared.read_settings.Field.{Field}
 use Rattle.iox2sd_common.specs.declared.read_settings.Field.TheVariants as field
 use Rattle.iox2sd_common.specs.declared.read_settings.FieldAnswer.{FieldAnswer}
 use Rattle.iox2sd_common.specs.declared.read_settings.Refusal.{Refusal}
 use Rattle.iox2sd_common.specs.declared.read_settings.Refusal.TheVariants as refusal
-use Rattle.iox2sd_common.specs.declared.settings.BlackboardSettings.{BlackboardSettings}
-use Rattle.iox2sd_common.specs.declared.settings.EventSettings.{EventSettings}
 use Rattle.iox2sd_common.specs.declared.settings.GlobalSettings.{GlobalSettings}
-use Rattle.iox2sd_common.specs.declared.settings.OptionalDuration.{OptionalDuration}
-use Rattle.iox2sd_common.specs.declared.settings.OptionalEventId.{OptionalEventId}
-use Rattle.iox2sd_common.specs.declared.settings.PlainDuration.{PlainDuration}
-use Rattle.iox2sd_common.specs.declared.settings.PublishSubscribeSettings.{PublishSubscribeSettings}
-use Rattle.iox2sd_common.specs.declared.settings.RequestResponseSettings.{RequestResponseSettings}
 use Rattle.iox2sd_common.specs.declared.status.Status.{Status}
 use Rattle.iox2sd_common.specs.declared.status.Status.TheVariants as status
 

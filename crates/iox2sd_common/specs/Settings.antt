@@ -1,26 +1,26 @@
 -- The settings that services get where nothing else is said, as plain values.
 use Rattle.std.specs.Prelude.{ℕ, ◌/◌, ◌%◌, true, false, Option, Some, None}
-use Rattle.std.specs.Duration.{as_nanos}
-use Rattle.std.specs.declared.time.Duration.{Duration}
+pub use Rattle.std.specs.Duration.{as_nanos}
+pub use Rattle.std.specs.declared.time.Duration.{Duration}
 use Rattle.iox2_config.specs.GlobalSettings.{GlobalSettings}
-use Rattle.iox2_config.specs.declared.config.blackboard.Blackboard.{Blackboard}
-use Rattle.iox2_config.specs.declared.config.choices.AllocationStrategy.{AllocationStrategy}
+pub use Rattle.iox2_config.specs.declared.config.blackboard.Blackboard.{Blackboard}
+pub use Rattle.iox2_config.specs.declared.config.choices.AllocationStrategy.{AllocationStrategy}
 use Rattle.iox2_config.specs.declared.config.choices.AllocationStrategy.TheVariants.{BestFit, PowerOfTwo, Static}
-use Rattle.iox2_config.specs.declared.config.choices.BackpressureStrategy.{BackpressureStrategy}
+pub use Rattle.iox2_config.specs.declared.config.choices.BackpressureStrategy.{BackpressureStrategy}
 use Rattle.iox2_config.specs.declared.config.choices.BackpressureStrategy.TheVariants.{RetryUntilDelivered, DiscardData}
-use Rattle.iox2_config.specs.declared.config.event.Event.{Event}
+pub use Rattle.iox2_config.specs.declared.config.event.Event.{Event}
 use Rattle.iox2_config.specs.declared.config.node.Node.{Node}
-use Rattle.iox2_config.specs.declared.config.publish_subscribe.PublishSubscribe.{PublishSubscribe}
-use Rattle.iox2_config.specs.declared.config.request_response.RequestResonse.{RequestResonse}
+pub use Rattle.iox2_config.specs.declared.config.publish_subscribe.PublishSubscribe.{PublishSubscribe}
+pub use Rattle.iox2_config.specs.declared.config.request_response.RequestResonse.{RequestResonse}
 use Rattle.iox2_config.specs.declared.config.service.Service.{Service}
-use Rattle.iox2sd_common.specs.declared.settings.BlackboardSettings.{BlackboardSettings}
-use Rattle.iox2sd_common.specs.declared.settings.EventSettings.{EventSettings}
+pub use Rattle.iox2sd_common.specs.declared.settings.BlackboardSettings.{BlackboardSettings}
+pub use Rattle.iox2sd_common.specs.declared.settings.EventSettings.{EventSettings}
 use Rattle.iox2sd_common.specs.declared.settings.GlobalSettings.{GlobalSettings as PlainGlobal}
-use Rattle.iox2sd_common.specs.declared.settings.OptionalDuration.{OptionalDuration}
-use Rattle.iox2sd_common.specs.declared.settings.OptionalEventId.{OptionalEventId}
-use Rattle.iox2sd_common.specs.declared.settings.PlainDuration.{PlainDuration}
-use Rattle.iox2sd_common.specs.declared.settings.PublishSubscribeSettings.{PublishSubscribeSettings}
-use Rattle.iox2sd_common.specs.declared.settings.RequestResponseSettings.{RequestResponseSettings}
+pub use Rattle.iox2sd_common.specs.declared.settings.OptionalDuration.{OptionalDuration}
+pub use Rattle.iox2sd_common.specs.declared.settings.OptionalEventId.{OptionalEventId}
+pub use Rattle.iox2sd_common.specs.declared.settings.PlainDuration.{PlainDuration}
+pub use Rattle.iox2sd_common.specs.declared.settings.PublishSubscribeSettings.{PublishSubscribeSettings}
+pub use Rattle.iox2sd_common.specs.declared.settings.RequestResponseSettings.{RequestResponseSettings}
 
 -- the number of what a sender does where a receiver's buffer is full
 abbrev pub backpressure_number : BackpressureStrategy → ℕ

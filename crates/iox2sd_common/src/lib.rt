@@ -4,7 +4,6 @@
 
 pub mod answers;
 pub mod id;
-pub mod pattern;
 pub mod read_settings;
 pub mod settings;
 pub mod status;

@@ -1,11 +1,11 @@
-//! Settings that a caller filled: which field is invalid, if one is.
+//! Settings and numbers of patterns that a caller gave: which field is invalid, if one is.
 ghost use Rattle.std.specs.Prelude.{◌≡◌};
+ghost use Rattle.iox2_config.specs.Hashing.{ReadsPattern};
 ghost use Rattle.iox2sd_common.specs.Settings.{c_blackboard};
 ghost use Rattle.iox2sd_common.specs.ReadSettings.{field_number, field_status, field_answer};
-ghost use Rattle.iox2sd_common.specs.ReadSettings.{no_field, refusal_answer};
-ghost use Rattle.iox2sd_common.specs.ReadSettings.{ReadsBackpressure, ReadsAllocation};
-ghost use Rattle.iox2sd_common.specs.ReadSettings.{ReadsDuration, ReadsDeadline, ReadsEventId};
-ghost use Rattle.iox2sd_common.specs.ReadSettings.{ReadsPublishSubscribe, ReadsEvent};
+ghost use Rattle.iox2sd_common.specs.ReadSettings.{no_field, refusal_answer, ReadsBackpressure};
+ghost use Rattle.iox2sd_common.specs.ReadSettings.{ReadsAllocation, ReadsDuration, ReadsDeadline};
+ghost use Rattle.iox2sd_common.specs.ReadSettings.{ReadsEventId, ReadsPublishSubscribe, ReadsEvent};
 ghost use Rattle.iox2sd_common.specs.ReadSettings.{ReadsRequestResponse, ReadsGlobal};
 
 use super::settings::{
@@ -16,6 +16,7 @@ use crate::status::Status;
 use iox2_config::config::{
     AllocationStrategy, BackpressureStrategy, Blackboard, Event, PublishSubscribe, RequestResonse,
 };
+use iox2_config::hash::PatternKind;
 use std::time::Duration;
 
 /// A field of settings that may be invalid.
@@ -61,16 +62,7 @@ impl Field {
     fn number(self) -> u32
         ensures { result ≡ field_number self }
     {
-        match self {
-            Field::BackpressureStrategy => 0,
-            Field::PublisherAllocationStrategy => 1,
-            Field::Deadline => 2,
-            Field::ClientBackpressureStrategy => 3,
-            Field::ServerBackpressureStrategy => 4,
-            Field::ClientAllocationStrategy => 5,
-            Field::ServerAllocationStrategy => 6,
-            Field::CreationTimeout => 7,
-        }
+        self as u32
     }
 
     /// What is wrong with it where it is invalid.
@@ -144,6 +136,17 @@ impl Refusal {
             Refusal::Cause(status) => no_field(status),
             Refusal::Invalid(field) => field.answer(),
         }
+    }
+}
+
+/// The messaging pattern of a number.
+pub fn pattern_of(number: u64) -> Option<PatternKind>
+    ensures { ReadsPattern number result }
+{
+    if number < 4 {
+        PatternKind::of_number(number as u32)
+    } else {
+        None
     }
 }
 

@@ -1,10 +1,9 @@
 //! The settings that services get where nothing else is said, as plain values.
 ghost use Rattle.std.specs.Prelude.{◌≡◌};
 ghost use Rattle.iox2sd_common.specs.Settings.{backpressure_number, allocation_number, c_span};
-ghost use Rattle.iox2sd_common.specs.Settings.{c_duration, c_event_id, c_global};
-ghost use Rattle.iox2sd_common.specs.Settings.{c_global_with};
-ghost use Rattle.iox2sd_common.specs.Settings.{c_publish_subscribe, c_event};
-ghost use Rattle.iox2sd_common.specs.Settings.{c_request_response, c_blackboard};
+ghost use Rattle.iox2sd_common.specs.Settings.{c_duration, c_event_id, c_global, c_global_with};
+ghost use Rattle.iox2sd_common.specs.Settings.{c_publish_subscribe, c_event, c_request_response};
+ghost use Rattle.iox2sd_common.specs.Settings.{c_blackboard};
 
 use iox2_config::config::{
     AllocationStrategy, BackpressureStrategy, Blackboard, Event, Global, Node, PublishSubscribe,
@@ -165,21 +164,14 @@ pub struct BlackboardSettings {
 fn backpressure_number(strategy: BackpressureStrategy) -> u32
     ensures { result ≡ backpressure_number strategy }
 {
-    match strategy {
-        BackpressureStrategy::RetryUntilDelivered => 0,
-        BackpressureStrategy::DiscardData => 1,
-    }
+    strategy as u32
 }
 
 /// The number of a choice.
 fn allocation_number(strategy: AllocationStrategy) -> u32
     ensures { result ≡ allocation_number strategy }
 {
-    match strategy {
-        AllocationStrategy::BestFit => 0,
-        AllocationStrategy::PowerOfTwo => 1,
-        AllocationStrategy::Static => 2,
-    }
+    strategy as u32
 }
 
 /// The span of time, if there is one.

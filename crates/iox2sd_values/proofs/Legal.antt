@@ -1,19 +1,16 @@
 -- Texts that are legal, by a test of each byte.
-use Rattle.std.proofs.Common.{◌≡◌, ◌∙◌, ℕ, ◌≤◌, Bool, List, length, take, ap, sym, inl}
-use Rattle.std.proofs.Common.{inr, arith, true≢false}
-use Rattle.std.specs.Prelude.{IsTrue, ◌↔◌, ◌&&◌, Ok, Err}
+use Rattle.std.proofs.Common.{◌≡◌, ◌∙◌, ℕ, ◌≤◌, Bool, List, length, take, ap, sym, inl, inr, arith, true≢false}
+use Rattle.std.specs.Prelude.{IsTrue, ◌↔◌, ◌&&◌}
 use Rattle.std.specs.Bool.{Decides}
 use Rattle.std.specs.List.{list_all}
 use Rattle.std.proofs.Math.Dec.{leb}
-use Rattle.std.proofs.lemmas.Bool.{cases_lt}
 use Rattle.std.proofs.lemmas.Bool.Decides.{Decides-and, leb_tells}
 use Rattle.std.proofs.lemmas.List.{take_all}
 use Rattle.std.proofs.lemmas.List.Sums.{AllPass-from_list_all, list_all-from_AllPass}
-use Rattle.iox2_texts.specs.Name.{IsName, MakesName}
+use Rattle.std.proofs.lemmas.List.Elements.{All-more}
+use Rattle.std.proofs.lemmas.Option.{slice_get-get_or}
+use Rattle.iox2_texts.proofs.VerifyLemmas.{all_of_take, refuted}
 use Rattle.iox2_texts.specs.Text.{IsText, IsTextByte}
-use Rattle.iox2_texts.specs.declared.bounded.SemanticStringError.{SemanticStringError}
-use Rattle.iox2_texts.specs.declared.bounded.SemanticStringError.TheVariants.{InvalidContent}
-use Rattle.iox2_texts.specs.declared.bounded.SemanticStringError.TheVariants.{ExceedsMaximumLength}
 
 -- whether a text may hold the byte
 abbrev pub is_legal : ℕ → Bool
@@ -45,15 +42,5 @@ tells_text legal bytes i past is =
           (λ k d inside. (legal-Decides _).1 (text k d inside)),
     )
 
--- a name is made
-pub made : (n : ℕ) (bytes : List ℕ) → IsName n bytes → (text : List ℕ) × MakesName n bytes (Ok text)
-made n bytes name = (bytes, (λ _. bytes, name.0.0, name))
-
--- what is no name is refused
-pub refused : (n : ℕ) (bytes : List ℕ) → ¬ (IsName n bytes)
-    → (error : SemanticStringError) × MakesName n bytes (Err error)
-refused n bytes none =
-    elim (cases_lt n (length bytes)) [
-      | inl longer ↦ (ExceedsMaximumLength, longer)
-      | inr fits ↦ (InvalidContent, (fits, none))
-    ]
+-- what a search for the first element without a property has found
+pub ruleset searched = (All-more, all_of_take, refuted, slice_get-get_or)

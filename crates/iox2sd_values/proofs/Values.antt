@@ -5,10 +5,11 @@ use Rattle.std.specs.Prelude.{IsPermutation, IsSorted}
 use Rattle.std.proofs.Math.Seq.{take-append_seam}
 use Rattle.std.proofs.lemmas.List.Recursion.{is_count_by}
 use Rattle.std.proofs.lemmas.List.{get_or-map, length-map}
-use Rattle.std.proofs.lemmas.List.Sorted.{IsPermutation-map, length_permutation, sum_by-IsPermutation}
+use Rattle.std.proofs.lemmas.List.Sorted.{IsPermutation-map, IsPermutation-sym, IsPermutation-trans, length_permutation, sum_by-IsPermutation}
 use Rattle.std.proofs.lemmas.List.Sums.{length-filter}
 use Rattle.iox2_texts.specs.Attribute.{IsListing, has_key, values_of}
 use Rattle.iox2_texts.specs.Pair.{Pair, pair_cmp}
+use Rattle.iox2_texts.proofs.ListingLemmas.{listing_unique}
 use Rattle.iox2sd_values.specs.Attributes.{pair_of}
 use Rattle.iox2sd_values.specs.declared.attributes.Attribute.{Attribute}
 
@@ -35,6 +36,12 @@ as_in_listing key pairs set listing =
     length-map _ _ ∙ length-filter (has_key key) set
     ∙ sum_by-IsPermutation (λ p. cond (has_key key p) 1 0) pairs set listing.0
     ∙ sym (length-map _ _ ∙ length-filter (has_key key) pairs)
+
+-- the set that is made of the pairs is one
+pub the_set : (pairs xs ys : List Pair) → IsListing pairs xs → IsListing pairs ys → xs ≡ ys
+the_set pairs xs ys one other =
+    listing_unique xs ys one.1 other.1
+    (IsPermutation-trans xs pairs ys (IsPermutation-sym pairs xs one.0) other.0)
 
 -- pairs that rise are a listing of them
 pub rise : (xs : List Attribute) → IsSorted (λ a b. pair_cmp (pair_of a) (pair_of b)) xs

@@ -13,10 +13,10 @@ use Rattle.iox2_texts.proofs.VerifyLemmas.{Contains-Any, Misses-map, Misses-same
 use Rattle.iox2sd_common.specs.Answers.{place_answer}
 use Rattle.iox2sd_common.specs.declared.answers.PlaceAnswer.{PlaceAnswer}
 use Rattle.iox2sd_common.specs.declared.status.Status.TheVariants as status
-use Rattle.iox2sd_values.specs.Attributes.{pair_of}
-use Rattle.iox2sd_values.specs.Requirements.{Judges, text_of}
+use Rattle.iox2sd_values.specs.Attributes.{Judges, TellsOf, pair_of, text_of}
 use Rattle.iox2sd_values.specs.declared.attributes.Attribute.{Attribute}
 use Rattle.iox2sd_values.specs.declared.attributes.Key.{Key}
+use Rattle.iox2sd_values.proofs.Values.{the_set}
 
 -- what holds of some pair holds of some in another order
 any_moved : (P : Pair → Type 0) (xs ys : List Pair) → IsPermutation xs ys → Any P xs → Any P ys
@@ -101,11 +101,8 @@ module _ (set required wanted : List Attribute) (keys : List Key) (listing : Lis
       Misses-map text_of (ContainsKey listing) keys r
       (Misses-same _ _ keys r (λ k. in_listing (λ p. p.key ≡ text_of k)) misses)
 
-  -- the answer where nothing more is known of it than that it tells what is required
   abbrev Tells : PlaceAnswer → Type 0
-  Tells answer =
-      Judges (record { pairs = map pair_of wanted; keys = map text_of keys }) listing required keys
-      answer
+  Tells answer = TellsOf listing (map pair_of wanted) required keys answer
 
   -- the least pair that the set lacks
   pub tells_pair : (i at : ℕ) (d : Attribute) (answer : PlaceAnswer) → i < length wanted
@@ -153,3 +150,13 @@ module _ (set required wanted : List Attribute) (keys : List Key) (listing : Lis
       → Misses (λ k. Any (λ a. a.key.now ≡ text_of k) set) keys None
       → answer ≡ place_answer status.Done 0 → Tells answer
   tells_done answer has all is = (Ok tt, (pairs_missed None has, keys_missed None all), is)
+
+-- what is told of a listing of the required pairs is told of the one that they make
+pub judged : (set required wanted : List Attribute) (keys : List Key) (answer : PlaceAnswer)
+    → IsListing (map pair_of required) (map pair_of wanted)
+    → ((listing : List Pair) → IsListing (map pair_of set) listing
+    → TellsOf listing (map pair_of wanted) required keys answer)
+    → Judges set required keys answer
+judged set required wanted keys answer comes tells listing listed other given =
+    subst (λ (ws : List Pair). TellsOf listing ws required keys answer)
+    (the_set (map pair_of required) (map pair_of wanted) other comes given) (tells listing listed)

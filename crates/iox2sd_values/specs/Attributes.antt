@@ -1,96 +1,99 @@
--- A caller's arrays of keys and values.
-use Rattle.std.specs.Prelude.{◌≡◌, ℕ, ◌≤◌, List, Option, Some, None, Result, Ok, Err, map, take, length, slice_get, All, IsPermutation, IsSorted}
+-- A caller's arrays of keys and values, and what a caller requires of a set of attributes.
+use Rattle.std.specs.Prelude.{◌≡◌, ℕ, ◌+◌, ◌≤◌, List, Option, Some, None, Result, Ok, Err, map, take, length, slice_get, All, IsPermutation, IsSorted}
+use Rattle.iox2sd_values.specs.Prelude.{Attribute, CountAnswer, IsName, Key, MakesName, PlaceAnswer, SemanticStringError, Status, TextAnswer}
 use Rattle.iox2_texts.specs.Attribute.{IsListing, values_of}
-use Rattle.iox2_texts.specs.Name.{MakesName}
 use Rattle.iox2_texts.specs.Pair.{Pair, pair_cmp}
-use Rattle.iox2_texts.specs.declared.bounded.SemanticStringError.{SemanticStringError}
-use Rattle.iox2sd_common.specs.Answers.{count_answer, text_answer, Written}
-use Rattle.iox2sd_common.specs.Status.{end_code}
-use Rattle.iox2sd_common.specs.declared.answers.CountAnswer.{CountAnswer}
-use Rattle.iox2sd_common.specs.declared.answers.PlaceAnswer.{PlaceAnswer}
-use Rattle.iox2sd_common.specs.declared.answers.TextAnswer.{TextAnswer}
-use Rattle.iox2sd_values.specs.declared.attributes.Attribute.{Attribute}
-use Rattle.iox2sd_common.specs.declared.status.Status.{Status}
+use Rattle.iox2_texts.specs.Verify.{IsFirst}
+use Rattle.iox2_texts.specs.VerifyErrors.{Verifies}
+use Rattle.iox2_texts.specs.declared.attribute.verifier.AttributeVerificationError.{AttributeVerificationError}
+use Rattle.iox2_texts.specs.declared.attribute.verifier.AttributeVerificationError.TheVariants.{NonExistingKey, IncompatibleAttribute}
+use Rattle.iox2sd_common.specs.Answers.{count_answer, place_answer, text_answer, Written}
 use Rattle.iox2sd_common.specs.declared.status.Status.TheVariants as status
+use Rattle.iox2sd_values.specs.declared.attributes.Fault.{Fault}
+use Rattle.iox2sd_values.specs.declared.attributes.Fault.TheVariants as fault
 
--- the pair as the layer has it
+-- the pair, and the key, as the layer has it
 abbrev pub pair_of : Attribute → Pair
 pair_of a = record { key = a.key.now; value = a.value.now }
 
--- the key is legal
-abbrev pub HasKey : Attribute → Type 0
-HasKey a = (key : List ℕ) × MakesName 64 a.key.now (Ok key)
-
--- the value is legal
-abbrev pub HasValue : Attribute → Type 0
-HasValue a = (value : List ℕ) × MakesName 256 a.value.now (Ok value)
-
--- the key is not legal
-abbrev pub BadKey : Attribute → Type 0
-BadKey a = (error : SemanticStringError) × MakesName 64 a.key.now (Err error)
-
--- the key is legal, and the value is not
-abbrev pub BadValue : Attribute → Type 0
-BadValue a = HasKey a × (error : SemanticStringError) × MakesName 256 a.value.now (Err error)
+abbrev pub text_of : Key → List ℕ
+text_of k = k.text.now
 
 -- both texts are legal
 abbrev pub IsLegal : Attribute → Type 0
-IsLegal a = HasKey a × HasValue a
+IsLegal a = IsName 64 a.key.now × IsName 256 a.value.now
 
--- the pairs before the place are legal, at most sixteen, and the pair at it has this fault
-abbrev pub FailsAt : (Attribute → Type 0) → List Attribute → ℕ → Type 0
-FailsAt Fault pairs i =
-    (bad : Attribute) × (slice_get pairs i ≡ Some bad) × (i ≤ 16) × All IsLegal (take i pairs)
-    × Fault bad
+-- the pair at this place has the fault, or there are sixteen before it
+abbrev pub HasFault : Fault → ℕ → Attribute → Type 0
+HasFault fault.Key i a = ¬ (IsName 64 a.key.now)
+HasFault fault.Value i a = IsName 64 a.key.now × (¬ (IsName 256 a.value.now))
+HasFault fault.Number i a = IsLegal a × (i ≡ 16)
 
--- what making a set of pairs answers: the place before, the set or the fault, the place after
-abbrev pub ReadsSet : List Attribute → ℕ → Result (List Pair) Status → ℕ → Type 0
-ReadsSet pairs before (Ok set) after =
-    All IsLegal pairs × (length pairs ≤ 16) × IsListing (map pair_of pairs) set × (after ≡ before)
-ReadsSet pairs before (Err status.BadKey) after = FailsAt BadKey pairs after
-ReadsSet pairs before (Err status.BadValue) after = FailsAt BadValue pairs after
-ReadsSet pairs before (Err status.TooMany) after = (after ≡ 16) × FailsAt IsLegal pairs after
-ReadsSet pairs before (Err _) after = ⊥
+-- each element before the place passes, and the one at it fails
+abbrev pub FailsAt : {A : Type 0} → (A → Type 0) → (A → Type 0) → List A → ℕ → Type 0
+FailsAt {A} Passes Fails xs i =
+    (bad : A) × (slice_get xs i ≡ Some bad) × All Passes (take i xs) × Fails bad
 
--- the set or the fault, with the place that is told
-abbrev pub MakesSet : List Attribute → Result (List Pair) Status → ℕ → Type 0
-MakesSet pairs made at = ReadsSet pairs 0 made at
+-- the pairs are legal and at most sixteen, or the first that is not is at the place
+abbrev pub ChecksPairs : List Attribute → Result (Unit {0}) Fault → ℕ → Type 0
+ChecksPairs pairs (Ok _) at = All IsLegal pairs × (length pairs ≤ 16)
+ChecksPairs pairs (Err fault) at = (at ≤ 16) × FailsAt IsLegal (HasFault fault at) pairs at
 
--- the answer tells what making the set gives
+-- the status that tells the fault of a pair of a set, and of a required pair
+abbrev pub set_fault : Fault → Status
+set_fault fault.Key = status.BadKey
+set_fault fault.Value = status.BadValue
+set_fault fault.Number = status.TooMany
+
+abbrev pub required_fault : Fault → Status
+required_fault fault.Key = status.BadRequiredKey
+required_fault fault.Value = status.BadRequiredValue
+required_fault fault.Number = status.TooManyRequired
+
+-- the answer on pairs that are a set, or on the first that is wrong
+abbrev pub set_answer : Result (Unit {0}) Fault → ℕ → PlaceAnswer
+set_answer (Ok _) at = place_answer status.Done 0
+set_answer (Err fault) at = place_answer (set_fault fault) at
+
+-- the answer tells whether the pairs are a set
 abbrev pub TellsSet : List Attribute → PlaceAnswer → Type 0
 TellsSet pairs answer =
-    (made : Result (List Pair) Status) × (at : ℕ) × MakesSet pairs made at
-    × (answer ≡ record { status = end_code made; cause = 0; at = at })
+    (checked : Result (Unit {0}) Fault) × (at : ℕ) × ChecksPairs pairs checked at
+    × (answer ≡ set_answer checked at)
 
 -- the caller's pairs after sorting: the same in rising order, or as they were where they are no set
-abbrev pub Sorts : Result (List Pair) Status → List Attribute → List Attribute → Type 0
-Sorts (Ok set) old new = IsPermutation old new
+abbrev pub Sorts : Result (Unit {0}) Fault → List Attribute → List Attribute → Type 0
+Sorts (Ok _) old new = IsPermutation old new
     × IsSorted (λ a b. pair_cmp (pair_of a) (pair_of b)) new
 Sorts (Err fault) old new = new ≡ old
 
--- the same, with the answer that tells what making the set gives
+-- the same, with the answer that tells whether they are a set
 abbrev pub SortsSet : List Attribute → PlaceAnswer → List Attribute → Type 0
 SortsSet old answer new =
-    (made : Result (List Pair) Status) × (at : ℕ) × MakesSet old made at × Sorts made old new
-    × (answer ≡ record { status = end_code made; cause = 0; at = at })
+    (checked : Result (Unit {0}) Fault) × (at : ℕ) × ChecksPairs old checked at
+    × Sorts checked old new × (answer ≡ set_answer checked at)
+
+-- this holds of the set that the layer makes of the pairs
+abbrev pub OfSet : List Attribute → (List Pair → Type 0) → Type 0
+OfSet pairs Says = (set : List Pair) → IsListing (map pair_of pairs) set → Says set
 
 -- how many values the key has in the set
 abbrev pub counted_in : List Pair → Result (List ℕ) SemanticStringError → CountAnswer
 counted_in set (Ok key) = count_answer status.Done (length (values_of set key))
 counted_in set (Err error) = count_answer status.BadAskedKey 0
 
--- how many values the key has, where there is a set
-abbrev pub CountsIn : Result (List Pair) Status → List ℕ → CountAnswer → Type 0
-CountsIn (Ok set) key answer =
+-- how many values the key has, where the pairs are a set
+abbrev pub CountsIn : Result (Unit {0}) Fault → List Attribute → List ℕ → CountAnswer → Type 0
+CountsIn (Ok _) pairs key answer =
     (asked : Result (List ℕ) SemanticStringError) × MakesName 64 key asked
-    × (answer ≡ counted_in set asked)
-CountsIn (Err fault) key answer = answer ≡ count_answer fault 0
+    × OfSet pairs (λ set. answer ≡ counted_in set asked)
+CountsIn (Err fault) pairs key answer = answer ≡ count_answer (set_fault fault) 0
 
 -- how many values the key has in the pairs
 abbrev pub CountsValues : List Attribute → List ℕ → CountAnswer → Type 0
 CountsValues pairs key answer =
-    (made : Result (List Pair) Status) × (at : ℕ) × MakesSet pairs made at
-    × CountsIn made key answer
+    (checked : Result (Unit {0}) Fault) × (at : ℕ) × ChecksPairs pairs checked at
+    × CountsIn checked pairs key answer
 
 -- a value that is there is written
 abbrev pub WritesValue : Option (List ℕ) → List ℕ → TextAnswer → List ℕ → Type 0
@@ -98,22 +101,91 @@ WritesValue (Some value) old answer new = Written value old answer new
 WritesValue None old answer new = (answer ≡ text_answer status.NoSuchValue 0) × (new ≡ old)
 
 -- the value at the index of a legal key is written
-abbrev pub WritesOf : List Pair → Result (List ℕ) SemanticStringError → ℕ → List ℕ → TextAnswer
-    → List ℕ → Type 0
-WritesOf set (Ok key) index old answer new =
-    WritesValue (slice_get (values_of set key) index) old answer new
-WritesOf set (Err error) index old answer new = (answer ≡ text_answer status.BadAskedKey 0)
+abbrev pub WritesOf : List Attribute → Result (List ℕ) SemanticStringError → ℕ → List ℕ
+    → TextAnswer → List ℕ → Type 0
+WritesOf pairs (Ok key) index old answer new = OfSet pairs
+    (λ set. WritesValue (slice_get (values_of set key) index) old answer new)
+WritesOf pairs (Err error) index old answer new = (answer ≡ text_answer status.BadAskedKey 0)
     × (new ≡ old)
 
--- the value at the index of the key is written, where there is a set
-abbrev pub WritesIn : Result (List Pair) Status → List ℕ → ℕ → List ℕ → TextAnswer → List ℕ → Type 0
-WritesIn (Ok set) key index old answer new =
+-- the value at the index of the key is written, where the pairs are a set
+abbrev pub WritesIn : Result (Unit {0}) Fault → List Attribute → List ℕ → ℕ → List ℕ → TextAnswer
+    → List ℕ → Type 0
+WritesIn (Ok _) pairs key index old answer new =
     (asked : Result (List ℕ) SemanticStringError) × MakesName 64 key asked
-    × WritesOf set asked index old answer new
-WritesIn (Err fault) key index old answer new = (answer ≡ text_answer fault 0) × (new ≡ old)
+    × WritesOf pairs asked index old answer new
+WritesIn (Err fault) pairs key index old answer new =
+    (answer ≡ text_answer (set_fault fault) 0) × (new ≡ old)
 
 -- the value at the index of those that the key has in the pairs is written
 abbrev pub TellsValue : List Attribute → List ℕ → ℕ → List ℕ → TextAnswer → List ℕ → Type 0
 TellsValue pairs key index old answer new =
-    (made : Result (List Pair) Status) × (at : ℕ) × MakesSet pairs made at
-    × WritesIn made key index old answer new
+    (checked : Result (Unit {0}) Fault) × (at : ℕ) × ChecksPairs pairs checked at
+    × WritesIn checked pairs key index old answer new
+
+-- the key is legal
+abbrev pub HasText : Key → Type 0
+HasText k = IsName 64 (text_of k)
+
+-- the required key has the fault of this status, where so many pairs and keys are before it
+abbrev pub HasKeyFault : Status → ℕ → Key → Type 0
+HasKeyFault status.BadAskedKey before k = ¬ (HasText k)
+HasKeyFault status.TooManyRequired before k = HasText k × (before ≡ 16)
+HasKeyFault _ before k = ⊥
+
+-- the keys are legal and at most sixteen with so many pairs, or the first that is not is at the
+-- place
+abbrev pub ChecksKeys : ℕ → List Key → Result (Unit {0}) Status → ℕ → Type 0
+ChecksKeys pairs keys (Ok _) at = All HasText keys × (pairs + length keys ≤ 16)
+ChecksKeys pairs keys (Err s) at =
+    (pairs + at ≤ 16) × FailsAt HasText (HasKeyFault s (pairs + at)) keys at
+
+-- the answer on a verdict: of what the set lacks, the first place in the caller's array
+abbrev pub TellsVerdict : Result (Unit {0}) AttributeVerificationError → List Attribute → List Key
+    → PlaceAnswer → Type 0
+TellsVerdict (Ok _) required keys answer = answer ≡ place_answer status.Done 0
+TellsVerdict (Err (IncompatibleAttribute fault)) required keys answer =
+    (i : ℕ) × IsFirst (λ a. pair_of a ≡ record { key = fault.0; value = fault.1 }) required i
+    × (answer ≡ place_answer status.MissingPair i)
+TellsVerdict (Err (NonExistingKey key)) required keys answer =
+    (i : ℕ) × IsFirst (λ k. text_of k ≡ key) keys i × (answer ≡ place_answer status.MissingKey i)
+
+-- the answer tells the layer's verdict on a set, of which these pairs and keys are required
+abbrev pub TellsOf : List Pair → List Pair → List Attribute → List Key → PlaceAnswer → Type 0
+TellsOf set wanted required keys answer =
+    (verdict : Result (Unit {0}) AttributeVerificationError)
+    × Verifies (record { pairs = wanted; keys = map text_of keys }) set verdict
+    × TellsVerdict verdict required keys answer
+
+-- the same of the sets that the pairs make
+abbrev pub Judges : List Attribute → List Attribute → List Key → PlaceAnswer → Type 0
+Judges pairs required keys answer =
+    OfSet pairs (λ set. OfSet required (λ wanted. TellsOf set wanted required keys answer))
+
+-- the same where the keys may be required
+abbrev pub JudgesKeys : Result (Unit {0}) Status → ℕ → List Attribute → List Attribute → List Key
+    → PlaceAnswer → Type 0
+JudgesKeys (Ok _) at pairs required keys answer = Judges pairs required keys answer
+JudgesKeys (Err s) at pairs required keys answer = answer ≡ place_answer s at
+
+-- the same where the pairs may be required
+abbrev pub JudgesBy : Result (Unit {0}) Fault → ℕ → List Attribute → List Attribute → List Key
+    → PlaceAnswer → Type 0
+JudgesBy (Ok _) at pairs required keys answer =
+    (checked : Result (Unit {0}) Status) × (i : ℕ) × ChecksKeys (length required) keys checked i
+    × JudgesKeys checked i pairs required keys answer
+JudgesBy (Err fault) at pairs required keys answer = answer ≡ place_answer (required_fault fault) at
+
+-- the same where the pairs are a set
+abbrev pub JudgesIn : Result (Unit {0}) Fault → ℕ → List Attribute → List Attribute → List Key
+    → PlaceAnswer → Type 0
+JudgesIn (Ok _) at pairs required keys answer =
+    (checked : Result (Unit {0}) Fault) × (i : ℕ) × ChecksPairs required checked i
+    × JudgesBy checked i pairs required keys answer
+JudgesIn (Err fault) at pairs required keys answer = answer ≡ set_answer (Err fault) at
+
+-- whether the pairs are a set that has what the other pairs and the keys require
+abbrev pub VerifiesSet : List Attribute → List Attribute → List Key → PlaceAnswer → Type 0
+VerifiesSet pairs required keys answer =
+    (checked : Result (Unit {0}) Fault) × (at : ℕ) × ChecksPairs pairs checked at
+    × JudgesIn checked at pairs required keys answer

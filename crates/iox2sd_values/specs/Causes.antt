@@ -1,17 +1,9 @@
 -- Why a text is refused, where the status says which one it is.
 use Rattle.std.specs.Prelude.{◌≡◌, ℕ, ◌==◌, Bool, false, true, List, Option, Some, None, MatchBool, slice_get}
-use Rattle.iox2sd_common.specs.Status.{code}
-use Rattle.iox2sd_common.specs.declared.answers.CountAnswer.{CountAnswer}
-use Rattle.iox2sd_common.specs.declared.answers.PlaceAnswer.{PlaceAnswer}
-use Rattle.iox2sd_common.specs.declared.answers.TextAnswer.{TextAnswer}
-use Rattle.iox2sd_common.specs.declared.status.Status.{Status}
+use Rattle.iox2sd_values.specs.Prelude.{Attribute, CountAnswer, FieldAnswer, Key, MakesName, PlaceAnswer, Status, TextAnswer, code}
 use Rattle.iox2sd_common.specs.declared.status.Status.TheVariants as status
-use Rattle.iox2sd_common.specs.declared.read_settings.FieldAnswer.{FieldAnswer}
-use Rattle.iox2_texts.specs.Name.{MakesName}
 use Rattle.iox2sd_values.specs.Attributes.{TellsSet}
 use Rattle.iox2sd_values.specs.Texts.{ChecksName, ChecksText, MakesFileName, MakesPath}
-use Rattle.iox2sd_values.specs.declared.attributes.Attribute.{Attribute}
-use Rattle.iox2sd_values.specs.declared.attributes.Key.{Key}
 use Rattle.iox2sd_values.specs.declared.texts.Alphabet.TheVariants as alphabet
 
 -- the answers are these but for their causes
@@ -64,16 +56,15 @@ abbrev pub NameCause : Bool → List ℕ → ℕ → ℕ → Type 0
 NameCause internal bytes given cause =
     CauseOf status.BadServiceName given (IsCause (ChecksAnyName internal bytes) cause) (cause ≡ 0)
 
--- why nothing is joined to a path: of the path, or of the entry, which is checked so
-abbrev pub JoinCause : (PlaceAnswer → Type 0) → List ℕ → ℕ → ℕ → Type 0
-JoinCause Checks path given cause =
-    CauseOf status.BadPath given (IsCause (ChecksPath path) cause)
-    (CauseOf status.BadEntry given (IsCause Checks cause) (cause ≡ 0))
-
 -- why there is no directory below a root path
 abbrev pub RootCause : List ℕ → ℕ → ℕ → Type 0
 RootCause root given cause =
     CauseOf status.BadPath given (IsCause (ChecksPath root) cause) (cause ≡ 0)
+
+-- why nothing is joined to a path: of the entry, which is checked so, or of the path
+abbrev pub JoinCause : (PlaceAnswer → Type 0) → List ℕ → ℕ → ℕ → Type 0
+JoinCause Checks path given cause =
+    CauseOf status.BadEntry given (IsCause Checks cause) (RootCause path given cause)
 
 -- why the key, or the value, of a pair is refused; nothing where there is no pair
 abbrev pub KeyCause : Option Attribute → ℕ → Type 0

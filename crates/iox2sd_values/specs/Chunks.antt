@@ -1,11 +1,9 @@
 -- How many chunks the data segment of a port needs.
 use Rattle.std.specs.Prelude.{◌≡◌, ℕ, List, Option, Some, None, false}
+use Rattle.iox2sd_values.specs.Prelude.{CountAnswer, PublishSubscribe, RequestResponse}
 use Rattle.iox2_config.specs.DefaultTypes.{default_details}
 use Rattle.iox2_static.specs.Chunks.{TellsGreatest}
-use Rattle.iox2_static.specs.declared.static_config.publish_subscribe.StaticConfig.{StaticConfig as PublishSubscribe}
-use Rattle.iox2_static.specs.declared.static_config.request_response.StaticConfig.{StaticConfig as RequestResponse}
 use Rattle.iox2sd_common.specs.Answers.{count_answer}
-use Rattle.iox2sd_common.specs.declared.answers.CountAnswer.{CountAnswer}
 use Rattle.iox2sd_common.specs.declared.status.Status.TheVariants as status
 
 -- the answer for a number of chunks, or for one that is too large

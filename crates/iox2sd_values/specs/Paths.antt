@@ -1,11 +1,10 @@
--- Paths that are joined.
-use Rattle.std.specs.Prelude.{ℕ, List, Result, Ok, Err}
-use Rattle.iox2_texts.specs.Path.{MakesJoined}
-use Rattle.iox2_texts.specs.declared.bounded.SemanticStringError.{SemanticStringError}
-use Rattle.iox2sd_common.specs.Answers.{TellsText}
+-- Paths that are joined, where the system's files lie, and how they are called, where nothing else
+-- is said.
+use Rattle.std.specs.Prelude.{◌≡◌, ℕ, List, [], ◌∷◌, Option, Some, None, Result, Ok, Err, slice_get}
+use lib.Chars.{codes}
+use Rattle.iox2sd_values.specs.Prelude.{MakesJoined, SemanticStringError, Status, TextAnswer, default_node, default_service}
+use Rattle.iox2sd_common.specs.Answers.{text_answer, TellsText, Written}
 use Rattle.iox2sd_values.specs.Texts.{MakesPath, MakesFileName}
-use Rattle.iox2sd_common.specs.declared.answers.TextAnswer.{TextAnswer}
-use Rattle.iox2sd_common.specs.declared.status.Status.{Status}
 use Rattle.iox2sd_common.specs.declared.status.Status.TheVariants as status
 
 -- what joining to a path answers: the path is looked at first, then the entry, and then the length
@@ -39,3 +38,45 @@ TellsPath path entry old answer new =
 abbrev pub TellsFile : List ℕ → List ℕ → List ℕ → TextAnswer → List ℕ → Type 0
 TellsFile path file old answer new =
     (made : Result (List ℕ) Status) × JoinsFile path file made × TellsText made old answer new
+
+-- the texts of the configuration by their numbers, from 0 on
+abbrev pub named : List (List ℕ)
+named =
+    codes "/tmp/iceoryx2/"
+    ∷ codes "iox2_"
+    ∷ default_service.directory
+    ∷ default_service.data_segment_suffix
+    ∷ default_service.static_config_storage_suffix
+    ∷ default_service.dynamic_config_storage_suffix
+    ∷ default_service.connection_suffix
+    ∷ default_service.event_connection_suffix
+    ∷ default_service.blackboard_mgmt_suffix
+    ∷ default_service.blackboard_data_suffix
+    ∷ default_node.directory
+    ∷ default_node.monitor_suffix
+    ∷ default_node.static_config_suffix
+    ∷ default_node.service_tag_suffix
+    ∷ default_node.port_tag_suffix
+    ∷ default_node.global_mgmt_suffix
+    ∷ codes "iceoryx2.toml"
+    ∷ codes "config/iceoryx2.toml"
+    ∷ codes "iceoryx2"
+    ∷ codes "iceoryx2/iceoryx2.toml"
+    ∷ []
+
+-- the text is written, where there is one
+abbrev pub WritesNamed : Option (List ℕ) → List ℕ → TextAnswer → List ℕ → Type 0
+WritesNamed (Some text) old answer new = Written text old answer new
+WritesNamed None old answer new = (answer ≡ text_answer status.UnknownText 0) × (new ≡ old)
+
+-- the text of the number is written
+abbrev pub TellsNamed : ℕ → List ℕ → TextAnswer → List ℕ → Type 0
+TellsNamed number old answer new = WritesNamed (slice_get named number) old answer new
+
+-- the directory below the root path is written, or the answer tells why there is none
+abbrev pub JoinsBelow : List ℕ → List ℕ → Result (List ℕ) Status → Type 0
+JoinsBelow root directory made = Joins (λ entry read. read ≡ Ok entry) root directory made
+
+abbrev pub TellsBelow : List ℕ → List ℕ → List ℕ → TextAnswer → List ℕ → Type 0
+TellsBelow root directory old answer new =
+    (made : Result (List ℕ) Status) × JoinsBelow root directory made × TellsText made old answer new

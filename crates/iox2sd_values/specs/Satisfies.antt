@@ -1,27 +1,14 @@
 -- Whether a service meets what an opener requires, told by the first setting that it does not meet.
 use Rattle.std.specs.Prelude.{◌≡◌, ℕ, List, [], ◌∷◌, Option, Some, None, Result, Ok, Err}
-use Rattle.iox2_config.specs.DefaultTypes.{default_details}
-use Rattle.iox2_config.specs.TypeDetailParts.{default_detail}
+use Rattle.iox2sd_values.specs.Prelude.{BlackboardConfig, EventConfig, EventSettings, Field, FieldAnswer, PublishSubscribeConfig, ReadsEvent, RequestResponseConfig, code, event_of, field_answer, no_field}
 use Rattle.iox2_config.specs.declared.config.event.Event.{Event as Settings}
-use Rattle.iox2_static.specs.Event.{event_of}
 use Rattle.iox2_static.specs.Requirements.{first_unmet}
 use Rattle.iox2_static.specs.Satisfies.{publish_subscribe_requirements, event_requirements, request_response_requirements, blackboard_requirements}
-use Rattle.iox2_static.specs.declared.static_config.blackboard.StaticConfig.{StaticConfig as Blackboard}
 use Rattle.iox2_static.specs.declared.static_config.event.StaticConfig.{StaticConfig as Event}
-use Rattle.iox2_static.specs.declared.static_config.publish_subscribe.StaticConfig.{StaticConfig as PublishSubscribe}
-use Rattle.iox2_static.specs.declared.static_config.request_response.StaticConfig.{StaticConfig as RequestResponse}
 use Rattle.iox2_static.specs.declared.static_config.setting.Setting.{Setting}
 use Rattle.iox2_static.specs.declared.static_config.setting.Setting.TheVariants as setting
-use Rattle.iox2sd_common.specs.Status.{code}
 use Rattle.iox2sd_common.specs.declared.status.Status.TheVariants as status
-use Rattle.iox2sd_common.specs.ReadSettings.{field_answer, no_field, ReadsEvent}
-use Rattle.iox2sd_common.specs.declared.read_settings.Field.{Field}
-use Rattle.iox2sd_common.specs.declared.read_settings.FieldAnswer.{FieldAnswer}
-use Rattle.iox2sd_common.specs.declared.settings.EventSettings.{EventSettings}
-use Rattle.iox2sd_values.specs.declared.descriptions.BlackboardConfig.{BlackboardConfig}
-use Rattle.iox2sd_values.specs.declared.descriptions.EventConfig.{EventConfig}
-use Rattle.iox2sd_values.specs.declared.descriptions.PublishSubscribeConfig.{PublishSubscribeConfig}
-use Rattle.iox2sd_values.specs.declared.descriptions.RequestResponseConfig.{RequestResponseConfig}
+use Rattle.iox2sd_values.specs.Descriptions.{c_publish_subscribe, c_request_response, c_blackboard}
 
 -- the number of a setting, which no field has that may be invalid, but for the deadline
 abbrev pub setting_number : Setting → ℕ
@@ -56,45 +43,6 @@ abbrev pub satisfied : Option Setting → FieldAnswer
 satisfied None = no_field status.Done
 satisfied (Some first) =
     record { status = code status.Unmet; field = setting_number first; cause = 0 }
-
--- what is fixed of a publish-subscribe service, beside the types of its messages
-abbrev pub publish_subscribe_of : PublishSubscribeConfig → PublishSubscribe
-publish_subscribe_of c = record {
-  max_subscribers = c.max_subscribers;
-  max_publishers = c.max_publishers;
-  max_nodes = c.max_nodes;
-  history_size = c.history_size;
-  subscriber_max_buffer_size = c.subscriber_max_buffer_size;
-  subscriber_max_borrowed_samples = c.subscriber_max_borrowed_samples;
-  enable_safe_overflow = c.enable_safe_overflow;
-  message_type_details = default_details;
-}
-
--- what is fixed of a request-response service, beside the types of its messages
-abbrev pub request_response_of : RequestResponseConfig → RequestResponse
-request_response_of c = record {
-  enable_safe_overflow_for_requests = c.enable_safe_overflow_for_requests;
-  enable_safe_overflow_for_responses = c.enable_safe_overflow_for_responses;
-  enable_fire_and_forget_requests = c.enable_fire_and_forget_requests;
-  max_active_requests_per_client = c.max_active_requests_per_client;
-  max_loaned_requests = c.max_loaned_requests;
-  max_response_buffer_size = c.max_response_buffer_size;
-  max_servers = c.max_servers;
-  max_clients = c.max_clients;
-  max_nodes = c.max_nodes;
-  max_borrowed_responses_per_pending_response = c.max_borrowed_responses_per_pending_response;
-  request_message_type_details = default_details;
-  response_message_type_details = default_details;
-}
-
--- what is fixed of a blackboard service, beside the type of its keys
-abbrev pub blackboard_of : BlackboardConfig → Blackboard
-blackboard_of c = record {
-  max_readers = c.max_readers;
-  max_writers = c.max_writers;
-  max_nodes = c.max_nodes;
-  type_details = default_detail;
-}
 
 -- the settings by which this is fixed of an event service
 abbrev pub settings_of : EventConfig → EventSettings
@@ -139,12 +87,19 @@ SatisfiesBy Compares [] required answer = answer ≡ no_field status.Null
 SatisfiesBy Compares (s ∷ others) [] answer = answer ≡ no_field status.Null
 SatisfiesBy Compares (s ∷ others) (r ∷ more) answer = Compares s r answer
 
+-- the answer on some configurations of the layer of which these are the plain values
+abbrev pub ComparesPlain : {C L : Type 0} → (L → C) → (L → L → Option Setting) → C → C
+    → FieldAnswer → Type 0
+ComparesPlain {C} {L} plain unmet s r answer =
+    (service required : L) × (plain service ≡ s) × (plain required ≡ r)
+    × (answer ≡ satisfied (unmet service required))
+
 -- of publish-subscribe services
 abbrev pub SatisfiesPublishSubscribe : List PublishSubscribeConfig → List PublishSubscribeConfig
     → FieldAnswer → Type 0
 SatisfiesPublishSubscribe services required answer = SatisfiesBy
-    (λ s r a. a ≡ satisfied (first_unmet (publish_subscribe_requirements (publish_subscribe_of s)
-    (publish_subscribe_of r)))) services required answer
+    (ComparesPlain c_publish_subscribe (λ s r. first_unmet (publish_subscribe_requirements s r)))
+    services required answer
 
 -- of event services
 abbrev pub SatisfiesEvent : List EventConfig → List EventConfig → FieldAnswer → Type 0
@@ -154,12 +109,12 @@ SatisfiesEvent services required answer = SatisfiesBy ComparesEvents services re
 abbrev pub SatisfiesRequestResponse : List RequestResponseConfig → List RequestResponseConfig
     → FieldAnswer → Type 0
 SatisfiesRequestResponse services required answer = SatisfiesBy
-    (λ s r a. a ≡ satisfied (first_unmet (request_response_requirements (request_response_of s)
-    (request_response_of r)))) services required answer
+    (ComparesPlain c_request_response (λ s r. first_unmet (request_response_requirements s r)))
+    services required answer
 
 -- of blackboard services
 abbrev pub SatisfiesBlackboard : List BlackboardConfig → List BlackboardConfig → FieldAnswer
     → Type 0
 SatisfiesBlackboard services required answer = SatisfiesBy
-    (λ s r a. a ≡ satisfied (first_unmet (blackboard_requirements (blackboard_of s)
-    (blackboard_of r)))) services required answer
+    (ComparesPlain c_blackboard (λ s r. first_unmet (blackboard_requirements s r)))
+    services required answer

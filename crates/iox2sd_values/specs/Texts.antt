@@ -1,15 +1,11 @@
 -- Whether texts are names, keys, values and paths, and which byte is wrong.
-use Rattle.std.specs.Prelude.{◌≡◌, ◌≢◌, ℕ, List, [], Option, Some, None, Result, Ok, Err, All, IsTrue, MatchBool, nat_eq, slice_get, take, ⊤}
+use Rattle.std.specs.Prelude.{◌≡◌, ◌≢◌, ℕ, List, [], Option, Some, None, Result, Ok, Err, All, IsTrue, MatchBool, nat_eq, slice_get, take, ⊤, ◌⊎◌}
 use Rattle.std.specs.List.{starts_with}
 use lib.Chars.{codes}
-use Rattle.iox2_texts.specs.Name.{IsAllowed, MakesLegal, MakesName}
-use Rattle.iox2_texts.specs.Path.{IsPlain, EndsPlain, IsRestricted, is_restricted}
+use Rattle.iox2sd_values.specs.Prelude.{EndsPlain, IsAllowed, IsPlain, IsRestricted, MakesLegal, MakesName, PlaceAnswer, SemanticStringError, is_restricted}
 use Rattle.iox2_texts.specs.Text.{IsTextByte}
-use Rattle.iox2_texts.specs.declared.bounded.SemanticStringError.{SemanticStringError}
 use Rattle.iox2_texts.specs.declared.bounded.SemanticStringError.TheVariants.{InvalidContent, ExceedsMaximumLength}
 use Rattle.iox2sd_common.specs.Answers.{place_answer}
-use Rattle.iox2sd_common.specs.declared.answers.PlaceAnswer.{PlaceAnswer}
-use Rattle.iox2sd_common.specs.declared.status.Status.{Status}
 use Rattle.iox2sd_common.specs.declared.status.Status.TheVariants as status
 use Rattle.iox2sd_values.specs.declared.texts.Alphabet.{Alphabet}
 use Rattle.iox2sd_values.specs.declared.texts.Alphabet.TheVariants as alphabet
@@ -43,23 +39,19 @@ abbrev pub FindsIllegal : Alphabet → List ℕ → Option ℕ → Type 0
 FindsIllegal a bytes (Some i) = IsFirstIllegal a bytes i
 FindsIllegal a bytes None = All (IsLegal a) bytes
 
--- why a text of an invalid content is refused, with the place before and after
-abbrev pub ExplainsContent : List ℕ → Alphabet → ℕ → Status → ℕ → Type 0
-ExplainsContent bytes a before status.Empty after = (bytes ≡ []) × (after ≡ before)
-ExplainsContent bytes a before status.IllegalByte after = IsFirstIllegal a bytes after
-ExplainsContent bytes a before status.NoFileName after =
-    (bytes ≢ []) × All (IsLegal a) bytes × (after ≡ before)
-ExplainsContent bytes a before _ after = ⊥
+-- the answer on a text of an invalid content that is not empty, by its first illegal byte
+abbrev pub content_answer : Option ℕ → PlaceAnswer
+content_answer (Some i) = place_answer status.IllegalByte i
+content_answer None = place_answer status.NoFileName 0
 
--- why a text is refused: of one that is too long the first byte too many is told
-abbrev pub Explains : SemanticStringError → List ℕ → Alphabet → ℕ → ℕ → Status → ℕ → Type 0
-Explains ExceedsMaximumLength bytes a most before s after = (s ≡ status.TooLong) × (after ≡ most)
-Explains InvalidContent bytes a most before s after = ExplainsContent bytes a before s after
-
--- the answer tells why the text is refused
+-- the answer tells why the text is refused, and where the first wrong byte or the first byte too
+-- many is
 abbrev pub Refused : SemanticStringError → List ℕ → Alphabet → ℕ → PlaceAnswer → Type 0
-Refused error bytes a most answer =
-    (s : Status) × (at : ℕ) × Explains error bytes a most 0 s at × (answer ≡ place_answer s at)
+Refused ExceedsMaximumLength bytes a most answer = answer ≡ place_answer status.TooLong most
+Refused InvalidContent bytes a most answer =
+    ((bytes ≡ []) × (answer ≡ place_answer status.Empty 0))
+    ⊎ ((bytes ≢ []) × (found : Option ℕ) × FindsIllegal a bytes found
+    × (answer ≡ content_answer found))
 
 -- the answer on what the making gave
 abbrev pub TellsText : Result (List ℕ) SemanticStringError → List ℕ → Alphabet → ℕ → PlaceAnswer

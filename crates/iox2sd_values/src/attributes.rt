@@ -1,15 +1,13 @@
 //! Attributes without handles: a caller's arrays of keys and values.
-ghost use Rattle.std.specs.Prelude.{◌≡◌, ◌↔◌, ◌≤◌, List, [], map, take, length, slice_get, IsTrue};
+ghost use Rattle.std.specs.Prelude.{◌≡◌, ◌≤◌, [], map, take, length, slice_get};
 ghost use Rattle.std.specs.Option.{option_copied};
-ghost use Rattle.std.specs.Result.{result_map_both};
 ghost use Rattle.iox2_texts.specs.Attribute.{IsListing, values_of};
-ghost use Rattle.iox2_texts.specs.Pair.{Pair};
 ghost use Rattle.iox2sd_values.specs.Attributes.{TellsSet, SortsSet, CountsValues, TellsValue};
-ghost use Rattle.iox2sd_values.specs.Attributes.{pair_of, ReadsSet, WritesValue};
+ghost use Rattle.iox2sd_values.specs.Attributes.{pair_of, text_of, set_fault, required_fault};
+ghost use Rattle.iox2sd_values.specs.Attributes.{ChecksPairs, ChecksKeys, OfSet, WritesValue};
+ghost use Rattle.iox2sd_values.specs.Attributes.{Judges, VerifiesSet};
 ghost use Rattle.iox2sd_values.specs.Causes.{PlaceBut, CountBut, TextBut, SetCause, AskedCause};
 ghost use Rattle.iox2sd_values.specs.Causes.{RequiredCause};
-ghost use Rattle.iox2sd_values.specs.Faults.{ChecksPairs, set_fault, required_fault};
-ghost use Rattle.iox2sd_values.specs.Requirements.{Judges, RequiresKeys, VerifiesSet, text_of};
 
 use super::causes::{asked_cause, required_cause, set_cause};
 use super::texts::is_name;
@@ -76,8 +74,9 @@ impl Fault {
 }
 
 /// Whether the pairs are legal and sixteen at most; the index of the first that is not is written.
+#[tactic(auto, using(crate::proofs::Legal::searched))]
 fn check_pairs(pairs: &[Attribute<'_>], at: &mut usize) -> Result<(), Fault>
-    ensures { ChecksPairs pairs.now at.old result at.new }
+    ensures { ChecksPairs pairs.now result at.new }
 {
     for (i, pair) in pairs.iter().enumerate() {
         if !is_name(pair.key, MAX_ATTRIBUTE_KEY_LENGTH) {
@@ -96,25 +95,14 @@ fn check_pairs(pairs: &[Attribute<'_>], at: &mut usize) -> Result<(), Fault>
     Ok(())
 }
 
-/// Whether the pairs are a set, or why not; the index of the pair that is wrong is written.
-fn check_set(pairs: &[Attribute<'_>], at: &mut usize) -> Result<(), Status>
-    ensures { (set : List Pair) → IsListing (map pair_of pairs.now) set
-        → ReadsSet pairs.now at.old (result_map_both (λ _. set) (λ e. e) result) at.new }
-{
-    match check_pairs(pairs, at) {
-        Ok(()) => Ok(()),
-        Err(fault) => Err(fault.of_set()),
-    }
-}
-
 /// Whether the pairs are a set, or the first that is wrong.
 fn tell_set(pairs: &[Attribute<'_>]) -> PlaceAnswer
     ensures { TellsSet pairs.now result }
 {
     let mut at = 0;
-    match check_set(pairs, &mut at) {
-        Ok(()) => position(Status::Done, at),
-        Err(status) => position(status, at),
+    match check_pairs(pairs, &mut at) {
+        Ok(()) => position(Status::Done, 0),
+        Err(fault) => position(fault.of_set(), at),
     }
 }
 
@@ -140,12 +128,12 @@ fn sort_set(pairs: &mut [Attribute<'_>]) -> PlaceAnswer
     ensures { SortsSet pairs.old result pairs.new }
 {
     let mut at = 0;
-    match check_set(pairs, &mut at) {
+    match check_pairs(pairs, &mut at) {
         Ok(()) => {
             pairs.sort_unstable();
-            position(Status::Done, at)
+            position(Status::Done, 0)
         }
-        Err(status) => position(status, at),
+        Err(fault) => position(fault.of_set(), at),
     }
 }
 
@@ -208,8 +196,8 @@ fn sorted<'a>(pairs: &[Attribute<'a>]) -> [Attribute<'a>; MAX_ATTRIBUTES]
 /// least.
 fn write_value(pairs: &[Attribute<'_>], key: &[u8], index: usize, out: &mut [u8]) -> TextAnswer
     requires { length pairs.now ≤ 16 }
-    ensures { (set : List Pair) × IsListing (map pair_of pairs.now) set
-        × WritesValue (slice_get (values_of set key.now) index) out.old result out.new }
+    ensures { OfSet pairs.now (λ set. WritesValue (slice_get (values_of set key.now) index)
+        out.old result out.new) }
 {
     let copies = sorted(pairs);
     match value_at(&copies[..pairs.len()], key, index) {
@@ -219,16 +207,17 @@ fn write_value(pairs: &[Attribute<'_>], key: &[u8], index: usize, out: &mut [u8]
 }
 
 /// How many values the key has, or why it is not searched for.
+#[tactic(auto, using(crate::proofs::Values::as_in_listing))]
 fn count_of(pairs: &[Attribute<'_>], key: &[u8]) -> CountAnswer
     ensures { CountsValues pairs.now key.now result }
 {
     let mut at = 0;
-    match check_set(pairs, &mut at) {
+    match check_pairs(pairs, &mut at) {
         Ok(()) => match AttributeKey::new(key) {
             Ok(_) => count(Status::Done, count_values(pairs, key)),
             Err(_) => count(Status::BadAskedKey, 0),
         },
-        Err(status) => count(status, 0),
+        Err(fault) => count(fault.of_set(), 0),
     }
 }
 
@@ -256,12 +245,12 @@ fn write_of(pairs: &[Attribute<'_>], key: &[u8], index: usize, out: &mut [u8]) -
     ensures { TellsValue pairs.now key.now index out.old result out.new }
 {
     let mut at = 0;
-    match check_set(pairs, &mut at) {
+    match check_pairs(pairs, &mut at) {
         Ok(()) => match AttributeKey::new(key) {
             Ok(_) => write_value(pairs, key, index, out),
             Err(_) => no_text(Status::BadAskedKey),
         },
-        Err(status) => no_text(status),
+        Err(fault) => no_text(fault.of_set()),
     }
 }
 
@@ -291,12 +280,10 @@ pub extern "C" fn iox2sd_attributes_key_value_at(
 
 /// Whether the keys may be required beside so many pairs, or why not; the index of the key that is
 /// wrong is written.
+#[tactic(auto, using(crate::proofs::Legal::searched))]
 fn check_keys(keys: &[Key<'_>], pairs: usize, at: &mut usize) -> Result<(), Status>
     requires { pairs ≤ 16 }
-    ensures { (listing : List Pair) → length listing ≡ pairs
-        → RequiresKeys listing keys.now at.old
-        (result_map_both (λ _. record { pairs = listing; keys = map text_of keys.now })
-        (λ e. e) result) at.new }
+    ensures { ChecksKeys pairs keys.now result at.new }
 {
     for (i, key) in keys.iter().enumerate() {
         if !is_name(key.text, MAX_ATTRIBUTE_KEY_LENGTH) {
@@ -332,10 +319,7 @@ impl<'a, 'b> Requirement<Attribute<'b>> for Key<'a> {
 /// Whether the set has the required pairs and keys.
 fn verify(set: &[Attribute<'_>], required: &[Attribute<'_>], keys: &[Key<'_>]) -> PlaceAnswer
     requires { length required.now ≤ 16 }
-    ensures { (pairs : List Pair) × IsListing (map pair_of required.now) pairs
-        × ((listing : List Pair) → IsListing (map pair_of set.now) listing
-        → Judges (record { pairs = pairs; keys = map text_of keys.now }) listing required.now
-        keys.now result) }
+    ensures { Judges set.now required.now keys.now result }
 {
     let copies = sorted(required);
     let wanted = &copies[..required.len()];
@@ -356,8 +340,8 @@ fn judge(pairs: &[Attribute<'_>], required: &[Attribute<'_>], keys: &[Key<'_>]) 
     ensures { VerifiesSet pairs.now required.now keys.now result }
 {
     let mut at = 0;
-    if let Err(status) = check_set(pairs, &mut at) {
-        return position(status, at);
+    if let Err(fault) = check_pairs(pairs, &mut at) {
+        return position(fault.of_set(), at);
     }
     if let Err(fault) = check_pairs(required, &mut at) {
         return position(fault.of_required(), at);

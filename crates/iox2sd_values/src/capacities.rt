@@ -1,7 +1,6 @@
 //! How many nodes and ports a service can have at a time.
-ghost use Rattle.iox2sd_values.specs.Capacities.{PublishSubscribeCapacitiesOf, EventCapacitiesOf};
-ghost use Rattle.iox2sd_values.specs.Capacities.{RequestResponseCapacitiesOf};
-ghost use Rattle.iox2sd_values.specs.Capacities.{BlackboardCapacitiesOf};
+ghost use Rattle.iox2sd_values.specs.Settings.{PublishSubscribeCapacitiesOf, EventCapacitiesOf};
+ghost use Rattle.iox2sd_values.specs.Settings.{RequestResponseCapacitiesOf, BlackboardCapacitiesOf};
 
 use iox2_static::static_config::blackboard;
 use iox2sd_common::read_settings::read_blackboard;

@@ -25,32 +25,6 @@ pub(super) fn name_cause(status: u32, name: &[u8], internal: bool) -> u32
     }
 }
 
-/// Why a path is not joined to a path.
-pub(super) fn entry_cause(status: u32, path: &[u8], entry: &[u8]) -> u32
-    ensures { JoinCause (ChecksPath entry.now) path.now status result }
-{
-    if status == Status::BadPath.code() {
-        iox2sd_path_check_at(path).status
-    } else if status == Status::BadEntry.code() {
-        iox2sd_path_check_at(entry).status
-    } else {
-        0
-    }
-}
-
-/// Why the name of a file is not joined to a path.
-pub(super) fn file_cause(status: u32, path: &[u8], file: &[u8]) -> u32
-    ensures { JoinCause (ChecksFileName file.now) path.now status result }
-{
-    if status == Status::BadPath.code() {
-        iox2sd_path_check_at(path).status
-    } else if status == Status::BadEntry.code() {
-        iox2sd_file_name_check_at(file).status
-    } else {
-        0
-    }
-}
-
 /// Why there is no directory below a root path.
 pub(super) fn root_cause(status: u32, root: &[u8]) -> u32
     ensures { RootCause root.now status result }
@@ -59,6 +33,28 @@ pub(super) fn root_cause(status: u32, root: &[u8]) -> u32
         iox2sd_path_check_at(root).status
     } else {
         0
+    }
+}
+
+/// Why a path is not joined to a path.
+pub(super) fn entry_cause(status: u32, path: &[u8], entry: &[u8]) -> u32
+    ensures { JoinCause (ChecksPath entry.now) path.now status result }
+{
+    if status == Status::BadEntry.code() {
+        iox2sd_path_check_at(entry).status
+    } else {
+        root_cause(status, path)
+    }
+}
+
+/// Why the name of a file is not joined to a path.
+pub(super) fn file_cause(status: u32, path: &[u8], file: &[u8]) -> u32
+    ensures { JoinCause (ChecksFileName file.now) path.now status result }
+{
+    if status == Status::BadEntry.code() {
+        iox2sd_file_name_check_at(file).status
+    } else {
+        root_cause(status, path)
     }
 }
 

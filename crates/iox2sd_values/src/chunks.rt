@@ -47,33 +47,6 @@ pub extern "C" fn iox2sd_required_amount_of_samples_per_data_segment(
     chunks(config.required_amount_of_samples_per_data_segment(loaned_samples))
 }
 
-/// A request-response service with these limits.
-fn request_response_of(
-    max_servers: usize,
-    max_clients: usize,
-    max_active_requests_per_client: usize,
-    max_response_buffer_size: usize,
-    max_borrowed_responses_per_pending_response: usize,
-) -> request_response::StaticConfig
-    ensures { result ≡ request_response max_servers max_clients max_active_requests_per_client
-        max_response_buffer_size max_borrowed_responses_per_pending_response }
-{
-    request_response::StaticConfig {
-        enable_safe_overflow_for_requests: false,
-        enable_safe_overflow_for_responses: false,
-        enable_fire_and_forget_requests: false,
-        max_active_requests_per_client,
-        max_loaned_requests: 0,
-        max_response_buffer_size,
-        max_servers,
-        max_clients,
-        max_nodes: 0,
-        max_borrowed_responses_per_pending_response,
-        request_message_type_details: MessageTypeDetails::default(),
-        response_message_type_details: MessageTypeDetails::default(),
-    }
-}
-
 /// The greatest number of one client's requests that can be in use at once, where the client loans
 /// up to `loaned_requests` of them to be written.
 ///
@@ -88,7 +61,20 @@ pub extern "C" fn iox2sd_required_amount_of_chunks_per_client_data_segment(
         (request_response max_servers 0 max_active_requests_per_client 0 0)
         loaned_requests) result }
 {
-    let config = request_response_of(max_servers, 0, max_active_requests_per_client, 0, 0);
+    let config = request_response::StaticConfig {
+        enable_safe_overflow_for_requests: false,
+        enable_safe_overflow_for_responses: false,
+        enable_fire_and_forget_requests: false,
+        max_active_requests_per_client,
+        max_loaned_requests: 0,
+        max_response_buffer_size: 0,
+        max_servers,
+        max_clients: 0,
+        max_nodes: 0,
+        max_borrowed_responses_per_pending_response: 0,
+        request_message_type_details: MessageTypeDetails::default(),
+        response_message_type_details: MessageTypeDetails::default(),
+    };
     chunks(config.required_amount_of_chunks_per_client_data_segment(loaned_requests))
 }
 
@@ -108,12 +94,19 @@ pub extern "C" fn iox2sd_required_amount_of_chunks_per_server_data_segment(
         0 max_clients max_active_requests_per_client max_response_buffer_size
         max_borrowed_responses_per_pending_response) loaned_responses) result }
 {
-    let config = request_response_of(
-        0,
-        max_clients,
+    let config = request_response::StaticConfig {
+        enable_safe_overflow_for_requests: false,
+        enable_safe_overflow_for_responses: false,
+        enable_fire_and_forget_requests: false,
         max_active_requests_per_client,
+        max_loaned_requests: 0,
         max_response_buffer_size,
+        max_servers: 0,
+        max_clients,
+        max_nodes: 0,
         max_borrowed_responses_per_pending_response,
-    );
+        request_message_type_details: MessageTypeDetails::default(),
+        response_message_type_details: MessageTypeDetails::default(),
+    };
     chunks(config.required_amount_of_chunks_per_server_data_segment(loaned_responses))
 }

@@ -1,8 +1,7 @@
 //! Which openers may use the messages of a service.
 ghost use Rattle.std.specs.Prelude.{◌≡◌};
-ghost use Rattle.iox2sd_values.specs.Compatible.{part_number, part_answer, other, unsuited, fault_of};
-ghost use Rattle.iox2sd_values.specs.Compatible.{null_answer, Compares, ThenReads};
-ghost use Rattle.iox2sd_values.specs.Compatible.{TellsCompatible};
+ghost use Rattle.iox2sd_values.specs.Messages.{part_number, part_answer, other, unsuited, fault_of};
+ghost use Rattle.iox2sd_values.specs.Messages.{null_answer, Compares, ThenReads, TellsCompatible};
 
 use super::details::{Details, Fault, Which, read_details};
 use iox2_config::types::{Difference, Incompatibility, MessageTypeDetails};

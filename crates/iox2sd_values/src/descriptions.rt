@@ -2,35 +2,26 @@
 //! settings.
 ghost use Rattle.std.specs.Prelude.{◌≡◌, [], Ok};
 ghost use Rattle.iox2_config.specs.Hashing.{pattern_number};
-ghost use Rattle.iox2_static.specs.PublishSubscribe.{publish_subscribe_of};
-ghost use Rattle.iox2_static.specs.RequestResponse.{request_response_of};
-ghost use Rattle.iox2_static.specs.Event.{event_of};
-ghost use Rattle.iox2_static.specs.Blackboard.{blackboard_of};
-ghost use Rattle.iox2_static.specs.declared.static_config.messaging_pattern.MessagingPattern.TheVariants as pattern;
 ghost use Rattle.iox2sd_common.specs.Ids.{number_of};
-ghost use Rattle.iox2sd_common.specs.ReadSettings.{ReadsPublishSubscribe, ReadsEvent};
-ghost use Rattle.iox2sd_common.specs.ReadSettings.{ReadsRequestResponse, ReadsBlackboard};
 ghost use Rattle.iox2sd_values.specs.Causes.{FieldBut, NameCause};
-ghost use Rattle.iox2sd_values.specs.Descriptions.{c_description, ComparesPatterns};
+ghost use Rattle.iox2sd_values.specs.Descriptions.{c_description, ComparesPatterns, DescribesAs};
 ghost use Rattle.iox2sd_values.specs.Descriptions.{publish_subscribe_config, event_config};
 ghost use Rattle.iox2sd_values.specs.Descriptions.{request_response_config, blackboard_config};
-ghost use Rattle.iox2sd_values.specs.Descriptions.{DescribesAs, Fills, FillsNamed};
-ghost use Rattle.iox2sd_values.specs.Descriptions.{MakesNamed, MakesOf, ReadsAs};
+ghost use Rattle.iox2sd_values.specs.Descriptions.{Fills, FillsOf, FillsNamed, MakesBlackboard};
 ghost use Rattle.iox2sd_values.specs.Descriptions.{MakesPublishSubscribe, MakesEvent};
-ghost use Rattle.iox2sd_values.specs.Descriptions.{MakesRequestResponse, MakesBlackboard};
+ghost use Rattle.iox2sd_values.specs.Descriptions.{MakesRequestResponse};
 
 use super::causes::name_cause;
-use super::names::any_service_name;
-use iox2_config::hash::{PatternKind, ServiceHash, ServiceHashError, Sha1Hasher};
+use super::names::{any_service_name, hash_text};
+use iox2_config::hash::{PatternKind, ServiceHash};
 use iox2_static::static_config::messaging_pattern::MessagingPattern;
 use iox2_static::static_config::{blackboard, event, publish_subscribe, request_response};
 use iox2_texts::service_name::ServiceName;
 use iox2sd_common::answers::{FlagAnswer, zero_padded};
 use iox2sd_common::id::Id;
-use iox2sd_common::pattern::pattern_of;
 use iox2sd_common::read_settings::{
-    Field, FieldAnswer, Refusal, no_field, read_blackboard, read_event, read_publish_subscribe,
-    read_request_response,
+    Field, FieldAnswer, Refusal, no_field, pattern_of, read_blackboard, read_event,
+    read_publish_subscribe, read_request_response,
 };
 use iox2sd_common::settings::{
     BlackboardSettings, EventSettings, OptionalDuration, OptionalEventId, PublishSubscribeSettings,
@@ -224,54 +215,6 @@ fn blackboard_config(pattern: &MessagingPattern) -> BlackboardConfig
     }
 }
 
-/// The description of the service that has this name, this hash text, this pattern and this id.
-fn c_description(
-    name: &ServiceName,
-    hash: &ServiceHash,
-    pattern: &MessagingPattern,
-    id: Id,
-) -> ServiceDescription
-    ensures { result ≡ c_description (record {
-      name = name.now;
-      id = number_of id;
-      hash = hash.now;
-      attributes = [];
-      pattern = pattern.now;
-    }) id }
-{
-    let name = name.as_str().as_bytes();
-    let hash = hash.as_str().as_bytes();
-    ServiceDescription {
-        name: zero_padded(name),
-        name_length: name.len(),
-        id,
-        hash: zero_padded(hash),
-        hash_length: hash.len(),
-        pattern: kind_number(pattern.kind()),
-        publish_subscribe: publish_subscribe_config(pattern),
-        event: event_config(pattern),
-        request_response: request_response_config(pattern),
-        blackboard: blackboard_config(pattern),
-    }
-}
-
-/// The description of a service with this name and this pattern, each of which may be refused.
-fn describe(
-    name: Result<ServiceName, Status>,
-    pattern: Result<MessagingPattern, Field>,
-    id: Id,
-) -> Result<ServiceDescription, Refusal>
-    ensures { DescribesAs (MakesNamed (λ n m. MakesOf pattern n (number_of id) m) name) id result }
-{
-    let name = name?;
-    let pattern = pattern?;
-    match ServiceHash::new::<Sha1Hasher>(&name, pattern.kind()) {
-        Ok(hash) => described(&name, &hash, &pattern, id),
-        Err(ServiceHashError::IllegalText) => Err(Refusal::Cause(Status::IllegalHash)),
-        Err(ServiceHashError::HasherFailed) => unreachable!(),
-    }
-}
-
 /// The description of the service that has these. Not inlined, it takes no stack while the hash
 /// text is made.
 #[inline(never)]
@@ -289,7 +232,35 @@ fn described(
       pattern = pattern.now;
     }) id) }
 {
-    Ok(c_description(name, hash, pattern, id))
+    let name = name.as_str().as_bytes();
+    let hash = hash.as_str().as_bytes();
+    Ok(ServiceDescription {
+        name: zero_padded(name),
+        name_length: name.len(),
+        id,
+        hash: zero_padded(hash),
+        hash_length: hash.len(),
+        pattern: kind_number(pattern.kind()),
+        publish_subscribe: publish_subscribe_config(pattern),
+        event: event_config(pattern),
+        request_response: request_response_config(pattern),
+        blackboard: blackboard_config(pattern),
+    })
+}
+
+/// The description of a service with this name and this pattern, each of which may be refused.
+fn describe(
+    name: Result<ServiceName, Status>,
+    pattern: &Result<MessagingPattern, Field>,
+    id: Id,
+) -> Result<ServiceDescription, Refusal>
+    ensures { DescribesAs name pattern.now id result }
+{
+    let name = name?;
+    match pattern {
+        Ok(pattern) => described(&name, &hash_text(pattern.kind(), &name)?, pattern, id),
+        Err(field) => Err(Refusal::Invalid(*field)),
+    }
 }
 
 /// Fills the first struct with what was made, or leaves it as it is.
@@ -308,33 +279,33 @@ fn fill(made: Result<ServiceDescription, Refusal>, out: &mut [ServiceDescription
     }
 }
 
-/// The pattern of a publish-subscribe service with these settings, or the first invalid field.
-fn publish_subscribe_pattern(settings: &PublishSubscribeSettings) -> Result<MessagingPattern, Field>
-    ensures { ReadsAs (ReadsPublishSubscribe settings.now)
-        (λ s. pattern.PublishSubscribe (publish_subscribe_of s)) result }
-{
-    let settings = read_publish_subscribe(settings)?;
-    Ok(MessagingPattern::PublishSubscribe(publish_subscribe::StaticConfig::with_settings(
-        &settings,
-    )))
-}
-
-/// Describes the service, or reports why not.
-fn describe_publish_subscribe(
-    settings: &[PublishSubscribeSettings],
+/// Describes the service with this pattern, or reports why not and for what cause.
+fn describe_as(
+    pattern: &Result<MessagingPattern, Field>,
     name: &[u8],
     internal: bool,
     id: Id,
     out: &mut [ServiceDescription],
 ) -> FieldAnswer
-    ensures { FillsNamed MakesPublishSubscribe settings.now internal name.now id
-        out.old result out.new }
+    ensures tells { FieldBut (λ reported. FillsOf pattern.now internal name.now id
+        out.old reported out.new) result }
+    ensures cause { NameCause internal name.now result.status result.cause }
 {
-    let [settings, ..] = settings else {
-        return no_field(Status::Null);
-    };
-    let name = any_service_name(name, internal);
-    fill(describe(name, publish_subscribe_pattern(settings), id), out)
+    let reported = fill(describe(any_service_name(name, internal), pattern, id), out);
+    FieldAnswer {
+        cause: name_cause(reported.status, name, internal),
+        ..reported
+    }
+}
+
+/// The pattern of a publish-subscribe service with these settings, or the first invalid field.
+fn publish_subscribe_pattern(settings: &PublishSubscribeSettings) -> Result<MessagingPattern, Field>
+    ensures { MakesPublishSubscribe settings.now result }
+{
+    let settings = read_publish_subscribe(settings)?;
+    Ok(MessagingPattern::PublishSubscribe(publish_subscribe::StaticConfig::with_settings(
+        &settings,
+    )))
 }
 
 /// Describes a publish-subscribe service. Its name may be one of the system's own where `internal`
@@ -357,38 +328,24 @@ pub extern "C" fn iox2sd_describe_publish_subscribe_at(
         name.now id out.old reported out.new) result }
     ensures cause { NameCause internal name.now result.status result.cause }
 {
-    let reported = describe_publish_subscribe(settings, name, internal, id, out);
-    FieldAnswer {
-        cause: name_cause(reported.status, name, internal),
-        ..reported
-    }
+    let [settings, ..] = settings else {
+        return no_field(Status::Null);
+    };
+    describe_as(
+        &publish_subscribe_pattern(settings),
+        name,
+        internal,
+        id,
+        out,
+    )
 }
 
 /// The pattern of an event service with these settings, or the first invalid field.
 fn event_pattern(settings: &EventSettings) -> Result<MessagingPattern, Field>
-    ensures { ReadsAs (ReadsEvent settings.now)
-        (λ s. pattern.Event (event_of s)) result }
+    ensures { MakesEvent settings.now result }
 {
     let settings = read_event(settings)?;
     Ok(MessagingPattern::Event(event::StaticConfig::with_settings(&settings)))
-}
-
-/// Describes the service, or reports why not.
-fn describe_event(
-    settings: &[EventSettings],
-    name: &[u8],
-    internal: bool,
-    id: Id,
-    out: &mut [ServiceDescription],
-) -> FieldAnswer
-    ensures { FillsNamed MakesEvent settings.now internal name.now id
-        out.old result out.new }
-{
-    let [settings, ..] = settings else {
-        return no_field(Status::Null);
-    };
-    let name = any_service_name(name, internal);
-    fill(describe(name, event_pattern(settings), id), out)
 }
 
 /// Describes an event service. Names are read, and calls refused, as of a publish-subscribe
@@ -405,38 +362,18 @@ pub extern "C" fn iox2sd_describe_event_at(
         id out.old reported out.new) result }
     ensures cause { NameCause internal name.now result.status result.cause }
 {
-    let reported = describe_event(settings, name, internal, id, out);
-    FieldAnswer {
-        cause: name_cause(reported.status, name, internal),
-        ..reported
-    }
+    let [settings, ..] = settings else {
+        return no_field(Status::Null);
+    };
+    describe_as(&event_pattern(settings), name, internal, id, out)
 }
 
 /// The pattern of a request-response service with these settings, or the first invalid field.
 fn request_response_pattern(settings: &RequestResponseSettings) -> Result<MessagingPattern, Field>
-    ensures { ReadsAs (ReadsRequestResponse settings.now)
-        (λ s. pattern.RequestResponse (request_response_of s)) result }
+    ensures { MakesRequestResponse settings.now result }
 {
     let settings = read_request_response(settings)?;
     Ok(MessagingPattern::RequestResponse(request_response::StaticConfig::with_settings(&settings)))
-}
-
-/// Describes the service, or reports why not.
-fn describe_request_response(
-    settings: &[RequestResponseSettings],
-    name: &[u8],
-    internal: bool,
-    id: Id,
-    out: &mut [ServiceDescription],
-) -> FieldAnswer
-    ensures { FillsNamed MakesRequestResponse settings.now internal name.now id
-        out.old result out.new }
-{
-    let [settings, ..] = settings else {
-        return no_field(Status::Null);
-    };
-    let name = any_service_name(name, internal);
-    fill(describe(name, request_response_pattern(settings), id), out)
 }
 
 /// Describes a request-response service. Names are read, and calls refused, as of a
@@ -454,38 +391,18 @@ pub extern "C" fn iox2sd_describe_request_response_at(
         id out.old reported out.new) result }
     ensures cause { NameCause internal name.now result.status result.cause }
 {
-    let reported = describe_request_response(settings, name, internal, id, out);
-    FieldAnswer {
-        cause: name_cause(reported.status, name, internal),
-        ..reported
-    }
+    let [settings, ..] = settings else {
+        return no_field(Status::Null);
+    };
+    describe_as(&request_response_pattern(settings), name, internal, id, out)
 }
 
 /// The pattern of a blackboard service with these settings, which are always valid.
 fn blackboard_pattern(settings: &BlackboardSettings) -> Result<MessagingPattern, Field>
-    ensures { ReadsAs (ReadsBlackboard settings.now)
-        (λ s. pattern.Blackboard (blackboard_of s)) result }
+    ensures { MakesBlackboard settings.now result }
 {
     let settings = read_blackboard(settings);
     Ok(MessagingPattern::Blackboard(blackboard::StaticConfig::with_settings(&settings)))
-}
-
-/// Describes the service, or reports why not.
-fn describe_blackboard(
-    settings: &[BlackboardSettings],
-    name: &[u8],
-    internal: bool,
-    id: Id,
-    out: &mut [ServiceDescription],
-) -> FieldAnswer
-    ensures { FillsNamed MakesBlackboard settings.now internal name.now id
-        out.old result out.new }
-{
-    let [settings, ..] = settings else {
-        return no_field(Status::Null);
-    };
-    let name = any_service_name(name, internal);
-    fill(describe(name, blackboard_pattern(settings), id), out)
 }
 
 /// Describes a blackboard service. Names are read, and calls refused, as of a publish-subscribe
@@ -502,11 +419,10 @@ pub extern "C" fn iox2sd_describe_blackboard_at(
         id out.old reported out.new) result }
     ensures cause { NameCause internal name.now result.status result.cause }
 {
-    let reported = describe_blackboard(settings, name, internal, id, out);
-    FieldAnswer {
-        cause: name_cause(reported.status, name, internal),
-        ..reported
-    }
+    let [settings, ..] = settings else {
+        return no_field(Status::Null);
+    };
+    describe_as(&blackboard_pattern(settings), name, internal, id, out)
 }
 
 /// Whether two numbers are those of one pattern. Refused is a number that is not that of a pattern

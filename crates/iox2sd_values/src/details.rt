@@ -1,7 +1,7 @@
 //! What a caller says of the parts of a message.
 ghost use Rattle.std.specs.Prelude.{◌≡◌};
-ghost use Rattle.iox2sd_values.specs.Details.{ReadsVariant, ReadsPart, ReadsDetails, ShapesPart};
-ghost use Rattle.iox2sd_values.specs.Details.{ShapesDetails, ChecksPart};
+ghost use Rattle.iox2sd_values.specs.Messages.{ReadsVariant, ReadsPart, ReadsDetails, ShapesPart};
+ghost use Rattle.iox2sd_values.specs.Messages.{ShapesDetails, ChecksPart};
 
 use iox2_config::types::{MessageTypeDetails, TypeDetail, TypeDetailError, TypeVariant};
 use iox2_texts::bounded::StringModificationError;

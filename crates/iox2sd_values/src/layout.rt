@@ -1,7 +1,7 @@
 //! Where the parts of a message lie, and its layout.
 ghost use Rattle.std.specs.Prelude.{◌≡◌};
-ghost use Rattle.iox2sd_values.specs.Layouts.{LaysOut, layout_answer, TellsLayout};
-ghost use Rattle.iox2sd_values.specs.Layouts.{PlacesOf, places_answer, TellsPlaces};
+ghost use Rattle.iox2sd_values.specs.Messages.{LaysOut, layout_answer, TellsLayout};
+ghost use Rattle.iox2sd_values.specs.Messages.{PlacesOf, places_answer, TellsPlaces};
 
 use super::details::{Details, shape_details};
 use iox2_config::types::{Places, SampleLayout};

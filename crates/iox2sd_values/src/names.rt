@@ -1,9 +1,8 @@
 //! The names of services, and their hash texts.
 ghost use Rattle.std.specs.Prelude.{◌≡◌, nat_eq, false, true};
 ghost use Rattle.std.specs.List.{starts_with};
-ghost use Rattle.iox2sd_values.specs.Names.{ReadsName, ReadsInternalName, Prefixes, TellsPrefixed};
-ghost use Rattle.iox2sd_values.specs.Names.{ReadsAnyName, HashesName, HashesInternalName, MakesText};
-ghost use Rattle.iox2sd_values.specs.Names.{TellsHash, TellsInternalHash};
+ghost use Rattle.iox2sd_values.specs.Names.{ReadsAnyName, Prefixes, TellsPrefixed, MakesText, Hashes};
+ghost use Rattle.iox2sd_values.specs.Names.{TellsHash, TellsInternalHash, TellsAnyHash};
 ghost use Rattle.iox2sd_values.specs.Causes.{TextBut, NameCause};
 ghost use lib.Chars.{codes};
 
@@ -11,44 +10,26 @@ use super::causes::name_cause;
 use iox2_config::hash::{PatternKind, ServiceHash, ServiceHashError, Sha1Hasher};
 use iox2_texts::service_name::{INTERNAL_SERVICE_PREFIX, ServiceName, ServiceNameError};
 use iox2sd_common::answers::{TextAnswer, no_text, write};
-use iox2sd_common::pattern::pattern_of;
+use iox2sd_common::read_settings::pattern_of;
 use iox2sd_common::status::Status;
 use std::str;
 
-/// The name that a user gives.
-fn service_name(text: &[u8]) -> Result<ServiceName, Status>
-    ensures { ReadsName text.now result }
-{
-    let Ok(text) = str::from_utf8(text) else {
-        return Err(Status::NotUtf8);
-    };
-    match ServiceName::new(text) {
-        Ok(name) => Ok(name),
-        Err(_) => Err(Status::BadServiceName),
-    }
-}
-
-/// The name, which may be one of the system's own.
-fn internal_service_name(text: &[u8]) -> Result<ServiceName, Status>
-    ensures { ReadsInternalName text.now result }
-{
-    let Ok(text) = str::from_utf8(text) else {
-        return Err(Status::NotUtf8);
-    };
-    match ServiceName::internal_new(text) {
-        Ok(name) => Ok(name),
-        Err(_) => Err(Status::BadServiceName),
-    }
-}
-
-/// The name, which may be one of the system's own where `internal` says so.
+/// The name that a user gives, or one of the system's own where `internal` says so.
 pub(super) fn any_service_name(text: &[u8], internal: bool) -> Result<ServiceName, Status>
     ensures { ReadsAnyName internal text.now result }
 {
+    let Ok(text) = str::from_utf8(text) else {
+        return Err(Status::NotUtf8);
+    };
     if internal {
-        internal_service_name(text)
-    } else {
-        service_name(text)
+        return match ServiceName::internal_new(text) {
+            Ok(name) => Ok(name),
+            Err(_) => Err(Status::BadServiceName),
+        };
+    }
+    match ServiceName::new(text) {
+        Ok(name) => Ok(name),
+        Err(_) => Err(Status::BadServiceName),
     }
 }
 
@@ -89,7 +70,7 @@ pub extern "C" fn iox2sd_internal_service_name_at(text: &[u8], out: &mut [u8]) -
 }
 
 /// The hash text of a pattern and a name.
-fn hash_text(kind: PatternKind, name: &ServiceName) -> Result<ServiceHash, Status>
+pub(super) fn hash_text(kind: PatternKind, name: &ServiceName) -> Result<ServiceHash, Status>
     ensures { MakesText kind name.now result }
 {
     match ServiceHash::new::<Sha1Hasher>(name, kind) {
@@ -99,33 +80,36 @@ fn hash_text(kind: PatternKind, name: &ServiceName) -> Result<ServiceHash, Statu
     }
 }
 
-/// The hash text of a pattern's number and a user's name.
-fn hash_of(pattern: u64, name: &[u8]) -> Result<ServiceHash, Status>
-    ensures { HashesName pattern name.now result }
+/// The hash text of a pattern's number and a name, which is read so.
+fn hash_of(pattern: u64, name: &[u8], internal: bool) -> Result<ServiceHash, Status>
+    ensures { Hashes internal pattern name.now result }
 {
     let Some(kind) = pattern_of(pattern) else {
         return Err(Status::UnknownPattern);
     };
-    hash_text(kind, &service_name(name)?)
-}
-
-/// The hash text of a pattern's number and any name.
-fn internal_hash_of(pattern: u64, name: &[u8]) -> Result<ServiceHash, Status>
-    ensures { HashesInternalName pattern name.now result }
-{
-    let Some(kind) = pattern_of(pattern) else {
-        return Err(Status::UnknownPattern);
-    };
-    hash_text(kind, &internal_service_name(name)?)
+    hash_text(kind, &any_service_name(name, internal)?)
 }
 
 /// Writes the hash text, or says why there is none.
-fn tell_hash(pattern: u64, name: &[u8], out: &mut [u8]) -> TextAnswer
-    ensures { TellsHash pattern name.now out.old result out.new }
+fn tell_hash(pattern: u64, name: &[u8], internal: bool, out: &mut [u8]) -> TextAnswer
+    ensures { TellsAnyHash internal pattern name.now out.old result out.new }
 {
-    match hash_of(pattern, name) {
+    match hash_of(pattern, name, internal) {
         Ok(hash) => write(hash.as_str().as_bytes(), out),
         Err(status) => no_text(status),
+    }
+}
+
+/// Writes the hash text, or says why there is none and for what cause.
+fn write_hash(pattern: u64, name: &[u8], internal: bool, out: &mut [u8]) -> TextAnswer
+    ensures tells { TextBut (λ reported. TellsAnyHash internal pattern name.now out.old reported
+        out.new) result }
+    ensures cause { NameCause internal name.now result.status result.cause }
+{
+    let reported = tell_hash(pattern, name, internal, out);
+    TextAnswer {
+        cause: name_cause(reported.status, name, internal),
+        ..reported
     }
 }
 
@@ -140,21 +124,7 @@ pub extern "C" fn iox2sd_hash_text_at(pattern: u64, name: &[u8], out: &mut [u8])
         result }
     ensures cause { NameCause false name.now result.status result.cause }
 {
-    let reported = tell_hash(pattern, name, out);
-    TextAnswer {
-        cause: name_cause(reported.status, name, false),
-        ..reported
-    }
-}
-
-/// Writes the hash text of any name, or says why there is none.
-fn tell_internal_hash(pattern: u64, name: &[u8], out: &mut [u8]) -> TextAnswer
-    ensures { TellsInternalHash pattern name.now out.old result out.new }
-{
-    match internal_hash_of(pattern, name) {
-        Ok(hash) => write(hash.as_str().as_bytes(), out),
-        Err(status) => no_text(status),
-    }
+    write_hash(pattern, name, false, out)
 }
 
 /// As `iox2sd_hash_text`, for a name that may be one of the system's own.
@@ -169,9 +139,5 @@ pub extern "C" fn iox2sd_internal_hash_text_at(
         result }
     ensures cause { NameCause true name.now result.status result.cause }
 {
-    let reported = tell_internal_hash(pattern, name, out);
-    TextAnswer {
-        cause: name_cause(reported.status, name, true),
-        ..reported
-    }
+    write_hash(pattern, name, true, out)
 }

@@ -1,10 +1,11 @@
 //! Whether a service meets what an opener requires.
 ghost use Rattle.std.specs.Prelude.{◌≡◌};
-ghost use Rattle.iox2sd_values.specs.Satisfies.{setting_number, satisfied, ReadsFixed};
-ghost use Rattle.iox2sd_values.specs.Satisfies.{publish_subscribe_of, request_response_of};
-ghost use Rattle.iox2sd_values.specs.Satisfies.{blackboard_of, settings_of, ComparesEvents};
-ghost use Rattle.iox2sd_values.specs.Satisfies.{SatisfiesPublishSubscribe, SatisfiesEvent};
-ghost use Rattle.iox2sd_values.specs.Satisfies.{SatisfiesRequestResponse, SatisfiesBlackboard};
+ghost use Rattle.iox2sd_values.specs.Descriptions.{c_publish_subscribe, c_request_response};
+ghost use Rattle.iox2sd_values.specs.Descriptions.{c_blackboard};
+ghost use Rattle.iox2sd_values.specs.Satisfies.{setting_number, satisfied, ReadsFixed, settings_of};
+ghost use Rattle.iox2sd_values.specs.Satisfies.{ComparesEvents, SatisfiesPublishSubscribe};
+ghost use Rattle.iox2sd_values.specs.Satisfies.{SatisfiesEvent, SatisfiesRequestResponse};
+ghost use Rattle.iox2sd_values.specs.Satisfies.{SatisfiesBlackboard};
 
 use super::descriptions::{
     BlackboardConfig, EventConfig, PublishSubscribeConfig, RequestResponseConfig,
@@ -65,7 +66,7 @@ fn satisfied(unmet: Option<Setting>) -> FieldAnswer
 
 /// What is fixed of a publish-subscribe service, beside the types of its messages.
 fn publish_subscribe_of(config: &PublishSubscribeConfig) -> publish_subscribe::StaticConfig
-    ensures { result ≡ publish_subscribe_of config.now }
+    ensures { c_publish_subscribe result ≡ config.now }
 {
     publish_subscribe::StaticConfig {
         max_subscribers: config.max_subscribers,
@@ -156,7 +157,7 @@ pub extern "C" fn iox2sd_event_satisfies_at(
 
 /// What is fixed of a request-response service, beside the types of its messages.
 fn request_response_of(config: &RequestResponseConfig) -> request_response::StaticConfig
-    ensures { result ≡ request_response_of config.now }
+    ensures { c_request_response result ≡ config.now }
 {
     request_response::StaticConfig {
         enable_safe_overflow_for_requests: config.enable_safe_overflow_for_requests,
@@ -191,7 +192,7 @@ pub extern "C" fn iox2sd_request_response_satisfies_at(
 
 /// What is fixed of a blackboard service, beside the type of its keys.
 fn blackboard_of(config: &BlackboardConfig) -> blackboard::StaticConfig
-    ensures { result ≡ blackboard_of config.now }
+    ensures { c_blackboard result ≡ config.now }
 {
     blackboard::StaticConfig {
         max_readers: config.max_readers,

@@ -5,12 +5,13 @@ ghost use Rattle.iox2_config.specs.Defaults.{default_publish_subscribe, default_
 ghost use Rattle.iox2_config.specs.Defaults.{default_request_response, default_blackboard};
 ghost use Rattle.iox2sd_common.specs.Settings.{c_publish_subscribe, c_event};
 ghost use Rattle.iox2sd_common.specs.Settings.{c_request_response, c_blackboard};
-ghost use Rattle.iox2sd_values.specs.Settings.{TellsGlobalDefaults, ChecksPublishSubscribe};
+ghost use Rattle.iox2sd_values.specs.Settings.{TellsGlobalDefaults, checked, ChecksPublishSubscribe};
 ghost use Rattle.iox2sd_values.specs.Settings.{ChecksEvent, ChecksRequestResponse, ChecksGlobal};
 
 use iox2_config::config::{Blackboard, Event, Node, PublishSubscribe, RequestResonse, Service};
 use iox2sd_common::read_settings::{
-    FieldAnswer, no_field, read_event, read_global, read_publish_subscribe, read_request_response,
+    Field, FieldAnswer, no_field, read_event, read_global, read_publish_subscribe,
+    read_request_response,
 };
 use iox2sd_common::settings::{
     BlackboardSettings, EventSettings, GlobalSettings, PublishSubscribeSettings,
@@ -65,6 +66,16 @@ pub extern "C" fn iox2sd_blackboard_defaults() -> BlackboardSettings
     blackboard_of(&Blackboard::default())
 }
 
+/// The answer on what the reading gave.
+fn checked<T: Drop>(read: Result<T, Field>) -> FieldAnswer
+    ensures { result ≡ checked read }
+{
+    match read {
+        Ok(_) => no_field(Status::Done),
+        Err(field) => field.answer(),
+    }
+}
+
 /// Whether the settings of a publish-subscribe service are valid.
 ///
 /// Refused are, in this order, NULL (`Null`), and the first number that is not that of a strategy,
@@ -75,13 +86,10 @@ pub extern "C" fn iox2sd_publish_subscribe_settings_check_at(
 ) -> FieldAnswer
     ensures { ChecksPublishSubscribe settings.now result }
 {
-    match settings {
-        [] => no_field(Status::Null),
-        [first, ..] => match read_publish_subscribe(first) {
-            Ok(_) => no_field(Status::Done),
-            Err(field) => field.answer(),
-        },
-    }
+    let [settings, ..] = settings else {
+        return no_field(Status::Null);
+    };
+    checked(read_publish_subscribe(settings))
 }
 
 /// Whether the settings of an event service are valid.
@@ -92,13 +100,10 @@ pub extern "C" fn iox2sd_publish_subscribe_settings_check_at(
 pub extern "C" fn iox2sd_event_settings_check_at(settings: &[EventSettings]) -> FieldAnswer
     ensures { ChecksEvent settings.now result }
 {
-    match settings {
-        [] => no_field(Status::Null),
-        [first, ..] => match read_event(first) {
-            Ok(_) => no_field(Status::Done),
-            Err(field) => field.answer(),
-        },
-    }
+    let [settings, ..] = settings else {
+        return no_field(Status::Null);
+    };
+    checked(read_event(settings))
 }
 
 /// Whether the settings of a request-response service are valid. Refused as those of a
@@ -109,13 +114,10 @@ pub extern "C" fn iox2sd_request_response_settings_check_at(
 ) -> FieldAnswer
     ensures { ChecksRequestResponse settings.now result }
 {
-    match settings {
-        [] => no_field(Status::Null),
-        [first, ..] => match read_request_response(first) {
-            Ok(_) => no_field(Status::Done),
-            Err(field) => field.answer(),
-        },
-    }
+    let [settings, ..] = settings else {
+        return no_field(Status::Null);
+    };
+    checked(read_request_response(settings))
 }
 
 /// Whether the settings of a system are valid.
@@ -126,11 +128,8 @@ pub extern "C" fn iox2sd_request_response_settings_check_at(
 pub extern "C" fn iox2sd_global_settings_check_at(settings: &[GlobalSettings]) -> FieldAnswer
     ensures { ChecksGlobal settings.now result }
 {
-    match settings {
-        [] => no_field(Status::Null),
-        [first, ..] => match read_global(first) {
-            Ok(_) => no_field(Status::Done),
-            Err(field) => field.answer(),
-        },
-    }
+    let [settings, ..] = settings else {
+        return no_field(Status::Null);
+    };
+    checked(read_global(settings))
 }

@@ -3,7 +3,7 @@
 ghost use Rattle.std.specs.Prelude.{◌≡◌, ◌↔◌, IsTrue};
 ghost use Rattle.iox2_texts.specs.Name.{IsName, MakesName};
 ghost use Rattle.iox2_texts.specs.Text.{IsText};
-ghost use Rattle.iox2sd_values.specs.Texts.{IsLegal, FindsIllegal, Explains, Refused, ChecksText};
+ghost use Rattle.iox2sd_values.specs.Texts.{IsLegal, FindsIllegal, Refused, ChecksText};
 ghost use Rattle.iox2sd_values.specs.Texts.{ChecksName};
 ghost use Rattle.iox2sd_values.specs.Texts.{MakesPath, MakesFileName, MakesFilePath, MakesRestricted};
 
@@ -50,43 +50,22 @@ fn first_illegal(text: &[u8], alphabet: Alphabet) -> Option<usize>
     None
 }
 
-/// Why a text that was refused is none of its kind; the index of the byte that is wrong is written.
-fn explain(
-    error: SemanticStringError,
-    text: &[u8],
-    alphabet: Alphabet,
-    most: usize,
-    at: &mut usize,
-) -> Status
-    ensures { Explains error text.now alphabet most at.old result at.new }
-{
-    match error {
-        SemanticStringError::ExceedsMaximumLength => {
-            *at = most;
-            Status::TooLong
-        }
-        SemanticStringError::InvalidContent => {
-            if text.is_empty() {
-                return Status::Empty;
-            }
-            match first_illegal(text, alphabet) {
-                Some(i) => {
-                    *at = i;
-                    Status::IllegalByte
-                }
-                None => Status::NoFileName,
-            }
-        }
-    }
-}
-
-/// The answer on a text that was refused.
+/// The answer on a text that was refused: why it is none of its kind, and which byte is wrong.
 fn refusal(error: SemanticStringError, text: &[u8], alphabet: Alphabet, most: usize) -> PlaceAnswer
     ensures { Refused error text.now alphabet most result }
 {
-    let mut at = 0;
-    let status = explain(error, text, alphabet, most, &mut at);
-    position(status, at)
+    match error {
+        SemanticStringError::ExceedsMaximumLength => position(Status::TooLong, most),
+        SemanticStringError::InvalidContent => {
+            if text.is_empty() {
+                return position(Status::Empty, 0);
+            }
+            match first_illegal(text, alphabet) {
+                Some(i) => position(Status::IllegalByte, i),
+                None => position(Status::NoFileName, 0),
+            }
+        }
+    }
 }
 
 /// Whether every byte is from 1 to 127. No byte ends the loop early, so many are looked at at once.

@@ -2,9 +2,7 @@
 ghost use Rattle.std.specs.Prelude.{◌≡◌, ◌≤◌, All};
 ghost use Rattle.iox2_dynamic.specs.Steps.{DeadStep};
 ghost use Rattle.iox2sd.specs.Answers.{death_answer};
-ghost use Rattle.iox2sd.specs.Counts.{counted};
-ghost use Rattle.iox2sd.specs.Deaths.{action_for, Keeps, Dies, Went};
-ghost use Rattle.iox2sd.specs.Kept.{port_role};
+ghost use Rattle.iox2sd.specs.Deaths.{action_for, counted, Keeps, Dies, Went, port_role};
 ghost use Rattle.iox2sd.specs.Objects.{IsSoundObject, At, Nothing};
 ghost use Rattle.iox2sd.specs.declared.values.Death.TheVariants as death;
 

@@ -5,8 +5,8 @@ ghost use Rattle.iox2_dynamic.specs.Details.{node_of};
 ghost use Rattle.iox2_dynamic.specs.Ports.{ports_as, ports_of_node};
 ghost use Rattle.iox2sd.specs.Listings.{Puts, PutsAll, ports_in, ports_of_kind, ListsAll, ListsPorts};
 ghost use Rattle.iox2sd.specs.Listings.{nodes_in, ListsNodes, listed_answer};
-ghost use Rattle.iox2sd.specs.NodeListings.{Counts as CountsTo, PutsAt, Notes, NotesOfRole};
-ghost use Rattle.iox2sd.specs.NodeListings.{AllFit, Stand, ListsPortsOf};
+ghost use Rattle.iox2sd.specs.Listings.{Counts as CountsTo, PutsAt, Notes, NotesOfRole};
+ghost use Rattle.iox2sd.specs.Listings.{AllFit, Stand, ListsPortsOf};
 ghost use Rattle.iox2sd.specs.Objects.{IsSoundObject, Asked};
 ghost use Rattle.iox2sd.specs.Ports.{c_port};
 ghost use Rattle.iox2sd_common.specs.Ids.{id_of};
@@ -240,7 +240,7 @@ fn put_at(out: &mut [Port], index: Option<usize>, details: &PortDetails)
 /// Puts the port with these details, if it is to be listed, behind those that were put before, as
 /// far as the array goes, and counts it.
 #[inline(always)]
-#[tactic(auto, using(crate::proofs::NodeListings::noted))]
+#[tactic(auto, using(crate::proofs::Listings::noted))]
 fn note(is_its: bool, out: &mut [Port], count: &mut Option<usize>, details: &PortDetails)
     ensures { Notes is_its (out.old, count.old) (c_port details.now) (out.new, count.new) }
 {
@@ -297,7 +297,7 @@ fn all_fit(service: &DynamicConfig, length: usize) -> bool
 }
 
 /// Puts the ports of the node at the front of an array that all ports would fit, and counts them.
-#[tactic(auto, using(crate::proofs::NodeListings::all_fit, crate::proofs::NodeListings::not_too_many))]
+#[tactic(auto, using(crate::proofs::Listings::all_fit, crate::proofs::Listings::not_too_many))]
 fn note_few(service: &DynamicConfig, node: &UniqueNodeId, out: &mut [Port]) -> usize
     requires { AllFit service.now (length out.old) }
     ensures { ListsAll (map c_port (ports_of_node node.now service.now.ports))

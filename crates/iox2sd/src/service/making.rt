@@ -5,7 +5,7 @@ ghost use Rattle.iox2sd.specs.Services.{MakesAt, FreesAt, Makes};
 
 use super::Service;
 use iox2_dynamic::dynamic_config::{DynamicConfig, MessagingPatternSettings};
-use iox2sd_common::pattern::pattern_of;
+use iox2sd_common::read_settings::pattern_of;
 use iox2sd_common::status::Status;
 use std::alloc::Global;
 

@@ -5,9 +5,9 @@
 ghost use Rattle.std.specs.Prelude.{◌≡◌, All, Err, length};
 ghost use Rattle.iox2_config.specs.Hashing.{pattern_number};
 ghost use Rattle.iox2sd.specs.Answers.{id_answer, number_answer, port_answer, roles_answer};
-ghost use Rattle.iox2sd.specs.Finding.{FindsNode, FindsPort};
 ghost use Rattle.iox2sd.specs.Objects.{IsSoundObject, Asked, Nothing};
-ghost use Rattle.iox2sd.specs.Queries.{Gives, RoleAnswer, roles_in, PortsAnswer, RoomAnswer, NodeRoomAnswer};
+ghost use Rattle.iox2sd.specs.Queries.{Gives, RoleAnswer, roles_in, PortsAnswer, RoomAnswer};
+ghost use Rattle.iox2sd.specs.Queries.{NodeRoomAnswer, FindsNode, FindsPort};
 ghost use Rattle.iox2sd_common.specs.Answers.{flag_answer, c_count};
 
 use super::Service;

@@ -1,7 +1,7 @@
-use Rattle.std.proofs.Common.{◌≡◌, ◌≤◌, ◌+◌, take, All}
-use Rattle.iox2sd_values.specs.Requirements.{HasText}
+use Rattle.std.proofs.Common.{◌≤◌, ◌+◌, take, All}
+use Rattle.iox2sd_values.specs.Attributes.{HasText}
 use Rattle.iox2sd_values.proofs.attributes.check_keys.Given as goal
 
 -- the keys before the place are legal
 abbrev pub invariant-loop-i : goal.invariant-loop-i
-invariant-loop-i l = All HasText (take l.i l.fn.keys) × (l.fn.pairs + l.i ≤ 16) × (l.at ≡ l.fn.at)
+invariant-loop-i l = All HasText (take l.i l.fn.keys) × (l.fn.pairs + l.i ≤ 16)

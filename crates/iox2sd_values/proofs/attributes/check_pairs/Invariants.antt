@@ -1,7 +1,7 @@
-use Rattle.std.proofs.Common.{◌≡◌, ◌≤◌, take, All}
+use Rattle.std.proofs.Common.{◌≤◌, take, All}
 use Rattle.iox2sd_values.specs.Attributes.{IsLegal}
 use Rattle.iox2sd_values.proofs.attributes.check_pairs.Given as goal
 
 -- the pairs before the place are legal
 abbrev pub invariant-loop-i : goal.invariant-loop-i
-invariant-loop-i l = All IsLegal (take l.i l.fn.pairs) × (l.i ≤ 16) × (l.at ≡ l.fn.at)
+invariant-loop-i l = All IsLegal (take l.i l.fn.pairs) × (l.i ≤ 16)

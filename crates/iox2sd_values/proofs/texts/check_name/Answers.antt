@@ -1,15 +1,13 @@
-use Rattle.std.proofs.Common.{arith}
+use Rattle.std.proofs.Common.{arith, refl}
 use Rattle.std.specs.Prelude.{Ok, Err}
-use Rattle.iox2_texts.specs.declared.bounded.SemanticStringError.TheVariants.{InvalidContent}
-use Rattle.iox2_texts.specs.declared.bounded.SemanticStringError.TheVariants.{ExceedsMaximumLength}
+use Rattle.iox2_texts.specs.declared.bounded.SemanticStringError.TheVariants.{InvalidContent, ExceedsMaximumLength}
 use Rattle.iox2_texts.proofs.VerifyLemmas.{refuted}
-use Rattle.iox2sd_values.proofs.Legal.{made}
 use Rattle.iox2sd_values.proofs.texts.check_name.Goals as goal
 
 pub returns-then-is_name : goal.returns-then-is_name
 returns-then-is_name c =
-    let name = made c.args.most c.args.text.now (c.is_name.ensures.0 c.if-is_name.true) in
-    (Ok name.0, name.1, c.position.ensures)
+    let name = c.is_name.ensures.0 c.if-is_name.true in
+    (Ok c.args.text.now, (refl, name.0.0, name), c.position.ensures)
 
 pub returns-then-text-most : goal.returns-then-text-most
 returns-then-text-most c = (Err ExceedsMaximumLength, c.if-text-most.true, c.refusal.ensures)

@@ -1,5 +1,5 @@
 -- `lend` borrows what lies at the pointer, and the slot follows it.
-use Rattle.iox2sd.proofs.Steps.{◌≡◌, ℕ, List, [], ◌∷◌, Option, is_some, true, sym, refl, Fml, fsep, ftrue, flft, full_share, ent, id⊢, never, fact, tables, no, shows, cell_at, lone, RattleType, Valss, RawPtr, Ptr, block_ptr, ptr_val, in_a_block, MutRef, mut_vals, mut_Tells, plain, nothing, heard, peeks, opens, shape, within, Stays, stay_dropped, walk_of, says, ends_at, named, Val, vptr, vstruct, vcons, vnil, alloc_all, pass_all, free_all, look_at, get, sets, through, env, proved, bare, sem, block, ‵, raw, ◌⊛◌, some, later, ◌$◌, ◌∵◌, !, qed, move, keep, drop, use1, split, join, fsplit, fsplit3, fjoin, fpack, feq_i, pick, await, rewrite, at_ret, suffices, frame, group, done, whole, sub, look_in, enter, of_opd, load, stop, fld, first, blocks, exec, returns, after}
+use Rattle.iox2sd.proofs.Steps.{◌≡◌, ℕ, List, [], ◌∷◌, Option, is_some, true, sym, refl, Fml, fsep, ftrue, flft, full_share, ent, id⊢, never, fact, tables, no, shows, cell_at, lone, RattleType, Valss, RawPtr, Ptr, block_ptr, ptr_val, in_a_block, MutRef, mut_vals, mut_Tells, plain, nothing, heard, peeks, opens, shape, within, Stays, stay_dropped, walk_of, says, ends_at, named, Val, vptr, vstruct, vcons, vnil, alloc_all, pass_all, free_all, look_at, get, sets, through, env, proved, bare, sem, block, ‵, raw, ◌⊛◌, some, later, ◌$◌, ◌∵◌, !, qed, move, keep, drop, use1, split, join, fsplit, fsplit3, fjoin, fpack, feq_i, pick, await, rewrite, at_ret, suffices, frame, group, done, whole, sub, look_in, enter, of_opd, load, stop, fld, first, blocks, exec, returns, after, the_some}
 use seplogic.Ra.Ura.{Ura}
 use base.Fml.{Lft, GName, Share}
 use base.Logic.{sep}
@@ -14,7 +14,6 @@ use denote.Triple.Walked.{Goes-spent_ref}
 use Rattle.std.specs.Ptr.{points_to}
 use Rattle.iox2_dynamic.specs.Service.{Service}
 use Rattle.iox2_dynamic.specs.contracts.dynamic_config.service.DynamicConfig as DynamicConfig
-use Rattle.iox2sd.proofs.There.{the_some}
 use Rattle.iox2sd.proofs.service.Slot.TheLaws as slot
 use Rattle.iox2sd.proofs.service.Slot.lend.Code as code
 use Rattle.iox2sd.proofs.service.Slot.lend.Statement.{statement}

@@ -1,5 +1,5 @@
 use Rattle.std.proofs.Common.{rules}
-use Rattle.iox2sd.proofs.NodeListings.{both_noted}
+use Rattle.iox2sd.proofs.Listings.{both_noted}
 use Rattle.iox2sd.proofs.service.listings.note_all.Goals as goal
 
 pub returns : goal.returns

@@ -1,5 +1,5 @@
 use Rattle.std.proofs.Common.{◌≡◌, refl, sym, rules}
-use Rattle.iox2sd.proofs.NodeListings.{ports_noted}
+use Rattle.iox2sd.proofs.Listings.{ports_noted}
 use Rattle.iox2sd.proofs.service.listings.note_ports.Goals as goal
 
 pub returns : goal.returns
