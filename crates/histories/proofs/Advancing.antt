@@ -1,28 +1,14 @@
 -- What an event does to a front, and the configurations after the begin of a call.
-use Rattle.std.proofs.Common.{◌≡◌, ℕ, ◌+◌, ◌<◌, ◌≤◌, List, [], ◌∷◌, ◌++◌, length, get_or, sym, ◌∙◌, ap, subst, arith, inl, inr, Option, suc, refl, Some, None}
-use Rattle.std.specs.Int.{bit_at}
-use Rattle.std.specs.List.{Contains}
-use Rattle.std.proofs.lemmas.Bool.{cases_lt}
-use Rattle.std.proofs.lemmas.List.{get_or_default}
-use Rattle.histories.specs.declared.front.Config.{Config}
-use Rattle.histories.specs.declared.front.Link.{Link}
-use Rattle.histories.specs.declared.event.Event.{Event}
-use Rattle.histories.specs.declared.event.Event.TheVariants.{Begin, End}
-use Rattle.histories.specs.Histories.{begins, times, Explains, IsOpen}
-use Rattle.histories.specs.Frontier.{HasSlot, IsFrontier, IsLighter, IsSound, IsTable, IsWaiting, LeadTo, Leaves, Path, Runs, order_at, order_of, put, HasManyOpen, IsFrontOf}
-use Rattle.histories.specs.Gathering.{AreOpened, AreSettled, IsOpened, TakesSlot, AreLaidIn, AreTaken, Finishes, FreesSlot, HasMany, IsClosed, IsLeft, spot_of}
+use Rattle.histories.proofs.Words.{◌≡◌, ℕ, ◌+◌, ◌<◌, ◌≤◌, List, [], ◌∷◌, ◌++◌, length, get_or, sym, ◌∙◌, ap, subst, arith, inl, inr, Option, suc, refl, Some, None, bit_at, Contains, cases_lt, Config, Link, Event, Begin, End, begins, times, Explains, IsOpen, HasSlot, IsFrontier, IsLighter, IsSound, IsTable, IsWaiting, LeadTo, Leaves, Path, Runs, order_at, order_of, put, HasManyOpen, IsFrontOf, AreOpened, AreSettled, IsOpened, TakesSlot, AreLaidIn, AreTaken, Finishes, FreesSlot, HasMany, IsClosed, IsLeft, spot_of, Advance, Front, AdvancesIn, Agrees, Ends, EndsOpen, IsSameFront}
 use Rattle.histories.proofs.Bits.{cleared_put, put_other, put_same}
 use Rattle.histories.proofs.Counting.{not_some, split_times, times-append, times-cons, times_one, times_same, times_none, times_other}
 use Rattle.histories.proofs.Events.{begins_begin, table_begin, taken_cases, taken_other, taken_still, begin_no_end, ends_one, open_begin_now, open_begin_still}
 use Rattle.histories.proofs.Running.{leads_split, leaves_run, runs_in, runs_lighter, runs_order, runs_then}
 use Rattle.histories.proofs.Explaining.{behind_open, explains_begin, explains_front, explains_without}
 use Rattle.histories.proofs.Frontiers.{AreComplete, AreSound, frontier_settled, front_many, frontier_end}
-use Rattle.histories.specs.declared.front.Advance.{Advance}
-use Rattle.histories.specs.declared.front.Advance.TheVariants as advance
-use Rattle.histories.specs.declared.front.Front.{Front}
-use Rattle.histories.specs.Advances.{AdvancesIn, Agrees, Ends, EndsOpen, IsSameFront}
-use Rattle.histories.proofs.Chains.{frontier_laid}
+use Rattle.histories.proofs.Places.{frontier_laid, each_from, each_to}
 use Rattle.histories.proofs.Closing.{HaveSameSteps, closed_as, made_as}
+use Rattle.histories.specs.declared.front.Advance.TheVariants as advance
 
 module _ {S : Type 0} (Step : S → ℕ → S → Type 0) where
   module _ (slots more : List (Option ℕ)) (c t : ℕ) (takes : TakesSlot slots c t more)
@@ -30,33 +16,12 @@ module _ {S : Type 0} (Step : S → ℕ → S → Type 0) where
     lighter_put : (fewer rest : ℕ) → IsLighter Step slots fewer rest
         → IsLighter Step more (put fewer t) (put rest t)
     lighter_put fewer rest l slot call has =
-        elim (taken_cases slots more c t slot call takes has) [
-          | inl now ↦ inl
-              (subst (λ s. bit_at (put fewer t) s ≡ bit_at (put rest t) s) (sym now.0)
-              (put_same fewer t takes.within ∙ sym (put_same rest t takes.within)))
-          | inr was ↦
-              elim (l slot call was.1) [
-                | inl same ↦ inl
-                    (put_other fewer t slot takes.within was.0
-                    ∙ (same ∙ sym (put_other rest t slot takes.within was.0)))
-                | inr idle ↦ inr (put_other fewer t slot takes.within was.0 ∙ idle.0, idle.1)
-              ]
-        ]
+        grind (arith, taken_cases, bit_at, put_same, put_other)
 
     leaves_put : (order : List ℕ) (rest : ℕ) → times c order ≡ 0 → Leaves slots order rest
         → Leaves more order (put rest t)
     leaves_put order rest none leaves slot call has =
-        elim (taken_cases slots more c t slot call takes has) [
-          | inl now ↦
-              omega (
-                arith,
-                ap (λ x. times x order) now.1,
-                none,
-                subst (λ s. bit_at (put rest t) s ≡ 1) (sym now.0) (put_same rest t takes.within),
-              )
-          | inr was ↦
-              omega (arith, leaves slot call was.1, put_other rest t slot takes.within was.0)
-        ]
+        grind (arith, taken_cases, bit_at, put_same, put_other)
 
     runs_put : (old new : S) (waiting rest : ℕ) (calls : List ℕ)
         → Runs Step slots old waiting calls new rest
@@ -77,13 +42,11 @@ module _ {S : Type 0} (Step : S → ℕ → S → Type 0) where
         → LeadTo Step slots configs new rest → LeadTo Step more opened new (put rest t)
     leads_put configs opened new rest o l =
         let from = l.0 in
-        let has = l.1 in
-        let k = get_or opened has.0 from in
-        let within : has.0 < length opened = omega (arith, has.1, o.0) in
-        let is : IsOpened t from k = subst (λ (x : Config S). IsOpened t x k) has.2
-        (o.1 has.0 from within) in (
+        let one = each_to (IsOpened t) configs opened from o l.1 in
+        let k = one.0 in
+        let is = one.2 in (
           k,
-          (has.0, within, get_or_default opened has.0 k from within),
+          one.1,
           (
             l.2.0,
             put l.2.1 t,
@@ -118,11 +81,10 @@ module _ {S : Type 0} (Step : S → ℕ → S → Type 0) where
 
       opened_sound : AreSound Step links more (es ++ Begin c ∷ []) olds opened
       opened_sound k has =
-          let from = get_or configs has.0 k in
-          let within : has.0 < length configs = omega (arith, has.1, o.0) in
-          let one : IsOpened t from k = subst (λ (x : Config S). IsOpened t from x) has.2
-          (o.1 has.0 k has.1) in
-          let is = f.sound from (has.0, within, get_or_default configs has.0 from k within) in
+          let at = each_from (IsOpened t) configs opened k o has in
+          let from = at.0 in
+          let one = at.2 in
+          let is = f.sound from at.1 in
           let order : order_of links k ≡ order_of links from =
           ap (λ (p : Path). order_at links p) one.2 in
           let none : times c (order_of links from) ≡ 0 =
@@ -130,15 +92,8 @@ module _ {S : Type 0} (Step : S → ℕ → S → Type 0) where
           (λ some. absurd (omega (arith, is.explains.begun c some, fresh))) in record {
             old = is.old;
             from = is.from;
-            explains = subst (λ (m : List ℕ). Explains Step (es ++ Begin c ∷ []) is.old m k.state)
-                (sym order)
-                (subst (λ x. Explains Step (es ++ Begin c ∷ []) is.old (order_of links from) x)
-                (sym one.0)
-                (explains_begin Step es is.old from.state (order_of links from) c fresh
-                is.explains));
-            leaves = subst (λ (m : List ℕ). Leaves more m k.waiting) (sym order)
-                (subst (λ w. Leaves more (order_of links from) w) (sym one.1)
-                (leaves_put (order_of links from) from.waiting none is.leaves));
+            explains = grind (arith, order_of, explains_begin);
+            leaves = grind (arith, order_of, leaves_put);
             within = omega (arith, is.within, ap (λ (p : Path). p.base) one.2);
           }
 
@@ -160,9 +115,7 @@ module _ {S : Type 0} (Step : S → ℕ → S → Type 0) where
           let all : (x : ℕ) → 0 < times x (c ∷ back)
           → (slot : ℕ) × IsWaiting more (put rest t) slot x = λ x some.
           elim (cases_lt 0 (times x (c ∷ []))) [
-            | inl here ↦
-                let same : c ≡ x = times_same x c here in
-                (t, (subst (λ y. HasSlot more t y) same takes.has, put_same rest t takes.within))
+            | inl here ↦ grind (arith, times_same, put_same)
             | inr away ↦
                 let behind : 0 < times x back = omega (arith, some, away, times-cons x c back) in
                 let begun : 0 < begins x es = omega (
@@ -195,13 +148,7 @@ module _ {S : Type 0} (Step : S → ℕ → S → Type 0) where
       opened_complete : AreComplete Step more (es ++ Begin c ∷ []) olds opened
       opened_complete old order new from ex =
           elim (cases_lt 0 (times c order)) [
-            | inl some ↦
-                let parts = split_times c order some in
-                subst
-                (λ (l : List ℕ). (rest : ℕ) × Leaves more l rest × LeadTo Step more opened new rest)
-                (sym parts.2)
-                (opened_with old new parts.0 parts.1 from
-                (subst (λ (l : List ℕ). Explains Step (es ++ Begin c ∷ []) old l new) parts.2 ex))
+            | inl some ↦ grind (arith, split_times, opened_with)
             | inr few_ ↦
                 let none : times c order ≡ 0 = omega (arith, few_) in
                 let lead = f.complete old order new from
@@ -216,49 +163,41 @@ module _ {S : Type 0} (Step : S → ℕ → S → Type 0) where
       pub frontier_begin : (settled : List (Config S)) → AreSettled Step more opened settled
           → IsFrontier Step links more (es ++ Begin c ∷ []) olds settled
       frontier_begin settled a =
-          frontier_settled Step links more (es ++ Begin c ∷ []) olds opened settled opened_table
-          opened_sound opened_complete a
+          search (arith, frontier_settled, opened_table, opened_sound, opened_complete)
 
--- by the configurations that are left
-pub advanced : {S : Type 0} (Step : S → ℕ → S → Type 0) (events : List Event) (olds : List S)
-    (event : Event) (front : Front S) (result : Advance)
-    → IsFrontOf Step front (events ++ event ∷ []) olds → IsLeft front.configs.items result
-    → EndsOpen events event → AdvancesIn Step events olds event front result
-advanced Step events olds event front advance.Done f left ends = (f, left, ends)
-advanced Step events olds event front advance.Refused f left ends = (f, left, ends)
-advanced Step events olds event front advance.ManyConfigs f left ends = absurd left
-advanced Step events olds event front advance.ManyOpen f left ends = absurd left
-advanced Step events olds event front advance.NoEvent f left ends = absurd left
+module _ {S : Type 0} (Step : S → ℕ → S → Type 0) (events : List Event) (olds : List S)
+    (event : Event) where
+  -- by the configurations that are left
+  advanced : (front : Front S) (result : Advance)
+      → IsFrontOf Step front (events ++ event ∷ []) olds → IsLeft front.configs.items result
+      → EndsOpen events event → AdvancesIn Step events olds event front result
+  advanced front advance.Done f left ends = (f, left, ends)
+  advanced front advance.Refused f left ends = (f, left, ends)
+  advanced front advance.ManyConfigs f left ends = absurd left
+  advanced front advance.ManyOpen f left ends = absurd left
+  advanced front advance.NoEvent f left ends = absurd left
 
--- the calls that were made went into the links
-pub laid_out : {S : Type 0} (Step : S → ℕ → S → Type 0) (events : List Event) (olds : List S)
-    (event : Event) (links : List Link) (configs : List (Config S)) (new : Front S)
-    (result : Advance)
-    → IsFrontier Step links new.slots.items (events ++ event ∷ []) olds configs
-    → AreLaidIn links configs new result → EndsOpen events event
-    → AdvancesIn Step events olds event new result
-laid_out Step events olds event links configs new result f laid ends =
-    advanced Step events olds event new result
-    (frontier_laid Step links new.links.items new.slots.items (events ++ event ∷ []) olds configs
-    new.configs.items laid.0 f) laid.1 ends
+  -- the calls that were made went into the links
+  pub laid_out : (links : List Link) (configs : List (Config S)) (new : Front S)
+      (result : Advance)
+      → IsFrontier Step links new.slots.items (events ++ event ∷ []) olds configs
+      → AreLaidIn links configs new result → EndsOpen events event
+      → AdvancesIn Step events olds event new result
+  laid_out links configs new result f laid ends =
+      search (arith, advanced, frontier_laid)
 
--- the slot of a call that is over was made free
-pub finished : {S : Type 0} (Step : S → ℕ → S → Type 0) (events : List Event) (olds : List S)
-    (event : Event) (old new : Front S) (slot : ℕ) (configs : List (Config S)) (result : Advance)
-    → ((more : List (Option ℕ)) → FreesSlot old.slots.items slot more
-    → IsFrontier Step old.links.items more (events ++ event ∷ []) olds configs)
-    → EndsOpen events event → Finishes old slot configs new result
-    → AdvancesIn Step events olds event new result
-finished Step events olds event old new slot configs result f ends is =
-    let there = f new.slots.items is.0 in
-    elim is.1 [
-      | inl many ↦
-          subst (λ r. AdvancesIn Step events olds event new r) (sym many.1)
-          (inr (front_many Step old.links.items new.slots.items (events ++ event ∷ []) olds configs
-          there many.0))
-      | inr laid ↦
-          laid_out Step events olds event old.links.items configs new result there laid ends
-    ]
+  -- the slot of a call that is over was made free
+  pub finished : (old new : Front S) (slot : ℕ) (configs : List (Config S)) (result : Advance)
+      → ((more : List (Option ℕ)) → FreesSlot old.slots.items slot more
+      → IsFrontier Step old.links.items more (events ++ event ∷ []) olds configs)
+      → EndsOpen events event → Finishes old slot configs new result
+      → AdvancesIn Step events olds event new result
+  finished old new slot configs result f ends is =
+      let there = f new.slots.items is.0 in
+      elim is.1 [
+        | inl many ↦ grind (arith, front_many)
+        | inr laid ↦ laid_out old.links.items configs new result there laid ends
+      ]
 
 pub begin_ends : (events : List Event) (c : ℕ) → EndsOpen events (Begin c)
 begin_ends events c x ends = absurd (begin_no_end c x ends)
@@ -303,12 +242,7 @@ pub front_same : {S : Type 0} (Step : S → ℕ → S → Type 0) (events : List
     (old new : Front S) → IsSameFront old new → IsFrontOf Step old events olds
     → IsFrontOf Step new events olds
 front_same {S} Step events olds old new is front =
-    subst (λ (l : List Link). IsFrontier Step l new.slots.items events olds new.configs.items)
-    (sym is.2)
-    (subst (λ (l : List (Option ℕ)). IsFrontier Step old.links.items l events olds
-    new.configs.items) (sym is.0)
-    (subst (λ (l : List (Config S)). IsFrontier Step old.links.items old.slots.items events olds l)
-    (sym is.1) front))
+    grind arith
 
 pub many_as : {S : Type 0} (A B : S → ℕ → S → Type 0) (slots : List (Option ℕ))
     → HaveSameSteps A B slots → (configs : List (Config S)) → HasMany A slots configs
@@ -363,8 +297,7 @@ called_once : (slots : List (Option ℕ))
 unfolding called
 called_once [] apart call = omega (arith, times_none call)
 called_once (None ∷ slots) apart call =
-    called_once slots (λ one other c a b. pred_of one other (apart (suc one) (suc other) c a b))
-    call
+    grind (arith, pred_of, called_once slots (λ one other c a b. pred_of one other (apart (suc one) (suc other) c a b)) call)
 called_once (Some x ∷ slots) apart call =
     let rest = called_once slots
     (λ one other c a b. pred_of one other (apart (suc one) (suc other) c a b)) call in

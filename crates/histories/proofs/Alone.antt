@@ -1,23 +1,17 @@
--- Calls that overlap nothing.
-use Rattle.std.proofs.Common.{◌≡◌, ◌↔◌, slice_set, true, ℕ, zero, suc, ◌+◌, ◌<◌, List, [], ◌∷◌, ◌++◌, length, get_or, Option, refl, sym, ◌∙◌, ap, subst, arith, inl, inr, append_assoc}
-use Rattle.std.proofs.lemmas.Bool.{cases_lt}
-use Rattle.histories.specs.declared.event.Event.{Event}
-use Rattle.histories.specs.declared.event.Event.TheVariants.{Begin, End}
-use Rattle.histories.specs.declared.front.Config.{Config}
-use Rattle.histories.specs.declared.front.Link.{Link}
-use Rattle.histories.specs.Histories.{AreAll, begins, times, Explains, Leads}
-use Rattle.histories.specs.Frontier.{HasSlot, IsFollowed, IsFrontier, IsSound, IsTable, Path, order_at, order_of, path_more, path_of}
-use Rattle.histories.specs.Advances.{IsQuiet, Agrees}
-use Rattle.histories.specs.Gathering.{AreLaid, IsMadeIn}
-use Rattle.histories.proofs.Chains.{frontier_laid, order_more}
-use Rattle.histories.specs.Laws.{CallsAloneAreRuns, calls_alone, in_order}
-use Rattle.histories.proofs.Places.{only}
+-- Calls that are made at once: those that change nothing, and those that come first or overlap
+-- nothing.
+use Rattle.histories.proofs.Words.{◌≡◌, ◌↔◌, slice_set, true, ℕ, zero, suc, ◌+◌, ◌<◌, List, [], ◌∷◌, ◌++◌, length, get_or, Option, refl, sym, ◌∙◌, ap, subst, arith, inl, inr, append_assoc, cases_lt, Event, Begin, End, Config, Link, AreAll, begins, times, Explains, Leads, HasSlot, IsFollowed, IsFrontier, IsSound, IsTable, Path, order_at, order_of, path_more, path_of, Agrees, IsQuiet, IsMadeIn, CallsAloneAreRuns, ◌≤◌, AllPairs, Contains, Contains-get_or, All-contains, Contains-push, IsIdle, IsLighter, IsSame, IsWaiting, Runs, cleared, AreOpened, AreSame, AreSettled, AreSettledEach, FromOne, Gathers, IsCopy, IsSettled, Spot, WaitsInNone, spot_of, IsClosed, IsClosing, IsDone, IsMadeFirst, IsNextAt, bit_at}
+use Rattle.histories.proofs.Places.{order_more, only, each_from, each_to, nothing_in}
+use Rattle.histories.specs.Laws.{calls_alone, in_order}
 use Rattle.histories.proofs.Counting.{no_times, not_some, split_times, times-append, times-cons, times_one, times_other, times_same}
 use Rattle.histories.proofs.Events.{answered_now, begins_begin, begins_ends, begins_none, ended_now, ended_still, open_begin_cases, open_begin_now, open_end_before, open_end_other, sound_begin, sound_end, sound_none}
-use Rattle.histories.proofs.Running.{leads_push, leads_split}
+use Rattle.histories.proofs.Running.{leads_push, leads_split, lighter_idle, lighter_is, lighter_then, runs_then, runs_fewer}
 use Rattle.histories.proofs.Explaining.{behind_open, explains_begin, explains_end, explains_front, explains_open, explains_pushed}
 use Rattle.histories.proofs.Frontiers.{explains_none, no_calls}
 use Rattle.histories.proofs.Cutting.{quiet_empty, runs_nothing}
+use Rattle.histories.proofs.Bits.{put_apart, cleared_same, slot_64}
+use Rattle.histories.proofs.Closing.{closing_begin, closing_more, closing_settled, goes_by, none_same, path_none, path_then}
+use Rattle.histories.proofs.Gathering.{gathers_call, gathers_new, gathers_none, gathers_state}
 
 -- one event after the other
 two_more : (es : List Event) (a b : Event) → es ++ a ∷ b ∷ [] ≡ (es ++ a ∷ []) ++ b ∷ []
@@ -34,57 +28,48 @@ alone_fresh es count a =
     not_some (begins count es) (λ some. absurd (omega (arith, a.below count some)))
 
 alone_more : (es : List Event) (count : ℕ) → IsAlone es count
-    → IsAlone ((es ++ Begin count ∷ []) ++ End count ∷ []) (count + 1)
+    → IsAlone (es ++ Begin count ∷ End count ∷ []) (suc count)
 alone_more es count a =
-    let mid : List Event = es ++ Begin count ∷ [] in
+    rw (two_more es (Begin count) (End count))
+    (let mid : List Event = es ++ Begin count ∷ [] in
     let fresh = alone_fresh es count a in
     let here : 0 < begins count mid = (open_begin_now es count a.sound fresh).0 in
     let counts : (c : ℕ) → begins c (mid ++ End count ∷ []) ≡ begins c es + times c (count ∷ []) =
     λ c. begins_ends c count mid (End count) (inl refl) ∙ begins_begin c count es in record {
-      sound = sound_end mid (End count) count (inl refl)
-          (sound_begin es count a.sound fresh) here;
+      sound = grind (arith, sound_end, sound_begin);
       below = λ c some. grind (arith, cases_lt, times_same);
       ended = λ c some. grind (arith, cases_lt, ended_still, times_same, ended_now);
-    }
+    })
 
 is_alone : (count : ℕ) → IsAlone (calls_alone count) count
 unfolding calls_alone
-is_alone zero = record {
-  sound = sound_none;
-  below = λ c some. absurd (omega (arith, some, begins_none c));
-  ended = λ c some. absurd (omega (arith, some, begins_none c));
-}
-is_alone (suc count) =
-    subst (λ (l : List Event). IsAlone l (suc count))
-    (sym (two_more (calls_alone count) (Begin count) (End count)))
-    (subst (λ n. IsAlone ((calls_alone count ++ Begin count ∷ []) ++ End count ∷ []) n) (add_one
-    count)
-    (alone_more (calls_alone count) count (is_alone count)))
-  where
-    add_one : (n : ℕ) → n + 1 ≡ suc n
-    add_one n = omega arith
+is_alone zero =
+    grind (arith, sound_none, begins_none)
+is_alone (suc count) = alone_more (calls_alone count) count (is_alone count)
 
 module _ {S : Type 0} (Step : S → ℕ → S → Type 0) where
   -- a call that is made alone after an order
   explains_alone : (es : List Event) (count : ℕ) (old mid new : S) (order : List ℕ) → IsSound es
       → begins count es ≡ 0 → Explains Step es old order mid → Step mid count new
-      → Explains Step ((es ++ Begin count ∷ []) ++ End count ∷ []) old (order ++ count ∷ []) new
+      → Explains Step (es ++ Begin count ∷ End count ∷ []) old (order ++ count ∷ []) new
   explains_alone es count old mid new order sound fresh ex step =
-      let es_mid : List Event = es ++ Begin count ∷ [] in
+      rw (two_more es (Begin count) (End count))
+      (let es_mid : List Event = es ++ Begin count ∷ [] in
       let none : times count order ≡ 0 =
       not_some (times count order) (λ some. absurd (omega (arith, fresh, ex.begun count some))) in
       explains_end Step es_mid (End count) old new (order ++ count ∷ []) count (inl refl)
       (λ is. omega (arith, times-append count order (count ∷ []), times_one count))
       (explains_pushed Step es_mid old mid new order count (open_begin_now es count sound fresh)
-      none (explains_begin Step es old mid order count fresh ex) step)
+      none (explains_begin Step es old mid order count fresh ex) step))
 
   -- and an order of the whole has it last
   explained_alone : (es : List Event) (count : ℕ) (old new : S) (order : List ℕ) → IsSound es
       → begins count es ≡ 0 → IsQuiet es
-      → Explains Step ((es ++ Begin count ∷ []) ++ End count ∷ []) old order new
+      → Explains Step (es ++ Begin count ∷ End count ∷ []) old order new
       → (front : List ℕ) × (mid : S) × (order ≡ front ++ count ∷ [])
       × Explains Step es old front mid × Step mid count new
-  explained_alone es count old new order sound fresh quiet ex =
+  explained_alone es count old new order sound fresh quiet whole_ex =
+      let ex = rw (two_more es (Begin count) (End count)) at whole_ex in
       let es_mid : List Event = es ++ Begin count ∷ [] in
       let open_ex = explains_open Step es_mid (End count) old new order count (inl refl) ex in
       let made : 0 < times count order = ex.answered count (answered_now es_mid count) in
@@ -128,9 +113,7 @@ module _ {S : Type 0} (Step : S → ℕ → S → Type 0) where
   alone_there (suc count) old new order ex =
       let a = is_alone count in
       let r = explained_alone (calls_alone count) count old new order a.sound
-      (alone_fresh (calls_alone count) count a) a.ended
-      (subst (λ (l : List Event). Explains Step l old order new)
-      (two_more (calls_alone count) (Begin count) (End count)) ex) in
+      (alone_fresh (calls_alone count) count a) a.ended ex in
       let before = alone_there count old r.1 r.0 r.3 in (
         r.2 ∙ ap (λ (l : List ℕ). l ++ count ∷ []) before.0,
         leads_push Step old r.1 new (in_order count) count before.1 r.4,
@@ -145,11 +128,9 @@ module _ {S : Type 0} (Step : S → ℕ → S → Type 0) where
       let parts = leads_split Step old new (in_order count) (count ∷ []) leads in
       let last = parts.2 in
       let a = is_alone count in
-      subst (λ (l : List Event). Explains Step l old (in_order count ++ count ∷ []) new)
-      (sym (two_more (calls_alone count) (Begin count) (End count)))
-      (explains_alone (calls_alone count) count old parts.0 new (in_order count) a.sound
+      explains_alone (calls_alone count) count old parts.0 new (in_order count) a.sound
       (alone_fresh (calls_alone count) count a) (alone_back count old parts.0 parts.1)
-      (subst (λ s. Step parts.0 count s) (sym last.2) last.1))
+      (subst (λ s. Step parts.0 count s) (sym last.2) last.1)
 
   pub calls_alone_are_runs : CallsAloneAreRuns Step
   calls_alone_are_runs count old new order = (
@@ -162,14 +143,15 @@ module _ {S : Type 0} (Step : S → ℕ → S → Type 0) (slots : List (Option 
     (c : ℕ) (sound : IsSound es) (fresh : begins c es ≡ 0) (table : IsTable es slots)
     (empty : (slot call : ℕ) → HasSlot slots slot call → ⊥) where
   -- no call is open after a call alone
-  table_alone : IsTable ((es ++ Begin c ∷ []) ++ End c ∷ []) slots
+  table_alone : IsTable (es ++ Begin c ∷ End c ∷ []) slots
   table_alone = record {
     each = λ slot call has. absurd (empty slot call has);
     all = λ call is.
         let mid : List Event = es ++ Begin c ∷ [] in
-        elim (open_begin_cases es c call (open_end_before mid (End c) c call (inl refl) is)) [
+        let now = rw (two_more es (Begin c) (End c)) at is in
+        elim (open_begin_cases es c call (open_end_before mid (End c) c call (inl refl) now)) [
           | inl before ↦ table.all call before
-          | inr same ↦ absurd (open_end_other mid (End c) c call (inl refl) is (sym same))
+          | inr same ↦ absurd (open_end_other mid (End c) c call (inl refl) now (sym same))
         ];
     apart = table.apart;
     few = table.few;
@@ -180,10 +162,10 @@ module _ {S : Type 0} (Step : S → ℕ → S → Type 0) (slots : List (Option 
       → AreAll (Step config.state c) (made.state ∷ [])
       → path_of made ≡ path_more (path_of config) (c ∷ [])
       → IsFrontier Step links slots es olds (config ∷ [])
-      → IsFrontier Step links slots ((es ++ Begin c ∷ []) ++ End c ∷ []) olds (made ∷ [])
+      → IsFrontier Step links slots (es ++ Begin c ∷ End c ∷ []) olds (made ∷ [])
   frontier_alone links olds config made all path f =
       let is = f.sound config (0, omega arith, refl) in
-      let after : List Event = (es ++ Begin c ∷ []) ++ End c ∷ [] in
+      let after : List Event = es ++ Begin c ∷ End c ∷ [] in
       let order : order_of links made ≡ order_of links config ++ c ∷ [] =
       ap (λ (p : Path). order_at links p) path ∙ order_more links (path_of config) (c ∷ []) in
       record {
@@ -231,29 +213,206 @@ all_as : {S : Type 0} (Made Step : S → Type 0) (states : List S)
     → ((new : S) → Made new ↔ Step new) → AreAll Made states → AreAll Step states
 all_as Made Step states same all = grind arith
 
-pub made_alone : {M S : Type 0} (Step : M → S → ℕ → S → Type 0) (machine : M)
-    (links more : List Link) (slots : List (Option ℕ)) (config made : Config S)
-    (laid : List (Config S)) (c : ℕ) → ((slot call : ℕ) → HasSlot slots slot call → ⊥)
-    → IsMadeIn (Step machine) config c made true → AreLaid links more (made ∷ []) laid → (whole : M)
-    (events : List Event) (olds : List S)
-    → Agrees (Step machine) (Step whole) (events ++ Begin c ∷ []) → IsSound events
-    → begins c events ≡ 0 → IsFrontier (Step whole) links slots events olds (config ∷ [])
-    → IsFrontier (Step whole) more slots ((events ++ Begin c ∷ []) ++ End c ∷ []) olds laid
-    × (0 < length laid)
-made_alone Step machine links more slots config made laid c empty is lies whole events olds agrees
-    sound fresh f = (
-      frontier_laid (Step whole) links more slots ((events ++ Begin c ∷ []) ++ End c ∷ []) olds
-          (made ∷ []) laid lies
-          (frontier_alone (Step whole) slots events c sound fresh f.table empty links olds config
-          made
-          (all_as (Step machine config.state c) (Step whole config.state c) (made.state ∷ [])
-          (λ new. agrees c (open_begin_now events c sound fresh) config.state new) is.0) is.1 f),
-      omega (arith, lies.as_many),
-    )
-
 -- a list of one value, and the same where another is put in its place
 pub one_of_one : {X : Type 0} (xs : List X) (x y : X) → length xs ≡ 1 → x ≡ get_or xs 0 x
     → (xs ≡ x ∷ []) × (slice_set xs 0 y ≡ y ∷ [])
 one_of_one [] x y one is = absurd (omega (arith, one))
 one_of_one (z ∷ []) x y one is = (ap (λ v. v ∷ []) (sym is), refl)
 one_of_one (z ∷ w ∷ xs) x y one is = absurd (omega (arith, one))
+
+-- the call was made in the one configuration
+pub made_alone : {M S : Type 0} (Step : M → S → ℕ → S → Type 0) (machine : M) (links : List Link)
+    (slots : List (Option ℕ)) (configs : List (Config S)) (config made : Config S) (c : ℕ)
+    → ((slot call : ℕ) → HasSlot slots slot call → ⊥) → length configs ≡ 1
+    → config ≡ get_or configs 0 config → IsMadeIn (Step machine) config c made true → (whole : M)
+    (events : List Event) (olds : List S)
+    → Agrees (Step machine) (Step whole) (events ++ Begin c ∷ []) → IsSound events
+    → begins c events ≡ 0 → IsFrontier (Step whole) links slots events olds configs
+    → IsFrontier (Step whole) links slots (events ++ Begin c ∷ End c ∷ []) olds
+    (slice_set configs 0 made)
+    × (0 < length (slice_set configs 0 made))
+made_alone {M} {S} Step machine links slots configs config made c empty one is m whole events olds
+    agrees sound fresh f =
+    let parts = one_of_one configs config made one is in
+    subst (λ (l : List (Config S)).
+    IsFrontier (Step whole) links slots (events ++ Begin c ∷ End c ∷ []) olds l × (0 < length l))
+    (sym parts.1) (
+      frontier_alone (Step whole) slots events c sound fresh f.table empty links olds config made
+          (all_as (Step machine config.state c) (Step whole config.state c) (made.state ∷ [])
+          (λ new. agrees c (open_begin_now events c sound fresh) config.state new) m.0) m.1
+          (subst (λ (l : List (Config S)). IsFrontier (Step whole) links slots events olds l)
+          parts.0 f),
+      omega arith,
+    )
+
+-- or nothing changed
+pub made_none : {S : Type 0} (configs : List (Config S)) (config made : Config S)
+    → length configs ≡ 1 → config ≡ get_or configs 0 config → made ≡ config
+    → slice_set configs 0 made ≡ configs
+made_none {S} configs config made one is same =
+    grind (arith, one_of_one)
+
+module _ {S : Type 0} (Step : S → ℕ → S → Type 0) (slots : List (Option ℕ)) where
+  -- nothing was made
+  pub settled_none : (config : Config S) (copy : Spot S) → IsCopy config copy
+      → IsSettled Step slots config copy
+  settled_none config copy is = record {
+    state = is.0;
+    calls = [];
+    runs = (refl, is.1);
+    lighter = lighter_is Step slots copy.waiting config.waiting is.1;
+    made = is.2 ∙ path_none (path_of config);
+  }
+
+  -- one call more
+  pub settled_then : (config mid : Config S) (one : Spot S)
+      → IsSettled Step slots config (spot_of mid) → IsSettled Step slots mid one
+      → IsSettled Step slots config one
+  settled_then config mid one a b = record {
+    state = b.state ∙ a.state;
+    calls = a.calls ++ b.calls;
+    runs = grind (arith, runs_then);
+    lighter = lighter_then Step slots one.waiting mid.waiting config.waiting b.lighter a.lighter;
+    made = b.made ∙ (ap (λ (p : Path). path_more p b.calls) a.made
+        ∙ path_then (path_of config) a.calls b.calls);
+  }
+
+  pub settled_call : (config : Config S) (one : Spot S) (slot call : ℕ) → length slots ≤ 64
+      → IsWaiting slots config.waiting slot call → Step config.state call config.state
+      → IsIdle Step call → one.state ≡ config.state → one.waiting ≡ cleared config.waiting slot
+      → one.made ≡ path_more (path_of config) (call ∷ []) → IsSettled Step slots config one
+  settled_call config one slot call few is step idle state set made = record {
+    state = state;
+    calls = call ∷ [];
+    runs = (slot, is, (config.state, step, (refl, set)));
+    lighter = subst (λ w. IsLighter Step slots w config.waiting) (sym set)
+        (lighter_idle Step slots config.waiting slot call few is.0 idle);
+    made = made;
+  }
+
+  -- a copy of what was settled
+  settled_copy : (config one : Config S) (copy : Spot S) → IsSettled Step slots config (spot_of one)
+      → IsCopy one copy → IsSettled Step slots config copy
+  settled_copy config one copy s is = grind arith
+
+  -- the settled one is of the configuration
+  abbrev Settles : Config S → Config S → Type 0
+  Settles config one = IsSettled Step slots config (spot_of one)
+
+  -- each was settled, and none has become the same as another
+  pub settled_apart : (configs settled : List (Config S))
+      → AreSettledEach Step slots configs settled
+      → AreSame configs settled
+      → AllPairs (λ a b. ¬ (IsSame a b)) configs → AreSettled Step slots configs settled
+  settled_apart configs settled each same apart = record {
+    sound = λ one has. each_from Settles configs settled one each has;
+    complete = λ config has.
+        let one = each_to Settles configs settled config each has in
+        (one.0, one.1, one.2.state, one.2.lighter);
+    once = λ i j d less h. grind arith;
+  }
+
+  -- each was settled, and the new ones are these, each once
+  pub settled_once : (configs settled new : List (Config S))
+      → AreSettledEach Step slots configs settled → Gathers (FromOne IsCopy settled) [] new
+      → AreSettled Step slots configs new
+  settled_once configs settled new each g = record {
+    sound = λ k has.
+        elim (g.sound k has) [
+          | inl none ↦ absurd (nothing_in k none)
+          | inr copy ↦
+              let from = each_from Settles configs settled copy.0 each copy.1 in
+              (from.0, from.1, settled_copy from.0 copy.0 (spot_of k) from.2 copy.2)
+        ];
+    complete = λ config has.
+        let one = each_to Settles configs settled config each has in
+        let known = g.complete (spot_of one.0) (one.0, one.1, (refl, refl, refl)) in (
+          known.0,
+          known.1,
+          known.2.0 ∙ one.2.state,
+          subst (λ w. IsLighter Step slots w config.waiting) (sym known.2.1) one.2.lighter,
+        );
+    once = g.once none_same;
+  }
+
+-- a call that waits in each, and waited in none, makes no two the same
+pub opened_apart : {S : Type 0} (slot : ℕ) (configs opened : List (Config S)) → slot < 64
+    → AreOpened slot configs opened → WaitsInNone slot configs
+    → AllPairs (λ a b. ¬ (IsSame a b)) configs → AllPairs (λ a b. ¬ (IsSame a b)) opened
+opened_apart slot configs opened within o none apart i j d less h same = grind (arith, put_apart)
+
+module _ {S : Type 0} (Step : S → ℕ → S → Type 0) (slots : List (Option ℕ))
+    (few : length slots ≤ 64) (slot call : ℕ) (here : HasSlot slots slot call)
+    (config made settled : Config S) (first : IsMadeFirst Step slots slot call config made true)
+    (idle : IsSettled Step slots made (spot_of settled)) where
+  one_apart : (k : Config S) → AllPairs (λ a b. ¬ (IsSame a b)) (k ∷ [])
+  one_apart k = λ i j d less h. absurd (omega (arith, less, h))
+
+  gone : bit_at settled.waiting slot ≡ 0
+  gone =
+      grind (arith, slot_64, bit_at, cleared_same, runs_fewer)
+
+  are_settled : AreSettled Step slots (made ∷ []) (settled ∷ [])
+  are_settled = record {
+    sound = λ k has. (
+      made,
+      Contains-push [] made,
+      subst (λ (x : Config S). IsSettled Step slots made (spot_of x))
+          (sym (only settled k has)) idle,
+    );
+    complete = λ k has. (
+      settled,
+      Contains-push [] settled,
+      idle.state ∙ ap (λ (x : Config S). x.state) (sym (only made k has)),
+      subst (λ (x : Config S). IsLighter Step slots settled.waiting x.waiting)
+          (sym (only made k has)) idle.lighter,
+    );
+    once = one_apart settled;
+  }
+
+  gathered : Gathers (IsNextAt Step slots config slot) [] (made ∷ [])
+  gathered =
+      gathers_call Step slots config slot call (made.state ∷ []) [] (made ∷ []) (here, first.0)
+      first.2 (gathers_state config made slot call made.state [] (made ∷ []) refl first.4 first.3
+      (gathers_new [] made (λ i d h. absurd (omega arith))))
+
+  closing : IsClosing Step slots (config ∷ []) slot [] (settled ∷ []) (length slots)
+  closing =
+      closing_settled Step slots (config ∷ []) [] (made ∷ []) (settled ∷ []) slot (length slots) few
+      are_settled
+      (closing_more Step slots (config ∷ []) [] (config ∷ []) [] (made ∷ []) slot call
+      (length slots) few here (closing_begin Step slots (config ∷ []) slot)
+      (gathers_none (FromOne (IsDone slot) (config ∷ [])) [] (λ k found. absurd
+      (omega (
+        arith,
+        first.0,
+        found.2.0,
+        ap (λ (x : Config S). bit_at x.waiting slot) (only config found.0 found.1),
+      ))))
+      (goes_by Step slots slot call config [] (made ∷ []) few here first.0 first.1 gathered))
+
+  pub closed_in_place : IsClosed Step slots (config ∷ []) slot (settled ∷ [])
+  closed_in_place = record {
+    sound = λ k has. (
+      closing.under_way k has,
+      subst (λ (x : Config S). bit_at x.waiting slot ≡ 0) (sym (only settled k has)) gone,
+    );
+    complete = λ new rest l over. elim (closing.complete new rest l over) [
+      | inl none ↦ absurd (nothing_in none.0 none.1)
+      | inr there ↦ there
+    ];
+    once = one_apart settled;
+  }
+
+-- the call in the slot waits in none
+pub closed_already : {S : Type 0} (Step : S → ℕ → S → Type 0) (slots : List (Option ℕ))
+    (slot : ℕ) (configs : List (Config S)) → WaitsInNone slot configs
+    → AllPairs (λ a b. ¬ (IsSame a b)) configs → IsClosed Step slots configs slot configs
+closed_already {S} Step slots slot configs none apart = record {
+  sound = λ k has. (
+    (k, has, ([], (refl, refl), path_none (path_of k))),
+    subst (λ (x : Config S). bit_at x.waiting slot ≡ 0) has.2 (none has.0 k has.1),
+  );
+  complete = λ new rest l over. l;
+  once = apart;
+}

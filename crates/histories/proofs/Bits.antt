@@ -1,11 +1,6 @@
 -- Sets of slots.
-use Rattle.std.proofs.Common.{◌≡◌, ◌≢◌, ℕ, zero, suc, ◌<◌, ◌≤◌, ◌⊎◌, List, length, min, max, bit_and, bit_or, ◌*◌, ◌^◌, ◌%◌, ◌-◌, refl, sym, ◌∙◌, ap, subst, arith, inl, inr, Option}
-use Rattle.std.specs.Int.{bit_at, bit_not, w64}
-use Rattle.std.proofs.lemmas.Bool.{cases_eq, cases_lt}
-use Rattle.std.proofs.lemmas.List.{get_or_past}
-use Rattle.std.proofs.lemmas.Nat.Bits.{bit_at-lt, bit_at-zero, bit_at_and, bit_at_clear_other, bit_at_clear_same, bit_at_ones, bit_at_or, bit_at_set_other, bit_at_set_same, same_from_bits}
-use Rattle.std.proofs.lemmas.Nat.{and_assoc, and_comm}
-use Rattle.histories.specs.Frontier.{HasSlot, cleared, put}
+use Rattle.histories.proofs.Words.{◌≡◌, ◌≢◌, ℕ, zero, suc, ◌<◌, ◌≤◌, ◌⊎◌, List, length, min, max, bit_and, bit_or, ◌*◌, ◌^◌, ◌%◌, ◌-◌, refl, sym, ◌∙◌, ap, subst, arith, inl, inr, Option, bit_at, bit_not, w64, cases_eq, cases_lt, get_or_past, bit_at-lt, bit_at-zero, bit_at_and, bit_at_clear_other, bit_at_clear_same, bit_at_ones, bit_at_or, bit_at_set_other, bit_at_set_same, same_from_bits, and_assoc, and_comm, HasSlot}
+use Rattle.histories.specs.Frontier.{cleared, put}
 use Rattle.histories.specs.Gathering.{ones}
 
 pub cleared_same : (set slot : ℕ) → slot < 64 → bit_at (cleared set slot) slot ≡ 0

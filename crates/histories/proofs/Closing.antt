@@ -1,14 +1,8 @@
 -- A call that ends is made.
-use Rattle.std.proofs.Common.{◌≡◌, ◌↔◌, ℕ, ◌+◌, ◌<◌, ◌≤◌, List, [], ◌∷◌, ◌++◌, length, refl, sym, ◌∙◌, ap, subst, arith, inl, inr, append-nil, append_assoc, Option}
-use Rattle.std.specs.Prelude.{AllPairs}
-use Rattle.std.specs.Int.{bit_at}
-use Rattle.std.specs.List.{Contains}
-use Rattle.std.proofs.lemmas.List.Elements.{Contains-append_left, Contains-push, Contains-push_cases}
-use Rattle.histories.specs.declared.front.Config.{Config}
-use Rattle.histories.specs.Frontier.{HasSlot, IsLighter, IsSame, LeadTo, Path, Runs, cleared, path_more, path_of}
-use Rattle.histories.specs.Gathering.{AreSettled, FromOne, Gathers, GoesOn, IsClosed, IsClosing, IsCopy, IsDone, IsMadeFrom, IsNext, IsNextAt, IsNextLayer, IsSettled, IsUnderWay, MovesFirst, Spot, ones, spot_of}
+use Rattle.histories.proofs.Words.{◌≡◌, ◌↔◌, ℕ, ◌+◌, ◌<◌, ◌≤◌, List, [], ◌∷◌, ◌++◌, length, refl, sym, ◌∙◌, ap, subst, arith, inl, inr, append-nil, append_assoc, Option, AllPairs, cases_eq, bit_at, Contains, Contains-append_left, Contains-push, Contains-push_cases, Config, HasSlot, IsLighter, IsSame, LeadTo, MovesBefore, Path, Runs, cleared, path_more, path_of, AreSettled, ComesFirst, FromOne, Gathers, GoesOn, IsClosed, IsClosing, IsCopy, IsDone, IsMadeFrom, IsNextAt, IsNextLayer, IsSettled, IsUnderWay, MovesFirst, Spot, ones, spot_of}
+use Rattle.histories.specs.Gathering.{IsNext}
 use Rattle.histories.proofs.Places.{nothing_in, only}
-use Rattle.histories.proofs.Bits.{bit_cases, cleared_le, cleared_same, ones_le, ones_less, ones_most, slot_64, slot_within}
+use Rattle.histories.proofs.Bits.{bit_cases, cleared_le, cleared_same, ones_le, ones_less, ones_most, slot_64, slot_once, slot_within}
 use Rattle.histories.proofs.Gathering.{gathers_none}
 use Rattle.histories.proofs.Running.{lighter_as, lighter_then, runs_as, runs_fewer, runs_first, runs_lighter, runs_then}
 
@@ -72,23 +66,31 @@ module _ {S : Type 0} (Step : S → ℕ → S → Type 0) (slots : List (Option 
         ),
       )
 
+  -- more calls are made
+  made_then : (configs : List (Config S)) (config : Config S) (one : Spot S) (calls : List ℕ)
+      → Runs Step slots config.state config.waiting calls one.state one.waiting
+      → one.made ≡ path_more (path_of config) calls
+      → IsMadeFrom Step slots configs (spot_of config) → IsMadeFrom Step slots configs one
+  made_then configs config one calls run made m = (
+    m.0,
+    m.1,
+    (
+      m.2.0 ++ calls,
+      runs_then Step slots m.0.state config.state one.state m.0.waiting config.waiting one.waiting
+          m.2.0 calls m.2.1 run,
+      made
+          ∙ (ap (λ (p : Path). path_more p calls) m.2.2 ∙ path_then (path_of m.0) m.2.0 calls),
+    ),
+  )
+
   -- the calls of a settled one are made after those of its configuration
   pub made_settled : (configs : List (Config S)) (config : Config S) (one : Spot S)
       → IsSettled Step slots config one → IsMadeFrom Step slots configs (spot_of config)
       → IsMadeFrom Step slots configs one
-  made_settled configs config one is m = (
-    m.0,
-    m.1,
-    (
-      m.2.0 ++ is.calls,
-      subst (λ s. Runs Step slots m.0.state m.0.waiting (m.2.0 ++ is.calls) s one.waiting)
-          (sym is.state)
-          (runs_then Step slots m.0.state config.state config.state m.0.waiting config.waiting
-          one.waiting m.2.0 is.calls m.2.1 is.runs),
-      is.made ∙ (ap (λ (p : Path). path_more p is.calls) m.2.2
-          ∙ path_then (path_of m.0) m.2.0 is.calls),
-    ),
-  )
+  made_settled configs config one is m =
+      made_then configs config one is.calls
+      (subst (λ s. Runs Step slots config.state config.waiting is.calls s one.waiting)
+      (sym is.state) is.runs) is.made m
 
   pub closing_begin : (configs : List (Config S)) (slot : ℕ)
       → IsClosing Step slots configs slot [] configs (length slots + 1)
@@ -102,34 +104,14 @@ module _ {S : Type 0} (Step : S → ℕ → S → Type 0) (slots : List (Option 
 
   made_done : (configs : List (Config S)) (config : Config S) (copy : Spot S) → IsCopy config copy
       → IsMadeFrom Step slots configs (spot_of config) → IsMadeFrom Step slots configs copy
-  made_done configs config copy is m = (
-    m.0,
-    m.1,
-    (
-      m.2.0,
-      subst (λ s. Runs Step slots m.0.state m.0.waiting m.2.0 s copy.waiting) (sym is.0)
-          (subst (λ w. Runs Step slots m.0.state m.0.waiting m.2.0 config.state w) (sym is.1)
-          m.2.1),
-      is.2 ∙ m.2.2,
-    ),
-  )
+  made_done configs config copy is m =
+      made_then configs config copy [] (is.0, is.1) (is.2 ∙ path_none (path_of config)) m
 
-  pub made_next : (configs : List (Config S)) (config : Config S) (next : Spot S)
+  made_next : (configs : List (Config S)) (config : Config S) (next : Spot S)
       → IsNext Step slots config next → IsMadeFrom Step slots configs (spot_of config)
       → IsMadeFrom Step slots configs next
   made_next configs config next is m =
-      let call = is.2.0 in (
-        m.0,
-        m.1,
-        (
-          m.2.0 ++ call ∷ [],
-          runs_then Step slots m.0.state config.state next.state m.0.waiting config.waiting
-              next.waiting m.2.0 (call ∷ []) m.2.1
-              (is.0, is.2.1, (next.state, is.2.2, (refl, is.2.3))),
-          is.2.4 ∙ (ap (λ (p : Path). path_more p (call ∷ [])) m.2.2
-              ∙ path_then (path_of m.0) m.2.0 (call ∷ [])),
-        ),
-      )
+      search (arith, made_then)
 
   -- the configuration in which the call in the slot was made and left this state
   abbrev spot_after : Config S → ℕ → ℕ → S → Spot S
@@ -182,22 +164,41 @@ module _ {S : Type 0} (Step : S → ℕ → S → Type 0) (slots : List (Option 
       (λ calls last fewer rest over run light.
       leads_next old new slot config calls last fewer rest g waits over run light) g
 
-  -- by the call in the slot alone, which moves before the others
+  -- the call in the slot goes before all that is made, where it comes first
+  runs_before : (config : Config S) (slot call : ℕ) (new : S) (fewer : ℕ) (calls : List ℕ)
+      → length slots ≤ 64 → HasSlot slots slot call → bit_at config.waiting slot ≡ 1
+      → ComesFirst Step slots config slot → bit_at fewer slot ≡ 0
+      → Runs Step slots config.state config.waiting calls new fewer
+      → (mid : S) × Step config.state call mid
+      × ((others : List ℕ) × Runs Step slots mid (cleared config.waiting slot) others new fewer)
+  runs_before config slot call new fewer calls few here waits (inl moves) over run =
+      grind (arith, runs_first, slot_once)
+  runs_before config slot call new fewer [] few here waits (inr none) over run =
+      absurd (omega (arith, ap (λ w. bit_at w slot) run.1, waits, over))
+  runs_before config slot call new fewer (c ∷ calls) few here waits (inr none) over run =
+      grind (arith, cases_eq, slot_once)
+
+  -- by the call in the slot alone, which comes first
+  pub goes_by : (slot call : ℕ) (config : Config S) (old new : List (Config S))
+      → length slots ≤ 64 → HasSlot slots slot call → bit_at config.waiting slot ≡ 1
+      → ComesFirst Step slots config slot → Gathers (IsNextAt Step slots config slot) old new
+      → GoesOn Step slots slot (config ∷ []) old new
+  goes_by slot call config old new few here waits comes g =
+      goes_one slot config (IsNextAt Step slots config slot) old new waits
+      (λ spot found. (slot, slot_within slots slot call here, found))
+      (λ calls last fewer rest over run light.
+      let first = runs_before config slot call last fewer calls few here waits comes over run in
+      leads_found (IsNextAt Step slots config slot) old new
+      (spot_after config slot call first.0) first.2.0 last fewer rest g
+      (call, (here, waits), first.1, refl, refl) first.2.1 light) g
+
   pub goes_first : (slot : ℕ) (config : Config S) (old new : List (Config S))
       → length slots ≤ 64 → bit_at config.waiting slot ≡ 1
       → MovesFirst Step slots slot config.waiting
       → Gathers (IsNextAt Step slots config slot) old new
       → GoesOn Step slots slot (config ∷ []) old new
   goes_first slot config old new few waits moves g =
-      goes_one slot config (IsNextAt Step slots config slot) old new waits
-      (λ spot found. (slot, slot_within slots slot moves.0 moves.1, found))
-      (λ calls last fewer rest over run light.
-      let call = moves.0 in
-      let first = runs_first Step slots config.state last config.waiting fewer slot call calls few
-      moves.1 waits over moves.2 run in
-      leads_found (IsNextAt Step slots config slot) old new
-      (spot_after config slot call first.0) first.2.0 last fewer rest g
-      (call, (moves.1, waits), first.1, refl, refl) first.2.1 light) g
+      goes_by slot moves.0 config old new few moves.1 waits (inl moves) g
 
   -- where the call does not wait
   pub goes_not : (slot : ℕ) (config : Config S) (old : List (Config S))
@@ -337,11 +338,8 @@ module _ {S : Type 0} (Step : S → ℕ → S → Type 0) (slots : List (Option 
       → IsNextLayer Step slots slot layer next
       → IsClosing Step slots configs slot more next left
       × AllPairs (λ a b. ¬ (IsSame a b)) next
-  closing_layer configs done layer more next slot call left few here cl f n = (
-    closing_settled configs more n.0 next slot left few n.2
-        (closing_more configs done layer more n.0 slot call left few here cl f n.1),
-    n.2.once,
-  )
+  closing_layer configs done layer more next slot call left few here cl f n =
+      search (arith, closing_settled, closing_more)
 
   -- of no configurations
   pub layer_none : (layer done : List (Config S)) (slot : ℕ) → length layer ≡ 0
@@ -395,11 +393,8 @@ module _ {S : Type 0} (A B : S → ℕ → S → Type 0) (slots : List (Option �
 
   pub made_as : (configs : List (Config S)) (spot : Spot S) → IsMadeFrom A slots configs spot
       → IsMadeFrom B slots configs spot
-  made_as configs spot m = (
-    m.0,
-    m.1,
-    (m.2.0, as_run m.0.state spot.state m.0.waiting spot.waiting m.2.0 m.2.1, m.2.2),
-  )
+  made_as configs spot m =
+      search (arith, as_run)
 
   pub settled_as : (configs settled : List (Config S)) → AreSettled A slots configs settled
       → AreSettled B slots configs settled

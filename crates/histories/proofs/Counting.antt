@@ -1,13 +1,5 @@
 -- How often a number stands in a list, and what is true of all pairs of a list.
-use Rattle.std.proofs.Common.{length-append, sym, ◌-◌, ◌≡◌, ◌≢◌, ℕ, zero, suc, ◌+◌, ◌<◌, List, [], ◌∷◌, ◌++◌, length, take, drop, get_or, refl, ◌∙◌, ap, subst, arith, inl, inr, eq-eqb}
-use Rattle.std.specs.List.{remove}
-use Rattle.std.proofs.Math.Seq.{split_at}
-use Rattle.std.proofs.lemmas.Bool.Decides.{eqb_tells}
-use Rattle.std.specs.Prelude.{AllPairs}
-use Rattle.std.proofs.Math.ListN.{get_or-append}
-use Rattle.std.proofs.Math.Seq.{get_or-append_seam}
-use Rattle.std.proofs.lemmas.Bool.{cases_lt}
-use Rattle.std.proofs.lemmas.List.{get_or-append-add}
+use Rattle.histories.proofs.Words.{length-append, sym, ◌-◌, ◌≡◌, ◌≢◌, ℕ, zero, suc, ◌+◌, ◌<◌, List, [], ◌∷◌, ◌++◌, length, take, drop, get_or, refl, ◌∙◌, ap, subst, arith, inl, inr, eq-eqb, remove, split_at, eqb_tells, AllPairs, get_or-append, get_or-append_seam, cases_lt, get_or-append-add}
 use Rattle.histories.specs.Histories.{times}
 
 -- a number of which none is more than zero
@@ -97,19 +89,14 @@ apart order call c none some =
 -- what is true of all pairs of a list is true of those of its front
 pub all_pairs_front : (P : ℕ → ℕ → Type 0) (xs ys : List ℕ) → AllPairs P (xs ++ ys)
     → AllPairs P xs
-all_pairs_front P xs ys all = λ i j d less within.
-    subst (λ y. P (get_or xs i d) y) (get_or-append xs ys d j within)
-    (subst (λ x. P x (get_or (xs ++ ys) j d)) (get_or-append xs ys d i (omega arith))
-    (all i j d less (omega (arith, length-append xs ys))))
+all_pairs_front P xs ys all =
+    grind (arith, get_or-append, length-append)
 
 -- and of its back
 pub all_pairs_back : (P : ℕ → ℕ → Type 0) (xs ys : List ℕ) → AllPairs P (xs ++ ys)
     → AllPairs P ys
-all_pairs_back P xs ys all = λ i j d less within.
-    subst (λ y. P (get_or ys i d) y) (get_or-append-add xs ys j d)
-    (subst (λ x. P x (get_or (xs ++ ys) (length xs + j) d)) (get_or-append-add xs ys i d)
-    (all (length xs + i) (length xs + j) d (omega arith)
-    (omega (arith, within, length-append xs ys))))
+all_pairs_back P xs ys all =
+    grind (arith, get_or-append-add, length-append)
 
 -- and of a number with each behind it
 pub all_pairs_behind : (P : ℕ → ℕ → Type 0) (xs ys : List ℕ) (x y : ℕ)
@@ -138,10 +125,7 @@ all_pairs_join P xs ys a b across = λ i j d less within.
           let inside : k < length ys = omega (arith, there, within, length-append xs ys) in
           subst (λ y. P (get_or (xs ++ ys) i d) y) (sym second)
           (elim (cases_lt i (length xs)) [
-            | inl before ↦
-                subst (λ x. P x (get_or ys k d)) (sym (get_or-append xs ys d i before))
-                (across (get_or xs i d) (get_or ys k d) (times_at xs i d before)
-                (times_at ys k d inside))
+            | inl before ↦ grind (arith, get_or-append, times_at)
             | inr behind ↦
                 let m = i - length xs in
                 let here : i ≡ length xs + m = omega (arith, behind) in

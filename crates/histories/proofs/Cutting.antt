@@ -1,20 +1,8 @@
 -- Histories that are cut where no call is open.
-use Rattle.std.proofs.Common.{◌≡◌, ℕ, suc, ◌+◌, ◌<◌, List, [], ◌∷◌, ◌++◌, refl, sym, ap, subst, arith, inl, inr, ◌↔◌, Option, zero, ◌≤◌, ◌⊎◌, length, get_or, ◌∙◌}
-use Rattle.std.specs.Prelude.{AllPairs, map}
-use Rattle.std.proofs.lemmas.Bool.{cases_lt, cases_eq}
-use Rattle.histories.specs.declared.event.Event.{Event}
-use Rattle.histories.specs.declared.event.Event.TheVariants.{Begin, End, Crash}
-use Rattle.histories.specs.Histories.{begins, times, IsOver, EndsAt, Explains, HasEnded, IsExplained, Leads}
-use Rattle.histories.specs.Frontier.{IsSound, HasSlot, IsFrontier, IsSame, IsTable, Runs, no_path, order_of, path_of}
-use Rattle.histories.specs.Advances.{IsQuiet}
+use Rattle.histories.proofs.Words.{◌≡◌, ℕ, suc, ◌+◌, ◌<◌, List, [], ◌∷◌, ◌++◌, refl, sym, ap, subst, arith, inl, inr, ◌↔◌, Option, zero, ◌≤◌, ◌⊎◌, length, get_or, ◌∙◌, AllPairs, map, cases_lt, cases_eq, Event, Begin, End, Crash, begins, times, IsOver, EndsAt, Explains, HasEnded, IsExplained, Leads, IsSound, HasSlot, IsFrontier, IsSame, IsTable, Runs, no_path, order_of, path_of, IsQuiet, Contains, Config, Link, AreEach, IsUnlinked}
 use Rattle.histories.proofs.Counting.{times-cons, times_at, times_none, times_same, all_pairs_behind, times-append, all_pairs_back, all_pairs_front, all_pairs_join}
-use Rattle.histories.proofs.Places.{contains_map_of, contains_of_map}
+use Rattle.histories.proofs.Places.{contains_map_of, contains_of_map, each_from, each_to}
 use Rattle.histories.proofs.Events.{ends_within, stands_within, begins-append, begins_stands, ends_either, ends_left, stands_begins, stands_either, stands_right, answered_ended, begins_none, answered_left, answered_right, over_left, over_right}
-use Rattle.std.specs.List.{Contains}
-use Rattle.std.proofs.lemmas.List.{get_or_default}
-use Rattle.histories.specs.declared.front.Config.{Config}
-use Rattle.histories.specs.declared.front.Link.{Link}
-use Rattle.histories.specs.Gathering.{AreUnlinked}
 use Rattle.histories.proofs.Running.{leads_split}
 use Rattle.histories.proofs.Frontiers.{frontier_fresh}
 pub use Rattle.histories.proofs.Events.{begins-append}
@@ -217,7 +205,7 @@ module _ {S : Type 0} (Step : S → ℕ → S → Type 0) where
   pub fresh_anew : (links : List Link) (slots : List (Option ℕ)) (configs unlinked : List (Config
       S))
       → length slots ≤ 64 → ((slot call : ℕ) → HasSlot slots slot call → ⊥)
-      → AllPairs (λ a b. ¬ (IsSame a b)) configs → AreUnlinked configs unlinked
+      → AllPairs (λ a b. ¬ (IsSame a b)) configs → AreEach IsUnlinked configs unlinked
       → IsFrontier Step links slots [] (map (λ config. config.state) configs) unlinked
   fresh_anew links slots configs unlinked few empty once u =
       let state_of : Config S → S = λ config. config.state in
@@ -229,26 +217,15 @@ module _ {S : Type 0} (Step : S → ℕ → S → Type 0) where
         few = few;
       })
       (λ k has.
-      let within : has.0 < length configs = omega (arith, has.1, u.0) in
-      let from = get_or configs has.0 k in
-      let is = subst (λ (x : Config S). (x.state ≡ from.state) × (x.waiting ≡ from.waiting)
-      × (path_of x ≡ no_path)) has.2 (u.1 has.0 k has.1) in (
-        subst (λ s. Contains (map state_of configs) s) (sym is.0)
-            (contains_map_of state_of configs from
-            (has.0, within, get_or_default configs has.0 from k within)),
-        is.2,
+      let from = each_from IsUnlinked configs unlinked k u has in (
+        subst (λ s. Contains (map state_of configs) s) (sym from.2.0)
+            (contains_map_of state_of configs from.0 from.1),
+        from.2.2,
       ))
       (λ old has.
       let from = contains_of_map state_of configs old has in
-      let at = from.1 in
-      let within : at.0 < length unlinked = omega (arith, at.1, u.0) in
-      let k = get_or unlinked at.0 from.0 in
-      let is = subst (λ (x : Config S). (k.state ≡ x.state) × (k.waiting ≡ x.waiting)
-      × (path_of k ≡ no_path)) at.2 (u.1 at.0 from.0 within) in (
-        k,
-        (at.0, within, get_or_default unlinked at.0 k from.0 within),
-        is.0 ∙ from.2,
-      ))
+      let one = each_to IsUnlinked configs unlinked from.0 u from.1 in
+      (one.0, one.1, one.2.0 ∙ from.2))
       (λ i j d less within same.
       let first = u.1 i d (omega (arith, less, within)) in
       let second = u.1 j d within in
@@ -282,6 +259,5 @@ pub quiet_empty : (es : List Event) (slots : List (Option ℕ)) → IsTable es s
 quiet_empty es slots table empty call begun =
     elim (ended_or_not es call) [
       | inl h ↦ h
-      | inr none ↦
-          let at = table.all call (begun, none) in absurd (empty at.0 call at.1)
+      | inr none ↦ grind arith
     ]

@@ -1,14 +1,7 @@
 -- One event more.
-use Rattle.std.proofs.Common.{eq-eqb, Some, false, ◌≡◌, ◌≢◌, ℕ, zero, suc, ◌+◌, ◌<◌, ◌⊎◌, List, [], ◌∷◌, ◌++◌, length, cond, refl, sym, ap, subst, arith, inl, inr, ◌∙◌, Option}
-use Rattle.std.proofs.lemmas.Bool.{cases_eq}
-use Rattle.std.proofs.lemmas.Bool.Decides.{eqb_tells}
+use Rattle.histories.proofs.Words.{eq-eqb, Some, false, ◌≡◌, ◌≢◌, ℕ, zero, suc, ◌+◌, ◌<◌, ◌⊎◌, List, [], ◌∷◌, ◌++◌, length, cond, refl, sym, ap, subst, arith, inl, inr, ◌∙◌, Option, cases_eq, eqb_tells, FreesSlot, TakesSlot, Event, Begin, End, Crash, EndsAt, HasEnded, IsAnswered, IsOpen, IsOver, StandsAt, Ends, IsSound, HasSlot, IsTable}
 use Rattle.histories.proofs.Bits.{slot_once}
-use Rattle.histories.specs.Gathering.{FreesSlot, TakesSlot}
-use Rattle.histories.specs.declared.event.Event.{Event}
-use Rattle.histories.specs.declared.event.Event.TheVariants.{Begin, End, Crash}
-use Rattle.histories.specs.Histories.{begins, times, EndsAt, HasEnded, IsAnswered, IsOpen, IsOver, StandsAt}
-use Rattle.histories.specs.Advances.{Ends}
-use Rattle.histories.specs.Frontier.{IsSound, HasSlot, IsTable}
+use Rattle.histories.specs.Histories.{begins, times}
 use Rattle.histories.proofs.Counting.{times_one, times_other}
 
 pub begins-append : (c : ℕ) (es fs : List Event)
@@ -16,8 +9,7 @@ pub begins-append : (c : ℕ) (es fs : List Event)
 unfolding begins
 begins-append c [] fs = omega arith
 begins-append c (Begin b ∷ es) fs =
-    let more : begins c (es ++ fs) ≡ begins c es + begins c fs = begins-append c es fs in omega
-    arith
+    grind (arith, begins-append c es fs)
 begins-append c (End b ∷ es) fs = begins-append c es fs
 begins-append c (Crash b ∷ es) fs = begins-append c es fs
 
@@ -63,10 +55,7 @@ pub stands_either : (es fs : List Event) (k : ℕ) (x : Event) → StandsAt (es 
 stands_either [] fs k x at = inr (k, omega arith, at)
 stands_either (y ∷ es) fs zero x at = inl at
 stands_either (y ∷ es) fs (suc k) x at =
-    elim (stands_either es fs k x at) [
-      | inl before ↦ inl before
-      | inr r ↦ inr (r.0, omega (arith, r.1), r.2)
-    ]
+    grind (arith, stands_either es fs k x at)
 
 pub stands_begins : (c : ℕ) (es : List Event) (k : ℕ) → StandsAt es k (Begin c)
     → 0 < begins c es
@@ -137,9 +126,16 @@ stands_cases [] e zero x at = inr (refl, cc)
 stands_cases [] e (suc k) x at = absurd (cc)
 stands_cases (y ∷ es) e zero x at = inl at
 stands_cases (y ∷ es) e (suc k) x at =
-    elim (stands_cases es e k x at) [
-      | inl before ↦ inl before
-      | inr last ↦ inr (ap suc last.0, last.1)
+    grind (arith, stands_cases es e k x at)
+
+-- a call that has begun did so before, or with the last event
+pub begins_cases : (es : List Event) (e : Event) (c : ℕ) → 0 < begins c (es ++ e ∷ [])
+    → (0 < begins c es) ⊎ (e ≡ Begin c)
+begins_cases es e c h =
+    let r = begins_stands c (es ++ e ∷ []) h in
+    elim (stands_cases es e r.0 (Begin c) r.1) [
+      | inl before ↦ inl (stands_begins c es r.0 before)
+      | inr last ↦ inr last.1
     ]
 
 pub stands_within : (es : List Event) (k : ℕ) (x : Event) → StandsAt es k x → k < length es
@@ -185,13 +181,8 @@ answered_cases es e c a = grind (arith, stands_cases)
 
 -- a call that is over before the begin of the last event
 pub over_now : (es : List Event) (c d : ℕ) → HasEnded es c → IsOver (es ++ Begin d ∷ []) c d
-over_now es c d a = (
-  a.0,
-  length es,
-  ends_within es a.0 c a.1,
-  ends_left es (Begin d ∷ []) a.0 c a.1,
-  stands_last es (Begin d),
-)
+over_now es c d a =
+    search (arith, ends_within, ends_left, stands_last)
 
 pub over_cases : (es : List Event) (e : Event) (c d : ℕ) → IsOver (es ++ e ∷ []) c d
     → IsOver es c d ⊎ (e ≡ Begin d)

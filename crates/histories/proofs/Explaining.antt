@@ -1,14 +1,7 @@
 -- What explains a history, and one event more.
-use Rattle.std.proofs.Common.{◌≡◌, ℕ, ◌+◌, ◌<◌, List, [], ◌∷◌, ◌++◌, get_or, sym, subst, arith, inl, inr, Option, append-nil, append_assoc}
-use Rattle.std.proofs.lemmas.Bool.{cases_lt}
-use Rattle.std.proofs.lemmas.List.Quantifiers.{all_pairs_push}
-use Rattle.histories.specs.declared.event.Event.{Event}
-use Rattle.histories.specs.declared.event.Event.TheVariants.{Begin, End}
-use Rattle.histories.specs.Histories.{begins, times, Explains, HasEnded, IsOpen, IsOver, Leads}
-use Rattle.histories.specs.Advances.{Ends}
-use Rattle.histories.specs.Frontier.{IsSound, IsTable, IsWaiting, Leaves, Runs, cleared}
+use Rattle.histories.proofs.Words.{◌≡◌, ℕ, ◌+◌, ◌<◌, List, [], ◌∷◌, ◌++◌, get_or, sym, subst, arith, inl, inr, Option, append-nil, append_assoc, cases_lt, all_pairs_push, Event, Begin, End, begins, times, Explains, HasEnded, IsOpen, IsOver, Leads, Ends, IsSound, IsTable, IsWaiting, Leaves, Runs, cleared}
 use Rattle.histories.proofs.Counting.{all_pairs_behind, all_pairs_front, apart, times-append, times-cons, times_at, times_one, times_other, times_same}
-use Rattle.histories.proofs.Events.{answered_cases, answered_ended, answered_left, begin_no_end, begins_begin, begins_ends, ends_one, over_cases, over_ended, over_now, over_left}
+use Rattle.histories.proofs.Events.{answered_cases, answered_ended, answered_left, begin_no_end, begins-append, begins_begin, begins_cases, begins_ends, ends_one, over_cases, over_ended, over_now, over_left}
 use Rattle.histories.proofs.Running.{leads_push, leaves_made}
 
 module _ {S : Type 0} (Step : S → ℕ → S → Type 0) where
@@ -47,11 +40,7 @@ module _ {S : Type 0} (Step : S → ℕ → S → Type 0) where
       → Runs Step slots mid waiting calls new rest
       → Explains Step es old (order ++ calls) new × Leaves slots (order ++ calls) rest
   explains_run es slots old mid new order waiting [] rest table ex leaves run =
-      subst (λ (o : List ℕ). Explains Step es old o new × Leaves slots o rest)
-      (sym (append-nil order))
-      (subst (λ n. Explains Step es old order n × Leaves slots order rest) (sym run.0)
-      (subst (λ w. Explains Step es old order mid × Leaves slots order w) (sym run.1)
-      (ex, leaves)))
+      grind (arith, append-nil)
   explains_run es slots old mid new order waiting (call ∷ calls) rest table ex leaves run =
       let more = explains_made es slots old mid run.2.0 order waiting run.0 call table ex leaves
       run.1
@@ -61,20 +50,37 @@ module _ {S : Type 0} (Step : S → ℕ → S → Type 0) where
       subst (λ (o : List ℕ). Explains Step es old o new × Leaves slots o rest)
       (append_assoc order (call ∷ []) calls) all
 
+  -- an order in which no call begins with the last event explains those before it
+  explains_less : (es : List Event) (e : Event) (old new : S) (order : List ℕ)
+      → ((c : ℕ) → e ≡ Begin c → times c order ≡ 0) → Explains Step (es ++ e ∷ []) old order new
+      → Explains Step es old order new
+  explains_less es e old new order none ex = record {
+    once = ex.once;
+    begun = λ c some. elim (begins_cases es e c (ex.begun c some)) [
+      | inl before ↦ before
+      | inr is ↦ absurd (omega (arith, some, none c is))
+    ];
+    answered = λ c a. ex.answered c (answered_left es (e ∷ []) c a);
+    real_time = λ i j d less within over.
+        ex.real_time i j d less within
+        (over_left es (e ∷ []) (get_or order j d) (get_or order i d) over);
+    leads = ex.leads;
+  }
+
   -- a call that begins now and is not made: the order explains what was before
   pub explains_without : (es : List Event) (old new : S) (order : List ℕ) (call : ℕ)
       → Explains Step (es ++ Begin call ∷ []) old order new → times call order ≡ 0
       → Explains Step es old order new
-  explains_without es old new order call ex none = record {
-    once = ex.once;
-    begun = λ c some.
-        omega (arith, ex.begun c some, begins_begin c call es, apart order call c none some);
-    answered = λ c a. ex.answered c (answered_left es (Begin call ∷ []) c a);
-    real_time = λ i j d less within over.
-        ex.real_time i j d less within
-        (over_left es (Begin call ∷ []) (get_or order j d) (get_or order i d) over);
-    leads = ex.leads;
-  }
+  explains_without es old new order call ex none =
+      explains_less es (Begin call) old new order
+      (λ c is. let same : call ≡ c = cc in subst (λ x. times x order ≡ 0) same none) ex
+
+  -- an order that explains the history with the end explains that without
+  pub explains_open : (es : List Event) (e : Event) (old new : S) (order : List ℕ) (call : ℕ)
+      → Ends e call → Explains Step (es ++ e ∷ []) old order new → Explains Step es old order new
+  explains_open es e old new order call ends ex =
+      explains_less es e old new order
+      (λ c is. absurd (begin_no_end c call (subst (λ x. Ends x call) is ends))) ex
 
   -- what stands behind a call that begins now has not ended
   pub behind_open : (es : List Event) (old new : S) (before after : List ℕ) (call c : ℕ)
@@ -119,60 +125,45 @@ module _ {S : Type 0} (Step : S → ℕ → S → Type 0) where
         leads = leads;
       }
 
+  -- one event more: a call that begins is new, and one that was answered was made
+  explains_more : (es : List Event) (e : Event) (old new : S) (order : List ℕ)
+      → ((c : ℕ) → e ≡ Begin c → begins c es ≡ 0) → ((c : ℕ) → e ≡ End c → 0 < times c order)
+      → Explains Step es old order new → Explains Step (es ++ e ∷ []) old order new
+  explains_more es e old new order fresh made ex = record {
+    once = ex.once;
+    begun = λ c some. omega (arith, ex.begun c some, begins-append c es (e ∷ []));
+    answered = λ c a. elim (answered_cases es e c a) [
+      | inl before ↦ ex.answered c before
+      | inr is ↦ made c is
+    ];
+    real_time = λ i j d less within over.
+        elim (over_cases es e (get_or order j d) (get_or order i d) over) [
+          | inl before ↦ ex.real_time i j d less within before
+          | inr is ↦ absurd (omega (
+            arith,
+            ex.begun (get_or order i d) (times_at order i d (omega arith)),
+            fresh (get_or order i d) is,
+          ))
+        ];
+    leads = ex.leads;
+  }
+
   -- a call begins and waits
   pub explains_begin : (es : List Event) (old new : S) (order : List ℕ) (call : ℕ)
       → begins call es ≡ 0 → Explains Step es old order new
       → Explains Step (es ++ Begin call ∷ []) old order new
-  explains_begin es old new order call fresh ex = record {
-    once = ex.once;
-    begun = λ c some. omega (arith, ex.begun c some, begins_begin c call es);
-    answered = λ c a. elim (answered_cases es (Begin call) c a) [
-      | inl before ↦ ex.answered c before
-      | inr e ↦ absurd (cc)
-    ];
-    real_time = λ i j d less within over.
-        elim (over_cases es (Begin call) (get_or order j d) (get_or order i d) over) [
-          | inl before ↦ ex.real_time i j d less within before
-          | inr e ↦
-              let same : call ≡ get_or order i d = cc in
-              let begun : 0 < begins (get_or order i d) es =
-              ex.begun (get_or order i d) (times_at order i d (omega arith)) in
-              absurd (omega (arith, begun, subst (λ x. begins x es ≡ 0) same fresh))
-        ];
-    leads = ex.leads;
-  }
+  explains_begin es old new order call fresh ex =
+      explains_more es (Begin call) old new order
+      (λ c is. let same : call ≡ c = cc in subst (λ x. begins x es ≡ 0) same fresh)
+      (λ c is. absurd (cc)) ex
 
   -- a call ends, and has been made if it was answered
   pub explains_end : (es : List Event) (e : Event) (old new : S) (order : List ℕ) (call : ℕ)
       → Ends e call → (e ≡ End call → 0 < times call order) → Explains Step es old order new
       → Explains Step (es ++ e ∷ []) old order new
-  explains_end es e old new order call ends made ex = record {
-    once = ex.once;
-    begun = λ c some. omega (arith, ex.begun c some, begins_ends c call es e ends);
-    answered = λ c a. elim (answered_cases es e c a) [
-      | inl before ↦ ex.answered c before
-      | inr is ↦
-          let same : c ≡ call = ends_one e c call (inl is) ends in
-          subst (λ x. 0 < times x order) (sym same)
-          (made (subst (λ x. e ≡ End x) same is))
-    ];
-    real_time = λ i j d less within over.
-        elim (over_cases es e (get_or order j d) (get_or order i d) over) [
-          | inl before ↦ ex.real_time i j d less within before
-          | inr is ↦ begin_no_end (get_or order i d) call (subst (λ x. Ends x call) is ends)
-        ];
-    leads = ex.leads;
-  }
-
-  -- an order that explains the history with the end explains that without
-  pub explains_open : (es : List Event) (e : Event) (old new : S) (order : List ℕ) (call : ℕ)
-      → Ends e call → Explains Step (es ++ e ∷ []) old order new → Explains Step es old order new
-  explains_open es e old new order call ends ex = record {
-    once = ex.once;
-    begun = λ c some. omega (arith, ex.begun c some, begins_ends c call es e ends);
-    answered = λ c a. ex.answered c (answered_left es (e ∷ []) c a);
-    real_time = λ i j d less within over.
-        ex.real_time i j d less within
-        (over_left es (e ∷ []) (get_or order j d) (get_or order i d) over);
-    leads = ex.leads;
-  }
+  explains_end es e old new order call ends made ex =
+      explains_more es e old new order
+      (λ c is. absurd (begin_no_end c call (subst (λ x. Ends x call) is ends)))
+      (λ c is.
+      let same : c ≡ call = ends_one e c call (inl is) ends in
+      subst (λ x. 0 < times x order) (sym same) (made (subst (λ x. e ≡ End x) same is))) ex

@@ -1,25 +1,12 @@
 -- The configurations after one event more.
-use Rattle.std.proofs.Common.{◌≡◌, ◌≢◌, ℕ, ◌<◌, ◌≤◌, List, [], ◌∷◌, ◌++◌, length, refl, sym, ◌∙◌, ap, subst, arith, inl, inr, Option}
-use Rattle.std.specs.Prelude.{AllPairs}
-use Rattle.std.specs.Int.{bit_at}
-use Rattle.std.specs.List.{Contains}
-use Rattle.histories.specs.declared.front.Config.{Config}
-use Rattle.histories.specs.declared.front.Link.{Link}
-use Rattle.histories.specs.declared.event.Event.{Event}
-use Rattle.histories.specs.declared.event.Event.TheVariants.{End, Crash}
-use Rattle.histories.specs.Histories.{times, Explains, Leads}
-use Rattle.histories.specs.Advances.{Ends}
-use Rattle.histories.specs.Frontier.{HasManyOrders, HasSlot, IsFollowed, IsFrontier, IsLighter, IsSame, IsTable, LeadTo, Leaves, Path, cleared, no_path, order_at, order_of, path_of}
-use Rattle.histories.specs.Gathering.{AreSettled, FreesSlot, FromOne, Gathers, HasMany, IsClosed, IsDropped, IsFirst, IsMadeFrom, Spot, spot_of}
+use Rattle.histories.proofs.Words.{◌≡◌, ◌≢◌, ℕ, ◌<◌, ◌≤◌, List, [], ◌∷◌, ◌++◌, length, refl, sym, ◌∙◌, ap, subst, arith, inl, inr, Option, AllPairs, bit_at, Contains, Config, Link, Event, End, Crash, times, Explains, Leads, Ends, HasManyOrders, HasSlot, IsFollowed, IsFrontier, IsLighter, IsSame, IsTable, LeadTo, Leaves, Path, cleared, no_path, order_at, order_of, path_of, AreSettled, FreesSlot, FromOne, Gathers, HasMany, IsClosed, IsDropped, IsFirst, IsMadeFrom, Spot, spot_of}
 use Rattle.histories.proofs.Bits.{bit_cases, cleared_other, cleared_same, slot_64, slot_within}
 use Rattle.histories.proofs.Counting.{not_some, times_none, no_times}
 use Rattle.histories.proofs.Events.{answered_now, begins_none, freed_before, table_end}
-use Rattle.histories.proofs.Running.{lighter_cleared, runs_fewer, runs_in, runs_without}
-use Rattle.histories.proofs.Running.{lighter_without}
+use Rattle.histories.proofs.Running.{lighter_cleared, runs_fewer, runs_in, runs_without, lighter_without}
 use Rattle.histories.proofs.Explaining.{explains_end, explains_open, explains_run}
 use Rattle.histories.proofs.Closing.{leads_found, leads_kept, leads_settled, made_settled, none_same, path_none}
-use Rattle.histories.proofs.Places.{nothing_in}
-use Rattle.histories.proofs.Chains.{order_more, order_none}
+use Rattle.histories.proofs.Places.{nothing_in, order_more, order_none}
 
 module _ {S : Type 0} (Step : S → ℕ → S → Type 0) where
   -- each configuration is that of an order

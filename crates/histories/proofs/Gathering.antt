@@ -1,19 +1,8 @@
 -- Configurations that are gathered, and put into chains.
-use Rattle.std.proofs.Common.{◌≡◌, Option, ℕ, zero, suc, ◌+◌, ◌<◌, ◌⊎◌, List, [], ◌∷◌, ◌++◌, length, take, get_or, refl, sym, ◌∙◌, ap, subst, arith, inl, inr, true, false, ◌≢◌, ◌-◌, ◌≤◌, Bool, All, drop, set, replicate}
-use Rattle.std.specs.Int.{bit_at}
-use Rattle.std.specs.List.{Contains}
-use Rattle.std.proofs.lemmas.Bool.{cases_order, cases_eq, cases_lt}
-use Rattle.std.proofs.lemmas.List.{take_more, get_or-drop, get_or-replicate, get_or-set_other, get_or-set_same, get_or_default, get_or_past, length-drop, length-replicate, length_push}
-use Rattle.std.proofs.lemmas.List.Elements.{All-contains, Contains-append_left, Contains-push, Contains-push_cases}
-use Rattle.std.proofs.lemmas.List.Quantifiers.{all_pairs_push}
-use Rattle.histories.specs.declared.front.Config.{Config}
-use Rattle.histories.specs.Histories.{AreAll}
-use Rattle.histories.specs.Frontier.{IsSame, IsWaiting, Path, cleared, no_path, path_more, path_of}
-use Rattle.histories.specs.Gathering.{FromOne, Gathers, IsCopy, IsDone, IsDropped, IsFirst, IsKnown, IsNext, IsMadeIn, IsNextAt, IsNextBeside, IsNextIn, IsNextOther, Spot, spot_of, AreChained, AreLinked, AreOther, chain_at, chain_of}
+use Rattle.histories.proofs.Words.{◌≡◌, Option, ℕ, zero, suc, ◌+◌, ◌<◌, ◌⊎◌, List, [], ◌∷◌, ◌++◌, length, take, get_or, refl, sym, ◌∙◌, ap, subst, arith, inl, inr, true, false, ◌≢◌, ◌-◌, ◌≤◌, Bool, All, drop, set, replicate, bit_at, Contains, cases_order, cases_eq, cases_lt, take_more, get_or-drop, get_or-replicate, get_or-set_other, get_or-set_same, get_or_default, get_or_past, length-drop, length-replicate, length_push, All-contains, Contains-append_left, Contains-push, Contains-push_cases, all_pairs_push, Config, AreAll, IsSame, IsWaiting, Path, cleared, no_path, path_more, path_of, FromOne, Gathers, IsCopy, IsDone, IsDropped, IsFirst, IsKnown, IsMadeIn, IsNextAt, IsNextBeside, IsNextIn, IsNextOther, IsAt, IsWith, Spot, spot_of, AreChained, AreLinked, AreOther, chain_at, chain_of, get_or-append, get_or-append_seam}
+use Rattle.histories.specs.Gathering.{IsNext}
 use Rattle.histories.proofs.Bits.{slot_once}
-use Rattle.std.proofs.Math.ListN.{get_or-append}
-use Rattle.std.proofs.Math.Seq.{get_or-append_seam}
-use Rattle.histories.proofs.Places.{less_of}
+use Rattle.histories.proofs.Places.{less_of, nothing_in, only}
 
 spot_with : {S : Type 0} → S → ℕ → Path → Spot S
 spot_with state waiting made = record { state = state; waiting = waiting; made = made }
@@ -51,14 +40,20 @@ module _ {S : Type 0} where
   }
 
   -- one that is there already
-  pub gathers_known : (configs : List (Config S)) (config : Config S)
-      → IsKnown configs config true → Gathers (IsCopy config) configs configs
-  gathers_known configs config is = record {
-    sound = λ k has. inl has;
-    kept = λ k has. has;
-    complete = λ k copy. (is.0, is.1, (is.2.0 ∙ sym copy.0, is.2.1 ∙ sym copy.1));
+  pub gathers_there : (Found : Spot S → Type 0) (known : Config S) (old : List (Config S))
+      → Contains old known → ((k : Spot S) → Found k → IsAt known k) → Gathers Found old old
+  gathers_there Found known old has at = record {
+    sound = λ k is. inl is;
+    kept = λ k is. is;
+    complete = λ k found. (known, has, at k found);
     once = λ a. a;
   }
+
+  pub gathers_known : (configs : List (Config S)) (config : Config S)
+      → IsKnown configs config true → Gathers (IsCopy config) configs configs
+  gathers_known configs config is =
+      gathers_there (IsCopy config) is.0 configs is.1
+      (λ k copy. (is.2.0 ∙ sym copy.0, is.2.1 ∙ sym copy.1))
 
   -- one that is not there yet
   pub gathers_new : (configs : List (Config S)) (config : Config S)
@@ -74,10 +69,37 @@ module _ {S : Type 0} where
     once = λ a. all_pairs_push (λ x y. ¬ (IsSame x y)) configs config a (λ k d h. is k d h);
   }
 
-  only_state : (state x : S) (i : ℕ) → i < length (state ∷ []) → get_or (state ∷ []) i x ≡ x
-      → x ≡ state
-  only_state state x zero h is = sym is
-  only_state state x (suc i) h is = absurd (omega (arith, h))
+  -- a configuration with one state, a state more, and none
+  gathers_with : (next : Config S) (state : S) (waiting : ℕ) (made : Path)
+      (mid new : List (Config S)) → next.state ≡ state → next.waiting ≡ waiting
+      → path_of next ≡ made → Gathers (IsCopy next) mid new
+      → Gathers (IsWith (state ∷ []) waiting made) mid new
+  gathers_with next state waiting made mid new same waits path g =
+      grind (arith, gathers_as, only)
+
+  pub gathers_states : (states : List S) (state : S) (waiting : ℕ) (made : Path)
+      (old mid new : List (Config S)) → Gathers (IsWith states waiting made) old mid
+      → Gathers (IsWith (state ∷ []) waiting made) mid new
+      → Gathers (IsWith (states ++ state ∷ []) waiting made) old new
+  gathers_states states state waiting made old mid new f g =
+      gathers_then (IsWith states waiting made) (IsWith (state ∷ []) waiting made)
+      (IsWith (states ++ state ∷ []) waiting made) old mid new
+      (λ k r. elim (Contains-push_cases states state k.state r.0) [
+        | inl m ↦ inl (m, r.1, r.2)
+        | inr e ↦ inr ((0, omega arith, e), r.1, r.2)
+      ])
+      (λ k p. (Contains-append_left states (state ∷ []) k.state p.0, p.1, p.2))
+      (λ k q. (
+        subst (λ x. Contains (states ++ state ∷ []) x) (sym (only state k.state q.0))
+            (Contains-push states state),
+        q.1,
+        q.2,
+      )) f g
+
+  pub gathers_no_state : (waiting : ℕ) (made : Path) (old : List (Config S))
+      → Gathers (IsWith [] waiting made) old old
+  gathers_no_state waiting made old =
+      gathers_none (IsWith [] waiting made) old (λ k f. nothing_in k.state f.0)
 
   -- the one state that a call leaves
   pub gathers_state : (from next : Config S) (slot call : ℕ) (state : S)
@@ -86,45 +108,17 @@ module _ {S : Type 0} where
       → path_of next ≡ path_more (path_of from) (call ∷ []) → Gathers (IsCopy next) mid new
       → Gathers (IsNextIn from slot call (state ∷ [])) mid new
   gathers_state from next slot call state mid new same waits made g =
-      grind (arith, gathers_as, only_state)
+      gathers_with next state (cleared from.waiting slot) (path_more (path_of from) (call ∷ []))
+      mid new same waits made g
 
   -- there is the same already
   pub gathers_had : (from : Config S) (slot call : ℕ) (state : S) (old : List (Config S))
       → (known : Config S) × Contains old known × (known.state ≡ state)
       × (known.waiting ≡ cleared from.waiting slot)
       → Gathers (IsNextIn from slot call (state ∷ [])) old old
-  gathers_had from slot call state old is = record {
-    sound = λ k has. inl has;
-    kept = λ k has. has;
-    complete = λ k r.
-        (is.0, is.1, (is.2 ∙ sym (only_state state k.state r.0.0 r.0.1 r.0.2), is.3 ∙ sym r.1));
-    once = λ a. a;
-  }
-
-  -- one state more
-  pub gathers_states : (from : Config S) (slot call : ℕ) (states : List S) (state : S)
-      (old mid new : List (Config S)) → Gathers (IsNextIn from slot call states) old mid
-      → Gathers (IsNextIn from slot call (state ∷ [])) mid new
-      → Gathers (IsNextIn from slot call (states ++ state ∷ [])) old new
-  gathers_states from slot call states state old mid new f g =
-      gathers_then (IsNextIn from slot call states) (IsNextIn from slot call (state ∷ []))
-      (IsNextIn from slot call (states ++ state ∷ [])) old mid new
-      (λ k r. elim (Contains-push_cases states state k.state r.0) [
-        | inl m ↦ inl (m, r.1, r.2)
-        | inr e ↦ inr ((0, omega arith, e), r.1, r.2)
-      ])
-      (λ k p. (Contains-append_left states (state ∷ []) k.state p.0, p.1, p.2))
-      (λ k q. (
-        subst (λ x. Contains (states ++ state ∷ []) x)
-            (sym (only_state state k.state q.0.0 q.0.1 q.0.2)) (Contains-push states state),
-        q.1,
-        q.2,
-      )) f g
-
-  pub gathers_no_state : (from : Config S) (slot call : ℕ) (old : List (Config S))
-      → Gathers (IsNextIn from slot call []) old old
-  gathers_no_state from slot call old =
-      gathers_none (IsNextIn from slot call []) old (λ k f. absurd (omega (arith, f.0.1)))
+  gathers_had from slot call state old is =
+      gathers_there (IsNextIn from slot call (state ∷ [])) is.0 old is.1
+      (λ k r. (is.2 ∙ sym (only state k.state r.0), is.3 ∙ sym r.1))
 
   module _ (Step : S → ℕ → S → Type 0) (slots : List (Option ℕ)) where
     -- all states that a call leaves
@@ -228,23 +222,8 @@ module _ {S : Type 0} where
       let one_more : take (at + 1) states ≡ take at states ++ from ∷ [] =
       take_more states at from h ∙ ap (λ x. take at states ++ x ∷ []) (sym is) in
       subst (λ l. Gathers (IsFirst l) old new) (sym one_more)
-      (gathers_then (IsFirst (take at states)) (IsCopy config)
-      (IsFirst (take at states ++ from ∷ [])) old mid new
-      (λ k r. elim (Contains-push_cases (take at states) from k.state r.0) [
-        | inl m ↦ inl (m, r.1, r.2)
-        | inr e ↦ inr (sym e ∙ sym same, r.1 ∙ sym waits, r.2 ∙ sym made)
-      ])
-      (λ k p. (Contains-append_left (take at states) (from ∷ []) k.state p.0, p.1, p.2))
-      (λ k q. (
-        subst (λ x. Contains (take at states ++ from ∷ []) x) (sym (q.0 ∙ same))
-            (Contains-push (take at states) from),
-        q.1 ∙ waits,
-        q.2 ∙ made,
-      )) f g)
-
-  pub gathers_no_first : (old : List (Config S)) → Gathers (IsFirst []) old old
-  gathers_no_first old =
-      gathers_none (IsFirst []) old (λ k f. absurd (omega (arith, f.0.1)))
+      (gathers_states (take at states) from 0 no_path old mid new f
+      (gathers_with config from 0 no_path mid new same waits made g))
 
   -- of those that are found by copies of others
   pub gathers_through : (Fact : Spot S → Type 0) (others old new : List (Config S))
@@ -291,13 +270,10 @@ pub linked_as : (one other : ℕ → ℕ) (heads before : List ℕ)
     → ((index : ℕ) → index < length before → other index ≡ one index)
     → AreLinked one heads before → AreLinked other heads before
 linked_as one other heads before same l = record {
-  reached = λ index h. subst (λ c. index < get_or heads c 0) (sym (same index h))
-      (l.reached index h);
+  reached = λ index h. grind arith;
   head = λ number index e.
       let is = l.head number index e in (is.0, same index is.0 ∙ is.1);
-  kept = λ index at h below e.
-      l.kept index at h below
-      (sym (same index (omega (arith, h, below))) ∙ (e ∙ same at below));
+  kept = λ index at h below e. grind arith;
   link = λ at index below e.
       let is = l.link at index below e in (
         is.0,
@@ -348,12 +324,7 @@ linked_more chain heads before number is within l =
 -- each of many copies of a number is that
 pub copies : (count index number : ℕ) → get_or (replicate count number) index number ≡ number
 copies count index number =
-    elim (cases_lt index count) [
-      | inl within ↦ get_or-replicate count index number number within
-      | inr past ↦
-          get_or_past (replicate count number) index number
-          (omega (arith, length-replicate count number, past))
-    ]
+    grind (arith, cases_lt, get_or-replicate, get_or_past, length-replicate)
 
 module _ {S : Type 0} where
   -- a configuration more, which is in no chain yet
@@ -446,8 +417,7 @@ module _ {S : Type 0} where
                       is,
                       (c.1 d).kept index at before_ below chained,
                     ))
-                | inr (inr behind) ↦
-                    f.others index d (omega (arith, behind, one)) end same
+                | inr (inr behind) ↦ grind arith
               ];
         },
         less,

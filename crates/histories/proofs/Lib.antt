@@ -1,3 +1,4 @@
+pub mod Words
 pub mod Bits
 pub mod Places
 pub mod Counting
@@ -6,8 +7,6 @@ pub mod Running
 pub mod Explaining
 pub mod Gathering
 pub mod Closing
-pub mod Settlings
-pub mod Chains
 pub mod Frontiers
 pub mod Cutting
 pub mod Verdicts

@@ -1,10 +1,5 @@
 -- Calls that wait and are made.
-use Rattle.std.proofs.Common.{◌≡◌, ◌≢◌, ℕ, ◌<◌, ◌≤◌, List, [], ◌∷◌, ◌++◌, length, refl, sym, ◌∙◌, ap, subst, arith, inl, inr, Option, append-nil, append_assoc}
-use Rattle.std.specs.Int.{bit_at}
-use Rattle.std.proofs.lemmas.Bool.{cases_eq}
-use Rattle.histories.specs.Histories.{times, Leads}
-use Rattle.histories.specs.Gathering.{IsBeside}
-use Rattle.histories.specs.Frontier.{HasSlot, IsIdle, IsLighter, IsWaiting, Leaves, MovesBefore, Runs, cleared}
+use Rattle.histories.proofs.Words.{◌≡◌, ◌≢◌, ℕ, ◌<◌, ◌≤◌, List, [], ◌∷◌, ◌++◌, length, refl, sym, ◌∙◌, ap, subst, arith, inl, inr, Option, append-nil, append_assoc, bit_at, cases_eq, times, Leads, IsBeside, HasSlot, IsIdle, IsLighter, IsWaiting, Leaves, MovesBefore, Runs, cleared}
 use Rattle.histories.proofs.Bits.{bit_cases, cleared_le, cleared_other, cleared_same, cleared_swap, slot_64, slot_once}
 use Rattle.histories.proofs.Counting.{times-append, times-cons, times_one, times_other}
 
@@ -20,8 +15,7 @@ module _ {S : Type 0} (Step : S → ℕ → S → Type 0) where
       → (mid : S) × Leads Step old before mid × Leads Step mid after new
   leads_split old new [] after l = (old, refl, l)
   leads_split old new (c ∷ before) after l =
-      let more = leads_split l.0 new before after l.2 in
-      (more.0, (l.0, l.1, more.1), more.2)
+      grind (arith, leads_split l.0 new before after l.2)
 
   module _ (slots : List (Option ℕ)) where
     -- first some calls, and then others
@@ -29,15 +23,8 @@ module _ {S : Type 0} (Step : S → ℕ → S → Type 0) where
         → Runs Step slots old waiting first mid rest → Runs Step slots mid rest second new last
         → Runs Step slots old waiting (first ++ second) new last
     runs_then old mid new waiting rest last [] second f g = grind arith
-    runs_then old mid new waiting rest last (c ∷ first) second f g = (
-      f.0,
-      f.1,
-      (
-        f.2.0,
-        f.2.1,
-        runs_then f.2.0 mid new (cleared waiting f.0) rest last first second f.2.2 g,
-      ),
-    )
+    runs_then old mid new waiting rest last (c ∷ first) second f g =
+        grind (arith, runs_then f.2.0 mid new (cleared waiting f.0) rest last first second f.2.2 g)
 
     pub lighter_is : (fewer waiting : ℕ) → fewer ≡ waiting → IsLighter Step slots fewer waiting
     lighter_is fewer waiting e slot call has = inl (ap (λ w. bit_at w slot) e)
@@ -96,12 +83,7 @@ module _ {S : Type 0} (Step : S → ℕ → S → Type 0) where
           | inl none ↦
               elim (l slot call here) [
                 | inl same ↦ absurd (omega (arith, same, none, run.1.1))
-                | inr idle ↦
-                    let is : mid ≡ old = idle.1 old mid run.2.1 in
-                    runs_lighter old new fewer (cleared waiting slot) rest calls few
-                    (lighter_without fewer waiting slot few h none l)
-                    (subst (λ s. Runs Step slots s (cleared waiting slot) calls new rest) is
-                    run.2.2)
+                | inr idle ↦ grind (arith, lighter_without, runs_lighter old new fewer (cleared waiting slot) rest calls few (lighter_without fewer waiting slot few h none l) (subst (λ s. Runs Step slots s (cleared waiting slot) calls new rest) (idle.1 old mid run.2.1) run.2.2))
               ]
         ]
 
@@ -125,16 +107,7 @@ module _ {S : Type 0} (Step : S → ℕ → S → Type 0) where
         let h = slot_64 slots slot call few here in
         let k = slot_64 slots at c few run.1.0 in
         elim (cases_eq at slot) [
-          | inl e ↦ (
-            run.2.0,
-            subst (λ x. Step old x run.2.0)
-                (slot_once slots slot c call (subst (λ x. HasSlot slots x c) e run.1.0) here)
-                run.2.1,
-            (
-              calls,
-              subst (λ x. Runs Step slots run.2.0 (cleared waiting x) calls new rest) e run.2.2,
-            ),
-          )
+          | inl e ↦ grind (arith, slot_once)
           | inr ne ↦
               let still : bit_at (cleared waiting at) slot ≡ 1 =
               cleared_other waiting at slot k h (λ e. ne (sym e)) ∙ waits in
@@ -167,17 +140,7 @@ module _ {S : Type 0} (Step : S → ℕ → S → Type 0) where
         → Leaves slots order waiting → IsWaiting slots waiting slot call
         → Leaves slots (order ++ call ∷ []) (cleared waiting slot)
     leaves_made order waiting slot call few apart leaves is other c has =
-        grind (
-          arith,
-          slot_64,
-          cases_eq,
-          slot_once,
-          cleared_same,
-          times_one,
-          times-append,
-          cleared_other,
-          times_other,
-        )
+        grind (arith, slot_64, cases_eq, slot_once, cleared_same, times_one, times-append, cleared_other, times_other)
 
     pub leaves_run : (order : List ℕ) (old new : S) (waiting rest : ℕ) (calls : List ℕ)
         → length slots ≤ 64
@@ -185,8 +148,7 @@ module _ {S : Type 0} (Step : S → ℕ → S → Type 0) where
         → Leaves slots order waiting → Runs Step slots old waiting calls new rest
         → Leaves slots (order ++ calls) rest
     leaves_run order old new waiting rest [] few apart leaves run =
-        subst (λ (o : List ℕ). Leaves slots o rest) (sym (append-nil order))
-        (subst (λ w. Leaves slots order w) (sym run.1) leaves)
+        grind (arith, append-nil)
     leaves_run order old new waiting rest (call ∷ calls) few apart leaves run =
         subst (λ (o : List ℕ). Leaves slots o rest) (append_assoc order (call ∷ []) calls)
         (leaves_run (order ++ call ∷ []) run.2.0 new (cleared waiting run.0) rest calls few apart
@@ -239,25 +201,7 @@ module _ {S : Type 0} (Step : S → ℕ → S → Type 0) where
   runs_in slots other old new waiting rest [] t change swaps keeps few still run =
       (run.0, ap change run.1)
   runs_in slots other old new waiting rest (call ∷ calls) t change swaps keeps few still run =
-      let slot = run.0 in
-      let h = slot_64 slots slot call few run.1.0 in
-      let is = still slot call run.1.0 run.1.1 in (
-        slot,
-        (is.1, keeps waiting slot is.0 h ∙ run.1.1),
-        (
-          run.2.0,
-          run.2.1,
-          subst (λ w. Runs Step other run.2.0 w calls new (change rest))
-              (sym (swaps waiting slot is.0 h))
-              (runs_in slots other run.2.0 new (cleared waiting slot) rest calls t change swaps
-              keeps few
-              (λ s c has some. still s c has
-              (elim (cases_eq s slot) [
-                | inl e ↦ grind (arith, cleared_same)
-                | inr ne ↦ sym (cleared_other waiting slot s h (slot_64 slots s c few has) ne) ∙ some
-              ])) run.2.2),
-        ),
-      )
+      grind (arith, slot_64, cases_eq, cleared_same, cleared_other, runs_in slots other run.2.0 new (cleared waiting run.0) rest calls t change swaps keeps few)
 
   -- bits of those that wait only go
   pub runs_fewer : (slots : List (Option ℕ)) (old new : S) (waiting rest t : ℕ) (calls : List ℕ)
@@ -265,11 +209,7 @@ module _ {S : Type 0} (Step : S → ℕ → S → Type 0) where
       → bit_at rest t ≤ bit_at waiting t
   runs_fewer slots old new waiting rest t [] few h run = omega (arith, ap (λ w. bit_at w t) run.1)
   runs_fewer slots old new waiting rest t (call ∷ calls) few h run =
-      omega (
-        arith,
-        runs_fewer slots run.2.0 new (cleared waiting run.0) rest t calls few h run.2.2,
-        cleared_le waiting run.0 t (slot_64 slots run.0 call few run.1.0) h,
-      )
+      grind (arith, cleared_le, slot_64, runs_fewer slots run.2.0 new (cleared waiting run.0) rest t calls few h run.2.2)
 
   -- a call that waits in the end need not wait for the others to be made
   pub runs_without : (slots : List (Option ℕ)) (old new : S) (waiting rest t : ℕ) (calls : List ℕ)
@@ -279,26 +219,7 @@ module _ {S : Type 0} (Step : S → ℕ → S → Type 0) where
   runs_without slots old new waiting rest t [] few h some run =
       (run.0, ap (λ w. cleared w t) run.1)
   runs_without slots old new waiting rest t (call ∷ calls) few h some run =
-      let slot = run.0 in
-      let k = slot_64 slots slot call few run.1.0 in
-      let ne : slot ≢ t = λ e. absurd
-      (omega (
-        arith,
-        some,
-        runs_fewer slots run.2.0 new (cleared waiting slot) rest t calls few h run.2.2,
-        subst (λ s. bit_at (cleared waiting slot) s ≡ 0) e (cleared_same waiting slot k),
-      )) in (
-        slot,
-        (run.1.0, cleared_other waiting t slot h k ne ∙ run.1.1),
-        (
-          run.2.0,
-          run.2.1,
-          subst (λ w. Runs Step slots run.2.0 w calls new (cleared rest t))
-              (cleared_swap waiting slot t)
-              (runs_without slots run.2.0 new (cleared waiting slot) rest t calls few h some
-              run.2.2),
-        ),
-      )
+      grind (arith, slot_64, runs_fewer, bit_at, cleared_same, cleared_other, cleared_swap, runs_without slots run.2.0 new (cleared waiting run.0) rest t calls few h some run.2.2)
 
 -- as another relation has the steps
 module _ {S : Type 0} (A B : S → ℕ → S → Type 0) (slots : List (Option ℕ))
@@ -308,15 +229,8 @@ module _ {S : Type 0} (A B : S → ℕ → S → Type 0) (slots : List (Option �
     pub runs_as : (old new : S) (waiting rest : ℕ) (calls : List ℕ)
         → Runs A slots old waiting calls new rest → Runs B slots old waiting calls new rest
     runs_as old new waiting rest [] run = run
-    runs_as old new waiting rest (call ∷ calls) run = (
-      run.0,
-      run.1,
-      (
-        run.2.0,
-        makes run.0 call run.1.0 old run.2.0 run.2.1,
-        runs_as run.2.0 new (cleared waiting run.0) rest calls run.2.2,
-      ),
-    )
+    runs_as old new waiting rest (call ∷ calls) run =
+        grind (arith, runs_as run.2.0 new (cleared waiting run.0) rest calls run.2.2)
 
     pub lighter_as : (fewer waiting : ℕ) → IsLighter B slots fewer waiting
         → IsLighter A slots fewer waiting

@@ -1,46 +1,30 @@
 -- What is found of a whole history.
-use Rattle.std.proofs.Common.{◌≡◌, ℕ, zero, suc, ◌+◌, ◌-◌, ◌<◌, ◌≤◌, List, [], ◌∷◌, ◌++◌, length, take, get_or, refl, sym, ◌∙◌, ap, subst, arith, inl, inr, Option, add-zero, take_all}
-use Rattle.std.proofs.lemmas.Bool.{cases_lt, cases_order}
-use Rattle.std.proofs.lemmas.List.{take_more}
-use Rattle.std.proofs.lemmas.Option.{slice_get-get_or}
-use Rattle.histories.specs.declared.event.Event.{Event}
-use Rattle.histories.specs.declared.event.Event.TheVariants.{Begin, End, Crash}
-use Rattle.histories.specs.declared.front.Advance.{Advance}
+use Rattle.histories.proofs.Words.{◌≡◌, ◌⊎◌, ℕ, zero, suc, ◌+◌, ◌-◌, ◌<◌, ◌≤◌, List, [], ◌∷◌, ◌++◌, length, take, get_or, refl, sym, ◌∙◌, ap, subst, arith, inl, inr, Option, add-zero, take_all, cases_lt, cases_order, take-append_seam, take_more, take-append-le, slice_get-get_or, Event, Begin, End, Crash, Advance, Front, Config, Link, begins, times, Explains, IsExplained, IsHistory, IsOpen, MayFollow, StandsAt, AdvancesIn, Agrees, Ends, EndsOpen, IsAdvance, IsVerdict, HasManyOpen, HasManyOrders, IsFrontOf, IsFrontier, IsSound, order_of, VerdictsExclude}
 use Rattle.histories.specs.declared.front.Advance.TheVariants as advance
-use Rattle.histories.specs.declared.front.Front.{Front}
 use Rattle.histories.specs.declared.whole.Verdict.TheVariants as verdict
-use Rattle.histories.specs.declared.front.Config.{Config}
-use Rattle.histories.specs.declared.front.Link.{Link}
-use Rattle.histories.specs.Histories.{begins, begun, times, Explains, IsExplained, IsHistory, IsNext, IsOpen, MayFollow, StandsAt}
-use Rattle.histories.specs.Advances.{AdvancesIn, Agrees, EndsOpen, IsAdvance, IsVerdict}
-use Rattle.histories.specs.Frontier.{IsFrontOf, IsFrontier, IsSound, order_of}
+use Rattle.histories.specs.Histories.{begun, IsNext}
 use Rattle.histories.proofs.Counting.{not_some, split_times, times_same}
-use Rattle.histories.proofs.Events.{begin_no_end, begins_begin, begins_ends, begins_none, ends_one, sound_begin, sound_end, sound_none, stands_within}
+use Rattle.histories.proofs.Events.{begin_no_end, begins_begin, begins_ends, begins_none, ends_one, sound_begin, sound_end, sound_none, stands_cases, stands_within}
 use Rattle.histories.proofs.Running.{leads_split}
 use Rattle.histories.proofs.Frontiers.{explains_none}
 use Rattle.histories.proofs.Explaining.{explains_front, explains_open, explains_without}
-use Rattle.histories.specs.Laws.{VerdictsExclude}
+
+begun-append : (es fs : List Event) → begun (es ++ fs) ≡ begun es + begun fs
+unfolding begun
+begun-append [] fs = omega arith
+begun-append (Begin b ∷ es) fs = omega (arith, begun-append es fs)
+begun-append (End b ∷ es) fs = begun-append es fs
+begun-append (Crash b ∷ es) fs = begun-append es fs
 
 begun_begin : (es : List Event) (c : ℕ) → begun (es ++ Begin c ∷ []) ≡ begun es + 1
 unfolding begun
-begun_begin [] c = omega arith
-begun_begin (Begin b ∷ es) c = omega (arith, begun_begin es c)
-begun_begin (End b ∷ es) c = begun_begin es c
-begun_begin (Crash b ∷ es) c = begun_begin es c
+begun_begin es c = begun-append es (Begin c ∷ [])
 
-begun_end : (es : List Event) (c : ℕ) → begun (es ++ End c ∷ []) ≡ begun es
+begun_end : (es : List Event) (e : Event) (c : ℕ) → Ends e c → begun (es ++ e ∷ []) ≡ begun es
 unfolding begun
-begun_end [] c = refl
-begun_end (Begin b ∷ es) c = omega (arith, begun_end es c)
-begun_end (End b ∷ es) c = begun_end es c
-begun_end (Crash b ∷ es) c = begun_end es c
-
-begun_crash : (es : List Event) (c : ℕ) → begun (es ++ Crash c ∷ []) ≡ begun es
-unfolding begun
-begun_crash [] c = refl
-begun_crash (Begin b ∷ es) c = omega (arith, begun_crash es c)
-begun_crash (End b ∷ es) c = begun_crash es c
-begun_crash (Crash b ∷ es) c = begun_crash es c
+begun_end es (Begin b) c ends = absurd (begin_no_end b c ends)
+begun_end es (End b) c ends = omega (arith, begun-append es (End b ∷ []))
+begun_end es (Crash b) c ends = omega (arith, begun-append es (Crash b ∷ []))
 
 pub begun_none : begun [] ≡ 0
 unfolding begun
@@ -53,11 +37,11 @@ counts_begin count call es is = omega (arith, is, begun_begin es call)
 
 pub counts_end : (count call : ℕ) (es : List Event) → count ≡ begun es
     → count ≡ begun (es ++ End call ∷ [])
-counts_end count call es is = is ∙ sym (begun_end es call)
+counts_end count call es is = is ∙ sym (begun_end es (End call) call (inl refl))
 
 pub counts_crash : (count call : ℕ) (es : List Event) → count ≡ begun es
     → count ≡ begun (es ++ Crash call ∷ [])
-counts_crash count call es is = is ∙ sym (begun_crash es call)
+counts_crash count call es is = is ∙ sym (begun_end es (Crash call) call (inr refl))
 
 -- how many have begun after one event more, where a call that begins has the next number
 pub count_begin : (count call : ℕ) (es : List Event) → call ≡ count → count ≡ begun es
@@ -80,14 +64,19 @@ AreNumbered es = (c : ℕ) → 0 < begins c es → c < begun es
 pub numbered_none : AreNumbered []
 numbered_none c h = absurd (omega (arith, h, begins_none c))
 
+ends_numbered : (es : List Event) (e : Event) (b : ℕ) → Ends e b → AreNumbered es
+    → AreNumbered (es ++ e ∷ [])
+ends_numbered es e b ends n c h =
+    omega (arith, n c (omega (arith, h, begins_ends c b es e ends)), begun_end es e b ends)
+
 pub numbered_more : (es : List Event) (e : Event) → AreNumbered es → IsNext es e
     → AreNumbered (es ++ e ∷ [])
 numbered_more es (Begin b) n next c h =
     grind (arith, cases_lt, begun_begin, begins_begin, times_same)
 numbered_more es (End b) n next c h =
-    omega (arith, n c (omega (arith, h, begins_ends c b es (End b) (inl refl))), begun_end es b)
+    ends_numbered es (End b) b (inl refl) n c h
 numbered_more es (Crash b) n next c h =
-    omega (arith, n c (omega (arith, h, begins_ends c b es (Crash b) (inr refl))), begun_crash es b)
+    ends_numbered es (Crash b) b (inr refl) n c h
 
 -- a call with the next number is new
 pub next_fresh : (es : List Event) (e : Event) → AreNumbered es → IsNext es e → (c : ℕ)
@@ -138,7 +127,7 @@ may_more es i history h =
     history i (get_or es i (Begin 0)) (slice_get-get_or es i (Begin 0) h)
 
 -- a history begins each call once, and with the next number
-history_take : (es : List Event) → IsHistory es → (i : ℕ) → i ≤ length es
+pub history_take : (es : List Event) → IsHistory es → (i : ℕ) → i ≤ length es
     → IsSound (take i es) × AreNumbered (take i es)
 history_take es history zero h = (sound_none, numbered_none)
 history_take es history (suc i) h =
@@ -153,6 +142,11 @@ history_take es history (suc i) h =
           (ends_of (take i es) e may),
       numbered_more (take i es) e before.1 next,
     ))
+
+pub history_sound : (es : List Event) → IsHistory es → IsSound es × AreNumbered es
+history_sound es history =
+    subst (λ (l : List Event). IsSound l × AreNumbered l) (take_all (length es) es (omega arith))
+    (history_take es history (length es) (omega arith))
 
 module _ {S : Type 0} (Step : S → ℕ → S → Type 0) where
   -- what explains the history with one event more, explains it without, in part
@@ -228,141 +222,93 @@ module _ {S : Type 0} (Step : S → ℕ → S → Type 0) where
       let l = f.complete old [] old (0, omega arith, refl) (explains_none Step old) in
       omega (arith, l.2.1.1)
 
--- each event before a place may follow those before it
-abbrev pub IsHistoryTo : List Event → ℕ → Type 0
-IsHistoryTo es i =
-    (index : ℕ) (event : Event) → index < i → StandsAt es index event
-    → MayFollow (take index es) event
+-- an event that may follow comes next
+history_more : (es : List Event) (e : Event) → IsHistory es → MayFollow es e
+    → IsHistory (es ++ e ∷ [])
+history_more es e history may index event at =
+    grind (arith, stands_cases, take-append-le, stands_within, take-append_seam)
 
--- the event at a place
-stands_get : (es : List Event) (i : ℕ) (d e : Event) → i < length es → StandsAt es i e
-    → e ≡ get_or es i d
-stands_get es i d e h at =
-    let there = slice_get-get_or es i d h in cc
+-- the front is that of the events before a place, which are a history
+pub record IsJudged {S : Type 0} (Step : S → ℕ → S → Type 0) (front : Front S)
+    (events : List Event) (olds : List S) (count at : ℕ) : Type 0 where
+  pub front_of : IsFrontOf Step front (take at events) olds
+  pub some : 0 < length front.configs.items
+  pub history : IsHistory (take at events)
+  pub counts : count ≡ begun (take at events)
+  pub most : count ≤ at
 
-pub history_more : (es : List Event) (i : ℕ) (d : Event) → i < length es
-    → MayFollow (take i es) (get_or es i d) → IsHistoryTo es i → IsHistoryTo es (i + 1)
-history_more es i d h may all index event less at = grind (arith, cases_order, stands_get)
+pub judged_begin : {S : Type 0} (Step : S → ℕ → S → Type 0) (front : Front S)
+    (events : List Event) (olds : List S) → 0 < length olds → IsFrontOf Step front [] olds
+    → IsJudged Step front events olds 0 0
+judged_begin Step front events olds some f = record {
+  front_of = f;
+  some = frontier_some Step front.links.items front.slots.items olds front.configs.items some f;
+  history = λ index event at. absurd (cc);
+  counts = sym begun_none;
+  most = omega arith;
+}
 
-pub history_whole : (es : List Event) (i : ℕ) → length es ≤ i → IsHistoryTo es i → IsHistory es
-history_whole es i h all = λ index event at. grind (arith, stands_within)
+pub judged_end : {S : Type 0} (Step : S → ℕ → S → Type 0) (front : Front S) (events : List Event)
+    (olds : List S) (count at : ℕ) → length events ≤ at → IsJudged Step front events olds count at
+    → IsVerdict Step olds events (verdict.Explained front)
+judged_end Step front events olds count at h j =
+    grind (arith, take_all)
 
-module _ {S : Type 0} (Step : S → ℕ → S → Type 0) where
-  -- the front is that of the events before a place, all of which may follow
-  pub record IsJudged (front : Front S) (events : List Event) (olds : List S) (count at : ℕ)
-      : Type 0 where
-    pub front_of : IsFrontOf Step front (take at events) olds
-    pub some : 0 < length front.configs.items
-    pub sound : IsSound (take at events)
-    pub numbered : AreNumbered (take at events)
-    pub counts : count ≡ begun (take at events)
-    pub most : count ≤ at
-    pub to : IsHistoryTo events at
+pub agrees_same : {S : Type 0} (Step : S → ℕ → S → Type 0) (events : List Event)
+    → Agrees Step Step events
+agrees_same Step events call is old new = (λ x. x, λ x. x)
 
-  pub judged_begin : (front : Front S) (events : List Event) (olds : List S) → 0 < length olds
-      → IsFrontOf Step front [] olds → IsJudged front events olds 0 0
-  judged_begin front events olds some f = record {
-    front_of = f;
-    some = frontier_some Step front.links.items front.slots.items olds front.configs.items some f;
-    sound = sound_none;
-    numbered = numbered_none;
-    counts = sym begun_none;
-    most = omega arith;
-    to = λ index event less at. absurd (omega (arith, less));
-  }
-
-  pub agrees_same : (events : List Event) → Agrees Step Step events
-  agrees_same events call is old new = (λ x. x, λ x. x)
-
-  pub judged_done : (old new : Front S) (events : List Event) (olds : List S)
-      (count at more : ℕ) (d : Event) → at < length events → IsJudged old events olds count at
-      → ((es : List Event) → count ≡ begun es
-      → (more ≡ begun (es ++ get_or events at d ∷ [])) × IsNext es (get_or events at d))
-      → more ≤ count + 1
-      → AdvancesIn Step (take at events) olds (get_or events at d) new advance.Done
-      → IsJudged new events olds more (at + 1)
-  judged_done old new events olds count at more d h j next most a =
-      let e = get_or events at d in
-      let es : List Event = take at events in
-      let whole : take (at + 1) events ≡ es ++ e ∷ [] = one_more events at d h in
-      let is = next es j.counts in record {
-        front_of = subst (λ (l : List Event). IsFrontOf Step new l olds) (sym whole) a.0;
-        some = a.1;
-        sound = subst (λ (l : List Event). IsSound l) (sym whole)
-            (sound_more es e j.sound (next_fresh es e j.numbered is.1) a.2);
-        numbered = subst (λ (l : List Event). AreNumbered l) (sym whole)
-            (numbered_more es e j.numbered is.1);
-        counts = is.0 ∙ ap begun (sym whole);
-        most = omega (arith, most, j.most);
-        to = history_more events at d h (may_of es e is.1 a.2) j.to;
-      }
-
-  pub judged_refused : (old new : Front S) (events : List Event) (olds : List S) (count at : ℕ)
-      (d : Event) → at < length events → IsJudged old events olds count at
-      → AdvancesIn Step (take at events) olds (get_or events at d) new advance.Refused
-      → IsVerdict Step olds events (verdict.Refused at)
-  judged_refused old new events olds count at d h j a =
-      let whole : take (at + 1) events ≡ take at events ++ get_or events at d ∷ [] =
-      one_more events at d h in
-      let refused : ¬ (IsExplained Step (take (at + 1) events) olds) =
-      subst (λ (l : List Event). ¬ (IsExplained Step l olds)) (sym whole)
-      (frontier_refused Step new.links.items new.slots.items
-      (take at events ++ get_or events at d ∷ []) olds new.configs.items a.0 a.1) in (
-        h,
-        frontier_explained Step old.links.items old.slots.items (take at events) olds
-            old.configs.items j.front_of j.some,
-        refused,
-        refused_whole Step events olds (at + 1) (omega (arith, h)) refused,
-      )
-
-  pub judged_many : (new : Front S) (events : List Event) (olds : List S) (at : ℕ) (d : Event)
-      → at < length events
-      → AdvancesIn Step (take at events) olds (get_or events at d) new advance.ManyConfigs
-      → IsVerdict Step olds events (verdict.ManyConfigs at)
-  judged_many new events olds at d h a = grind (arith, one_more)
-
-  pub judged_open : (new : Front S) (events : List Event) (olds : List S) (at : ℕ) (d : Event)
-      → at < length events
-      → AdvancesIn Step (take at events) olds (get_or events at d) new advance.ManyOpen
-      → IsVerdict Step olds events (verdict.ManyOpen at)
-  judged_open new events olds at d h a = grind (arith, one_more)
-
-  pub judged_none : (events : List Event) (olds : List S) (at : ℕ) (d : Event)
-      → at < length events → ¬ (MayFollow (take at events) (get_or events at d))
-      → IsVerdict Step olds events (verdict.NoHistory at)
-  judged_none events olds at d h never =
-      (get_or events at d, slice_get-get_or events at d h, never)
-
-  pub judged_closed : (new : Front S) (events : List Event) (olds : List S) (at : ℕ) (d : Event)
-      → at < length events
-      → AdvancesIn Step (take at events) olds (get_or events at d) new advance.NoEvent
-      → IsVerdict Step olds events (verdict.NoHistory at)
-  judged_closed new events olds at d h a =
-      judged_none events olds at d h (λ may. a (ends_of (take at events) (get_or events at d) may))
-
-  pub judged_end : (front : Front S) (events : List Event) (olds : List S) (count at : ℕ)
-      → length events ≤ at → IsJudged front events olds count at
-      → IsVerdict Step olds events (verdict.Explained front)
-  judged_end front events olds count at h j = (
-    subst (λ (l : List Event). IsFrontOf Step front l olds) (take_all at events h) j.front_of,
-    j.some,
-    history_whole events at h j.to,
-  )
-
--- what one event more does
-pub judged_advance : {M S : Type 0} (StepOf : M → S → ℕ → S → Type 0) (machine : M)
-    (old new : Front S) (events : List Event) (olds : List S) (count at more : ℕ) (d : Event)
-    (result : Advance) → IsJudged (StepOf machine) old events olds count at
-    → ((es : List Event) → count ≡ begun es
+-- one event more
+module _ {M S : Type 0} (StepOf : M → S → ℕ → S → Type 0) (machine : M) (old new : Front S)
+    (events : List Event) (olds : List S) (count at more : ℕ) (d : Event) (h : at < length events)
+    (j : IsJudged (StepOf machine) old events olds count at)
+    (next : (es : List Event) → count ≡ begun es
     → (more ≡ begun (es ++ get_or events at d ∷ [])) × IsNext es (get_or events at d))
-    → IsAdvance StepOf machine old (get_or events at d) new result
-    → AdvancesIn (StepOf machine) (take at events) olds (get_or events at d) new result
-judged_advance StepOf machine old new events olds count at more d result j next advances =
-    let es : List Event = take at events in
-    let e = get_or events at d in
-    advances machine es olds (agrees_same (StepOf machine) es)
-    (agrees_same (StepOf machine) (es ++ e ∷ [])) j.sound
-    (next_fresh es e j.numbered (next es j.counts).1) j.front_of
+  where
+    abbrev Step : S → ℕ → S → Type 0
+    Step = StepOf machine
+
+    abbrev es : List Event
+    es = take at events
+
+    abbrev e : Event
+    e = get_or events at d
+
+    -- what an event has shown, by what it did
+    abbrev pub Shows : Advance → Type 0
+    Shows advance.Done = more ≤ count + 1 → IsJudged Step new events olds more (at + 1)
+    Shows advance.Refused = IsVerdict Step olds events (verdict.Refused at)
+    Shows advance.ManyConfigs = IsVerdict Step olds events (verdict.ManyConfigs at)
+    Shows advance.ManyOpen = IsVerdict Step olds events (verdict.ManyOpen at)
+    Shows advance.NoEvent = IsVerdict Step olds events (verdict.NoHistory at)
+
+    whole : take (at + 1) events ≡ es ++ e ∷ []
+    whole = one_more events at d h
+
+    shown : (result : Advance) → AdvancesIn Step es olds e new result → Shows result
+    shown advance.Done a =
+        grind (arith, whole, history_more, may_of)
+    shown advance.Refused a =
+        let refused : ¬ (IsExplained Step (take (at + 1) events) olds) =
+        subst (λ (l : List Event). ¬ (IsExplained Step l olds)) (sym whole)
+        (frontier_refused Step new.links.items new.slots.items (es ++ e ∷ []) olds
+        new.configs.items a.0 a.1) in (
+          h,
+          frontier_explained Step old.links.items old.slots.items es olds old.configs.items
+              j.front_of j.some,
+          refused,
+          refused_whole Step events olds (at + 1) (omega (arith, h)) refused,
+        )
+    shown advance.ManyConfigs a =
+        grind (arith, whole)
+    shown advance.ManyOpen a =
+        (h, subst (λ (l : List Event). HasManyOpen l) (sym whole) a)
+    shown advance.NoEvent a =
+        (e, slice_get-get_or events at d h, λ may. a (ends_of es e may))
+
+    pub judged : (result : Advance) → IsAdvance StepOf machine old e new result → Shows result
+    judged result advances =
+        grind (arith, history_sound, shown, agrees_same, next_fresh)
 
 module _ {S : Type 0} (Step : S → ℕ → S → Type 0) where
   -- an order explains no less than what is refused earlier

@@ -81,7 +81,7 @@ IsMadeAlone {M} {S} Step machine old call new true =
     → Agrees (Step machine) (Step whole) (events ++ Begin call ∷ [])
     → IsSound events → begins call events ≡ 0
     → IsFrontOf (Step whole) old events olds
-    → IsFrontOf (Step whole) new ((events ++ Begin call ∷ []) ++ End call ∷ []) olds
+    → IsFrontOf (Step whole) new (events ++ Begin call ∷ End call ∷ []) olds
     × (0 < length new.configs.items)
 IsMadeAlone Step machine old call new false = IsSameFront old new
 

@@ -72,12 +72,15 @@ IsOpened slot config opened =
     (opened.state ≡ config.state) × (opened.waiting ≡ put config.waiting slot)
     × (path_of opened ≡ path_of config)
 
+-- as many, each of which is related to the one at its place
+abbrev pub AreEach : {X : Type 0} → (X → X → Type 0) → List X → List X → Type 0
+AreEach {X} R olds news =
+    (length news ≡ length olds)
+    × ((index : ℕ) (d : X) → index < length news → R (get_or olds index d) (get_or news index d))
+
 -- the same in each of the configurations, at its place
 abbrev pub AreOpened : {S : Type 0} → ℕ → List (Config S) → List (Config S) → Type 0
-AreOpened {S} slot configs opened =
-    (length opened ≡ length configs)
-    × ((index : ℕ) (d : Config S) → index < length opened
-    → IsOpened slot (get_or configs index d) (get_or opened index d))
+AreOpened slot configs opened = AreEach (IsOpened slot) configs opened
 
 -- the call in this slot waits in none of the configurations
 abbrev pub WaitsInNone : {S : Type 0} → ℕ → List (Config S) → Type 0
@@ -101,10 +104,8 @@ pub record IsSettled {S : Type 0} (Step : S → ℕ → S → Type 0) (slots : L
 -- the same in each of the configurations, at its place
 abbrev pub AreSettledEach : {S : Type 0} → (S → ℕ → S → Type 0) → List (Option ℕ)
     → List (Config S) → List (Config S) → Type 0
-AreSettledEach {S} Step slots configs settled =
-    (length settled ≡ length configs)
-    × ((index : ℕ) (d : Config S) → index < length settled
-    → IsSettled Step slots (get_or configs index d) (spot_of (get_or settled index d)))
+AreSettledEach Step slots configs settled =
+    AreEach (λ config one. IsSettled Step slots config (spot_of one)) configs settled
 
 -- each is settled from a configuration, each configuration has one, and each is there once
 pub record AreSettled {S : Type 0} (Step : S → ℕ → S → Type 0) (slots : List (Option ℕ))
@@ -123,11 +124,15 @@ IsMadeIn Step old call new true =
     × (path_of new ≡ path_more (path_of old) (call ∷ [])) × (new.waiting ≡ old.waiting)
 IsMadeIn Step old call new false = new ≡ old
 
+-- an order with this path has come to the spot, in one of the states
+abbrev pub IsWith : {S : Type 0} → List S → ℕ → Path → Spot S → Type 0
+IsWith states waiting made spot =
+    Contains states spot.state × (spot.waiting ≡ waiting) × (spot.made ≡ made)
+
 -- the call in the slot, which waits, is made, and leaves one of the states
 abbrev pub IsNextIn : {S : Type 0} → Config S → ℕ → ℕ → List S → Spot S → Type 0
 IsNextIn config slot call states next =
-    Contains states next.state × (next.waiting ≡ cleared config.waiting slot)
-    × (next.made ≡ path_more (path_of config) (call ∷ []))
+    IsWith states (cleared config.waiting slot) (path_more (path_of config) (call ∷ [])) next
 
 -- the call in the slot waits and is made
 abbrev pub IsNextAt : {S : Type 0} → (S → ℕ → S → Type 0) → List (Option ℕ) → Config S → ℕ → Spot S
@@ -283,7 +288,7 @@ IsNextLayer {S} Step slots slot layer next =
 
 -- an order of no calls has come to the spot from one of these states
 abbrev pub IsFirst : {S : Type 0} → List S → Spot S → Type 0
-IsFirst olds spot = Contains olds spot.state × (spot.waiting ≡ 0) × (spot.made ≡ no_path)
+IsFirst olds spot = IsWith olds 0 no_path spot
 
 -- there are these links, and others after them
 abbrev pub Grows : List Link → List Link → Type 0
@@ -303,21 +308,16 @@ IsLaid links more config laid =
     → (laid.base ≤ length more) × (order_of more laid ≡ order_of links config))
 
 -- the same configurations, each at its place, with the same orders in more links
-pub record AreLaid {S : Type 0} (links more : List Link) (configs laid : List (Config S)) : Type 0
-  where
-    pub grows : Grows links more
-    pub as_many : length laid ≡ length configs
-    pub each : (index : ℕ) (d : Config S) → index < length laid
-        → IsLaid links more (get_or configs index d) (get_or laid index d)
+abbrev pub AreLaid : {S : Type 0} → List Link → List Link → List (Config S) → List (Config S)
+    → Type 0
+AreLaid links more configs laid =
+    Grows links more × AreEach (IsLaid links more) configs laid
 
--- the same configurations, each at its place, with orders of no calls
-abbrev pub AreUnlinked : {S : Type 0} → List (Config S) → List (Config S) → Type 0
-AreUnlinked {S} configs unlinked =
-    (length unlinked ≡ length configs)
-    × ((index : ℕ) (d : Config S) → index < length unlinked
-    → ((get_or unlinked index d).state ≡ (get_or configs index d).state)
-    × ((get_or unlinked index d).waiting ≡ (get_or configs index d).waiting)
-    × (path_of (get_or unlinked index d) ≡ no_path))
+-- the same configuration, with an order of no calls
+abbrev pub IsUnlinked : {S : Type 0} → Config S → Config S → Type 0
+IsUnlinked config unlinked =
+    (unlinked.state ≡ config.state) × (unlinked.waiting ≡ config.waiting)
+    × (path_of unlinked ≡ no_path)
 
 -- more configurations than are followed, each there once, to which calls that waited lead
 abbrev pub HasMany : {S : Type 0} → (S → ℕ → S → Type 0) → List (Option ℕ) → List (Config S) →

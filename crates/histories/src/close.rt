@@ -2,13 +2,12 @@
 ghost use Rattle.std.specs.Prelude.{◌≡◌, ◌<◌, ◌≤◌, ◌++◌, ◌∷◌, [], ℕ, IfNone, IfOk, IfSome, IsTrue, OnOk, length};
 ghost use Rattle.std.specs.Int.{bit_at};
 ghost use Rattle.histories.specs.Frontier.{HasSlot, IsWaiting, cleared};
-ghost use Rattle.histories.specs.Gathering.{FromOne, Gathers, GoesOn, ComesFirst, IsAlone, IsBeside, IsCloseOutcome, IsClosedInPlace, IsDone, IsDropped, IsMadeFirst, IsNextAt, IsNextIn, IsNextLayer, IsNextOther, MovesFirst, WaitsInNone, spot_of};
+ghost use Rattle.histories.specs.Gathering.{FromOne, Gathers, GoesOn, IsAlone, IsBeside, IsCloseOutcome, IsClosedInPlace, IsDone, IsDropped, IsMadeFirst, IsMadeIn, IsNextAt, IsNextIn, IsNextLayer, IsNextOther, MovesFirst, WaitsInNone};
 
 use super::front::{Config, MAX_CONFIGS};
-use super::gather::{Gathered, add, add_new, copy_of, has_same};
+use super::gather::{Gathered, add, add_new, has_same};
 use super::left::Left;
 use super::machine::Machine;
-use super::quiet::make_in;
 use super::settle::{settle, settle_all};
 use super::slots::{ALL, has, without};
 use std::alloc::{AllocError, Global};
@@ -73,6 +72,19 @@ fn make_states<M: Machine>(
     Ok(())
 }
 
+/// The call that has a slot and waits, if this is not the other slot.
+fn waits_beside(slots: &[Option<usize>], waiting: u64, slot: usize, at: usize) -> Option<usize>
+    requires few { length slots.now ≤ 64 }
+    requires within { at < length slots.now }
+    ensures some { IfSome result (λ other. IsBeside slots.now waiting slot at other) }
+    ensures none { IfNone result ((other : ℕ) → IsBeside slots.now waiting slot at other → ⊥) }
+{
+    if at == slot || !has(waiting, at) {
+        return None;
+    }
+    slots[at]
+}
+
 /// Adds the configurations to which the call in the slot, which waits, leads.
 #[tactic(auto, using(crate::proofs::Gathering::gathers_call, crate::proofs::Gathering::gathers_no_state))]
 fn make_call<M: Machine>(
@@ -96,31 +108,8 @@ fn make_call<M: Machine>(
     }
 }
 
-/// The same, if a call has the slot and waits.
-fn make_slot<M: Machine>(
-    alloc: Global,
-    machine: &M,
-    slots: &[Option<usize>],
-    config: &Config<M::State>,
-    slot: usize,
-    next: &mut Gathered<M::State>,
-) -> Result<(), AllocError>
-    requires few { length slots.now ≤ 64 }
-    requires within { slot < length slots.now }
-    ensures { OnOk result (Gathers (IsNextAt (M.Step machine.now) slots.now config.now slot)
-        next.old next.new) }
-{
-    let Some(call) = slots[slot] else {
-        return Ok(());
-    };
-    if has(config.waiting, slot) {
-        make_call(alloc, machine, slots, config, slot, call, next)?;
-    }
-    Ok(())
-}
-
-/// The same, unless it is this slot.
-#[tactic(auto, using(crate::proofs::Gathering::gathers_other))]
+/// The same, if a call has the slot and waits, and it is not this other slot.
+#[tactic(auto, using(crate::proofs::Gathering::gathers_none, crate::proofs::Gathering::gathers_other))]
 fn make_other<M: Machine>(
     alloc: Global,
     machine: &M,
@@ -135,10 +124,25 @@ fn make_other<M: Machine>(
     ensures { OnOk result (Gathers (IsNextOther (M.Step machine.now) slots.now config.now slot
         other) next.old next.new) }
 {
-    if other == slot {
-        return Ok(());
+    match waits_beside(slots, config.waiting, slot, other) {
+        Some(call) => make_call(alloc, machine, slots, config, other, call, next),
+        None => Ok(()),
     }
-    make_slot(alloc, machine, slots, config, other, next)
+}
+
+/// Makes the call in the configuration. Returns whether it did; else nothing changed.
+pub fn make_in<M: Machine>(
+    machine: &M,
+    config: &mut Config<M::State>,
+    call: usize,
+) -> Result<bool, AllocError>
+    ensures { IfOk result (IsMadeIn (M.Step machine.now) config.old call config.new) }
+{
+    if !machine.make(&mut config.state, call)? {
+        return Ok(false);
+    }
+    config.made.push(call)?;
+    Ok(true)
 }
 
 /// The same for the slot itself, whose call waits. It is made in place where it leaves one state.
@@ -166,19 +170,6 @@ fn make_last<M: Machine>(
         return add(alloc, machine, next, config);
     }
     make_call(alloc, machine, slots, &config, slot, call, next)
-}
-
-/// The call that has a slot and waits, if this is not the other slot.
-fn waits_beside(slots: &[Option<usize>], waiting: u64, slot: usize, at: usize) -> Option<usize>
-    requires few { length slots.now ≤ 64 }
-    requires within { at < length slots.now }
-    ensures some { IfSome result (λ other. IsBeside slots.now waiting slot at other) }
-    ensures none { IfNone result ((other : ℕ) → IsBeside slots.now waiting slot at other → ⊥) }
-{
-    if at == slot || !has(waiting, at) {
-        return None;
-    }
-    slots[at]
 }
 
 /// Whether the call in the slot is known to move before all others that wait.
@@ -220,23 +211,9 @@ fn is_alone<M: Machine>(
     true
 }
 
-/// Whether the call in the slot is known to be made first of those that wait in the configuration,
-/// or to move before all others.
-fn comes_first<M: Machine>(
-    machine: &M,
-    slots: &[Option<usize>],
-    config: &Config<M::State>,
-    slot: usize,
-) -> bool
-    requires few { length slots.now ≤ 64 }
-    requires within { slot < length slots.now }
-    ensures { IsTrue result → ComesFirst (M.Step machine.now) slots.now config.now slot }
-{
-    moves_first(machine, slots, config.waiting, slot) || is_alone(machine, slots, config, slot)
-}
-
-/// Makes the call in the slot in place, where it waits, comes first, and can leave one state alone.
-/// Returns whether it did; else nothing changed.
+/// Makes the call in the slot in place, where it waits, is known to be made first or to move before
+/// all others that wait, and can leave one state alone. Returns whether it did; else nothing
+/// changed.
 fn make_first<M: Machine>(
     machine: &M,
     slots: &[Option<usize>],
@@ -249,7 +226,12 @@ fn make_first<M: Machine>(
     ensures { IfOk result (IsMadeFirst (M.Step machine.now) slots.now slot call config.old
         config.new) }
 {
-    if !has(config.waiting, slot) || !comes_first(machine, slots, config, slot) {
+    if !has(config.waiting, slot) {
+        return Ok(false);
+    }
+    if !moves_first(machine, slots, config.waiting, slot)
+        && !is_alone(machine, slots, config, slot)
+    {
         return Ok(false);
     }
     if !make_in(machine, config, call)? {
@@ -419,7 +401,7 @@ pub fn close<M: Machine>(
 }
 
 /// Adds the configuration in which the call in the slot is never made, where it waits.
-#[tactic(auto, using(crate::proofs::Gathering::gathers_dropped))]
+#[tactic(auto, using(crate::proofs::Closing::path_is, crate::proofs::Gathering::gathers_dropped))]
 fn drop_one<M: Machine>(
     alloc: Global,
     machine: &M,
@@ -433,8 +415,15 @@ fn drop_one<M: Machine>(
     if !has(config.waiting, slot) {
         return Ok(());
     }
-    let mut dropped = copy_of(alloc, machine, config)?;
-    dropped.waiting = without(dropped.waiting, slot);
+    let state = machine.copied(&config.state)?;
+    let waiting = without(config.waiting, slot);
+    let made = Vec::from_slice(alloc, &config.made)?;
+    let dropped = Config {
+        state,
+        waiting,
+        base: config.base,
+        made,
+    };
     add(alloc, machine, more, dropped)
 }
 

@@ -25,7 +25,7 @@ pub struct Config<S> {
     pub waiting: u64,
     /// How many links there are up to that of its last call there, or 0 where none is there.
     pub base: usize,
-    /// The calls that are not yet in the links, in their order. Between events there are none.
+    /// The calls that are not yet in the links, in their order. After `advance` there are none.
     pub made: Vec<usize>,
 }
 

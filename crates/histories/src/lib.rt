@@ -1,7 +1,6 @@
 //! Histories of calls that overlapped in time: whether some order of the calls explains them.
 #![tactic(auto)]
 
-mod chained;
 mod close;
 mod event;
 mod front;
@@ -10,7 +9,6 @@ pub mod laws;
 mod left;
 mod links;
 mod machine;
-mod quiet;
 mod settle;
 mod slots;
 mod step;
@@ -22,6 +20,5 @@ pub use gather::start;
 pub use left::Left;
 pub use links::order_up_to;
 pub use machine::Machine;
-pub use quiet::{begin_anew, make_alone};
-pub use step::advance;
+pub use step::{advance, begin_anew, make_alone};
 pub use whole::{Verdict, judge};

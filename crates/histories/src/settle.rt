@@ -12,7 +12,7 @@ use std::mem;
 
 /// Makes the call in the slot, if it is tried, waits, can be made, and changes nothing. Returns
 /// whether it did.
-#[tactic(auto, using(crate::proofs::Closing::path_is, crate::proofs::Settlings::settled_call))]
+#[tactic(auto, using(crate::proofs::Closing::path_is, crate::proofs::Alone::settled_call))]
 fn settle_slot<M: Machine>(
     machine: &M,
     slots: &[Option<usize>],
@@ -42,7 +42,7 @@ fn settle_slot<M: Machine>(
 
 /// Makes those of the calls in the slots of the set that can be made and change nothing. Returns
 /// whether there are any.
-#[tactic(auto, using(crate::proofs::Settlings::settled_none, crate::proofs::Settlings::settled_then))]
+#[tactic(auto, using(crate::proofs::Alone::settled_none, crate::proofs::Alone::settled_then))]
 pub fn settle<M: Machine>(
     machine: &M,
     slots: &[Option<usize>],

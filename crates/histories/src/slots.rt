@@ -14,12 +14,7 @@ fn free_slot(slots: &[Option<usize>]) -> Option<usize>
     ensures none { IfNone result ((slot : ℕ) → slot < length slots.now
         → get_or slots.now slot None ≡ None → ⊥) }
 {
-    for slot in 0..slots.len() {
-        if slots[slot].is_none() {
-            return Some(slot);
-        }
-    }
-    None
+    slots.iter().position(|slot| slot.is_none())
 }
 
 /// The slot of the call.
@@ -28,12 +23,7 @@ pub fn slot_of(slots: &[Option<usize>], call: usize) -> Option<usize>
         × HasSlot slots.now slot call) }
     ensures none { IfNone result ((slot : ℕ) → HasSlot slots.now slot call → ⊥) }
 {
-    for slot in 0..slots.len() {
-        if slots[slot] == Some(call) {
-            return Some(slot);
-        }
-    }
-    None
+    slots.iter().position(|slot| *slot == Some(call))
 }
 
 /// Gives the call a slot, or returns `None` where none is left.

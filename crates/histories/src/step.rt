@@ -1,19 +1,19 @@
-//! One event more.
+//! One event more, and where no call is open: a call that overlaps nothing, and a new beginning.
 ghost use Rattle.std.specs.Prelude.{◌≡◌, ◌<◌, ◌≤◌, IfOk, IsTrue, length};
 ghost use Rattle.std.specs.Int.{bit_at};
 ghost use Rattle.histories.specs.declared.event.Event.TheVariants.{Begin, End, Crash};
-ghost use Rattle.histories.specs.Advances.{EndsInPlace, IsAdvance};
+ghost use Rattle.histories.specs.Advances.{BeginsAnew, EndsInPlace, IsAdvance, IsMadeAlone};
 ghost use Rattle.histories.specs.Frontier.{HasSlot};
-ghost use Rattle.histories.specs.Gathering.{AreOpened, Finishes, IsLeft, IsOpened, LaysOut, WaitsInNone};
+ghost use Rattle.histories.specs.Gathering.{AreEach, AreOpened, Finishes, IsOpened, IsUnlinked, LaysOut, WaitsInNone};
 
-use super::close::{close, close_in_place, dropped_all};
+use super::close::{close, close_in_place, dropped_all, make_in};
 use super::event::Event;
 use super::front::{Advance, Config, Front, MAX_CONFIGS};
 use super::gather::joined;
 use super::links::lay_all;
 use super::machine::Machine;
 use super::settle::settle_all;
-use super::slots::{free, has, slot_of, take_slot, with};
+use super::slots::{are_free, free, has, slot_of, take_slot, with};
 use std::alloc::{AllocError, Global};
 use std::mem;
 
@@ -41,23 +41,16 @@ fn open_all<S>(configs: &mut [Config<S>], slot: usize) -> bool
     is_new
 }
 
-/// What was done, by the configurations that are left.
-fn left<S>(configs: &[Config<S>]) -> Advance
-    ensures { IsLeft configs.now result }
-{
-    if configs.is_empty() {
-        return Advance::Refused;
-    }
-    Advance::Done
-}
-
 /// The calls that were made go into the links. Returns what was done.
 #[tactic(auto, using(crate::proofs::Places::put_back))]
 fn lay<S>(front: &mut Front<S>) -> Result<Advance, AllocError>
     ensures { IfOk result (LaysOut front.old front.new) }
 {
     lay_all(&mut front.links, &mut front.configs)?;
-    Ok(left(&front.configs))
+    if front.configs.is_empty() {
+        return Ok(Advance::Refused);
+    }
+    Ok(Advance::Done)
 }
 
 /// A call begins, and waits in each configuration, or is made at once where it changes nothing.
@@ -203,4 +196,48 @@ pub fn advance<M: Machine>(
         Event::End(call) => end(alloc, machine, front, call),
         Event::Crash(call) => crash(alloc, machine, front, call),
     }
+}
+
+/// Goes on with the begin of a call and its end in one step, in place. Returns whether it did: one
+/// configuration is followed, no other call is open, and the call can leave one state alone. Else
+/// nothing changed, and `advance` goes on with both events.
+///
+/// Where memory was refused, the front is of no history any more.
+pub fn make_alone<M: Machine>(
+    machine: &M,
+    front: &mut Front<M::State>,
+    call: usize,
+) -> Result<bool, AllocError>
+    ensures { IfOk result (IsMadeAlone M.Step machine.now front.old call front.new) }
+{
+    if front.configs.len() != 1 || !are_free(&front.slots) {
+        return Ok(false);
+    }
+    if !make_in(machine, &mut front.configs[0], call)? {
+        return Ok(false);
+    }
+    Ok(true)
+}
+
+/// The configurations, of orders of no calls.
+fn unlink<S>(configs: &mut [Config<S>])
+    ensures { AreEach IsUnlinked configs.old configs.new }
+{
+    for config in configs.iter_mut() {
+        config.base = 0;
+        config.made.clear();
+    }
+}
+
+/// Begins anew with the states that the calls have left, where no call is open, and drops the
+/// links. Returns whether it did.
+pub fn begin_anew<M: Machine>(_machine: &M, front: &mut Front<M::State>) -> bool
+    ensures { (whole : M) → BeginsAnew (M.Step whole) front.old front.new result }
+{
+    if !are_free(&front.slots) {
+        return false;
+    }
+    unlink(&mut front.configs);
+    front.links.clear();
+    true
 }

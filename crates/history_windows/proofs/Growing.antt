@@ -1,23 +1,84 @@
 -- Windows that grow by events.
-use Rattle.std.proofs.Common.{◌≡◌, ◌⊎◌, ℕ, ◌<◌, List, [], ◌∷◌, ◌++◌, length, refl, sym, ◌∙◌, ap, subst, arith, inl, inr, append_assoc, append-nil, true}
-use Rattle.histories.specs.declared.event.Event.{Event}
-use Rattle.histories.specs.declared.event.Event.TheVariants.{Begin, End, Crash}
+use Rattle.history_windows.proofs.Words.{◌≡◌, ◌⊎◌, ◌↔◌, ℕ, ◌+◌, ◌<◌, List, [], ◌∷◌, ◌++◌, length, take, get_or, refl, sym, ◌∙◌, ap, subst, arith, inl, inr, append_assoc, append-nil, true, slice_get-get_or, Event, Begin, End, Crash, Advance, Front, AdvancesIn, BeginsAnew, IsAdvance, IsMadeAlone, IsQuiet, IsSameFront, begins, IsExplained, IsHistory, IsOpen, StandsAt, HasManyOpen, IsFrontOf, IsSound, Stop, Window, AgreesOn, GoesTo, IsWellFormed, BeginsWindow, IsStop, IsStopAt, LeadsTooFar}
 use Rattle.histories.specs.declared.front.Advance.TheVariants as advance
-use Rattle.histories.specs.declared.front.Front.{Front}
-use Rattle.histories.specs.Advances.{AdvancesIn, BeginsAnew, IsQuiet}
-use Rattle.histories.specs.Histories.{begins, IsExplained, IsOpen, MayFollow}
-use Rattle.histories.specs.Frontier.{HasManyOpen, IsFrontOf, IsSound}
-use Rattle.histories.proofs.Events.{begins_none, open_begin_now, sound_end, sound_none}
+use Rattle.histories.proofs.Advancing.{front_same}
+use Rattle.histories.proofs.Events.{begins_none, sound_none}
 use Rattle.histories.proofs.Explaining.{explains_begin, explains_end}
 use Rattle.histories.proofs.Cutting.{begins-append}
-use Rattle.histories.proofs.Verdicts.{ends_of, frontier_explained, frontier_refused, frontier_some, next_fresh, next_of, numbered_more, numbered_none, sound_more}
-use Rattle.history_windows.specs.declared.window.Window.{Window}
-use Rattle.history_windows.specs.Goings.{GoesTo}
-use Rattle.history_windows.specs.Windows.{BeginsWindow, LeadsTooFar}
-use Rattle.history_windows.proofs.Joins.{open_inside, open_whole, quiet_both, sound_back}
+use Rattle.histories.proofs.Verdicts.{frontier_explained, frontier_refused, frontier_some, history_sound, numbered_none, one_more}
+use Rattle.history_windows.specs.declared.window.Stop.TheVariants as stop
+use Rattle.history_windows.proofs.Joins.{open_parts, open_whole, quiet_both, sound_back}
+use Rattle.history_windows.proofs.Trying.{formed_front, formed_history, formed_inside, formed_next, sound_formed}
+
+module _ {M S : Type 0} (StepOf : M → S → ℕ → S → Type 0) (machine : M) (old : Front S) where
+  -- of each history that begins with events that the old front is of, the new one is that of more
+  abbrev pub Passes : List Event → Front S → Type 0
+  Passes more new =
+      (whole : M) (events : List Event) (states : List S)
+      → AgreesOn (StepOf machine) (StepOf whole) events more → IsWellFormed (events ++ more)
+      → IsFrontOf (StepOf whole) old events states
+      → IsFrontOf (StepOf whole) new (events ++ more) states × (0 < length new.configs.items)
+
+  -- what an event does
+  pub advances_in : (e : Event) (new : Front S) (result : Advance)
+      → IsAdvance StepOf machine old e new result → (whole : M) (events : List Event)
+      (states : List S) → AgreesOn (StepOf machine) (StepOf whole) events (e ∷ [])
+      → IsWellFormed (events ++ e ∷ []) → IsFrontOf (StepOf whole) old events states
+      → AdvancesIn (StepOf whole) events states e new result
+  advances_in e new result advances whole events states agrees formed f =
+      advances whole events states (λ c is. agrees c (inl is))
+      (λ c is. agrees c (open_parts events (e ∷ []) c is))
+      (formed_front events (e ∷ []) formed) (formed_next events [] e formed).0 f
+
+  pub passes_one : (e : Event) (new : Front S) → IsAdvance StepOf machine old e new advance.Done
+      → Passes (e ∷ []) new
+  passes_one e new advances whole events states agrees formed f =
+      let is = advances_in e new advance.Done advances whole events states agrees formed f in
+      (is.0, is.1)
+
+  -- a call begins and is answered next
+  pub passes_alone : (c : ℕ) (new : Front S) → IsMadeAlone StepOf machine old c new true
+      → Passes (Begin c ∷ End c ∷ []) new
+  passes_alone c new alone whole events states agrees formed f =
+      alone whole events states
+      (λ x is. agrees x (elim (open_parts events (Begin c ∷ []) x is) [
+        | inl before ↦ inl before
+        | inr now ↦ inr (omega (arith, now, begins-append x (Begin c ∷ []) (End c ∷ [])))
+      ]))
+      (formed_front events (Begin c ∷ End c ∷ []) formed)
+      ((formed_next events (End c ∷ []) (Begin c) formed).0 c refl) f
+
+  -- a front with the same slots, configurations and links
+  pub advance_same : (mid : Front S) → IsSameFront old mid → (e : Event) (new : Front S)
+      (result : Advance) → IsAdvance StepOf machine mid e new result
+      → IsAdvance StepOf machine old e new result
+  advance_same mid is e new result advances whole events states now then sound fresh f =
+      advances whole events states now then sound fresh
+      (front_same (StepOf whole) events states old mid is f)
+
+-- the machine itself makes each call
+pub agrees_on : {S : Type 0} (Step : S → ℕ → S → Type 0) (past events : List Event)
+    → AgreesOn Step Step past events
+agrees_on Step past events c is old new = (λ x. x, λ x. x)
+
+-- an order explains no less where a call begins, or its caller crashes
+answered : {S : Type 0} (Step : S → ℕ → S → Type 0) (olds : List S) (es : List Event) (e : Event)
+    → ((c : ℕ) → e ≡ Begin c → begins c es ≡ 0) → IsExplained Step es olds
+    → ¬ (IsExplained Step (es ++ e ∷ []) olds) → (c : ℕ) × (e ≡ End c)
+answered Step olds es (Begin c) fresh x none =
+    absurd (none (x.0, x.1, x.2, x.3, explains_begin Step es x.0 x.2 x.1 c (fresh c refl) x.4))
+answered Step olds es (End c) fresh x none = (c, refl)
+answered Step olds es (Crash c) fresh x none =
+    absurd (none (
+      x.0,
+      x.1,
+      x.2,
+      x.3,
+      explains_end Step es (Crash c) x.0 x.2 x.1 c (inr refl) (λ no. absurd (cc)) x.4,
+    ))
 
 module _ {S : Type 0} (Step : S → ℕ → S → Type 0) (olds : List S) where
-  pub goes_begin : (front : Front S) → 0 < length olds → IsFrontOf Step front [] olds
+  abbrev pub goes_begin : (front : Front S) → 0 < length olds → IsFrontOf Step front [] olds
       → GoesTo Step olds [] (record { begin = 0; front = front })
   goes_begin front some f = record {
     is = record {
@@ -33,15 +94,67 @@ module _ {S : Type 0} (Step : S → ℕ → S → Type 0) (olds : List S) where
       front = f;
       some = frontier_some Step front.links.items front.slots.items olds front.configs.items some f;
     };
+    history = λ index event at. absurd (cc);
     first = sound_none;
-    second = sound_none;
     whole = sound_none;
     numbered = numbered_none;
   }
 
   module _ (es : List Event) (w : Window S) (g : GoesTo Step olds es w) where
-    pub parts_sound : IsSound (g.is.past ++ g.is.inside)
-    parts_sound = subst (λ (l : List Event). IsSound l) g.is.split g.whole
+    -- more events come in the window
+    module _ (more : List Event) (history : IsHistory (es ++ more)) where
+      pub split_more : es ++ more ≡ g.is.past ++ (g.is.inside ++ more)
+      split_more =
+          ap (λ (l : List Event). l ++ more) g.is.split
+          ∙ append_assoc g.is.past g.is.inside more
+
+      parts_more : IsHistory (g.is.past ++ (g.is.inside ++ more))
+      parts_more = subst (λ (l : List Event). IsHistory l) split_more history
+
+      pub formed_more : IsWellFormed (g.is.inside ++ more)
+      formed_more =
+          formed_inside g.is.past (g.is.inside ++ more) parts_more g.is.cut.quiet
+
+      sound_more : IsSound (g.is.past ++ (g.is.inside ++ more))
+      sound_more = sound_formed _ (formed_history _ parts_more)
+
+      explained_more : IsExplained Step (es ++ more) olds
+          ↔ IsExplained Step (g.is.inside ++ more) g.is.states
+      explained_more =
+          subst (λ (l : List Event). IsExplained Step l olds
+          ↔ IsExplained Step (g.is.inside ++ more) g.is.states) (sym split_more)
+          (g.is.cut.same (g.is.inside ++ more) (sound_formed _ formed_more) sound_more)
+
+      -- a call that is open in the window is open
+      open_more : (c : ℕ) → IsOpen (g.is.inside ++ more) c → IsOpen (es ++ more) c
+      open_more c is =
+          subst (λ (l : List Event). IsOpen l c) (sym split_more)
+          (open_whole g.is.past (g.is.inside ++ more) c g.first sound_more is)
+
+      abbrev pub goes_more : (new : Front S)
+          → IsFrontOf Step new (g.is.inside ++ more) g.is.states
+          × (0 < length new.configs.items)
+          → GoesTo Step olds (es ++ more) (record { begin = w.begin; front = new })
+      goes_more new f = record {
+        is = record {
+          past = g.is.past;
+          inside = g.is.inside ++ more;
+          split = split_more;
+          begins = g.is.begins;
+          states = g.is.states;
+          cut = g.is.cut;
+          front = f.0;
+          some = f.1;
+        };
+        history = history;
+        first = g.first;
+        whole = (history_sound (es ++ more) history).0;
+        numbered = (history_sound (es ++ more) history).1;
+      }
+
+    -- and none
+    history_now : IsHistory (es ++ [])
+    history_now = subst (λ (l : List Event). IsHistory l) (sym (append-nil es)) g.history
 
     explained_inside : IsExplained Step g.is.inside g.is.states
     explained_inside =
@@ -51,183 +164,35 @@ module _ {S : Type 0} (Step : S → ℕ → S → Type 0) (olds : List S) where
     -- an order explains the events
     pub goes_explained : IsExplained Step es olds
     goes_explained =
-        subst (λ (l : List Event). IsExplained Step l olds) (sym g.is.split)
-        ((g.is.cut.same g.is.inside g.second parts_sound).1 explained_inside)
+        subst (λ (l : List Event). IsExplained Step l olds) (append-nil es)
+        ((explained_more [] history_now).1
+        (subst (λ (l : List Event). IsExplained Step l g.is.states)
+        (sym (append-nil g.is.inside)) explained_inside))
 
-    module _ (e : Event) (may : MayFollow es e) where
-      pub fresh : (c : ℕ) → e ≡ Begin c → begins c es ≡ 0
-      fresh = next_fresh es e g.numbered (next_of es e may)
-
-      pub fresh_inside : (c : ℕ) → e ≡ Begin c → begins c g.is.inside ≡ 0
-      fresh_inside c is =
-          omega (
-            arith,
-            fresh c is,
-            ap (begins c) g.is.split,
-            begins-append c g.is.past g.is.inside,
-          )
-
-      whole_more : IsSound (es ++ e ∷ [])
-      whole_more = sound_more es e g.whole fresh (ends_of es e may)
-
-      pub split_more : es ++ e ∷ [] ≡ g.is.past ++ (g.is.inside ++ e ∷ [])
-      split_more =
-          ap (λ (l : List Event). l ++ e ∷ []) g.is.split
-          ∙ append_assoc g.is.past g.is.inside (e ∷ [])
-
-      pub parts_more : IsSound (g.is.past ++ (g.is.inside ++ e ∷ []))
-      parts_more = subst (λ (l : List Event). IsSound l) split_more whole_more
-
-      ends_inside : (c : ℕ) → (e ≡ End c) ⊎ (e ≡ Crash c)
-          → IsOpen g.is.inside c
-      ends_inside c ends =
-          open_inside g.is.past g.is.inside c g.is.cut.quiet
-          (subst (λ (l : List Event). IsOpen l c) g.is.split
-          (ends_of es e may c ends))
-
-      pub inside_more : IsSound (g.is.inside ++ e ∷ [])
-      inside_more = sound_more g.is.inside e g.second fresh_inside ends_inside
-
-      -- an order explains no less where a call begins, or its caller crashes
-      explained_begin : (c : ℕ) → e ≡ Begin c → IsExplained Step (es ++ e ∷ []) olds
-      explained_begin c is =
-          let x = goes_explained in
-          subst (λ (f : Event). IsExplained Step (es ++ f ∷ []) olds) (sym is)
-          (x.0, x.1, x.2, x.3, explains_begin Step es x.0 x.2 x.1 c (fresh c is) x.4)
-
-      explained_crash : (c : ℕ) → e ≡ Crash c → IsExplained Step (es ++ e ∷ []) olds
-      explained_crash c is =
-          let x = goes_explained in
-          subst (λ (f : Event). IsExplained Step (es ++ f ∷ []) olds) (sym is) (
-            x.0,
-            x.1,
-            x.2,
-            x.3,
-            explains_end Step es (Crash c) x.0 x.2 x.1 c (inr refl) (λ no. absurd (cc)) x.4,
-          )
-
-      answered : ¬ (IsExplained Step (es ++ e ∷ []) olds) → (c : ℕ) × (e ≡ End c)
-      answered none = cases e refl
-        where
-          cases : (f : Event) → e ≡ f → (c : ℕ) × (e ≡ End c)
-          cases (Begin c) is = absurd (none (explained_begin c is))
-          cases (End c) is = (c, is)
-          cases (Crash c) is = absurd (none (explained_crash c is))
-
-      -- the event is in the window
-      pub goes_done : (new : Front S)
-          → AdvancesIn Step g.is.inside g.is.states e new advance.Done
-          → GoesTo Step olds (es ++ e ∷ []) (record { begin = w.begin; front = new })
-      goes_done new done = record {
-        is = record {
-          past = g.is.past;
-          inside = g.is.inside ++ e ∷ [];
-          split = split_more;
-          begins = g.is.begins;
-          states = g.is.states;
-          cut = g.is.cut;
-          front = done.0;
-          some = done.1;
-        };
-        first = g.first;
-        second = inside_more;
-        whole = whole_more;
-        numbered = numbered_more es e g.numbered (next_of es e may);
-      }
-
-      -- no order explains the events with this one, by which a call was answered
-      pub goes_refused : (new : Front S)
-          → AdvancesIn Step g.is.inside g.is.states e new advance.Refused
-          → ((c : ℕ) × (e ≡ End c)) × (¬ (IsExplained Step (es ++ e ∷ []) olds))
-      goes_refused new done =
-          let none : ¬ (IsExplained Step (es ++ e ∷ []) olds) =
-          λ x. frontier_refused Step new.links.items new.slots.items (g.is.inside ++ e ∷ [])
-          g.is.states new.configs.items done.0 done.1
-          ((g.is.cut.same (g.is.inside ++ e ∷ []) inside_more parts_more).0
-          (subst (λ (l : List Event). IsExplained Step l olds) split_more x)) in
-          (answered none, none)
-
-      pub goes_many : (new : Front S)
-          → AdvancesIn Step g.is.inside g.is.states e new advance.ManyConfigs
-          → LeadsTooFar Step olds es ⊎ LeadsTooFar Step olds (es ++ e ∷ [])
-      goes_many new many =
-          elim many [
-            | inl before ↦ inl (record {
-              past = g.is.past;
-              inside = g.is.inside;
-              split = g.is.split;
-              states = g.is.states;
-              cut = g.is.cut;
-              many = before;
-            })
-            | inr now ↦ inr (record {
-              past = g.is.past;
-              inside = g.is.inside ++ e ∷ [];
-              split = split_more;
-              states = g.is.states;
-              cut = g.is.cut;
-              many = now;
-            })
-          ]
-
-      pub goes_open : (new : Front S)
-          → AdvancesIn Step g.is.inside g.is.states e new advance.ManyOpen
-          → HasManyOpen (es ++ e ∷ [])
-      goes_open new many = (
-        many.0,
-        many.1,
-        many.2,
-        λ c has. subst (λ (l : List Event). IsOpen l c) (sym split_more)
-            (open_whole g.is.past (g.is.inside ++ e ∷ []) c g.first parts_more (many.3 c has)),
-      )
-
-      pub goes_closed : (new : Front S)
-          → AdvancesIn Step g.is.inside g.is.states e new advance.NoEvent → ⊥
-      goes_closed new closed = closed ends_inside
-
-    -- a call begins and is answered next
-    pub goes_alone : (new : Front S) (c : ℕ) → MayFollow es (Begin c)
-        → MayFollow (es ++ Begin c ∷ []) (End c)
-        → IsFrontOf Step new ((g.is.inside ++ Begin c ∷ []) ++ End c ∷ []) g.is.states
-        → 0 < length new.configs.items
-        → GoesTo Step olds ((es ++ Begin c ∷ []) ++ End c ∷ [])
-        (record { begin = w.begin; front = new })
-    goes_alone new c may then f some =
-        let inside : List Event = g.is.inside ++ Begin c ∷ [] in
-        let more : List Event = es ++ Begin c ∷ [] in
-        let is_open : IsOpen inside c =
-        open_begin_now g.is.inside c g.second (fresh_inside (Begin c) may c refl) in record {
-          is = record {
-            past = g.is.past;
-            inside = inside ++ End c ∷ [];
-            split = ap (λ (l : List Event). l ++ End c ∷ []) (split_more (Begin c) may)
-                ∙ append_assoc g.is.past inside (End c ∷ []);
-            begins = g.is.begins;
-            states = g.is.states;
-            cut = g.is.cut;
-            front = f;
-            some = some;
-          };
-          first = g.first;
-          second = sound_end inside (End c) c (inl refl) (inside_more (Begin c) may) is_open.0;
-          whole = sound_more more (End c) (whole_more (Begin c) may)
-              (λ x is. absurd (cc)) (ends_of more (End c) then);
-          numbered = numbered_more more (End c)
-              (numbered_more es (Begin c) g.numbered (next_of es (Begin c) may))
-              (next_of more (End c) then);
-        }
+    -- where the machine makes the calls as the history has it, it does so in the window
+    pub agrees_inside : (Made : S → ℕ → S → Type 0) (more : List Event)
+        → AgreesOn Made Step es more → AgreesOn Made Step g.is.inside more
+    agrees_inside Made more agrees c is =
+        agrees c (elim is [
+          | inl now ↦ inl (subst (λ (l : List Event). IsOpen l c) (append-nil es)
+              (open_more [] history_now c
+              (subst (λ (l : List Event). IsOpen l c) (sym (append-nil g.is.inside)) now)))
+          | inr then ↦ inr then
+        ])
 
     -- a window begins where no call is open
     pub goes_anew : (new : Front S) → BeginsAnew Step w.front new true
         → GoesTo Step olds es (record { begin = length es; front = new })
     goes_anew new anew =
-        let a = anew g.is.inside g.is.states g.second g.is.front in
-        let left : IsExplained Step [] a.1.0 =
+        let inside_sound : IsSound g.is.inside =
+        formed_front g.is.inside [] (formed_more [] history_now) in
+        let a = anew g.is.inside g.is.states inside_sound g.is.front in
+        let states = a.1.0 in
+        let left : IsExplained Step [] states =
         (a.1.2 [] sound_none
-        (subst (λ (l : List Event). IsSound l) (sym (append-nil g.is.inside)) g.second)).0
+        (subst (λ (l : List Event). IsSound l) (sym (append-nil g.is.inside)) inside_sound)).0
         (subst (λ (l : List Event). IsExplained Step l g.is.states) (sym (append-nil g.is.inside))
         explained_inside) in
-        let states = a.1.0 in
         let some : 0 < length states = omega (arith, left.3.1) in
         record {
           is = record {
@@ -246,21 +211,18 @@ module _ {S : Type 0} (Step : S → ℕ → S → Type 0) (olds : List S) where
                   ∙ append_assoc g.is.past g.is.inside rest in
                   let parts : IsSound whole = subst (λ (l : List Event). IsSound l) is all in
                   let behind : IsSound (g.is.inside ++ rest) =
-                  sound_back g.is.past g.is.inside rest g.second sound parts in
+                  sound_back g.is.past g.is.inside rest inside_sound sound parts in
                   let first = g.is.cut.same (g.is.inside ++ rest) behind parts in
-                  let second = a.1.2 rest sound behind in (
-                    λ x. second.0
-                        (first.0 (subst (λ (l : List Event). IsExplained Step l olds) is x)),
-                    λ x. subst (λ (l : List Event). IsExplained Step l olds) (sym is)
-                        (first.1 (second.1 x)),
-                  );
+                  let second = a.1.2 rest sound behind in
+                  subst (λ (l : List Event). IsExplained Step l olds ↔ IsExplained Step rest states)
+                  (sym is) (λ x. second.0 (first.0 x), λ x. first.1 (second.1 x));
             };
             front = a.1.1;
             some = frontier_some Step new.links.items new.slots.items states new.configs.items some
                 a.1.1;
           };
+          history = g.history;
           first = g.whole;
-          second = sound_none;
           whole = g.whole;
           numbered = g.numbered;
         }
@@ -278,3 +240,72 @@ goes_window Step olds es old new count is g b =
           (subst (λ f. GoesTo Step olds es (record { begin = old.begin; front = f }))
           (sym stays.1.0) g)
     ]
+
+-- why an event is not followed, by what it did to the front
+abbrev pub StopsBy : {S : Type 0} → (S → ℕ → S → Type 0) → List S → List Event → ℕ → Advance
+    → Type 0
+StopsBy Step olds es at advance.Done = Unit {0}
+StopsBy Step olds es at advance.Refused = IsStop Step olds es at stop.Refused
+StopsBy Step olds es at advance.ManyConfigs = IsStop Step olds es at stop.ManyConfigs
+StopsBy Step olds es at advance.ManyOpen = IsStop Step olds es at stop.ManyOpen
+StopsBy Step olds es at advance.NoEvent = ⊥
+
+module _ {S : Type 0} (Step : S → ℕ → S → Type 0) (olds : List S) (es : List Event) (at : ℕ)
+    (e : Event) (stands : StandsAt es at e) (within : at < length es)
+    (more : take (at + 1) es ≡ take at es ++ e ∷ []) (w : Window S)
+    (g : GoesTo Step olds (take at es) w) (history : IsHistory (take at es ++ e ∷ []))
+    (new : Front S)
+  where
+    stop_of : (why : Stop) → IsStopAt Step olds es at why → IsStop Step olds es at why
+    stop_of why is = record {
+      within = within;
+      before = goes_explained Step olds (take at es) w g;
+      at = is;
+    }
+
+    pub stops : (result : Advance) → AdvancesIn Step g.is.inside g.is.states e new result
+        → StopsBy Step olds es at result
+    stops advance.Done done = tt
+    stops advance.Refused done =
+        let first = take at es in
+        let none : ¬ (IsExplained Step (first ++ e ∷ []) olds) =
+        λ x. frontier_refused Step new.links.items new.slots.items (g.is.inside ++ e ∷ [])
+        g.is.states new.configs.items done.0 done.1
+        ((explained_more Step olds first w g (e ∷ []) history).0 x) in
+        let by = answered Step olds first e
+        (formed_next first [] e (formed_history (first ++ e ∷ []) history)).0
+        (goes_explained Step olds first w g) none in
+        stop_of stop.Refused (
+          (by.0, subst (λ (x : Event). StandsAt es at x) by.1 stands),
+          subst (λ (l : List Event). ¬ (IsExplained Step l olds)) (sym more) none,
+        )
+    stops advance.ManyConfigs many =
+        stop_of stop.ManyConfigs (elim many [
+          | inl before ↦ inl (record {
+            past = g.is.past;
+            inside = g.is.inside;
+            split = g.is.split;
+            states = g.is.states;
+            cut = g.is.cut;
+            many = before;
+          })
+          | inr now ↦ inr (record {
+            past = g.is.past;
+            inside = g.is.inside ++ e ∷ [];
+            split = more ∙ split_more Step olds (take at es) w g (e ∷ []) history;
+            states = g.is.states;
+            cut = g.is.cut;
+            many = now;
+          })
+        ])
+    stops advance.ManyOpen many =
+        stop_of stop.ManyOpen
+        (subst (λ (l : List Event). HasManyOpen l) (sym more) (
+          many.0,
+          many.1,
+          many.2,
+          λ c has. open_more Step olds (take at es) w g (e ∷ []) history c (many.3 c has),
+        ))
+    stops advance.NoEvent closed =
+        closed (formed_next g.is.inside [] e
+        (formed_more Step olds (take at es) w g (e ∷ []) history)).1

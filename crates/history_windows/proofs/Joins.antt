@@ -1,10 +1,5 @@
 -- Histories that are made of two parts.
-use Rattle.std.proofs.Common.{ℕ, ◌<◌, ◌⊎◌, List, ◌++◌, arith, inl, inr}
-use Rattle.std.proofs.lemmas.Bool.{cases_lt}
-use Rattle.histories.specs.declared.event.Event.{Event}
-use Rattle.histories.specs.Histories.{begins, HasEnded, IsOpen}
-use Rattle.histories.specs.Frontier.{IsSound}
-use Rattle.histories.specs.Advances.{IsQuiet}
+use Rattle.history_windows.proofs.Words.{ℕ, ◌<◌, ◌⊎◌, List, ◌++◌, arith, inl, inr, cases_lt, Event, begins, HasEnded, IsOpen, IsSound, IsQuiet}
 use Rattle.histories.proofs.Events.{begins-append, ends_either, ends_left, ends_right}
 
 pub ended_left : (es fs : List Event) (c : ℕ) → HasEnded es c → HasEnded (es ++ fs) c
@@ -39,6 +34,15 @@ quiet_both es fs p q c begun =
       | inl some ↦ ended_left es fs c (p c some)
       | inr none ↦
           ended_right es fs c (q c (omega (arith, begun, none, begins-append c es fs)))
+    ]
+
+-- a call that is open after both is open after the first, or begins in the second
+pub open_parts : (es fs : List Event) (c : ℕ) → IsOpen (es ++ fs) c
+    → IsOpen es c ⊎ (0 < begins c fs)
+open_parts es fs c is =
+    elim (cases_lt 0 (begins c es)) [
+      | inl some ↦ inl (some, λ ended. is.1 (ended_left es fs c ended))
+      | inr none ↦ inr (omega (arith, is.0, none, begins-append c es fs))
     ]
 
 -- a call that is open has begun in the second part, where none is open after the first

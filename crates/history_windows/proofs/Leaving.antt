@@ -1,14 +1,7 @@
 -- Histories and orders of which calls are left out.
-use Rattle.std.proofs.Common.{◌≡◌, ℕ, zero, suc, ◌+◌, ◌<◌, ◌≤◌, Bool, true, false, cond, eqb, List, [], ◌∷◌, take, refl, ap, subst, arith, inl, inr}
-use Rattle.std.specs.Prelude.{filter}
-use Rattle.std.proofs.lemmas.Bool.{cond_both}
-use Rattle.std.proofs.lemmas.Bool.Decides.{eqb_tells}
-use Rattle.std.proofs.lemmas.List.Kept.{AllPairs-filter}
-use Rattle.histories.specs.declared.event.Event.{Event}
-use Rattle.histories.specs.declared.event.Event.TheVariants.{Begin, End, Crash}
-use Rattle.histories.specs.Histories.{begins, times, Explains, HasEnded, IsAnswered, IsExplained, IsOver, Leads, StandsAt}
+use Rattle.history_windows.proofs.Words.{◌≡◌, ℕ, zero, suc, ◌+◌, ◌<◌, ◌≤◌, Bool, true, false, cond, eqb, List, [], ◌∷◌, take, refl, ap, subst, arith, inl, inr, filter, cond_both, eqb_tells, AllPairs-filter, Event, Begin, End, Crash, Explains, HasEnded, IsAnswered, IsExplained, IsOver, Leads, StandsAt, IsRest, LeavesOutIdle, call_of, events_of}
+use Rattle.histories.specs.Histories.{begins, times}
 use Rattle.histories.proofs.Counting.{times-cons, times_none, times_other}
-use Rattle.history_windows.specs.Needed.{IsRest, LeavesOutIdle, call_of, events_of}
 
 module _ (kept : ℕ → Bool) where
   -- what the events of some calls have at a place, all of them have, and those before are the same

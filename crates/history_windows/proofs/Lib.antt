@@ -1,3 +1,4 @@
+pub mod Words
 pub mod Joins
 pub mod Growing
 pub mod Following

@@ -1,12 +1,5 @@
 -- The order of a configuration that is followed.
-use Rattle.std.proofs.Common.{◌≡◌, ℕ, ◌<◌, ◌++◌, List, [], ◌∷◌, ◌∙◌, ap, arith, get_or, length, subst, sym}
-use Rattle.std.proofs.lemmas.List.{get_or_default}
-use Rattle.histories.specs.declared.event.Event.{Event}
-use Rattle.histories.specs.declared.front.Config.{Config}
-use Rattle.histories.specs.declared.front.Front.{Front}
-use Rattle.histories.specs.Frontier.{IsFrontOf, order_of, read}
-use Rattle.histories.specs.Histories.{Explains}
-use Rattle.history_windows.specs.Windows.{IsFirstOrder, IsOrder}
+use Rattle.history_windows.proofs.Words.{◌≡◌, ℕ, ◌<◌, ◌++◌, List, [], ◌∷◌, ◌∙◌, ap, arith, get_or, length, subst, sym, get_or_default, Event, Config, Front, IsFrontOf, order_of, read, Explains, IsFirstOrder, IsOrder}
 
 -- the calls of the links, and those that were made since
 pub order_first : {S : Type 0} (front : Front S) (k : Config S) (known order : List ℕ)

@@ -1,25 +1,12 @@
 -- The states with which a window begins, and its calls that are left out.
-use Rattle.std.proofs.Common.{◌≡◌, ℕ, zero, suc, Option, List, [], ◌∷◌, ◌++◌, length, get_or, refl, sym, ◌∙◌, ap, subst, arith, append-nil, Bool, true, false, inl, inr, take, take_all, Result, Ok, Err, IfOk}
-use Rattle.std.specs.List.{Contains}
-use Rattle.std.proofs.Math.ListN.{set, replicate}
-use Rattle.std.proofs.lemmas.List.{nil_from_length, length-append, get_or-set_other, get_or_past, get_or-replicate, length-replicate, take-append-le}
-use Rattle.histories.specs.declared.event.Event.{Event}
-use Rattle.histories.specs.declared.front.Config.{Config}
-use Rattle.histories.specs.declared.front.Link.{Link}
-use Rattle.histories.specs.Frontier.{HasSlot, IsFrontOf, IsFrontier, IsIdle}
-use Rattle.histories.specs.Histories.{IsExplained, IsHistory}
+use Rattle.history_windows.proofs.Words.{◌≡◌, ◌+◌, ◌<◌, ℕ, zero, suc, Option, List, [], ◌∷◌, ◌++◌, length, get_or, refl, sym, ◌∙◌, ap, subst, arith, append-nil, Bool, true, false, inl, inr, take, take_all, Result, Ok, Err, IfOk, Contains, set, replicate, nil_from_length, length-append, get_or-set_other, get_or_past, get_or-replicate, length-replicate, Event, Config, Link, HasSlot, IsFrontOf, IsFrontier, IsIdle, IsExplained, IsHistory, Window, states_of, AreIdle, AreNeeded, HasCut, IsRest, IsWellFormed, events_of, is_kept, IsCut, IsWindowOf, cases_eq, cases_lt, not, Vec, slice_get-get_or, Advance, Front, AdvancesIn, IsAdvance}
 use Rattle.histories.proofs.Cutting.{runs_nothing}
 use Rattle.histories.proofs.Events.{begins_none}
 use Rattle.histories.proofs.Places.{contains_map_of, contains_of_map}
 use Rattle.histories.proofs.Frontiers.{explains_none, no_calls}
-use Rattle.history_windows.specs.declared.window.Window.{Window}
-use Rattle.history_windows.specs.Needed.{states_of, AreIdle, AreNeeded, HasCut, IsRest, IsWellFormed, events_of, is_kept}
-use Rattle.history_windows.specs.Windows.{IsCut, IsWindowOf}
-use Rattle.std.proofs.lemmas.Bool.{cases_eq, cases_lt}
-use Rattle.std.specs.Prelude.{not}
-use Rattle.std.specs.Global.{Vec}
-use Rattle.history_windows.proofs.Following.{history_front}
-use Rattle.history_windows.proofs.Trying.{formed_history, formed_inside, sound_formed}
+use Rattle.histories.specs.declared.front.Advance.TheVariants as advance
+use Rattle.histories.proofs.Verdicts.{agrees_same, frontier_refused, one_more}
+use Rattle.history_windows.proofs.Trying.{formed_history, formed_inside, sound_formed, sound_take}
 
 module _ {S : Type 0} (Step : S → ℕ → S → Type 0) (links : List Link) (slots : List (Option ℕ))
     (olds : List S) (configs : List (Config S)) (f : IsFrontier Step links slots [] olds configs)
@@ -151,15 +138,6 @@ rest_none Step olds es n none = record {
   others = λ c left. absurd (let e = none_left n c in cc);
 }
 
--- the first events of a history are one
-pub history_past : (past window : List Event) → IsHistory (past ++ window) → IsHistory past
-history_past past window history =
-    let is : take (length past) (past ++ window) ≡ past =
-    take-append-le (length past) past window (omega arith)
-    ∙ take_all (length past) past (omega arith) in
-    subst (λ (l : List Event). IsHistory l) is
-    (history_front (past ++ window) (length past) history)
-
 module _ {S : Type 0} (Step : S → ℕ → S → Type 0) (olds : List S) (past window : List Event)
     (history : IsHistory (past ++ window)) where
   pub formed_window : HasCut Step olds past → IsWellFormed window
@@ -198,7 +176,29 @@ module _ {S : Type 0} (Step : S → ℕ → S → Type 0) (olds : List S) (past 
         (rest_none Step cut.0 window n (refused_window cut.0 cut.0 refl cut.1 none));
   }
 
-pub ok_as : {X E : Type 0} (found : Result X E) (P Q : X → Type 0) → ((x : X) → P x → Q x)
-    → IfOk found P → IfOk found Q
-ok_as (Err e) P Q fits h = h
-ok_as (Ok x) P Q fits h = fits x h
+-- the front is that of the events before a place, and one event more is tried
+module _ {M S : Type 0} (StepOf : M → S → ℕ → S → Type 0) (machine : M) (olds : List S)
+    (es : List Event) (at : ℕ) (d : Event) (h : at < length es) (formed : IsWellFormed es)
+    (old new : Front S) (f : IsFrontOf (StepOf machine) old (take at es) olds) where
+  tried : (result : Advance) → IsAdvance StepOf machine old (get_or es at d) new result
+      → AdvancesIn (StepOf machine) (take at es) olds (get_or es at d) new result
+  tried result advances =
+      advances machine (take at es) olds (agrees_same (StepOf machine) (take at es))
+      (agrees_same (StepOf machine) (take at es ++ get_or es at d ∷ []))
+      (sound_take es formed at (omega arith))
+      (formed at (get_or es at d) (slice_get-get_or es at d h)).0 f
+
+  pub tried_done : IsAdvance StepOf machine old (get_or es at d) new advance.Done
+      → IsFrontOf (StepOf machine) new (take (at + 1) es) olds
+  tried_done advances =
+      subst (λ (l : List Event). IsFrontOf (StepOf machine) new l olds)
+      (sym (one_more es at d h)) (tried advance.Done advances).0
+
+  pub tried_refused : IsAdvance StepOf machine old (get_or es at d) new advance.Refused
+      → at + 1 ≡ length es → ¬ (IsExplained (StepOf machine) es olds)
+  tried_refused advances last x =
+      let done = tried advance.Refused advances in
+      frontier_refused (StepOf machine) new.links.items new.slots.items
+      (take at es ++ get_or es at d ∷ []) olds new.configs.items done.0 done.1
+      (subst (λ (l : List Event). IsExplained (StepOf machine) l olds)
+      (sym (take_all (at + 1) es (omega (arith, last))) ∙ one_more es at d h) x)

@@ -9,12 +9,13 @@ use Rattle.histories.specs.Histories.{begins, begun, IsHistory, IsOpen, StandsAt
 use Rattle.history_windows.specs.declared.window.Window.{Window}
 use Rattle.history_windows.specs.Windows.{IsWindowOf}
 
--- the events end in the window, each part of them is sound, and calls are numbered by their begins
+-- The events are a history, and end in the window. So they and those before the window are sound,
+-- and calls are numbered by their begins.
 pub record GoesTo {S : Type 0} (Step : S → ℕ → S → Type 0) (olds : List S) (events : List Event)
     (window : Window S) : Type 0 where
   pub is : IsWindowOf Step olds events window
+  pub history : IsHistory events
   pub first : IsSound is.past
-  pub second : IsSound is.inside
   pub whole : IsSound events
   pub numbered : (call : ℕ) → 0 < begins call events → call < begun events
 

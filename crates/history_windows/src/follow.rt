@@ -1,8 +1,7 @@
 //! Following a history event by event, also while replies are still to come.
-ghost use Rattle.std.specs.Prelude.{◌≡◌, ◌+◌, ◌<◌, IfErr, IfOk, IfSome, OnOk, length, []};
-ghost use Rattle.histories.specs.declared.event.Event.TheVariants.{Begin, End};
+ghost use Rattle.std.specs.Prelude.{◌≡◌, ◌<◌, IfErr, IfOk, OnOk, length, []};
 ghost use Rattle.histories.specs.Frontier.{IsFrontOf};
-ghost use Rattle.histories.specs.Histories.{IsExplained, IsHistory, StandsAt};
+ghost use Rattle.histories.specs.Histories.{IsExplained, IsHistory};
 ghost use Rattle.history_windows.specs.Goings.{IsMadeNext, GoesOn, HasPast, IsFrontAfter};
 ghost use Rattle.history_windows.specs.Windows.{BeginsWindow, CutsAt, IsStop, IsWindowOf};
 
@@ -30,21 +29,6 @@ fn cut_at<M: Machine>(machine: &M, window: &mut Window<M::State>, count: usize, 
     }
 }
 
-/// The call that the event at this index begins, if the next event is its end.
-fn call_alone(events: &[Event], at: usize) -> Option<usize>
-    requires { at < length events.now }
-    ensures { IfSome result (λ call. StandsAt events.now at (Begin call)
-        × StandsAt events.now (at + 1) (End call)) }
-{
-    let Event::Begin(call) = events[at] else {
-        return None;
-    };
-    match events.get(at + 1) {
-        Some(Event::End(ended)) if *ended == call => Some(call),
-        _ => None,
-    }
-}
-
 /// Goes on with the event at this index and the next one, if they are the begin and the end of a
 /// call that can be made in place. Returns whether it did; else nothing changed.
 fn make_next<M: Machine>(
@@ -56,9 +40,12 @@ fn make_next<M: Machine>(
     requires { at < length events.now }
     ensures { IfOk result (IsMadeNext M.Step machine.now events.now at front.old front.new) }
 {
-    match call_alone(events, at) {
-        Some(call) => make_alone(machine, front, call),
-        None => Ok(false),
+    let Event::Begin(call) = events[at] else {
+        return Ok(false);
+    };
+    match events.get(at + 1) {
+        Some(Event::End(ended)) if *ended == call => make_alone(machine, front, call),
+        _ => Ok(false),
     }
 }
 

@@ -1,6 +1,4 @@
-use Rattle.std.proofs.Common.{AllPairs}
-use Rattle.histories.specs.Frontier.{IsSame}
-use Rattle.histories.specs.Gathering.{IsClosing}
+use Rattle.histories.proofs.Words.{AllPairs, IsSame, IsClosing}
 use Rattle.histories.proofs.close.close.Given as goal
 
 abbrev pub invariant-loop-left : goal.invariant-loop-left

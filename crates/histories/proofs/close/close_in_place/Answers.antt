@@ -1,8 +1,5 @@
-use Rattle.std.proofs.Common.{rules, ◌≡◌, ◌∷◌, [], List, ap, get_or, length, slice_set, subst, sym, true}
-use Rattle.histories.specs.declared.front.Config.{Config}
-use Rattle.histories.specs.Gathering.{IsClosed, IsMadeFirst, IsSettled, spot_of}
-use Rattle.histories.proofs.Alone.{one_of_one}
-use Rattle.histories.proofs.Settlings.{closed_already, closed_in_place}
+use Rattle.histories.proofs.Words.{rules, ◌≡◌, ◌∷◌, [], List, ap, get_or, length, slice_set, subst, sym, true, Config, IsClosed, IsMadeFirst, IsSettled, spot_of}
+use Rattle.histories.proofs.Alone.{one_of_one, closed_already, closed_in_place}
 use Rattle.histories.proofs.close.close_in_place.Goals as goal
 
 pub returns : goal.returns

@@ -1,9 +1,4 @@
-use Rattle.std.proofs.Common.{[], ◌≡◌, List, subst, sym, ◌∙◌}
-use Rattle.std.proofs.lemmas.List.{map-id}
-use Rattle.std.proofs.lemmas.Iterator.Adapters.{YieldsList-from_vec}
-use Rattle.std.proofs.lemmas.Iterator.Consumers.{YieldsList-end}
-use Rattle.histories.specs.declared.front.Config.{Config}
-use Rattle.histories.specs.Gathering.{FromOne, Gathers, GoesOn, IsDone}
+use Rattle.histories.proofs.Words.{[], ◌≡◌, List, subst, sym, ◌∙◌, map-id, YieldsList-from_vec, YieldsList-end, Config, FromOne, Gathers, GoesOn, IsDone}
 use Rattle.histories.proofs.Closing.{goes_none, goes_pushed}
 use Rattle.histories.proofs.Gathering.{gathers_no_one, gathers_pushed}
 use Rattle.histories.proofs.close.close_round.Goals as goal

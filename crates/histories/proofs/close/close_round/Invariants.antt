@@ -1,5 +1,4 @@
-use Rattle.std.proofs.Common.{[]}
-use Rattle.histories.specs.Gathering.{FromOne, Gathers, GoesOn, IsDone}
+use Rattle.histories.proofs.Words.{[], FromOne, Gathers, GoesOn, IsDone}
 use Rattle.histories.proofs.close.close_round.Given as goal
 
 abbrev pub invariant-loop-config : goal.invariant-loop-config

@@ -1,5 +1,4 @@
-use Rattle.std.proofs.Common.{[], take}
-use Rattle.histories.specs.Gathering.{FromOne, Gathers, IsDropped}
+use Rattle.histories.proofs.Words.{[], take, FromOne, Gathers, IsDropped}
 use Rattle.histories.proofs.close.dropped_all.Given as goal
 
 abbrev pub invariant-loop-config : goal.invariant-loop-config

@@ -1,5 +1,4 @@
-use Rattle.std.proofs.Common.{ℕ, ◌<◌}
-use Rattle.histories.specs.Gathering.{IsBeside}
+use Rattle.histories.proofs.Words.{ℕ, ◌<◌, IsBeside}
 use Rattle.histories.proofs.close.is_alone.Given as goal
 
 abbrev pub invariant-loop-at : goal.invariant-loop-at

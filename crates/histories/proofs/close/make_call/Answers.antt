@@ -1,4 +1,4 @@
-use Rattle.std.proofs.lemmas.Result.{on_ok_weaker}
+use Rattle.histories.proofs.Words.{on_ok_weaker}
 use Rattle.histories.proofs.Gathering.{gathers_call}
 use Rattle.histories.proofs.close.make_call.Goals as goal
 

@@ -1,5 +1,4 @@
-use Rattle.std.proofs.Common.{rules, ◌≡◌, length}
-use Rattle.std.proofs.lemmas.Result.{on_ok_weaker}
+use Rattle.histories.proofs.Words.{rules, ◌≡◌, length, on_ok_weaker}
 use Rattle.histories.proofs.Closing.{goes_all}
 use Rattle.histories.proofs.Gathering.{gathers_last}
 use Rattle.histories.proofs.close.make_calls.Goals as goal

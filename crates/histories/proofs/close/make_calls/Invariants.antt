@@ -1,4 +1,4 @@
-use Rattle.histories.specs.Gathering.{Gathers, IsNextBeside}
+use Rattle.histories.proofs.Words.{Gathers, IsNextBeside}
 use Rattle.histories.proofs.close.make_calls.Given as goal
 
 abbrev pub invariant-loop-other : goal.invariant-loop-other

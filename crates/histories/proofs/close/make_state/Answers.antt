@@ -1,4 +1,4 @@
-use Rattle.std.proofs.Common.{◌∙◌}
+use Rattle.histories.proofs.Words.{◌∙◌}
 use Rattle.histories.proofs.Gathering.{gathers_had}
 use Rattle.histories.proofs.close.make_state.Goals as goal
 

@@ -1,19 +1,15 @@
-use Rattle.std.proofs.Common.{◌≡◌, ◌∙◌, subst, sym}
-use Rattle.std.proofs.lemmas.List.{map-id}
-use Rattle.std.proofs.lemmas.Iterator.Adapters.{YieldsList-from_vec}
-use Rattle.std.proofs.lemmas.Iterator.Consumers.{YieldsList-end}
-use Rattle.histories.specs.Gathering.{Gathers, IsNextIn}
+use Rattle.histories.proofs.Words.{◌≡◌, ◌∙◌, subst, sym, map-id, YieldsList-from_vec, YieldsList-end, Gathers, IsNextIn}
 use Rattle.histories.proofs.Gathering.{gathers_no_state, gathers_states}
 use Rattle.histories.proofs.close.make_states.Goals as goal
 
 pub loop-state-init : goal.loop-state-init
 loop-state-init g c =
-    gathers_no_state c.args.config.now c.args.slot c.args.call c.args.next.now
+    gathers_no_state _ _ c.args.next.now
 
 pub loop-state-preserved : goal.loop-state-preserved
 loop-state-preserved g c =
-    gathers_states c.args.config.now c.args.slot c.args.call c.loop-state.yielded
-    c.in-Some.state _ _ _ c.loop-state.invariant c.in_ok-make_state.ensures
+    gathers_states c.loop-state.yielded c.in-Some.state _ _ _ _ _ c.loop-state.invariant
+    c.in_ok-make_state.ensures
 
 pub returns : goal.returns
 returns g c =

@@ -1,4 +1,4 @@
-use Rattle.histories.specs.Gathering.{Gathers, IsNextIn}
+use Rattle.histories.proofs.Words.{Gathers, IsNextIn}
 use Rattle.histories.proofs.close.make_states.Given as goal
 
 abbrev pub invariant-loop-state : goal.invariant-loop-state

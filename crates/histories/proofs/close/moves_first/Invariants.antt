@@ -1,6 +1,4 @@
-use Rattle.std.proofs.Common.{ℕ, ◌<◌}
-use Rattle.histories.specs.Frontier.{MovesBefore}
-use Rattle.histories.specs.Gathering.{IsBeside}
+use Rattle.histories.proofs.Words.{ℕ, ◌<◌, MovesBefore, IsBeside}
 use Rattle.histories.proofs.close.moves_first.Given as goal
 
 abbrev pub invariant-loop-at : goal.invariant-loop-at

@@ -1,6 +1,4 @@
-use Rattle.std.proofs.Common.{rules, ◌<◌, ◌≤◌, All, length, subst, sym, take_all}
-use Rattle.std.proofs.lemmas.List.Elements.{All-more}
-use Rattle.histories.specs.Frontier.{IsSame}
+use Rattle.histories.proofs.Words.{rules, ◌<◌, ◌≤◌, All, length, subst, sym, take_all, All-more, IsSame}
 use Rattle.histories.proofs.gather.is_among.Goals as goal
 
 pub returns-then-is_same : goal.returns-then-is_same

@@ -1,5 +1,4 @@
-use Rattle.std.proofs.Common.{All, take}
-use Rattle.histories.specs.Frontier.{IsSame}
+use Rattle.histories.proofs.Words.{All, take, IsSame}
 use Rattle.histories.proofs.gather.is_among.Given as goal
 
 abbrev pub invariant-loop-known : goal.invariant-loop-known

@@ -1,6 +1,4 @@
-use Rattle.std.proofs.Common.{◌-◌, List, arith, drop, length, length-drop, subst, take_all}
-use Rattle.histories.specs.declared.front.Config.{Config}
-use Rattle.histories.specs.Gathering.{IsKnown}
+use Rattle.histories.proofs.Words.{◌-◌, List, arith, drop, length, length-drop, subst, take_all, Config, IsKnown}
 use Rattle.histories.proofs.Gathering.{known_rest}
 use Rattle.histories.proofs.gather.is_known.Goals as goal
 

@@ -1,4 +1,4 @@
-use Rattle.histories.specs.Gathering.{FromOne, Gathers, IsCopy}
+use Rattle.histories.proofs.Words.{FromOne, Gathers, IsCopy}
 use Rattle.histories.proofs.gather.joined.Given as goal
 
 abbrev pub invariant-loop-config : goal.invariant-loop-config

@@ -1,13 +1,11 @@
-use Rattle.std.proofs.Common.{rules, ◌≤◌, [], length, refl, subst, sym, take_all}
-use Rattle.histories.specs.Frontier.{IsFrontier, no_path}
-use Rattle.histories.specs.Gathering.{Gathers, IsFirst}
+use Rattle.histories.proofs.Words.{rules, ◌≤◌, [], length, refl, subst, sym, take_all, IsFrontier, no_path, Gathers, IsFirst}
 use Rattle.histories.proofs.Closing.{path_is}
 use Rattle.histories.proofs.Frontiers.{frontier_first}
-use Rattle.histories.proofs.Gathering.{gathers_first, gathers_no_first}
+use Rattle.histories.proofs.Gathering.{gathers_first, gathers_no_state}
 use Rattle.histories.proofs.gather.start.Goals as goal
 
 pub loop-from-init : goal.loop-from-init
-loop-from-init g c = rw c.new-configs.ensures (gathers_no_first [])
+loop-from-init g c = rw c.new-configs.ensures (gathers_no_state 0 no_path [])
 
 pub loop-from-preserved : goal.loop-from-preserved
 loop-from-preserved g c =
@@ -22,10 +20,10 @@ loop-from-preserved g c =
     c.new-made.ensures.items) c.loop-from.invariant c.in_ok-add.ensures
 
 pub returns : goal.returns
-returns g c =
+returns g c whole =
     let states = c.args.states.now in
     let all : length states ≤ c.loop-from.from-index = search rules in
-    let Step = g.M.Machine.Step c.args.machine.now in
+    let Step = g.M.Machine.Step whole in
     rw c.into_configs.ensures
     (subst (λ l. IsFrontier Step c.new-links.result.items l [] states c.loop-from.configs)
     (sym c.new-slots.ensures.items)

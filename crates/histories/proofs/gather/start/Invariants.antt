@@ -1,5 +1,4 @@
-use Rattle.std.proofs.Common.{[], take}
-use Rattle.histories.specs.Gathering.{Gathers, IsFirst}
+use Rattle.histories.proofs.Words.{[], take, Gathers, IsFirst}
 use Rattle.histories.proofs.gather.start.Given as goal
 
 abbrev pub invariant-loop-from : goal.invariant-loop-from

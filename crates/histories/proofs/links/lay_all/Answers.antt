@@ -1,8 +1,5 @@
-use Rattle.std.proofs.Common.{◌<◌, arith, get_or, length}
-use Rattle.std.proofs.lemmas.List.{get_or_default}
-use Rattle.histories.specs.Gathering.{IsLaid}
-use Rattle.histories.proofs.Chains.{grows_none, grows_then, laid_before, laid_grows}
-use Rattle.histories.proofs.Places.{done_as, done_more, done_none}
+use Rattle.histories.proofs.Words.{◌<◌, arith, get_or, length, get_or_default, IsLaid}
+use Rattle.histories.proofs.Places.{grows_none, grows_then, laid_before, laid_grows, done_as, done_more, done_none}
 use Rattle.histories.proofs.links.lay_all.Goals as goal
 
 pub loop-config-init : goal.loop-config-init
@@ -33,9 +30,10 @@ loop-config-preserved g c =
 
 pub returns : goal.returns
 returns g c =
-    let before = c.loop-config.invariant.0 in record {
-      grows = c.loop-config.invariant.1;
-      as_many = before.many;
-      each = λ index d h.
-          before.done index d (omega (arith, h, before.many, c.loop-config-test.false));
-    }
+    let before = c.loop-config.invariant.0 in (
+      c.loop-config.invariant.1,
+      (
+        before.many,
+        λ index d h. before.done index d (omega (arith, h, before.many, c.loop-config-test.false)),
+      ),
+    )

@@ -1,4 +1,4 @@
-use Rattle.histories.specs.Gathering.{Grows, IsLaid}
+use Rattle.histories.proofs.Words.{Grows, IsLaid}
 use Rattle.histories.proofs.Places.{AreDone}
 use Rattle.histories.proofs.links.lay_all.Given as goal
 

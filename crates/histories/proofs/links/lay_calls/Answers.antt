@@ -1,7 +1,5 @@
-use Rattle.std.proofs.Common.{rules, ◌≡◌, ◌+◌, ◌∷◌, [], List, ap, arith, get_or, length, length-append, refl, subst, sym, take}
-use Rattle.histories.specs.declared.front.Link.{Link}
-use Rattle.histories.specs.Gathering.{IsLaidOut}
-use Rattle.histories.proofs.Chains.{laid_out_more}
+use Rattle.histories.proofs.Words.{rules, ◌≡◌, ◌+◌, ◌∷◌, [], List, ap, arith, get_or, length, length-append, refl, subst, sym, take, Link, IsLaidOut}
+use Rattle.histories.proofs.Places.{laid_out_more}
 use Rattle.histories.proofs.links.lay_calls.Goals as goal
 
 pub loop-call-preserved : goal.loop-call-preserved

@@ -1,5 +1,4 @@
-use Rattle.std.proofs.Common.{take}
-use Rattle.histories.specs.Gathering.{IsLaidOut}
+use Rattle.histories.proofs.Words.{take, IsLaidOut}
 use Rattle.histories.proofs.links.lay_calls.Given as goal
 
 abbrev pub invariant-loop-call : goal.invariant-loop-call

@@ -1,7 +1,5 @@
-use Rattle.std.proofs.Common.{◌≡◌, ◌<◌, ◌+◌, ◌-◌, ◌++◌, ◌∙◌, List, ℕ, ap, append-nil, arith, length, reverse, subst, sym}
-use Rattle.std.proofs.lemmas.List.{get_or_default}
-use Rattle.histories.specs.Frontier.{read}
-use Rattle.histories.proofs.Chains.{read_bounded, read_more, read_zero}
+use Rattle.histories.proofs.Words.{◌≡◌, ◌<◌, ◌+◌, ◌-◌, ◌++◌, ◌∙◌, List, ℕ, ap, append-nil, arith, length, reverse, subst, sym, get_or_default, read}
+use Rattle.histories.proofs.Places.{read_bounded, read_more, read_zero}
 use Rattle.histories.proofs.links.order_up_to.Goals as goal
 
 pub loop-left-init : goal.loop-left-init

@@ -1,6 +1,4 @@
-use Rattle.std.proofs.Common.{◌≡◌, ◌≤◌, ◌++◌, length}
-use Rattle.std.specs.Prelude.{reverse}
-use Rattle.histories.specs.Frontier.{read}
+use Rattle.histories.proofs.Words.{◌≡◌, ◌≤◌, ◌++◌, length, reverse, read}
 use Rattle.histories.proofs.links.order_up_to.Given as goal
 
 abbrev pub invariant-loop-left : goal.invariant-loop-left

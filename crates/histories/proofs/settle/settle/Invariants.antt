@@ -1,5 +1,4 @@
-use Rattle.std.proofs.Common.{◌≡◌, IsFalse}
-use Rattle.histories.specs.Gathering.{IsSettled, spot_of}
+use Rattle.histories.proofs.Words.{◌≡◌, IsFalse, IsSettled, spot_of}
 use Rattle.histories.proofs.settle.settle.Given as goal
 
 abbrev pub invariant-loop-slot : goal.invariant-loop-slot

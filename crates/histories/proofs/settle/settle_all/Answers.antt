@@ -1,8 +1,6 @@
-use Rattle.std.proofs.Common.{[], List, subst, sym}
-use Rattle.histories.specs.declared.front.Config.{Config}
-use Rattle.histories.specs.Gathering.{AreSettled, AreSettledEach, FromOne, Gathers, IsCopy}
+use Rattle.histories.proofs.Words.{[], List, subst, sym, Config, AreSettled, AreSettledEach, FromOne, Gathers, IsCopy}
 use Rattle.histories.proofs.Places.{put_back}
-use Rattle.histories.proofs.Settlings.{settled_apart, settled_once}
+use Rattle.histories.proofs.Alone.{settled_apart, settled_once}
 use Rattle.histories.proofs.settle.settle_all.Goals as goal
 
 pub returns : goal.returns

@@ -1,6 +1,4 @@
-use Rattle.std.proofs.Common.{rules, ◌<◌, ◌∙◌, ap, arith, get_or, length, refl, sym, true≢false}
-use Rattle.std.proofs.lemmas.List.{get_or_default}
-use Rattle.histories.specs.Gathering.{IsSettled, spot_of}
+use Rattle.histories.proofs.Words.{rules, ◌<◌, ◌∙◌, ap, arith, get_or, length, refl, sym, true≢false, get_or_default, IsSettled, spot_of}
 use Rattle.histories.proofs.Places.{done_more, same_set}
 use Rattle.histories.proofs.settle.settle_each.Goals.{then-branch, else-branch}
 use Rattle.histories.proofs.settle.settle_each.Goals as goal

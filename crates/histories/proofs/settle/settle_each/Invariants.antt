@@ -1,5 +1,4 @@
-use Rattle.std.proofs.Common.{IsFalse}
-use Rattle.histories.specs.Gathering.{AreSame, IsSettled, spot_of}
+use Rattle.histories.proofs.Words.{IsFalse, AreSame, IsSettled, spot_of}
 use Rattle.histories.proofs.Places.{AreDone}
 use Rattle.histories.proofs.settle.settle_each.Given as goal
 

@@ -1,5 +1,4 @@
-use Rattle.std.proofs.Common.{◌<◌, ℕ}
-use Rattle.histories.specs.Frontier.{HasSlot}
+use Rattle.histories.proofs.Words.{◌<◌, ℕ, HasSlot}
 use Rattle.histories.proofs.slots.are_free.Given as goal
 
 abbrev pub invariant-loop-slot : goal.invariant-loop-slot

@@ -1,7 +1,4 @@
-use Rattle.std.proofs.Common.{rules, inl, subst, sym}
-use Rattle.std.specs.Result.{IfOk}
-use Rattle.histories.specs.declared.event.Event.{Event}
-use Rattle.histories.specs.Advances.{IsAdvance}
+use Rattle.histories.proofs.Words.{rules, inl, subst, sym, IfOk, Event, IsAdvance}
 use Rattle.histories.proofs.Frontiers.{front_many}
 use Rattle.histories.proofs.step.advance.Goals as goal
 

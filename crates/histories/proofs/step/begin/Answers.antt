@@ -1,16 +1,10 @@
-use Rattle.std.proofs.Common.{AllPairs, Option, ℕ, ◌∷◌, ◌++◌, [], List, refl, subst, sym}
-use Rattle.std.specs.Global.{Vec}
-use Rattle.std.proofs.lemmas.Result.{IfOk-weaker}
-use Rattle.histories.specs.declared.event.Event.TheVariants.{Begin}
-use Rattle.histories.specs.declared.front.Config.{Config}
-use Rattle.histories.specs.Frontier.{IsFrontier, IsSame}
-use Rattle.histories.specs.Gathering.{AreOpened, AreSettled, AreTaken, TakesSlot}
+use Rattle.histories.proofs.Words.{AllPairs, Option, ℕ, ◌∷◌, ◌++◌, [], List, refl, subst, sym, Vec, IfOk-weaker, Begin, Config, IsFrontier, IsSame, AreOpened, AreSettled, AreTaken, TakesSlot}
 use Rattle.histories.proofs.Advancing.{agrees_slots, begin_ends, laid_out, many_open, frontier_begin}
 use Rattle.histories.proofs.Closing.{settled_as}
 use Rattle.histories.proofs.Places.{put_back}
-use Rattle.histories.proofs.Settlings.{opened_apart}
-use Rattle.histories.proofs.step.begin.Goals as goal
+use Rattle.histories.proofs.Alone.{opened_apart}
 use Rattle.histories.proofs.Events.{table_begin}
+use Rattle.histories.proofs.step.begin.Goals as goal
 
 pub returns : goal.returns
 returns g c =

@@ -1,8 +1,4 @@
-use Rattle.std.proofs.Common.{inl, inr, refl, subst, sym}
-use Rattle.std.proofs.lemmas.Result.{IfOk-weaker}
-use Rattle.histories.specs.declared.event.Event.TheVariants.{Crash}
-use Rattle.histories.specs.Frontier.{HasSlot}
-use Rattle.histories.specs.Gathering.{FromOne, Gathers, HasMany, IsClosed, IsDropped}
+use Rattle.histories.proofs.Words.{inl, inr, refl, subst, sym, IfOk-weaker, Crash, HasSlot, FromOne, Gathers, HasMany, IsClosed, IsDropped}
 use Rattle.histories.proofs.Advancing.{agrees_slots, finished, many_as, no_slot, slot_ends}
 use Rattle.histories.proofs.Closing.{closed_as}
 use Rattle.histories.proofs.Frontiers.{frontier_crash, many_orders}

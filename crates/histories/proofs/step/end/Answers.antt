@@ -1,9 +1,4 @@
-use Rattle.std.proofs.Common.{◌∙◌, inl, refl, subst, sym}
-use Rattle.std.proofs.lemmas.Result.{IfOk-weaker}
-use Rattle.histories.specs.declared.event.Event.TheVariants.{End}
-use Rattle.histories.specs.Advances.{IsSameFront}
-use Rattle.histories.specs.Frontier.{HasSlot}
-use Rattle.histories.specs.Gathering.{HasMany, IsClosed}
+use Rattle.histories.proofs.Words.{◌∙◌, inl, refl, subst, sym, IfOk-weaker, End, IsSameFront, HasSlot, HasMany, IsClosed}
 use Rattle.histories.proofs.Advancing.{agrees_slots, call_ended, front_same, many_as, no_slot}
 use Rattle.histories.proofs.Frontiers.{many_orders}
 use Rattle.histories.proofs.step.end.Goals as goal

@@ -1,9 +1,4 @@
-use Rattle.std.proofs.Common.{List, Option, ℕ, inr, subst, sym}
-use Rattle.std.specs.Prelude.{AllPairs}
-use Rattle.std.specs.Global.{Vec}
-use Rattle.histories.specs.declared.front.Config.{Config}
-use Rattle.histories.specs.Frontier.{IsSame}
-use Rattle.histories.specs.Gathering.{AreLaidIn, FreesSlot, IsClosed}
+use Rattle.histories.proofs.Words.{List, Option, ℕ, inr, subst, sym, AllPairs, Vec, Config, IsSame, AreLaidIn, FreesSlot, IsClosed}
 use Rattle.histories.proofs.Places.{put_back}
 use Rattle.histories.proofs.step.end_in_place.Goals as goal
 

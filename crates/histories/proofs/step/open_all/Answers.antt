@@ -1,8 +1,4 @@
-use Rattle.std.proofs.Common.{rules, ◌<◌, ◌∙◌, ap, arith, get_or, inl, inr, length, sym, true≢false}
-use Rattle.std.specs.Int.{bit_at}
-use Rattle.std.proofs.lemmas.Bool.{cases_eq}
-use Rattle.std.proofs.lemmas.List.{get_or_default}
-use Rattle.histories.specs.declared.front.Config.{Config}
+use Rattle.histories.proofs.Words.{rules, ◌<◌, ◌∙◌, ap, arith, get_or, inl, inr, length, sym, true≢false, bit_at, cases_eq, get_or_default, Config}
 use Rattle.histories.proofs.Places.{done_more, less_of}
 use Rattle.histories.proofs.step.open_all.Goals.{then-open, else-open}
 use Rattle.histories.proofs.step.open_all.Goals as goal

@@ -1,6 +1,4 @@
-use Rattle.std.proofs.Common.{◌≡◌, ◌<◌, ℕ, get_or, IsTrue}
-use Rattle.std.specs.Int.{bit_at}
-use Rattle.histories.specs.Gathering.{IsOpened}
+use Rattle.histories.proofs.Words.{◌≡◌, ◌<◌, ℕ, get_or, IsTrue, bit_at, IsOpened}
 use Rattle.histories.proofs.Places.{AreDone}
 use Rattle.histories.proofs.step.open_all.Given as goal
 

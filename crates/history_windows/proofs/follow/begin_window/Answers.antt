@@ -1,4 +1,4 @@
-use Rattle.std.proofs.Common.{inl, inr, refl}
+use Rattle.history_windows.proofs.Words.{inl, inr, refl}
 use Rattle.history_windows.proofs.follow.begin_window.Goals as goal
 
 pub returns : goal.returns

@@ -1,7 +1,10 @@
-use Rattle.history_windows.proofs.Goings.{any_machine}
+use Rattle.history_windows.proofs.Words.{IfOk-weaker}
+use Rattle.history_windows.proofs.Growing.{goes_begin}
 use Rattle.history_windows.proofs.follow.first_front.Goals as goal
 
 pub returns : goal.returns
 returns g c =
-    any_machine g.M.Machine.Step c.args.machine.now c.args.states.now c.requires c.start.result
-    c.start.ensures
+    IfOk-weaker c.start.result _ _ (λ front f whole. (
+      0,
+      goes_begin (g.M.Machine.Step whole) c.args.states.now front c.requires (f whole),
+    )) c.start.ensures

@@ -1,4 +1,4 @@
-use Rattle.std.proofs.Common.{length, take, ◌-◌}
+use Rattle.history_windows.proofs.Words.{length, take, ◌-◌}
 use Rattle.history_windows.proofs.Following.{FollowsTo}
 use Rattle.history_windows.proofs.follow.follow.Given as goal
 

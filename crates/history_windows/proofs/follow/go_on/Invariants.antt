@@ -1,5 +1,4 @@
-use Rattle.std.proofs.Common.{length, ◌-◌}
-use Rattle.history_windows.specs.Goings.{GoesOnTo}
+use Rattle.history_windows.proofs.Words.{length, ◌-◌, GoesOnTo}
 use Rattle.history_windows.proofs.follow.go_on.Given as goal
 
 abbrev pub invariant-loop-at : goal.invariant-loop-at

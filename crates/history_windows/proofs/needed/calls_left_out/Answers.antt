@@ -1,4 +1,6 @@
-use Rattle.history_windows.proofs.Shrinking.{formed_window, history_past, needed_found, needed_whole, ok_as, refused_window}
+use Rattle.history_windows.proofs.Words.{IfOk-weaker}
+use Rattle.history_windows.proofs.Following.{history_past}
+use Rattle.history_windows.proofs.Shrinking.{formed_window, needed_found, needed_whole, refused_window}
 use Rattle.history_windows.proofs.needed.calls_left_out.Goals as goal
 
 pub states_left-requires : goal.states_left-requires
@@ -29,4 +31,4 @@ pub returns-in-None : goal.returns-in-None
 returns-in-None g c =
     needed_whole (g.M.Machine.Step c.args.machine.now) c.args.states.now c.args.past.now
     c.args.window.now c.requires.history _ c.requires.cut c.requires.refused c.vec.result
-    (ok_as c.vec.result _ _ (λ v all. all (λ y same. same)) c.vec.ensures.items_if_clones_equal)
+    (IfOk-weaker c.vec.result _ _ (λ v all. all (λ y same. same)) c.vec.ensures.items_if_clones_equal)

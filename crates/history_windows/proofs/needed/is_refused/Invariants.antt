@@ -1,6 +1,6 @@
-use Rattle.history_windows.proofs.Trying.{IsTriedTo}
+use Rattle.history_windows.proofs.Words.{take, IsFrontOf}
 use Rattle.history_windows.proofs.needed.is_refused.Given as goal
 
 abbrev pub invariant-loop-at : goal.invariant-loop-at
 invariant-loop-at g l =
-    IsTriedTo (g.M.Machine.Step l.machine) l.states l.events l.front l.at
+    IsFrontOf (g.M.Machine.Step l.machine) l.front (take l.at l.events) l.states

@@ -1,4 +1,4 @@
-use Rattle.std.proofs.Common.{arith, sym}
+use Rattle.history_windows.proofs.Words.{arith, sym}
 use Rattle.history_windows.proofs.Shrinking.{left_out_is}
 use Rattle.history_windows.proofs.needed.leave_out_begun.Goals as goal
 

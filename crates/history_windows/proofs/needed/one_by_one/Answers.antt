@@ -1,5 +1,4 @@
-use Rattle.std.proofs.Common.{Bool, List, sym, subst}
-use Rattle.history_windows.specs.Needed.{IsRest, is_kept}
+use Rattle.history_windows.proofs.Words.{Bool, List, sym, subst, IsRest, is_kept}
 use Rattle.history_windows.proofs.Shrinking.{rest_none}
 use Rattle.history_windows.proofs.needed.one_by_one.Goals as goal
 

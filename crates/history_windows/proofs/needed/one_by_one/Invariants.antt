@@ -1,4 +1,4 @@
-use Rattle.history_windows.specs.Needed.{IsRest, is_kept}
+use Rattle.history_windows.proofs.Words.{IsRest, is_kept}
 use Rattle.history_windows.proofs.needed.one_by_one.Given as goal
 
 abbrev pub invariant-loop-event : goal.invariant-loop-event

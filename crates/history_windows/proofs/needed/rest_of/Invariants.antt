@@ -1,5 +1,4 @@
-use Rattle.std.proofs.Common.{◌≡◌, take}
-use Rattle.history_windows.specs.Needed.{events_of, is_kept}
+use Rattle.history_windows.proofs.Words.{◌≡◌, take, events_of, is_kept}
 use Rattle.history_windows.proofs.needed.rest_of.Given as goal
 
 abbrev pub invariant-loop-event : goal.invariant-loop-event

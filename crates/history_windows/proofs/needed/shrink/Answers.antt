@@ -1,8 +1,5 @@
-use Rattle.std.proofs.Common.{Bool, List, sym, ◌∙◌, subst}
-use Rattle.histories.specs.declared.event.Event.{Event}
-use Rattle.histories.specs.Histories.{IsExplained}
-use Rattle.history_windows.specs.Needed.{IsRest, IsWellFormed, is_kept}
-use Rattle.history_windows.proofs.Shrinking.{ok_as, rest_all}
+use Rattle.history_windows.proofs.Words.{Bool, List, sym, ◌∙◌, subst, Event, IsExplained, IsRest, IsWellFormed, is_kept, IfOk-weaker}
+use Rattle.history_windows.proofs.Shrinking.{rest_all}
 use Rattle.history_windows.proofs.Trying.{formed_rest}
 use Rattle.history_windows.proofs.needed.shrink.Goals as goal
 
@@ -17,7 +14,7 @@ pub returns-then-branch : goal.returns-then-branch
 returns-then-branch g c =
     let events = c.args.events.now in
     let states = c.args.states.now in
-    ok_as c.from_slice.result _ _
+    IfOk-weaker c.from_slice.result _ _
     (λ v same. subst
     (λ (l : List Bool). IsRest (g.M.Machine.Step c.args.machine.now) states events (is_kept l))
     (sym same)

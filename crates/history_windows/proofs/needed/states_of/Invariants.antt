@@ -1,5 +1,4 @@
-use Rattle.std.proofs.Common.{◌≡◌}
-use Rattle.history_windows.specs.Needed.{states_of}
+use Rattle.history_windows.proofs.Words.{◌≡◌, states_of}
 use Rattle.history_windows.proofs.needed.states_of.Given as goal
 
 abbrev pub invariant-loop-config : goal.invariant-loop-config

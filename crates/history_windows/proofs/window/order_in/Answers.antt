@@ -1,5 +1,4 @@
-use Rattle.std.proofs.Common.{◌∙◌, ◌++◌, List, ℕ, ap}
-use Rattle.histories.specs.Frontier.{read}
+use Rattle.history_windows.proofs.Words.{◌∙◌, ◌++◌, List, ℕ, ap, read}
 use Rattle.history_windows.proofs.Ordering.{order_first}
 use Rattle.history_windows.proofs.window.order_in.Goals as goal
 

@@ -1,6 +1,5 @@
-use Rattle.std.proofs.Common.{◌≡◌, ◌-◌, length}
-use Rattle.histories.specs.Gathering.{AreChained}
-use Rattle.histories.proofs.chained.link_rest.Given as goal
+use Rattle.histories.proofs.Words.{◌≡◌, ◌-◌, length, AreChained}
+use Rattle.histories.proofs.gather.link_rest.Given as goal
 
 abbrev pub invariant-loop-heads : goal.invariant-loop-heads
 invariant-loop-heads g l =

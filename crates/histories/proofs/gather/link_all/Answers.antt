@@ -1,6 +1,6 @@
-use Rattle.std.proofs.Common.{◌≡◌, length, replicate, ap}
+use Rattle.histories.proofs.Words.{◌≡◌, length, replicate, ap}
 use Rattle.histories.proofs.Gathering.{chained_none, copies}
-use Rattle.histories.proofs.chained.link_all.Goals as goal
+use Rattle.histories.proofs.gather.link_all.Goals as goal
 
 pub link_rest-requires-2-clause-chained : goal.link_rest-requires-2-clause-chained
 link_rest-requires-2-clause-chained g c =

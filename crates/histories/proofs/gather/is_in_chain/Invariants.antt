@@ -1,5 +1,5 @@
 use Rattle.histories.proofs.Gathering.{IsFollowing}
-use Rattle.histories.proofs.chained.is_in_chain.Given as goal
+use Rattle.histories.proofs.gather.is_in_chain.Given as goal
 
 abbrev pub invariant-loop-left : goal.invariant-loop-left
 invariant-loop-left g l = IsFollowing l.configs l.before l.config l.left

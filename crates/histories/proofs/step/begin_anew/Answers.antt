@@ -1,9 +1,6 @@
-use Rattle.std.proofs.Common.{rules, ◌≡◌, [], List, length, map, refl, subst, sym}
-use Rattle.histories.specs.declared.front.Config.{Config}
-use Rattle.histories.specs.Frontier.{IsFrontier}
-use Rattle.histories.specs.Gathering.{AreUnlinked}
+use Rattle.histories.proofs.Words.{rules, ◌≡◌, [], List, length, map, refl, subst, sym, Config, IsFrontier, AreEach, IsUnlinked}
 use Rattle.histories.proofs.Places.{put_back}
-use Rattle.histories.proofs.quiet.begin_anew.Goals as goal
+use Rattle.histories.proofs.step.begin_anew.Goals as goal
 use Rattle.histories.proofs.Cutting.{fresh_anew, quiet_empty, split_anew}
 
 pub returns : goal.returns
@@ -16,7 +13,7 @@ returns g c whole events olds sound f =
     let empty = rw c.deref.ensures.value at (c.are_free.ensures.yes c.if-not-are_free.false) in
     let quiet = quiet_empty events slots f.table empty in
     let unlinked = c.unlink.new.configs in
-    let is : AreUnlinked configs unlinked = rw c.deref_mut.ensures.value at c.unlink.ensures in
+    let is : AreEach IsUnlinked configs unlinked = rw c.deref_mut.ensures.value at c.unlink.ensures in
     let long : front.configs.len ≡ length configs = search rules in (
       quiet,
       (

@@ -1,6 +1,6 @@
-use Rattle.std.proofs.Common.{◌-◌, arith, refl, sym}
+use Rattle.histories.proofs.Words.{◌-◌, arith, refl, sym}
 use Rattle.histories.proofs.Gathering.{following_head, following_more}
-use Rattle.histories.proofs.chained.is_in_chain.Goals as goal
+use Rattle.histories.proofs.gather.is_in_chain.Goals as goal
 
 pub loop-left-init : goal.loop-left-init
 loop-left-init g c =
