@@ -22,7 +22,7 @@ use super::progress::Progress;
 use super::service::{LogCall, LogService};
 use super::verdict::Expected;
 use line_streams::{after_word, before_byte};
-use log_lines::{BegunCall, LogCommand, LogLine, LogState, is_note, read_log_line};
+use log_lines::{BegunCall, LogCommand, LogLine, LogState, is_note, read_command, read_log_line};
 use service_conformance::conformance::{SeenReply, read_reply};
 use service_descriptions::replay::ServiceLine;
 use std::alloc::{AllocError, Global};
@@ -99,6 +99,15 @@ fn reply_in(alloc: Global, text: &[u8]) -> Result<Option<SeenReply>, AllocError>
         return Ok(None);
     };
     read_reply(alloc, words)
+}
+
+/// Whether the line begins as commands do, with a small letter. A yes says nothing: other lines may
+/// too, as those of services.
+fn may_be_command(text: &[u8]) -> bool {
+    match text {
+        [] => false,
+        [first, ..] => first.is_ascii_lowercase(),
+    }
 }
 
 /// Whether the line is that of a service.
@@ -385,8 +394,8 @@ impl Reading {
 
     /// A line that is no note, where no call waits. Returns what is expected instead, if it
     /// may not come.
-    #[inline(always)]
-    fn next(
+    #[inline(never)]
+    fn other(
         &mut self,
         alloc: Global,
         text: &[u8],
@@ -404,6 +413,29 @@ impl Reading {
             return Ok(Some(Expected::Service));
         }
         self.take(alloc, read, line)
+    }
+
+    /// A line that is no note, where no call waits. Returns what is expected instead, if it
+    /// may not come. A command is read at once, without what other lines take.
+    #[inline(always)]
+    fn next(
+        &mut self,
+        alloc: Global,
+        text: &[u8],
+        line: usize,
+    ) -> Result<Option<Expected>, AllocError>
+        requires waits { self.old.waits ≡ None }
+        requires sane { IsSane (log_of self.old) }
+        ensures { IfOk result (λ found.
+            TakesNext (log_of self.old) line text.now found (log_of self.new)) }
+    {
+        if self.services.is_empty() || !may_be_command(text) {
+            return self.other(alloc, text, line);
+        }
+        match read_command(alloc, text)? {
+            Some(command) => Ok(self.call(None, command)),
+            None => self.other(alloc, text, line),
+        }
     }
 
     /// Goes on with a line that is no note. Returns what is expected instead, but for its
