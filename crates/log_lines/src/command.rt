@@ -46,9 +46,10 @@ fn handle_of(bytes: &[u8]) -> Option<(usize, u64)>
     Some((slot as usize, ticket))
 }
 
-/// The command whose text this is.
+/// Parses a command as a line of a log has it, or returns `None` where it is not the text of one.
+/// That is what the line of a call alone has, on the only service.
 #[inline(always)]
-pub(crate) fn read_command(alloc: Global, line: &[u8]) -> Result<Option<LogCommand>, AllocError>
+pub fn read_command(alloc: Global, line: &[u8]) -> Result<Option<LogCommand>, AllocError>
     ensures { IfOk result (λ found. Reads HasText command_text (option_map named found) line.now) }
 {
     if let Some((command, _)) = command_before(alloc, line, LineEnd::Bytes)? {

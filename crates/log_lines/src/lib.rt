@@ -6,6 +6,6 @@ pub mod laws;
 mod line;
 mod state;
 
-pub use command::{BegunCall, LogCommand};
+pub use command::{BegunCall, LogCommand, read_command};
 pub use line::{LogLine, is_note, read_log_line};
 pub use state::LogState;

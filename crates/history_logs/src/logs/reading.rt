@@ -1,6 +1,6 @@
 //! Reading a log line by line. A call alone is read in one function, since to copy a call costs as
 //! much as to read it. Other lines are read out of line, so that it does not pay for their locals.
-ghost use Rattle.std.specs.Prelude.{◌≡◌, ◌≢◌, ◌<◌, ℕ, List, [], None, Some, IfNone, IfOk, IfSome, IsFalse, IsTrue, length, slice_get};
+ghost use Rattle.std.specs.Prelude.{◌≡◌, ◌≢◌, ◌<◌, ℕ, List, [], None, Some, IfNone, IfOk, IfSome, IsTrue, OnOk, length, slice_get};
 ghost use Rattle.log_lines.specs.Commands.{begun_in, named as named_command};
 ghost use Rattle.log_lines.specs.Lines.Line.{service as service_line, call as call_line};
 ghost use Rattle.log_lines.specs.Lines.Line.{begin as begin_line, end as end_line, crash as crash_line};
@@ -11,18 +11,17 @@ ghost use Rattle.log_lines.specs.Lines.{IsLine, Line, line_seen, line_text};
 ghost use Rattle.history_logs.specs.Good.{GivesAnew, IsReadTo, SaysIn, Takes, TakesLine};
 ghost use Rattle.history_logs.specs.Good.{TakesNext, TakesReply, is_service};
 ghost use Rattle.history_logs.specs.Logs.{EndsInReturn, IsMissing, IsWrong, LacksReply};
-ghost use Rattle.history_logs.specs.Logs.{services_in};
 ghost use Rattle.history_logs.specs.Progress.{AddsCounts};
-ghost use Rattle.history_logs.specs.Reading.{Does, HaveNumber, IsNameless, IsNamed, IsNew};
-ghost use Rattle.history_logs.specs.Reading.{IsNewBehind, IsSane, StopsKept};
+ghost use Rattle.history_logs.specs.Reading.{Does, IsSane, StopsKept};
 ghost use Rattle.history_logs.specs.Seen.{Service};
 
 use super::callers::{CallerState, Callers, refuses_begin};
+use super::named::{position_of, service_named};
 use super::progress::Progress;
 use super::service::{LogCall, LogService};
 use super::verdict::Expected;
 use line_streams::{after_word, before_byte};
-use log_lines::{BegunCall, LogCommand, LogLine, LogState, is_note, read_log_line};
+use log_lines::{BegunCall, LogCommand, LogLine, LogState, is_note, read_command, read_log_line};
 use service_conformance::conformance::{SeenReply, read_reply};
 use service_descriptions::replay::ServiceLine;
 use std::alloc::{AllocError, Global};
@@ -36,49 +35,6 @@ pub(super) struct Reading {
     pub(super) callers: Callers,
     /// The index of the service of the call alone that waits for its reply, and the call.
     pub(super) waits: Option<(usize, LogCall)>,
-}
-
-/// The index of the last service with this number.
-fn position_of(services: &[LogService], number: u64) -> Option<usize>
-    ensures some { IfSome result (λ at. (s : Service) × (slice_get services.now at ≡ Some s)
-        × (s.line.number ≡ number) × IsNewBehind number services.now at) }
-    ensures none { IfNone result (IsNew number services.now) }
-{
-    let mut at = services.len();
-    while at > 0 {
-        at -= 1;
-        if services[at].line().number == number {
-            return Some(at);
-        }
-    }
-    None
-}
-
-/// Whether each service has this number.
-fn have_number(services: &[LogService], number: u64) -> bool
-    ensures yes { IsTrue result → HaveNumber number services.now }
-    ensures no { IsFalse result → ¬ (HaveNumber number services.now) }
-{
-    for service in services {
-        if service.line().number != number {
-            return false;
-        }
-    }
-    true
-}
-
-/// How many services there are, of which one that began anew is one.
-pub(super) fn count_services(services: &[LogService]) -> usize
-    ensures { result ≡ services_in services.now }
-{
-    let mut count = 0usize;
-    for at in 0..services.len() {
-        let number = services[at].line().number;
-        if position_of(&services[at + 1..], number).is_none() {
-            count += 1;
-        }
-    }
-    count
 }
 
 /// Whether a carriage return stands at the end of the line.
@@ -101,38 +57,20 @@ fn reply_in(alloc: Global, text: &[u8]) -> Result<Option<SeenReply>, AllocError>
     read_reply(alloc, words)
 }
 
+/// Whether the line begins as commands do, with a small letter. A yes says nothing: other lines may
+/// too, as those of services.
+fn may_be_command(text: &[u8]) -> bool {
+    match text {
+        [] => false,
+        [first, ..] => first.is_ascii_lowercase(),
+    }
+}
+
 /// Whether the line is that of a service.
 fn is_service(read: &LogLine<'_>) -> bool
     ensures { result ≡ is_service (line_seen read.now) }
 {
     matches!(read, LogLine::Service(_))
-}
-
-/// The index of the last service, where all have one number.
-fn only_service(services: &[LogService]) -> Option<usize>
-    ensures some { IfSome result (λ at. (s : Service) × IsNamed None services.now at s) }
-    ensures none { IfNone result (IsNameless None services.now) }
-{
-    if services.is_empty() {
-        return None;
-    }
-    let last = services.len() - 1;
-    if !have_number(services, services[last].line().number) {
-        return None;
-    }
-    Some(last)
-}
-
-/// The index of the service that a call is on, before which this number stands, or none.
-#[inline(always)]
-fn service_named(services: &[LogService], number: Option<u64>) -> Option<usize>
-    ensures some { IfSome result (λ at. (s : Service) × IsNamed number services.now at s) }
-    ensures none { IfNone result (IsNameless number services.now) }
-{
-    match number {
-        Some(number) => position_of(services, number),
-        None => only_service(services),
-    }
 }
 
 impl Reading {
@@ -315,32 +253,28 @@ impl Reading {
         }
     }
 
-    /// The reply to the call that waits, in this line. Returns what is expected instead, if it is
-    /// none.
+    /// The reply to the call that waited, in this line. Where memory was refused, nothing is to be
+    /// used any more.
     #[inline(always)]
     fn reply(
         &mut self,
         alloc: Global,
         at: usize,
         call: LogCall,
-        text: &[u8],
+        reply: SeenReply,
         line: usize,
-    ) -> Result<Option<Expected>, AllocError>
+    ) -> Result<(), AllocError>
         requires waits { self.old.waits ≡ None }
         requires sane { IsSane (log_of self.old) }
         requires within { at < length self.old.services.items }
         requires on { (s : Service) × (slice_get self.old.services.items at ≡ Some s)
             × StopsKept s call }
-        ensures { IfOk result (λ found.
-            TakesReply (log_of self.old) at call line text.now found (log_of self.new)) }
+        ensures { OnOk result ((text : List ℕ) → SaysIn text reply
+            → TakesReply (log_of self.old) at call line text None (log_of self.new)) }
     {
-        let Some(reply) = reply_in(alloc, text)? else {
-            return Ok(Some(Expected::Reply));
-        };
         let service = &mut self.services[at];
         let number = service.begin(call, line)?;
-        service.end(alloc, number, reply, line)?;
-        Ok(None)
+        service.end(alloc, number, reply, line)
     }
 
     /// A line of a log, where no call waits. Returns what is expected instead, if it may not
@@ -385,8 +319,8 @@ impl Reading {
 
     /// A line that is no note, where no call waits. Returns what is expected instead, if it
     /// may not come.
-    #[inline(always)]
-    fn next(
+    #[inline(never)]
+    fn other(
         &mut self,
         alloc: Global,
         text: &[u8],
@@ -404,6 +338,29 @@ impl Reading {
             return Ok(Some(Expected::Service));
         }
         self.take(alloc, read, line)
+    }
+
+    /// A line that is no note, where no call waits. Returns what is expected instead, if it
+    /// may not come. A command is read at once, without what other lines take.
+    #[inline(always)]
+    fn next(
+        &mut self,
+        alloc: Global,
+        text: &[u8],
+        line: usize,
+    ) -> Result<Option<Expected>, AllocError>
+        requires waits { self.old.waits ≡ None }
+        requires sane { IsSane (log_of self.old) }
+        ensures { IfOk result (λ found.
+            TakesNext (log_of self.old) line text.now found (log_of self.new)) }
+    {
+        if self.services.is_empty() || !may_be_command(text) {
+            return self.other(alloc, text, line);
+        }
+        match read_command(alloc, text)? {
+            Some(command) => Ok(self.call(None, command)),
+            None => self.other(alloc, text, line),
+        }
     }
 
     /// Goes on with a line that is no note. Returns what is expected instead, but for its
@@ -424,8 +381,15 @@ impl Reading {
         if self.waits.is_none() {
             return self.next(alloc, text, line);
         }
+        // The reply is read first: what is taken before it would be saved meanwhile.
+        let Some(reply) = reply_in(alloc, text)? else {
+            return Ok(Some(Expected::Reply));
+        };
         match self.waits.take() {
-            Some((at, call)) => self.reply(alloc, at, call, text, line),
+            Some((at, call)) => {
+                self.reply(alloc, at, call, reply, line)?;
+                Ok(None)
+            }
             None => unreachable!(),
         }
     }

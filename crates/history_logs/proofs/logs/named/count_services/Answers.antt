@@ -4,8 +4,8 @@ use Rattle.std.specs.Prelude.{not}
 use Rattle.service_descriptions.specs.declared.replay.lines.service_line.ServiceLine.{ServiceLine}
 use Rattle.history_logs.specs.Logs.{services_in}
 use Rattle.history_logs.proofs.Named.{count_left}
-use Rattle.history_logs.proofs.logs.reading.count_services.Goals.{then-is_none, else-is_none}
-use Rattle.history_logs.proofs.logs.reading.count_services.Goals as goal
+use Rattle.history_logs.proofs.logs.named.count_services.Goals.{then-is_none, else-is_none}
+use Rattle.history_logs.proofs.logs.named.count_services.Goals as goal
 
 pub loop-at-preserved : goal.loop-at-preserved
 loop-at-preserved c =

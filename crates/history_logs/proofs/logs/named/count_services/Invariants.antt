@@ -1,6 +1,6 @@
 use Rattle.std.proofs.Common.{drop, ◌≡◌, ◌+◌, ◌≤◌}
 use Rattle.history_logs.specs.Logs.{services_in}
-use Rattle.history_logs.proofs.logs.reading.count_services.Given as goal
+use Rattle.history_logs.proofs.logs.named.count_services.Given as goal
 
 abbrev pub invariant-loop-at : goal.invariant-loop-at
 invariant-loop-at l =
