@@ -16,8 +16,7 @@ use Rattle.std.specs.Fmt.{decimal}
 use Rattle.std.specs.Io.KnownBytes.{Appends, IsAtEnd}
 use Rattle.line_streams.specs.Filters.{either}
 use Rattle.iox2_config.specs.declared.config.Config.{Config}
-use Rattle.service_drawing.specs.Reasons.{IsCause, IsReason}
-use Rattle.service_drawing.specs.Descriptions.{IsDescription, StopsReading, IsOver, IsNotOver}
+use Rattle.service_drawing.specs.Descriptions.{IsCause, IsReason, IsDescription, StopsReading, IsOver, IsNotOver}
 use Rattle.service_drawing.specs.declared.streams.TheConstants.{HELP, VERSION}
 use Rattle.service_drawing.specs.declared.reading.cause.Cause.{Cause}
 use Rattle.service_drawing.specs.declared.reading.cause.Cause.TheVariants.{NoNewline, CarriageReturn, ForeignByte, TwoSpaces, Read}

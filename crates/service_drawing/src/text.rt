@@ -5,7 +5,7 @@ ghost use Rattle.iox2_texts.specs.Path.{IsPlain};
 ghost use Rattle.service_drawing.specs.Layout.{IsWhole};
 
 use crate::description::{Description, Exchange, Message, Segment, segments};
-use crate::layout::{MessageLayout, Part, Span};
+use crate::layout::{MessageLayout, Part};
 use crate::sentences::{opener_sentence, write_memory};
 use crate::settings::Settings;
 use arrayvec::ArrayVec;
@@ -16,6 +16,7 @@ use iox2_texts::attribute::{Attribute, AttributeVerifier};
 use iox2_texts::bounded::SemanticStringError;
 use iox2_texts::paths::{FileName, FilePath};
 use std::alloc::AllocError;
+use std::ops::Range;
 
 /// The name of the file of a service: the prefix, the hash text and the suffix. Refused where it
 /// has more than 255 bytes.
@@ -280,11 +281,11 @@ fn write_bar(out: &mut String, layout: &MessageLayout) -> Result<(), AllocError>
 /// Appends the columns of numbers of a row.
 fn write_columns(
     out: &mut String,
-    span: Span,
+    span: &Range<usize>,
     alignment: Option<usize>,
     opener: Option<usize>,
 ) -> Result<(), AllocError> {
-    let offset = span.start();
+    let offset = span.start;
     let size = span.len();
     write!(out, "{offset:>10} {size:>10}")?;
     for cell in [alignment, opener] {
@@ -297,8 +298,8 @@ fn write_columns(
 }
 
 /// Appends the row of bytes at which nothing lies, if there are any.
-fn write_empty(out: &mut String, span: Span, what: &str) -> Result<(), AllocError> {
-    if span.len() == 0 {
+fn write_empty(out: &mut String, span: &Range<usize>, what: &str) -> Result<(), AllocError> {
+    if span.is_empty() {
         return Ok(());
     }
     write_columns(out, span, None, None)?;
@@ -308,7 +309,7 @@ fn write_empty(out: &mut String, span: Span, what: &str) -> Result<(), AllocErro
 /// Appends the row of a part of one type, with its alignments and its name.
 fn write_typed(
     out: &mut String,
-    span: Span,
+    span: &Range<usize>,
     what: &str,
     detail: &TypeDetail,
     opener: Option<usize>,
@@ -326,7 +327,7 @@ fn write_payload(
 ) -> Result<(), AllocError>
     requires { IsWhole layout.now }
 {
-    write_columns(out, layout.payload, Some(detail.alignment()), opener)?;
+    write_columns(out, &layout.payload, Some(detail.alignment()), opener)?;
     writeln!(
         out,
         "    payload {} of {}",
@@ -365,18 +366,18 @@ fn write_table(
         if opener.is_some() { "opener's" } else { "" }
     )?;
     let [header, user_header, payload] = opener_alignments(opener);
-    write_typed(out, layout.header, "H header", &types.header, header)?;
-    write_empty(out, layout.first_gap, ". padding")?;
+    write_typed(out, &layout.header, "H header", &types.header, header)?;
+    write_empty(out, &layout.first_gap, ". padding")?;
     write_typed(
         out,
-        layout.user_header,
+        &layout.user_header,
         "U user header",
         &types.user_header,
         user_header,
     )?;
-    write_empty(out, layout.second_gap, ". padding")?;
+    write_empty(out, &layout.second_gap, ". padding")?;
     write_payload(out, layout, &types.payload, payload)?;
-    write_empty(out, layout.spare, "- padding")?;
+    write_empty(out, &layout.spare, "- padding")?;
     writeln!(out, "{:>10} {:>32}    end", layout.size, "")
 }
 
@@ -392,7 +393,7 @@ fn write_elements(out: &mut String, layout: &MessageLayout) -> Result<(), AllocE
     requires { IsWhole layout.now }
 {
     for i in 0..layout.elements.min(LISTED) {
-        write_columns(out, layout.element(i), None, None)?;
+        write_columns(out, &layout.element(i), None, None)?;
         writeln!(out, "  {i}   element {i}")?;
     }
     match others(layout.elements) {

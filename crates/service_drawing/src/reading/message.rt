@@ -1,5 +1,5 @@
 //! The lines of a message.
-ghost use Rattle.std.specs.Prelude.{◌≡◌, ◌∷◌, ◌++◌, ◌<◌, ◌^◌, ℕ, List, length, IsTrue, decimal, codes};
+ghost use Rattle.std.specs.Prelude.{◌≡◌, ◌∷◌, ◌++◌, ◌<◌, ◌^◌, ℕ, List, IsTrue, decimal};
 ghost use Rattle.std.specs.Prelude.{IfSome, IfOk, MatchOption, MatchResult, option_map};
 ghost use Rattle.std.specs.Int.{is_power_of_two};
 ghost use Rattle.iox2_config.specs.TypeDetailParts.{TypeDetailParts};

@@ -4,11 +4,12 @@ ghost use Rattle.service_drawing.specs.Layout.{IsWhole};
 
 use super::{NOTE, Sheet, TYPE};
 use crate::description::{Message, Segment};
-use crate::layout::{MessageLayout, Span};
+use crate::layout::MessageLayout;
 use crate::sentences::{Counted, opener_sentence, write_memory};
 use iox2_config::types::TypeDetail;
 use itoa::Buffer;
 use std::alloc::AllocError;
+use std::ops::Range;
 
 /// Where a bar begins.
 const LEFT: usize = 200;
@@ -57,24 +58,29 @@ pub(super) fn write_bar(out: &mut String, layout: &MessageLayout) -> Result<(), 
     requires { IsWhole layout.now }
 {
     let size = layout.size;
-    write_rectangle(out, layout.header, size, "header")?;
-    write_rectangle(out, layout.first_gap, size, "empty")?;
-    write_rectangle(out, layout.user_header, size, "user-header")?;
-    write_rectangle(out, layout.second_gap, size, "empty")?;
+    write_rectangle(out, &layout.header, size, "header")?;
+    write_rectangle(out, &layout.first_gap, size, "empty")?;
+    write_rectangle(out, &layout.user_header, size, "user-header")?;
+    write_rectangle(out, &layout.second_gap, size, "empty")?;
     write_elements(out, layout)?;
-    write_rectangle(out, layout.spare, size, "empty")?;
+    write_rectangle(out, &layout.spare, size, "empty")?;
     write_marks(out, layout)
 }
 
 /// Appends the rectangle of bytes that lie within the message, if there are any.
-fn write_rectangle(out: &mut String, span: Span, size: usize, color: &str) -> Result<(), AllocError>
-    requires { span.end ≤ size }
+fn write_rectangle(
+    out: &mut String,
+    span: &Range<usize>,
+    size: usize,
+    color: &str,
+) -> Result<(), AllocError>
+    requires { span.now.end ≤ size }
 {
-    if span.len() == 0 {
+    if span.end <= span.start {
         return Ok(());
     }
-    let left = place(span.start(), size);
-    let width = place(span.end(), size).saturating_sub(left);
+    let left = place(span.start, size);
+    let width = place(span.end, size).saturating_sub(left);
     writeln!(
         out,
         "<rect x=\"{left}\" y=\"0\" width=\"{width}\" height=\"460\" class=\"part {color}\"/>"
@@ -88,15 +94,15 @@ fn write_elements(out: &mut String, layout: &MessageLayout) -> Result<(), AllocE
     let apart = drawn_apart(layout).min(layout.elements);
     for i in 0..apart {
         let color = if i % 2 == 0 { "payload" } else { "other" };
-        write_rectangle(out, layout.element(i), layout.size, color)?;
+        write_rectangle(out, &layout.element(i), layout.size, color)?;
     }
     let others = layout.elements - apart;
     let span = layout.elements_from(apart);
-    write_rectangle(out, span, layout.size, "payload")?;
+    write_rectangle(out, &span, layout.size, "payload")?;
     if apart == 0 {
-        write_label(out, span, layout.size, others, " elements")
+        write_label(out, &span, layout.size, others, " elements")
     } else {
-        write_label(out, span, layout.size, others, " more")
+        write_label(out, &span, layout.size, others, " more")
     }
 }
 
@@ -104,15 +110,18 @@ fn write_elements(out: &mut String, layout: &MessageLayout) -> Result<(), AllocE
 /// number alone.
 fn write_label(
     out: &mut String,
-    span: Span,
+    span: &Range<usize>,
     size: usize,
     elements: usize,
     what: &str,
 ) -> Result<(), AllocError>
-    requires { span.end ≤ size }
+    requires { span.now.end ≤ size }
 {
-    let left = place(span.start(), size);
-    let right = place(span.end(), size);
+    if span.end <= span.start {
+        return Ok(());
+    }
+    let left = place(span.start, size);
+    let right = place(span.end, size);
     let room = right.saturating_sub(left);
     let x = (left + right) / 2;
     let width = number_width(elements) + LETTER;
@@ -174,9 +183,9 @@ fn write_element_marks(
     let mut free = free;
     let apart = drawn_apart(layout).min(layout.elements);
     for i in 0..apart {
-        free = write_mark(out, layout.element(i).start(), layout.size, free)?;
+        free = write_mark(out, layout.element(i).start, layout.size, free)?;
     }
-    write_mark(out, layout.elements_from(apart).start(), layout.size, free)
+    write_mark(out, layout.elements_from(apart).start, layout.size, free)
 }
 
 /// Appends the offsets at which parts begin and end: the first and the last, and the others as far
@@ -193,12 +202,12 @@ fn write_marks(out: &mut String, layout: &MessageLayout) -> Result<(), AllocErro
         return Ok(());
     }
     let free = LEFT + LETTER + MARGIN;
-    let free = write_mark(out, layout.header.end(), size, free)?;
-    let free = write_mark(out, layout.user_header.start(), size, free)?;
-    let free = write_mark(out, layout.user_header.end(), size, free)?;
-    let free = write_mark(out, layout.payload.start(), size, free)?;
+    let free = write_mark(out, layout.header.end, size, free)?;
+    let free = write_mark(out, layout.user_header.start, size, free)?;
+    let free = write_mark(out, layout.user_header.end, size, free)?;
+    let free = write_mark(out, layout.payload.start, size, free)?;
     let free = write_element_marks(out, layout, free)?;
-    write_mark(out, layout.payload.end(), size, free)?;
+    write_mark(out, layout.payload.end, size, free)?;
     let right = LEFT + WIDTH;
     writeln!(
         out,
@@ -251,16 +260,21 @@ pub(super) fn write_summary(out: &mut String, segment: Segment<'_>) -> Result<()
         Counted::new(layout.size, "byte"),
         Counted::new(layout.header.len(), "byte"),
         Counted::new(layout.user_header.len(), "byte"),
-        layout.user_header.start(),
+        layout.user_header.start,
         Counted::new(layout.elements, "element"),
-        layout.payload.start()
+        layout.payload.start
     )
 }
 
 /// Draws the color of a part, what it is and where it lies.
-fn write_row(sheet: &mut Sheet, color: &str, what: &str, span: Span) -> Result<(), AllocError> {
+fn write_row(
+    sheet: &mut Sheet,
+    color: &str,
+    what: &str,
+    span: &Range<usize>,
+) -> Result<(), AllocError> {
     let top = sheet.top();
-    let offset = span.start();
+    let offset = span.start;
     let size = Counted::new(span.len(), "byte");
     writeln!(
         sheet.text(),
@@ -275,8 +289,8 @@ fn write_row(sheet: &mut Sheet, color: &str, what: &str, span: Span) -> Result<(
 }
 
 /// Draws the row of bytes at which nothing lies, if there are any.
-fn write_empty(sheet: &mut Sheet, what: &str, span: Span) -> Result<(), AllocError> {
-    if span.len() == 0 {
+fn write_empty(sheet: &mut Sheet, what: &str, span: &Range<usize>) -> Result<(), AllocError> {
+    if span.is_empty() {
         return Ok(());
     }
     write_row(sheet, "empty", what, span)?;
@@ -289,7 +303,7 @@ fn write_typed(
     sheet: &mut Sheet,
     color: &str,
     what: &str,
-    span: Span,
+    span: &Range<usize>,
     detail: &TypeDetail,
     opener: Option<&TypeDetail>,
 ) -> Result<(), AllocError> {
@@ -318,29 +332,29 @@ fn write_rows(
         sheet,
         "header",
         "header",
-        layout.header,
+        &layout.header,
         &types.header,
         opener.map(|o| &o.header),
     )?;
-    write_empty(sheet, "padding", layout.first_gap)?;
+    write_empty(sheet, "padding", &layout.first_gap)?;
     write_typed(
         sheet,
         "user-header",
         "user header",
-        layout.user_header,
+        &layout.user_header,
         &types.user_header,
         opener.map(|o| &o.user_header),
     )?;
-    write_empty(sheet, "padding", layout.second_gap)?;
+    write_empty(sheet, "padding", &layout.second_gap)?;
     write_typed(
         sheet,
         "payload",
         "payload",
-        layout.payload,
+        &layout.payload,
         &types.payload,
         opener.map(|o| &o.payload),
     )?;
-    write_empty(sheet, "padding", layout.spare)
+    write_empty(sheet, "padding", &layout.spare)
 }
 
 /// Draws how many elements there are, the memory of a port, and whether the opener is compatible.
