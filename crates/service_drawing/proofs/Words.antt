@@ -1,10 +1,10 @@
 -- Lines, names, numbers and the lines of a message, in one way.
 use Rattle.std.proofs.Common.{◌≡◌, ◌≢◌, ℕ, ◌<◌, ◌^◌, List, [], ◌∷◌, ◌++◌, length, arith, sym, ◌∙◌, ap, subst, append_assoc, length-append, rules, ◌≤◌, cond, codes, Option, Some, None, Err, refl, IsTrue, Bool, true, false, MatchBool, nat_eq}
 use Rattle.std.specs.Fmt.{decimal}
-use Rattle.std.proofs.lemmas.List.{append_cancel_left, append-nil}
+use Rattle.std.proofs.lemmas.List.{append_cancel_left}
 use Rattle.line_streams.specs.Numerals.{cons_same}
-use Rattle.line_streams.specs.OneWay.{before_one}
-use Rattle.line_streams.specs.Spelling.{EndsNumber, HasNo}
+use Rattle.line_streams.specs.OneWay.{after_one, before_one, number_one, sequence_one}
+use Rattle.line_streams.specs.Spelling.{EndsNumber, HasNo, OneWay, Spelling, after, number, sequence}
 use Rattle.service_drawing.specs.Lines.{IsPlain, IsLine, HasNoLine, HasLine, HasOpener, IsDescribed, AreAlignments, type_text, alignments_text, variant_word, MayBeNamed, IsInternal, HasService}
 use Rattle.std.specs.Prelude.{◌==◌}
 use Rattle.std.specs.Int.{is_power_of_two}
@@ -24,7 +24,6 @@ use Rattle.iox2_config.specs.declared.hash.input.PatternKind.{PatternKind}
 use Rattle.iox2_config.specs.declared.hash.input.PatternKind.TheVariants.{PublishSubscribe, Event, RequestResponse, Blackboard}
 use Rattle.iox2_config.specs.declared.hash.service_hash.ServiceHashError.{ServiceHashError}
 use Rattle.iox2_config.specs.declared.hash.service_hash.ServiceHashError.TheVariants.{HasherFailed, IllegalText}
-use Rattle.line_streams.specs.Numerals as numerals
 
 -- a plain byte is no newline
 pub plain_lacks : (text : List ℕ) → IsPlain text → HasNo 10 text
@@ -66,46 +65,33 @@ space_ends x digit = omega (arith, digit)
 pub nothing_ends : EndsNumber []
 nothing_ends digit = omega (arith, digit)
 
--- the number that a whole text is
-pub number_alone : (text : List ℕ) (m n : ℕ) (rest : List ℕ) → m < 2 ^ 64 → n < 2 ^ 64
-    → EndsNumber rest → text ≡ decimal m ++ rest → text ≡ decimal n → rest ≡ []
-number_alone text m n rest p q ends e f =
-    (numerals.same_number m n rest [] p q ends nothing_ends
-    (sym e ∙ f ∙ sym (append-nil (decimal n)))).1
-
--- the number before a space
-pub number_rest : (text : List ℕ) (m n : ℕ) (rest x : List ℕ) → m < 2 ^ 64 → n < 2 ^ 64
-    → EndsNumber rest → text ≡ decimal m ++ rest → text ≡ decimal n ++ 32 ∷ x
-    → (m ≡ n) × (rest ≡ 32 ∷ x)
-number_rest text m n rest x p q ends e f =
-    numerals.same_number m n rest (32 ∷ x) p q ends (space_ends x) (sym e ∙ f)
-
--- two numbers before a space, of one text
-pub same_number : (text : List ℕ) (m n : ℕ) (x y : List ℕ) → m < 2 ^ 64 → n < 2 ^ 64
-    → text ≡ decimal m ++ 32 ∷ x → text ≡ decimal n ++ 32 ∷ y → (m ≡ n) × (x ≡ y)
-same_number text m n x y p q e f =
-    let same = number_rest text m n (32 ∷ x) y p q (space_ends x) e f in
-    (same.0, (cons_same same.1).1)
-
 -- nothing is longer than itself
 pub longer : (xs ys : List ℕ) (y : ℕ) → xs ≡ xs ++ y ∷ ys → ⊥
 longer xs ys y e = omega (arith, ap length e, length-append xs (y ∷ ys))
 
--- no second number
-pub no_second : (text rest : List ℕ) (size : ℕ) → size < 2 ^ 64 → text ≡ decimal size ++ 32 ∷ rest
-    → ((n : ℕ) (x : List ℕ) → n < 2 ^ 64 → ¬ (rest ≡ decimal n ++ 32 ∷ x)) → (m n : ℕ)
-    (x : List ℕ) → m < 2 ^ 64 → n < 2 ^ 64 → ¬ (text ≡ decimal m ++ 32 ∷ (decimal n ++ 32 ∷ x))
-no_second text rest size fits e bad m n x p q is =
-    bad n x q (same_number text size m rest (decimal n ++ 32 ∷ x) fits p e is).1
+-- a number, a space and a number
+abbrev two : Spelling (ℕ × ℕ)
+two = sequence (number 18446744073709551615) (after (32 ∷ []) (number 18446744073709551615))
+
+pub two_one : OneWay two
+two_one = sequence_one (number_one 18446744073709551615)
+    (after_one (32 ∷ []) (number_one 18446744073709551615))
+
+-- two numbers fit where a space follows
+pub two_fit : (m n : ℕ) (rest : List ℕ) → m < 2 ^ 64 → n < 2 ^ 64 → two.Fits ((m, n), 32 ∷ rest)
+two_fit m n rest p q = (
+  (omega (arith, p), p, space_ends (decimal n ++ 32 ∷ rest)),
+  (omega (arith, q), q, space_ends rest),
+)
 
 -- two numbers, of one text
 pub same_numbers : (text : List ℕ) (a b m n : ℕ) (x y : List ℕ) → a < 2 ^ 64 → b < 2 ^ 64
     → m < 2 ^ 64 → n < 2 ^ 64 → text ≡ decimal a ++ 32 ∷ (decimal b ++ 32 ∷ x)
     → text ≡ decimal m ++ 32 ∷ (decimal n ++ 32 ∷ y) → (a ≡ m) × (b ≡ n) × (x ≡ y)
 same_numbers text a b m n x y pa pb pm pn e f =
-    let first = same_number text a m (decimal b ++ 32 ∷ x) (decimal n ++ 32 ∷ y) pa pm e f in
-    let second = same_number (decimal b ++ 32 ∷ x) b n x y pb pn refl first.1 in
-    (first.0, second.0, second.1)
+    let same = two_one.same ((a, b), 32 ∷ x) ((m, n), 32 ∷ y) (two_fit a b x pa pb)
+    (two_fit m n y pm pn) (sym e ∙ f) in
+    (ap (λ p. p.0) same.0, ap (λ p. p.1) same.0, (cons_same same.1).1)
 
 -- what no type of the one text may have
 pub no_type : (text name : List ℕ) (a b : ℕ) → a < 2 ^ 64 → b < 2 ^ 64

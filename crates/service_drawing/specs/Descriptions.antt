@@ -5,7 +5,7 @@ use Rattle.iox2_config.specs.declared.config.Config.{Config}
 use Rattle.line_streams.specs.Spelling.{HasNo}
 use Rattle.config_report.specs.Findings.{HasConfig, IsRefusal}
 use Rattle.service_drawing.specs.declared.fault.Fault.{Fault}
-use Rattle.service_drawing.specs.declared.fault.Fault.TheVariants.{BadArgument, BadLine, BadSettings, NoEnd, NoMemory}
+use Rattle.service_drawing.specs.declared.fault.Fault.TheVariants.{BadSettings, NoEnd, NoMemory}
 use Rattle.service_drawing.specs.declared.front.Front.{Front}
 use Rattle.service_drawing.specs.declared.front.Front.TheVariants.{Absent, Block, Unended}
 use Rattle.iox2_texts.specs.Pair.{Pair}
@@ -72,8 +72,7 @@ IsNotOver bytes (BadSettings lines) =
     × IsRefusal settings (string_bytes lines)
 IsNotOver bytes NoEnd = Opens bytes × ((settings rest : List ℕ) → ¬ HasBlock settings rest bytes)
 IsNotOver bytes NoMemory = Unit {0}
-IsNotOver bytes BadArgument = ⊥
-IsNotOver bytes (BadLine line cause prefix form) = ⊥
+IsNotOver bytes other = ⊥
 
 -- the lines that follow those of settings: what the ports exchange, attributes and what an opener
 -- requires
@@ -134,8 +133,7 @@ IsMisspelled bytes CarriageReturn = IsEnded bytes × EndsInReturn (line_of bytes
 IsMisspelled bytes (ForeignByte b) =
     IsEnded bytes × (¬ EndsInReturn (line_of bytes))
     × (find (λ b. not (is_plain b)) (line_of bytes) ≡ Some b)
-IsMisspelled bytes TwoSpaces = ⊥
-IsMisspelled bytes (Read reason) = ⊥
+IsMisspelled bytes other = ⊥
 
 -- a line begins what is left, or nothing is left
 abbrev pub IsSpelled : List ℕ → Type 0

@@ -123,6 +123,7 @@ impl MessageLayout {
 
     /// How many bytes this many messages of each of so many ports take, or `None` where that passes
     /// 2^64 - 1.
+    #[tactic(auto, using(crate::proofs::Inside::no_less))]
     pub(crate) fn memory_of_all(&self, chunks: usize, ports: usize) -> Option<usize>
         ensures { MatchOption result (2 ^ 64 ≤ (chunks * self.now.size) * ports)
             (λ bytes. bytes ≡ (chunks * self.now.size) * ports) }

@@ -3,10 +3,9 @@ ghost use Rattle.std.specs.Prelude.{◌≡◌, ◌+◌, ◌*◌, ◌/◌, ◌≤
 ghost use Rattle.service_drawing.specs.Layout.{IsWhole};
 
 use super::{NOTE, Sheet, TYPE};
-use crate::description::{Message, Segment};
+use crate::description::Segment;
 use crate::layout::MessageLayout;
-use crate::sentences::{Counted, opener_sentence, write_memory};
-use iox2_config::types::TypeDetail;
+use crate::sentences::{Counted, Row, opener_sentence, rows, write_memory};
 use itoa::Buffer;
 use std::alloc::AllocError;
 use std::ops::Range;
@@ -219,15 +218,15 @@ fn write_marks(out: &mut String, layout: &MessageLayout) -> Result<(), AllocErro
 pub(super) fn write_message(sheet: &mut Sheet, segment: Segment<'_>) -> Result<(), AllocError> {
     let title = segment.title;
     let message = segment.message;
-    let top = sheet.top();
+    let top = sheet.top;
     write!(
-        sheet.text(),
+        sheet.drawn,
         "<text x=\"200\" y=\"{top}\" dy=\"150\" font-size=\"150\">{title}: "
     )?;
     sheet.skip(240);
     let Some(layout) = MessageLayout::of(&message.details, message.elements) else {
         writeln!(
-            sheet.text(),
+            sheet.drawn,
             "no layout, since it would pass 9223372036854775807 bytes</text>"
         )?;
         sheet.skip(120);
@@ -235,13 +234,17 @@ pub(super) fn write_message(sheet: &mut Sheet, segment: Segment<'_>) -> Result<(
     };
     let size = Counted::new(layout.size, "byte");
     let alignment = message.details.header.alignment();
-    writeln!(sheet.text(), "{size}, alignment {alignment}</text>")?;
-    let top = sheet.top();
-    writeln!(sheet.text(), "<g transform=\"translate(0 {top})\">")?;
-    write_bar(sheet.text(), &layout)?;
-    writeln!(sheet.text(), "</g>")?;
+    writeln!(sheet.drawn, "{size}, alignment {alignment}</text>")?;
+    let top = sheet.top;
+    writeln!(sheet.drawn, "<g transform=\"translate(0 {top})\">")?;
+    write_bar(&mut sheet.drawn, &layout)?;
+    writeln!(sheet.drawn, "</g>")?;
     sheet.skip(740);
-    write_rows(sheet, message, &layout)?;
+    for row in rows(message, &layout) {
+        if row.is_shown() {
+            write_row(sheet, row)?;
+        }
+    }
     write_notes(sheet, segment, &layout)?;
     sheet.skip(160);
     Ok(())
@@ -266,95 +269,33 @@ pub(super) fn write_summary(out: &mut String, segment: Segment<'_>) -> Result<()
     )
 }
 
-/// Draws the color of a part, what it is and where it lies.
-fn write_row(
-    sheet: &mut Sheet,
-    color: &str,
-    what: &str,
-    span: &Range<usize>,
-) -> Result<(), AllocError> {
-    let top = sheet.top();
-    let offset = span.start;
-    let size = Counted::new(span.len(), "byte");
+/// Draws the color of a part or of padding, what it is and where it lies, and of a part the
+/// alignments and the name of its type.
+fn write_row(sheet: &mut Sheet, row: Row<'_>) -> Result<(), AllocError> {
+    let top = sheet.top;
+    let class = row.class;
+    let name = row.name;
+    let offset = row.span.start;
+    let size = Counted::new(row.span.len(), "byte");
     writeln!(
-        sheet.text(),
-        "<rect x=\"200\" y=\"{top}\" width=\"140\" height=\"140\" class=\"part {color}\"/>"
+        sheet.drawn,
+        "<rect x=\"200\" y=\"{top}\" width=\"140\" height=\"140\" class=\"part {class}\"/>"
     )?;
     writeln!(
-        sheet.text(),
-        "<text x=\"440\" y=\"{top}\" dy=\"115\">{what}: offset {offset}, {size}</text>"
+        sheet.drawn,
+        "<text x=\"440\" y=\"{top}\" dy=\"115\">{name}: offset {offset}, {size}</text>"
     )?;
     sheet.skip(200);
-    Ok(())
-}
-
-/// Draws the row of bytes at which nothing lies, if there are any.
-fn write_empty(sheet: &mut Sheet, what: &str, span: &Range<usize>) -> Result<(), AllocError> {
-    if span.is_empty() {
-        return Ok(());
+    if let Some((detail, opener)) = row.types {
+        let mut text = format!(in sheet.alloc; "alignment {}, ", detail.alignment())?;
+        if let Some(opener) = opener {
+            write!(text, "opener's {}, ", opener.alignment())?;
+        }
+        write!(text, "{}", detail.type_name())?;
+        sheet.write_lines(TYPE, text.as_str())?;
     }
-    write_row(sheet, "empty", what, span)?;
     sheet.skip(40);
     Ok(())
-}
-
-/// Draws the row of a part of some type, with its alignments and its name.
-fn write_typed(
-    sheet: &mut Sheet,
-    color: &str,
-    what: &str,
-    span: &Range<usize>,
-    detail: &TypeDetail,
-    opener: Option<&TypeDetail>,
-) -> Result<(), AllocError> {
-    write_row(sheet, color, what, span)?;
-    let alignment = detail.alignment();
-    let name = detail.type_name();
-    let mut text = format!(in sheet.alloc(); "alignment {alignment}, ")?;
-    if let Some(opener) = opener {
-        write!(text, "opener's {}, ", opener.alignment())?;
-    }
-    write!(text, "{name}")?;
-    sheet.write_lines(TYPE, text.as_str())?;
-    sheet.skip(40);
-    Ok(())
-}
-
-/// Draws a row for each part of a message, and for each padding that has bytes.
-fn write_rows(
-    sheet: &mut Sheet,
-    message: &Message,
-    layout: &MessageLayout,
-) -> Result<(), AllocError> {
-    let types = &message.details;
-    let opener = message.opener.as_ref();
-    write_typed(
-        sheet,
-        "header",
-        "header",
-        &layout.header,
-        &types.header,
-        opener.map(|o| &o.header),
-    )?;
-    write_empty(sheet, "padding", &layout.first_gap)?;
-    write_typed(
-        sheet,
-        "user-header",
-        "user header",
-        &layout.user_header,
-        &types.user_header,
-        opener.map(|o| &o.user_header),
-    )?;
-    write_empty(sheet, "padding", &layout.second_gap)?;
-    write_typed(
-        sheet,
-        "payload",
-        "payload",
-        &layout.payload,
-        &types.payload,
-        opener.map(|o| &o.payload),
-    )?;
-    write_empty(sheet, "padding", &layout.spare)
 }
 
 /// Draws how many elements there are, the memory of a port, and whether the opener is compatible.
@@ -367,13 +308,13 @@ fn write_notes(
     let size = Counted::new(layout.element, "byte");
     let apart = drawn_apart(layout);
     sheet.skip(60);
-    let mut text = format!(in sheet.alloc(); "{elements} of {size}")?;
+    let mut text = format!(in sheet.alloc; "{elements} of {size}")?;
     if 0 < apart && apart < layout.elements {
         let others = layout.elements - apart;
         write!(text, ": {apart} one by one, and {others} more")?;
     }
     sheet.write_lines(NOTE, text.as_str())?;
-    let mut text = String::new(sheet.alloc());
+    let mut text = String::new(sheet.alloc);
     write_memory(&mut text, segment, layout)?;
     sheet.write_lines(NOTE, text.as_str())?;
     match opener_sentence(segment.message) {
