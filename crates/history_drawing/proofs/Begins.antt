@@ -1,5 +1,5 @@
 -- The lines of a text, and how calls begin and end in them.
-use Rattle.std.proofs.Common.{◌≡◌, ℕ, List, [], ◌∷◌, ◌++◌, ap, sym, ◌∙◌, append_assoc, subst, ◌≢◌, false, Option, None, Some, IfNone, ◌+◌, ◌<◌, ◌≤◌, inl, inr, arith, codes, refl}
+use Rattle.std.proofs.Common.{◌≡◌, ℕ, List, [], ◌∷◌, ◌++◌, ap, sym, ◌∙◌, append_assoc, subst, ◌≢◌, false, Option, None, Some, IfNone, ◌+◌, ◌<◌, ◌≤◌, inl, inr, arith, codes}
 use Rattle.std.specs.Prelude.{All}
 use Rattle.std.specs.Borrow.{Bor}
 use Rattle.std.specs.List.{flat_map}
@@ -7,13 +7,15 @@ use Rattle.std.proofs.lemmas.Grind.{flat_map-append}
 use Rattle.std.proofs.lemmas.List.{append-nil, map_push, append_cancel_left}
 use Rattle.std.proofs.lemmas.List.Elements.{All-push}
 use Rattle.line_streams.specs.Spelling.{HasNo}
-use Rattle.history_drawing.specs.Calls.{texts, BeginsIn, IsAlone, IsElsewhere, Says, is_begin, is_call, is_reply, is_service, text_above, text_at, EndsFrom, EndsIn, NoneEnds}
+use Rattle.history_drawing.specs.Calls.{texts, BeginsIn, IsAlone, IsElsewhere, Says, is_begin, is_call, is_reply, is_service, text_above, text_at, EndsIn}
 use Rattle.history_drawing.specs.Drawings.{with_newline}
 use Rattle.line_streams.specs.OneWay.{before_one}
 use Rattle.line_streams.proofs.Places.{has_one}
 use Rattle.std.proofs.lemmas.Bool.{cases_lt}
+use Rattle.log_lines.specs.Commands.{Begun, NamedCommand}
+use Rattle.log_lines.specs.Laws.{IsAlike}
 use Rattle.log_lines.specs.Lines.{IsLine, Line, line_text}
-use Rattle.log_lines.specs.Lines.Line.{service, call, reply, begin, end, crash, given}
+use Rattle.log_lines.specs.Lines.Line.{service, call, reply, begin}
 use Rattle.log_lines.proofs.OneReading.{one_way}
 use Rattle.service_descriptions.specs.declared.replay.lines.service_line.ServiceLine.{ServiceLine}
 use Rattle.history_drawing.specs.declared.calls.LogCall.{LogCall}
@@ -47,9 +49,6 @@ read_more text lines rest line after (ls, same, whole, none) lacks is =
       All-push (HasNo 10) ls line.now none lacks,
     )
 
-pub tail_same : (byte : ℕ) (a b : List ℕ) → byte ∷ a ≡ byte ∷ b → a ≡ b
-tail_same byte a b e = append_cancel_left (byte ∷ []) a b e
-
 -- a text without the byte has none
 pub no_byte : (byte : ℕ) (text front other : List ℕ) → HasNo byte text
     → text ≡ front ++ byte ∷ other → ⊥
@@ -62,7 +61,34 @@ pub behind_first : (byte : ℕ) (text one a two b : List ℕ) → HasNo byte one
 behind_first byte text one a two b lacks none is same =
     ((before_one byte).same (one, a) (two, b) lacks none (sym is ∙ same)).1
 
+unlike_begin : (l : Line) (n : Option ℕ) (x : List ℕ) (c : Begun) → is_begin l ≡ false
+    → ¬ IsAlike l (begin n x c)
+unlike_begin (begin m y d) n x c none alike = absurd (cc)
+unlike_begin _ n x c none alike = alike
+
+unlike_reply : (l : Line) (ws : List ℕ) → is_reply l ≡ false → ¬ IsAlike l (reply ws)
+unlike_reply (reply vs) ws none alike = absurd (cc)
+unlike_reply _ ws none alike = alike
+
+unlike_call : (l : Line) (n : Option ℕ) (c : NamedCommand) → is_call l ≡ false
+    → ¬ IsAlike l (call n c)
+unlike_call (call m d) n c none alike = absurd (cc)
+unlike_call _ n c none alike = alike
+
+unlike_service : (l : Line) (s : ServiceLine) → is_service l ≡ false → ¬ IsAlike l (service s)
+unlike_service (service t) s none alike = absurd (cc)
+unlike_service _ s none alike = alike
+
+-- what follows from there being none
+pub where_none : {X P Q : Type 0} (o : Option X) → (P → Q) → IfNone o P → IfNone o Q
+where_none None f h = f h
+where_none (Some x) f h = h
+
 module _ (lines : List (Bor (List ℕ))) (k : ℕ) where
+  -- one line stands there
+  one_line : (l m : Line) → Says lines k l → Says lines k m → IsAlike l m
+  one_line l m one other = one_way l m one.0 other.0 (sym one.1 ∙ other.1)
+
   -- what is no line begins no call
   pub no_line : (last : ℕ) → ((l : Line) → IsLine l → text_at lines k ≢ line_text l)
       → (seen : LogCall) → BeginsIn lines k last seen → ⊥
@@ -71,51 +97,21 @@ module _ (lines : List (Bor (List ℕ))) (k : ℕ) where
   no_line last none seen (inr a) = none (reply a.words.now) a.says.0 a.says.1
 
   -- nor does another line than a begin and a reply
-  pub no_call : (last : ℕ) (l : Line) → IsLine l → text_at lines k ≡ line_text l
-      → is_begin l ≡ false → is_reply l ≡ false → (seen : LogCall)
-      → BeginsIn lines k last seen → ⊥
-  no_call last (service s) p is b r seen (inl h) =
-      one_way (service s) (begin seen.service seen.caller.now h.begun) p h.says.0
-      (sym is ∙ h.says.1)
-  no_call last (service s) p is b r seen (inr h) =
-      one_way (service s) (reply h.words.now) p h.says.0 (sym is ∙ h.says.1)
-  no_call last (call n c) p is b r seen (inl h) =
-      one_way (call n c) (begin seen.service seen.caller.now h.begun) p h.says.0
-      (sym is ∙ h.says.1)
-  no_call last (call n c) p is b r seen (inr h) =
-      one_way (call n c) (reply h.words.now) p h.says.0 (sym is ∙ h.says.1)
-  no_call last (reply ws) p is b r seen h = absurd (cc)
-  no_call last (begin n x c) p is b r seen h = absurd (cc)
-  no_call last (end x ws) p is b r seen (inl h) =
-      one_way (end x ws) (begin seen.service seen.caller.now h.begun) p h.says.0
-      (sym is ∙ h.says.1)
-  no_call last (end x ws) p is b r seen (inr h) =
-      one_way (end x ws) (reply h.words.now) p h.says.0 (sym is ∙ h.says.1)
-  no_call last (crash x) p is b r seen (inl h) =
-      one_way (crash x) (begin seen.service seen.caller.now h.begun) p h.says.0
-      (sym is ∙ h.says.1)
-  no_call last (crash x) p is b r seen (inr h) =
-      one_way (crash x) (reply h.words.now) p h.says.0 (sym is ∙ h.says.1)
-  no_call last (given n s) p is b r seen (inl h) =
-      one_way (given n s) (begin seen.service seen.caller.now h.begun) p h.says.0
-      (sym is ∙ h.says.1)
-  no_call last (given n s) p is b r seen (inr h) =
-      one_way (given n s) (reply h.words.now) p h.says.0 (sym is ∙ h.says.1)
+  pub no_call : (last : ℕ) (l : Line) → Says lines k l → is_begin l ≡ false
+      → is_reply l ≡ false → (seen : LogCall) → BeginsIn lines k last seen → ⊥
+  no_call last l says b r seen (inl h) =
+      unlike_begin l seen.service seen.caller.now h.begun b
+      (one_line l (begin seen.service seen.caller.now h.begun) says h.says)
+  no_call last l says b r seen (inr h) =
+      unlike_reply l h.words.now r (one_line l (reply h.words.now) says h.says)
 
   -- a reply begins no call but one that is alone
-  pub no_begin : (last : ℕ) (words : List ℕ) → text_at lines k ≡ line_text (reply words)
+  pub no_begin : (last : ℕ) (words : List ℕ) → Says lines k (reply words)
       → ((seen : LogCall) → IsAlone lines k seen → ⊥)
       → (seen : LogCall) → BeginsIn lines k last seen → ⊥
-  no_begin last words is none seen (inl b) =
-      one_way (reply words) (begin seen.service seen.caller.now b.begun) tt b.says.0
-      (sym is ∙ b.says.1)
-  no_begin last words is none seen (inr a) = none seen a
-
-  pub none_begins : (last : ℕ) (words : List ℕ) → text_at lines k ≡ line_text (reply words)
-      → (found : Option LogCall) → IfNone found ((seen : LogCall) → IsAlone lines k seen → ⊥)
-      → IfNone found ((seen : LogCall) → BeginsIn lines k last seen → ⊥)
-  none_begins last words is None none = no_begin last words is none
-  none_begins last words is (Some found) none = tt
+  no_begin last words says none seen (inl b) =
+      one_line (reply words) (begin seen.service seen.caller.now b.begun) says b.says
+  no_begin last words says none seen (inr a) = none seen a
 
   -- above it stands no line
   pub no_above : ((l : Line) → IsLine l → text_above lines k ≢ line_text l)
@@ -125,57 +121,27 @@ module _ (lines : List (Bor (List ℕ))) (k : ℕ) where
   -- above it stands another line than a call
   pub other_above : (l : Line) → IsLine l → text_above lines k ≡ line_text l
       → is_call l ≡ false → (seen : LogCall) → IsAlone lines k seen → ⊥
-  other_above (service s) p is o seen a =
-      one_way (service s) (call seen.service a.command) p a.is (sym is ∙ a.above)
-  other_above (call n c) p is o seen a = absurd (cc)
-  other_above (reply ws) p is o seen a =
-      one_way (reply ws) (call seen.service a.command) p a.is (sym is ∙ a.above)
-  other_above (begin n x c) p is o seen a =
-      one_way (begin n x c) (call seen.service a.command) p a.is (sym is ∙ a.above)
-  other_above (end x ws) p is o seen a =
-      one_way (end x ws) (call seen.service a.command) p a.is (sym is ∙ a.above)
-  other_above (crash x) p is o seen a =
-      one_way (crash x) (call seen.service a.command) p a.is (sym is ∙ a.above)
-  other_above (given n s) p is o seen a =
-      one_way (given n s) (call seen.service a.command) p a.is (sym is ∙ a.above)
+  other_above l p is o seen a =
+      unlike_call l seen.service a.command o
+      (one_way l (call seen.service a.command) p a.is (sym is ∙ a.above))
 
   -- another line than that of a service names none
-  pub no_service : (l : Line) → IsLine l → text_at lines k ≡ line_text l
-      → is_service l ≡ false → (s : ServiceLine) → Says lines k (service s) → ⊥
-  no_service (service s) p is o t says = absurd (cc)
-  no_service (call n c) p is o t says =
-      one_way (call n c) (service t) p says.0 (sym is ∙ says.1)
-  no_service (reply ws) p is o t says =
-      one_way (reply ws) (service t) p says.0 (sym is ∙ says.1)
-  no_service (begin n x c) p is o t says =
-      one_way (begin n x c) (service t) p says.0 (sym is ∙ says.1)
-  no_service (end x ws) p is o t says =
-      one_way (end x ws) (service t) p says.0 (sym is ∙ says.1)
-  no_service (crash x) p is o t says =
-      one_way (crash x) (service t) p says.0 (sym is ∙ says.1)
-  no_service (given n s) p is o t says =
-      one_way (given n s) (service t) p says.0 (sym is ∙ says.1)
-
-  pub none_named : (l : Line) → IsLine l → text_at lines k ≡ line_text l → (found : Option ℕ)
-      → IfNone found (is_service l ≡ false)
-      → IfNone found ((s : ServiceLine) → Says lines k (service s) → ⊥)
-  none_named l p is None none = no_service l p is none
-  none_named l p is (Some number) none = tt
+  pub no_service : (l : Line) → Says lines k l → is_service l ≡ false → (s : ServiceLine)
+      → Says lines k (service s) → ⊥
+  no_service l says o s other = unlike_service l s o (one_line l (service s) says other)
 
   -- a line begins calls on one service
   pub same_service : (last : ℕ) (one other : LogCall) → BeginsIn lines k last one
       → BeginsIn lines k last other → one.service ≡ other.service
   same_service last one other (inl a) (inl b) =
-      let same = one_way (begin one.service one.caller.now a.begun)
-      (begin other.service other.caller.now b.begun) a.says.0 b.says.0
-      (sym a.says.1 ∙ b.says.1) in
-      same.0
+      (one_line (begin one.service one.caller.now a.begun)
+      (begin other.service other.caller.now b.begun) a.says b.says).0
   same_service last one other (inl a) (inr b) =
-      absurd (one_way (begin one.service one.caller.now a.begun) (reply b.words.now) a.says.0
-      b.says.0 (sym a.says.1 ∙ b.says.1))
+      absurd (one_line (begin one.service one.caller.now a.begun) (reply b.words.now) a.says
+      b.says)
   same_service last one other (inr a) (inl b) =
-      absurd (one_way (reply a.words.now) (begin other.service other.caller.now b.begun)
-      a.says.0 b.says.0 (sym a.says.1 ∙ b.says.1))
+      absurd (one_line (reply a.words.now) (begin other.service other.caller.now b.begun) a.says
+      b.says)
   same_service last one other (inr a) (inr b) =
       one_way (call one.service a.command) (call other.service b.command) a.is b.is
       (sym a.above ∙ b.above)
@@ -193,13 +159,6 @@ elsewhere_more lines first last refused at before here k from upto =
           subst (λ (n : ℕ). IsElsewhere lines last refused n) same here
     ]
 
--- a text that does not begin with the caller
-pub no_caller : (text caller : List ℕ) (k : ℕ) → ((rest : List ℕ) → text ≢ caller ++ rest)
-    → (e : BarEnd) → EndsIn text k caller e → ⊥
-no_caller text caller k none (Answered line words) h = none _ h.1
-no_caller text caller k none (Died line) h = none _ h.1
-no_caller text caller k none Open h = h
-
 -- one in which neither mark follows
 pub no_mark : (text caller rest : List ℕ) (k : ℕ) → text ≡ caller ++ rest
     → ((words : List ℕ) → rest ≢ codes "< " ++ words) → rest ≢ codes "!"
@@ -209,27 +168,3 @@ no_mark text caller rest k is words mark (Answered line w) h =
 no_mark text caller rest k is words mark (Died line) h =
     mark (append_cancel_left caller rest (codes "!") (sym is ∙ h.1))
 no_mark text caller rest k is words mark Open h = h
-
-module _ (lines : List (Bor (List ℕ))) (caller : List ℕ) (first : ℕ) where
-  pub none_yet : NoneEnds lines caller first first
-  none_yet = λ k e a b h. absurd (omega (arith, a, b))
-
-  -- a line that ends none
-  pub none_more : (at : ℕ) → NoneEnds lines caller first at
-      → ((e : BarEnd) → EndsIn (text_at lines at) at caller e → ⊥)
-      → NoneEnds lines caller first (at + 1)
-  none_more at before now = λ k e a b h.
-      elim (cases_lt k at) as (λ _. ⊥) [
-        | inl above ↦ before k e a above h
-        | inr late ↦
-            let same : k ≡ at = omega (arith, b, late) in
-            now e (subst (λ (j : ℕ). EndsIn (text_at lines j) j caller e) same h)
-      ]
-
-  -- all lines were read
-  pub none_all : (at last : ℕ) → last ≤ at → NoneEnds lines caller first at
-      → EndsFrom lines caller first last Open
-  none_all at last h none =
-      let all : NoneEnds lines caller first last =
-      λ k e a b ended. none k e a (omega (arith, b, h)) ended in
-      inl (refl, all)

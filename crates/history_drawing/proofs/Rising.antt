@@ -1,22 +1,17 @@
--- Bars in rising order, the points of orders, and more calls than a picture can have.
-use Rattle.std.proofs.Common.{◌≡◌, ◌⊎◌, ℕ, ◌+◌, ◌<◌, ◌≤◌, List, [], ◌∷◌, ◌++◌, All, AllPairs, Contains, get_or, length, take, flat_map, inl, inr, ap, refl, subst, sym, ◌∙◌, arith, append_assoc, zero, suc, map}
+-- Bars in rising order, and the points of orders.
+use Rattle.std.proofs.Common.{◌≡◌, ◌⊎◌, ℕ, ◌+◌, ◌<◌, ◌≤◌, List, [], ◌∷◌, ◌++◌, All, AllPairs, Contains, get_or, length, take, flat_map, inl, inr, ap, refl, subst, sym, ◌∙◌, arith, append_assoc}
 use Rattle.std.specs.List.{AllZip}
 use Rattle.std.proofs.lemmas.Bool.{cases_lt}
 use Rattle.std.proofs.lemmas.List.{append-nil, get_or_default, get_or_push, length-append, take_more}
 use Rattle.std.proofs.lemmas.Grind.{common_steps}
-use Rattle.std.proofs.lemmas.List.Elements.{All-append, All-cons, All-contains, All-nil, All-push, Contains-push, All-map}
+use Rattle.std.proofs.lemmas.List.Elements.{All-append, All-cons, All-contains, All-nil, All-push, Contains-push}
 use Rattle.std.proofs.lemmas.List.Quantifiers.{all_pairs_push}
 use Rattle.std.proofs.lemmas.Slice.Zip.{all_zipped_more}
 use Rattle.history_logs.specs.declared.logs.verdict.Order.{Order}
-use Rattle.history_drawing.specs.Timelines.{ArePoints, ArePointsOf, Follows, IsLeft, IsPoint, IsPointOf, Reaches, AreBars, HasMany, IsWanted}
+use Rattle.history_drawing.specs.Timelines.{ArePoints, ArePointsOf, Follows, IsLeft, IsPoint, IsPointOf, Reaches}
 use Rattle.history_drawing.specs.declared.timeline.Bar.{Bar}
 use Rattle.history_drawing.specs.declared.timeline.BarEnd.{BarEnd}
-use Rattle.history_drawing.specs.declared.timeline.BarEnd.TheVariants.{Answered, Died, Open}
 use Rattle.history_drawing.specs.declared.timeline.Point.{Point}
-use Rattle.std.specs.Borrow.{Bor}
-use Rattle.std.proofs.lemmas.List.Kept.{AllPairs-cons}
-use Rattle.history_drawing.specs.declared.calls.LogCall.{LogCall}
-use Rattle.history_drawing.specs.declared.timeline.Window.{Window}
 
 -- a point is not right of another
 abbrev UpTo : Point → Point → Type 0
@@ -35,34 +30,13 @@ pub record SoFar (bars : List Bar) (lines : List ℕ) (at : ℕ) (ps : List Poin
   pub right : (p : Point) → All (λ (q : Point). IsLeft q p) ps → before.line ≤ p.line
 
 left_of : (q before p : Point) → UpTo q before → Follows before p → IsLeft q p
-left_of q before p upto f =
-    elim upto as (λ _. IsLeft q p) [
-      | inl above ↦
-          elim f.later as (λ _. IsLeft q p) [
-            | inl later ↦ inl (omega (arith, above, later))
-            | inr same ↦ inl (omega (arith, above, same.0))
-          ]
-      | inr here ↦
-          elim f.later as (λ _. IsLeft q p) [
-            | inl later ↦ inl (omega (arith, here.0, later))
-            | inr same ↦
-                inr (omega (arith, here.0, same.0), omega (arith, here.1, same.1))
-          ]
-    ]
+left_of q before p upto f = grind arith
 
 up_to : (q p : Point) → IsLeft q p → UpTo q p
-up_to q p left =
-    elim left as (λ _. UpTo q p) [
-      | inl above ↦ inl above
-      | inr here ↦ inr (here.0, omega (arith, here.1))
-    ]
+up_to q p left = grind arith
 
 below : (q p : Point) → IsLeft q p → q.line ≤ p.line
-below q p left =
-    elim left as (λ _. q.line ≤ p.line) [
-      | inl above ↦ omega (arith, above)
-      | inr here ↦ omega (arith, here.0)
-    ]
+below q p left = grind arith
 
 numbers_more : (ps : List Point) (p : Point)
     → ((k : ℕ) (d : Point) → k < length ps → (get_or ps k d).number ≡ k + 1)
@@ -81,19 +55,6 @@ numbers_more ps p was is k d h =
     ]
 
 module _ (bars : List Bar) (lines : List ℕ) where
-  pub none_yet : (before : Point) → before.number ≡ 0 → before.part ≡ 0 → before.line ≡ 0
-      → SoFar bars lines 0 [] before
-  none_yet before number part line = record {
-    size = refl;
-    calls = tt;
-    numbers = λ k d h. absurd (omega (arith, h));
-    rising = λ i j d less h. absurd (omega (arith, h));
-    number = number;
-    part = omega (arith, part);
-    last = All-nil (λ (q : Point). UpTo q before);
-    right = λ p all. omega (arith, line);
-  }
-
   module _ (at : ℕ) (ps : List Point) (before : Point) (s : SoFar bars lines at ps before) where
     pub one_more : (p : Point) → at < length lines → IsPointOf bars (get_or lines at 0) p
         → Follows before p → p.part ≤ p.number → SoFar bars lines (at + 1) (ps ++ p ∷ []) p
@@ -222,51 +183,4 @@ none_after bars b line first rising has begins over p behind (a, there, is, with
   where
     reaches_above : (e : BarEnd) (first line : ℕ) → first ≤ line → Reaches e line
         → Reaches e first
-    reaches_above (Answered end words) first line h r = omega (arith, h, r)
-    reaches_above (Died end) first line h r = omega (arith, h, r)
-    reaches_above Open first line h r = tt
-
-begin_of : Bar → ℕ
-begin_of b = b.begin
-
-size : (bars : List Bar) → length (map begin_of bars) ≡ length bars
-size [] = refl
-size (b ∷ bars) = ap suc (size bars)
-
-rising : (bars : List Bar) → AllPairs (λ (one other : Bar). one.begin < other.begin) bars
-    → AllPairs (λ (one other : ℕ). one < other) (map begin_of bars)
-unfolding begin_of
-rising [] h = λ i j d lt within. absurd (omega (arith, within))
-rising (b ∷ bars) h =
-    AllPairs-cons (λ (one other : ℕ). one < other) b.begin (map begin_of bars)
-    (All-map (λ (k : ℕ). b.begin < k) begin_of bars
-    (λ k d lt. h zero (suc k) d (omega (arith)) (omega (arith, lt))))
-    (rising bars (λ i j d lt within.
-    h (suc i) (suc j) d (omega (arith, lt)) (omega (arith, within))))
-
--- there are 200 bars, and one more wanted call
-pub has_many : (lines : List (Bor (List ℕ))) (w : Window) (limit : ℕ)
-    (rows : List (Bor (List ℕ))) (bars : List Bar) (seen : LogCall)
-    → AreBars lines w limit rows bars → w.first ≤ limit → limit < w.last
-    → IsWanted lines w limit seen → length bars ≡ 200 → HasMany lines w
-unfolding begin_of
-has_many lines w limit rows bars seen h from upto wanted full =
-    let begins : List ℕ = map begin_of bars in
-    let more : length (begins ++ limit ∷ []) ≡ length begins + 1 =
-    length-append begins (limit ∷ []) in
-    let above : All (λ (k : ℕ). k < limit) begins =
-    All-map (λ (k : ℕ). k < limit) begin_of bars (λ k d lt. (h.above k d lt).1) in
-    record {
-      begins = begins ++ limit ∷ [];
-      many = omega (arith, more, size bars, full);
-      rising = all_pairs_push (λ (one other : ℕ). one < other) begins limit
-          (rising bars h.rising) above;
-      above = All-push (λ (k : ℕ). (w.first ≤ k) × (k < w.last)) begins limit
-          (All-map (λ (k : ℕ). (w.first ≤ k) × (k < w.last)) begin_of bars
-          (λ k d lt. let was = h.above k d lt in (was.0, omega (arith, was.1, upto))))
-          (from, upto);
-      each = All-push (λ (k : ℕ). (other : LogCall) × IsWanted lines w k other) begins limit
-          (All-map (λ (k : ℕ). (other : LogCall) × IsWanted lines w k other) begin_of bars
-          (λ k d lt. let was = h.each k d lt in (was.0, was.1)))
-          (seen, wanted);
-    }
+    reaches_above e first line h r = grind arith

@@ -1,5 +1,5 @@
 -- What a time line shows, and what is drawn of a log.
-use Rattle.std.proofs.Common.{◌≡◌, ℕ, zero, suc, ◌+◌, ◌<◌, ◌≤◌, List, [], ◌∷◌, ◌++◌, Contains, get_or, length, inl, inr, ap, refl, subst, sym, ◌∙◌, arith, Option, Some, None, Result, Ok, Err, IfNone, IfOk, IfSome, OnOk, String, codes, string_bytes}
+use Rattle.std.proofs.Common.{◌≡◌, ℕ, zero, suc, ◌+◌, ◌<◌, ◌≤◌, List, [], ◌∷◌, ◌++◌, Contains, get_or, length, inl, inr, ap, refl, subst, sym, ◌∙◌, arith, Option, Some, None, Result, Ok, Err, IfOk, IfSome, OnOk, codes, string_bytes}
 use Rattle.std.specs.Borrow.{Bor}
 use Rattle.std.proofs.lemmas.Bool.{cases_lt}
 use Rattle.std.proofs.lemmas.List.{length-append}
@@ -10,18 +10,11 @@ use Rattle.history_drawing.specs.Timelines.{AreApart, AreBars, Extends, IsBar, I
 use Rattle.history_drawing.specs.declared.calls.LogCall.{LogCall}
 use Rattle.history_drawing.specs.declared.timeline.Bar.{Bar}
 use Rattle.history_drawing.specs.declared.timeline.Window.{Window}
-use Rattle.std.specs.declared.alloc.Global.{Global}
 use Rattle.std.specs.declared.alloc.AllocError.{AllocError}
 use Rattle.std.specs.Io.KnownBytes.{Appends}
 use Rattle.line_streams.specs.Filters.{either, status_number}
-use Rattle.line_streams.specs.declared.streams.Status.{Status}
-use Rattle.line_streams.specs.declared.streams.Status.TheVariants.{Good, Faulty}
-use Rattle.history_logs.specs.Reports.{report_text}
-use Rattle.history_logs.specs.declared.logs.verdict.Refusal.{Refusal}
-use Rattle.history_logs.specs.declared.logs.verdict.Verdict.TheVariants.{Conforms, Refused}
-use Rattle.history_drawing.specs.Drawings.{DrawnWith, Draws, HasManyIn, IsDrawingOf, IsDrawn, IsUndrawn, IsWhole, IsWindow, ShowsAll, ShowsWindow}
+use Rattle.history_drawing.specs.Drawings.{DrawnWith, IsDrawingOf}
 use Rattle.history_drawing.specs.declared.drawing.Drawing.{Drawing}
-use Rattle.history_drawing.specs.declared.drawing.TheConstants.{MANY_CALLS}
 
 -- the text of a row that stays
 pub row_text : (rows more : List (Bor (List ℕ))) (k : ℕ) → k < length rows
@@ -117,50 +110,6 @@ module _ (lines : List (Bor (List ℕ))) (w : Window) where
         few = omega (arith, size, few);
         wide = omega (arith, size, wide, h.wide, x.2);
       }
-
--- there is a picture, and this drawing has it, or there is none, and this drawing has none
-abbrev pub Has : Status → Option (String Global) → Drawing → Type 0
-Has status (Some p) d = IsDrawn status d × (string_bytes d.picture ≡ string_bytes p)
-Has status None d = IsUndrawn MANY_CALLS.now d
-
-pub has_both : (status : Status) (p : Option (String Global)) (r : Result Drawing AllocError)
-    → IfOk r (λ d. IfSome p (λ p. IsDrawn status d × (string_bytes d.picture ≡ string_bytes p)))
-    → IfOk r (λ d. IfNone p (IsUndrawn MANY_CALLS.now d)) → IfOk r (Has status p)
-has_both status (Some p) (Ok d) some none = some
-has_both status None (Ok d) some none = none
-has_both status p (Err e) some none = tt
-
-pub window_drawn : (log report : List ℕ) (reported : Refusal) (p : Option (String Global))
-    (r : Result Drawing AllocError) → report ≡ report_text (Refused reported)
-    → IfSome p (λ p. ShowsWindow log report reported (string_bytes p))
-    → IfNone p (HasManyIn (IsWindow log reported)) → IfOk r (Has Faulty p)
-    → IfOk r (Draws log (Refused reported))
-window_drawn log report reported (Some p) (Ok d) e shows many has =
-    let by_report : ShowsWindow log (report_text (Refused reported)) reported (string_bytes p) =
-    subst (λ (l : List ℕ). ShowsWindow log l reported (string_bytes p)) e shows in
-    inr (
-      has.0,
-      subst (λ (l : List ℕ). ShowsWindow log (report_text (Refused reported)) reported l)
-          (sym has.1) by_report,
-    )
-window_drawn log report reported None (Ok d) e shows many has = inl (has, many)
-window_drawn log report reported p (Err x) e shows many has = tt
-
-pub whole_drawn : (log report : List ℕ) (n m : ℕ) (p : Option (String Global))
-    (r : Result Drawing AllocError) → report ≡ report_text (Conforms n m)
-    → IfSome p (λ p. ShowsAll log report (string_bytes p)) → IfNone p (HasManyIn (IsWhole log))
-    → IfOk r (Has Good p)
-    → IfOk r (Draws log (Conforms n m))
-whole_drawn log report n m (Some p) (Ok d) e shows many has =
-    let by_report : ShowsAll log (report_text (Conforms n m)) (string_bytes p) =
-    subst (λ (l : List ℕ). ShowsAll log l (string_bytes p)) e shows in
-    inr (
-      has.0,
-      subst (λ (l : List ℕ). ShowsAll log (report_text (Conforms n m)) l)
-          (sym has.1) by_report,
-    )
-whole_drawn log report n m None (Ok d) e shows many has = inl (has, many)
-whole_drawn log report n m p (Err x) e shows many has = tt
 
 -- what is drawn of what was read
 pub drawn_of : (given : Option (List ℕ)) (log : List ℕ) (d : Drawing)

@@ -99,15 +99,23 @@ pub record IsDrawn (status : Status) (d : Drawing) : Type 0 where
   pub ended : d.status ≡ status
   pub reported : d.message.items ≡ []
 
+-- the picture of a log that conforms is drawn with this report, or there are too many calls for one
+abbrev pub DrawsAll : List ℕ → List ℕ → Drawing → Type 0
+DrawsAll log report d =
+    (IsUndrawn MANY_CALLS.now d × HasManyIn (IsWhole log))
+    ⊎ (IsDrawn Good d × ShowsAll log report (string_bytes d.picture))
+
+-- so is that of the window of a refused reply
+abbrev pub DrawsWindow : List ℕ → Refusal → List ℕ → Drawing → Type 0
+DrawsWindow log reported report d =
+    (IsUndrawn MANY_CALLS.now d × HasManyIn (IsWindow log reported))
+    ⊎ (IsDrawn Faulty d × ShowsWindow log report reported (string_bytes d.picture))
+
 -- what is drawn of a log that is judged so
 abbrev pub Draws : List ℕ → Verdict → Drawing → Type 0
-Draws log (verdict.Conforms n m) d =
-    (IsUndrawn MANY_CALLS.now d × HasManyIn (IsWhole log))
-    ⊎ (IsDrawn Good d × ShowsAll log (report_text (verdict.Conforms n m)) (string_bytes d.picture))
+Draws log (verdict.Conforms n m) d = DrawsAll log (report_text (verdict.Conforms n m)) d
 Draws log (verdict.Refused reported) d =
-    (IsUndrawn MANY_CALLS.now d × HasManyIn (IsWindow log reported))
-    ⊎ (IsDrawn Faulty d
-    × ShowsWindow log (report_text (verdict.Refused reported)) reported (string_bytes d.picture))
+    DrawsWindow log reported (report_text (verdict.Refused reported)) d
 Draws log v d = IsUndrawn (report_text v) d
 
 -- the log is judged in one way, and this is drawn of it

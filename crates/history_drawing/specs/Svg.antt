@@ -51,7 +51,7 @@ mark_text x bottom line =
     ++ (decimal line ++ codes "</text>\n")))))))
 
 -- the mark of this line, if there is one
-unfoldable pub mark_of : List Bar → ℕ → Option ℕ → List ℕ
+abbrev pub mark_of : List Bar → ℕ → Option ℕ → List ℕ
 mark_of bars bottom (Some line) = mark_text (left bars line) bottom line
 mark_of bars bottom None = []
 
@@ -195,15 +195,9 @@ report_text notes more y =
 abbrev pub notes_text : List (Bor (List ℕ)) → ℕ → List ℕ
 notes_text notes y = report_text (shown notes) ((length notes - 35) / 4) y
 
--- a picture of this size
-unfoldable pub sized_text : Timeline → List ℕ → List (Bor (List ℕ)) → ℕ → ℕ → ℕ → List ℕ
-sized_text t heading notes width height below =
-    open_text width height
-    ++ (heading_text heading
-    ++ (names_text t.rows.items ++ (calls_text t ++ notes_text notes below)))
-
 -- A picture of a time line, with the first line of a report above it and the others below.
-abbrev pub svg_text : Timeline → List ℕ → List (Bor (List ℕ)) → List ℕ
+unfoldable pub svg_text : Timeline → List ℕ → List (Bor (List ℕ)) → List ℕ
 svg_text t heading notes =
-    sized_text t heading notes (max (right t.bars.items + 12) 760)
-    (bottom t + 40 + 18 * min (length notes) 36) (bottom t + 12)
+    open_text (max (right t.bars.items + 12) 760) (bottom t + 40 + 18 * min (length notes) 36)
+    ++ (heading_text heading ++ (names_text t.rows.items
+    ++ (calls_text t ++ notes_text notes (bottom t + 12))))

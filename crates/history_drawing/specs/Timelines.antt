@@ -67,13 +67,17 @@ pub record AreBars (lines : List (Bor (List ℕ))) (w : Window) (limit : ℕ)
   pub few : length bars ≤ 200
   pub wide : length rows ≤ length bars
 
--- More than 200 wanted calls begin in lines of the window: in each of these lines one does.
+-- More than 200 wanted calls begin in lines of the window: 200 have bars, and in a line below those
+-- one more begins.
 pub record HasMany (lines : List (Bor (List ℕ))) (w : Window) : Type 0 where
-  pub begins : List ℕ
-  pub many : 200 < length begins
-  pub rising : AllPairs (λ (one other : ℕ). one < other) begins
-  pub above : All (λ (k : ℕ). (w.first ≤ k) × (k < w.last)) begins
-  pub each : All (λ (k : ℕ). (seen : LogCall) × IsWanted lines w k seen) begins
+  pub limit : ℕ
+  pub rows : List (Bor (List ℕ))
+  pub bars : List Bar
+  pub are : AreBars lines w limit rows bars
+  pub many : length bars ≡ 200
+  pub inside : (w.first ≤ limit) × (limit < w.last)
+  pub seen : LogCall
+  pub wanted : IsWanted lines w limit seen
 
 -- the bars of a window, with no point, and this line marked
 pub record IsTimeline (lines : List (Bor (List ℕ))) (w : Window) (marked : Option ℕ)

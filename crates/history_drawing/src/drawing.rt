@@ -1,14 +1,11 @@
 //! Pictures of logs.
-ghost use Rattle.std.specs.Prelude.{◌≡◌, ◌<◌, ◌≤◌, IfNone, IfOk, IfSome, IsFalse, IsTrue, length};
-ghost use Rattle.std.specs.Prelude.{string_bytes};
+ghost use Rattle.std.specs.Prelude.{◌≡◌, ◌+◌, ◌<◌, ◌≤◌, ℕ, IfNone, IfOk, IfSome, IsFalse, IsTrue, List};
+ghost use Rattle.std.specs.Prelude.{length, string_bytes};
 ghost use Rattle.history_logs.specs.Logs.{Judged};
 ghost use Rattle.history_logs.specs.Reports.{report_text};
-ghost use Rattle.history_drawing.specs.Calls.{BeginsIn, IsAnsweredIn, IsElsewhere, IsFirstService};
-ghost use Rattle.history_drawing.specs.Calls.{IsServiceOf};
-ghost use Rattle.history_drawing.specs.Drawings.{Draws, HasManyIn, IsDrawingOf, IsDrawn};
-ghost use Rattle.history_drawing.specs.Drawings.{IsPicture, IsUndrawn, IsWhole, IsWindow};
-ghost use Rattle.history_drawing.specs.Drawings.{ShowsAll, ShowsWindow};
-ghost use Rattle.history_drawing.specs.declared.drawing.TheConstants.{MANY_CALLS};
+ghost use Rattle.history_drawing.specs.Calls.{BeginsIn, IsAnsweredIn, IsElsewhere, IsServiceOf};
+ghost use Rattle.history_drawing.specs.Drawings.{AreLines, Draws, DrawsAll, DrawsWindow};
+ghost use Rattle.history_drawing.specs.Drawings.{IsDrawingOf, IsDrawn, IsPicture, IsUndrawn, IsWindow};
 ghost use Rattle.history_drawing.specs.Places.{IsDrawable};
 
 use crate::calls::{LogCall, below_first, call_at, first_service, lines_of, text_at};
@@ -45,9 +42,15 @@ fn undrawn(alloc: Global, report: &[u8]) -> Result<Drawing, AllocError>
 }
 
 /// The picture of a time line, with a report.
-fn picture_of(alloc: Global, timeline: &Timeline<'_>, report: &[u8]) -> Result<String, AllocError>
+fn drawn(
+    alloc: Global,
+    status: Status,
+    timeline: &Timeline<'_>,
+    report: &[u8],
+) -> Result<Drawing, AllocError>
     requires { IsDrawable timeline.now }
-    ensures { IfOk result (λ picture. IsPicture report.now timeline.now (string_bytes picture)) }
+    ensures { IfOk result (λ d. IsDrawn status d
+        × IsPicture report.now timeline.now (string_bytes d.picture)) }
 {
     let notes = lines_of(alloc, report)?;
     let mut picture = String::new(alloc);
@@ -57,7 +60,11 @@ fn picture_of(alloc: Global, timeline: &Timeline<'_>, report: &[u8]) -> Result<S
         text_at(&notes, 1),
         below_first(&notes),
     )?;
-    Ok(picture)
+    Ok(Drawing {
+        status,
+        picture,
+        message: Vec::new(alloc),
+    })
 }
 
 /// Whether a call is answered in this line.
@@ -122,10 +129,9 @@ fn window_of(
     reported: &Refusal,
     last: usize,
 ) -> Result<Window, AllocError>
-    ensures lines { IfOk result (λ w. (w.first ≡ reported.now.window) × (w.last ≡ last)) }
-    ensures service { IfOk result (λ w. IsFirstService lines.now w.service) }
-    ensures wanted { IfOk result (λ w.
-        IsServiceOf lines.now w.first w.last reported.now.line w.service w.wanted) }
+    requires { last ≡ reported.now.line + 1 }
+    ensures { IfOk result (λ w. (log : List ℕ) → AreLines log lines.now
+        → IsWindow log reported.now lines.now w) }
 {
     let service = first_service(alloc, lines)?;
     let wanted = service_of(alloc, lines, reported.window, last, reported.line, service)?;
@@ -137,67 +143,47 @@ fn window_of(
     })
 }
 
-/// The picture of the window of a refused reply. `None` where it has too many calls.
+/// The picture of the window of a refused reply, or that it has too many calls for one.
 fn draw_refused(
     alloc: Global,
     log: &[u8],
     reported: &Refusal,
     report: &[u8],
-) -> Result<Option<String>, AllocError>
+) -> Result<Drawing, AllocError>
     requires order { reported.now.window ≤ reported.now.line }
     requires within { reported.now.line ≤ length log.now }
-    ensures some { IfOk result (λ found. IfSome found (λ picture.
-        ShowsWindow log.now report.now reported.now (string_bytes picture))) }
-    ensures none { IfOk result (λ found. IfNone found (HasManyIn (IsWindow log.now reported.now))) }
+    ensures { IfOk result (DrawsWindow log.now reported.now report.now) }
 {
     // For the proof: a line has a number below the greatest one.
     let _fits = log.len();
     let lines = lines_of(alloc, log)?;
-    let window = window_of(alloc, &lines, reported, reported.line + 1)?;
-    let Some(timeline) = timeline_of(alloc, &lines, &window, Some(reported.line))? else {
-        return Ok(None);
+    let lines = lines.as_slice();
+    let window = window_of(alloc, lines, reported, reported.line + 1)?;
+    let Some(timeline) = timeline_of(alloc, lines, &window, Some(reported.line))? else {
+        return undrawn(alloc, MANY_CALLS);
     };
-    let picture = picture_of(alloc, &timeline, report)?;
-    Ok(Some(picture))
+    drawn(alloc, Status::Faulty, &timeline, report)
 }
 
-/// The picture of all calls of a log that conforms, with the points at which they took effect.
-/// `None` where there are too many.
-fn draw_whole(alloc: Global, log: &[u8], report: &[u8]) -> Result<Option<String>, AllocError>
-    ensures some { IfOk result (λ found. IfSome found (λ picture.
-        ShowsAll log.now report.now (string_bytes picture))) }
-    ensures none { IfOk result (λ found. IfNone found (HasManyIn (IsWhole log.now))) }
+/// The picture of all calls of a log that conforms, with the points at which they took effect, or
+/// that there are too many for one.
+fn draw_whole(alloc: Global, log: &[u8], report: &[u8]) -> Result<Drawing, AllocError>
+    ensures { IfOk result (DrawsAll log.now report.now) }
 {
     let lines = lines_of(alloc, log)?;
+    let lines = lines.as_slice();
     let window = Window {
         first: 0,
         last: lines.len(),
         wanted: None,
         service: None,
     };
-    let Some(mut timeline) = timeline_of(alloc, &lines, &window, None)? else {
-        return Ok(None);
+    let Some(mut timeline) = timeline_of(alloc, lines, &window, None)? else {
+        return undrawn(alloc, MANY_CALLS);
     };
     let (_, orders) = order_log(alloc, log)?;
     timeline.points = points_of(alloc, &timeline.bars, &orders)?;
-    let picture = picture_of(alloc, &timeline, report)?;
-    Ok(Some(picture))
-}
-
-/// A picture, or that there are too many calls for one.
-fn drawn(alloc: Global, status: Status, picture: Option<String>) -> Result<Drawing, AllocError>
-    ensures some { IfOk result (λ d. IfSome picture (λ p.
-        IsDrawn status d × (string_bytes d.picture ≡ string_bytes p))) }
-    ensures none { IfOk result (λ d. IfNone picture (IsUndrawn MANY_CALLS.now d)) }
-{
-    match picture {
-        Some(picture) => Ok(Drawing {
-            status,
-            picture,
-            message: Vec::new(alloc),
-        }),
-        None => undrawn(alloc, MANY_CALLS),
-    }
+    drawn(alloc, Status::Good, &timeline, report)
 }
 
 /// What is drawn of a log, by its verdict and the report on it.
@@ -207,12 +193,8 @@ fn draw(alloc: Global, log: &[u8], verdict: &Verdict, report: &[u8]) -> Result<D
     ensures { IfOk result (Draws log.now verdict.now) }
 {
     match verdict {
-        Verdict::Refused(reported) => drawn(
-            alloc,
-            Status::Faulty,
-            draw_refused(alloc, log, reported, report)?,
-        ),
-        Verdict::Conforms(_, _) => drawn(alloc, Status::Good, draw_whole(alloc, log, report)?),
+        Verdict::Refused(reported) => draw_refused(alloc, log, reported, report),
+        Verdict::Conforms(_, _) => draw_whole(alloc, log, report),
         Verdict::ManyConfigs(_) => undrawn(alloc, report),
         Verdict::ManyOpen(_) => undrawn(alloc, report),
         Verdict::BadLine(_, _) => undrawn(alloc, report),

@@ -6,7 +6,7 @@ ghost use Rattle.history_drawing.specs.Svg.{marks_text};
 ghost use Rattle.history_drawing.specs.Places.{IsDrawable};
 ghost use Rattle.history_drawing.specs.Svg.{below_text, calls_text, lines_text, names_text, notes_text};
 ghost use Rattle.history_drawing.specs.Svg.{report_text, tail_text};
-ghost use Rattle.history_drawing.specs.Svg.{rows_text, shown, sized_text, svg_text};
+ghost use Rattle.history_drawing.specs.Svg.{rows_text, shown, svg_text};
 ghost use Rattle.history_drawing.specs.declared.timeline.Bar.{Bar};
 ghost use Rattle.history_drawing.specs.declared.timeline.Point.{Point};
 
@@ -149,30 +149,8 @@ fn write_notes(out: &mut String, notes: &[&[u8]], y: usize) -> Result<(), AllocE
     write_report(out, shown(notes), more, y)
 }
 
-/// Appends a picture of this size.
-#[tactic(auto, unfolding(crate::specs::Svg::sized_text))]
-fn write_sized(
-    out: &mut String,
-    timeline: &Timeline<'_>,
-    heading: &[u8],
-    notes: &[&[u8]],
-    width: usize,
-    height: usize,
-    below: usize,
-) -> Result<(), AllocError>
-    requires { IsDrawable timeline.now }
-    ensures { OnOk result (string_bytes out.new ≡ string_bytes out.old
-        ++ sized_text timeline.now heading.now notes.now width height below) }
-{
-    write_open(out, width, height)?;
-    write_heading(out, heading)?;
-    write_names(out, &timeline.rows)?;
-    write_calls(out, timeline)?;
-    write_notes(out, notes, below)?;
-    Ok(())
-}
-
 /// Appends a picture of a time line, with the first line of a report above it and the others below.
+#[tactic(auto, unfolding(crate::specs::Svg::svg_text))]
 pub(crate) fn write_svg(
     out: &mut String,
     timeline: &Timeline<'_>,
@@ -186,5 +164,9 @@ pub(crate) fn write_svg(
     let bottom = top(timeline.rows.len());
     let width = (right(&timeline.bars) + 12).max(760);
     let height = bottom + 40 + 18 * notes.len().min(MAX_NOTES + 1);
-    write_sized(out, timeline, heading, notes, width, height, bottom + 12)
+    write_open(out, width, height)?;
+    write_heading(out, heading)?;
+    write_names(out, &timeline.rows)?;
+    write_calls(out, timeline)?;
+    write_notes(out, notes, bottom + 12)
 }

@@ -1,6 +1,6 @@
 //! Calls as bars on a time line.
 
-ghost use Rattle.std.specs.Prelude.{◌≡◌, ◌++◌, ◌∷◌, [], ◌+◌, ◌<◌, ◌≤◌, IfNone, IfOk, IfSome, IsFalse, IsTrue, OnOk, length};
+ghost use Rattle.std.specs.Prelude.{◌≡◌, ◌++◌, ◌∷◌, [], ◌+◌, ◌<◌, ◌≤◌, IfNone, IfOk, IfSome, IsFalse, IsTrue, OnOk};
 ghost use Rattle.history_drawing.specs.Timelines.{AreApart, AreBars, Extends, HasMany, IsBarOf, IsOn};
 ghost use Rattle.history_drawing.specs.Timelines.{IsRow, IsTimeline, IsUnknown, IsWanted};
 ghost use Rattle.history_drawing.specs.declared.calls.LogCall.{LogCall};

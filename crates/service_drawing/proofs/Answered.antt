@@ -6,15 +6,14 @@ use Rattle.std.specs.declared.io.Error.{Error}
 use Rattle.std.specs.declared.vec.IntoIter.{IntoIter}
 use Rattle.std.specs.Result.{IsErr, IsErrAnd, MatchResult}
 use Rattle.iox2_config.specs.declared.config.Config.{Config}
-use Rattle.service_drawing.specs.Descriptions.{StopsReading, IsOver}
-use Rattle.service_drawing.specs.Reasons.{IsReason}
+use Rattle.service_drawing.specs.Descriptions.{StopsReading, IsOver, IsReason}
 use Rattle.service_drawing.specs.Streams.{IsRequestOf, IsRead, status_of, output_text, error_text, TellsBadLine, Draws, Answers, Reported}
 use Rattle.service_drawing.specs.declared.streams.Asked.{Asked}
 use Rattle.service_drawing.specs.declared.fault.Fault.{Fault}
-use Rattle.service_drawing.specs.declared.fault.Fault.TheVariants.{BadArgument, BadLine, BadSettings, NoEnd, NoMemory}
+use Rattle.service_drawing.specs.declared.fault.Fault.TheVariants.{BadLine}
 use Rattle.service_drawing.specs.declared.streams.Written.{Written}
 use Rattle.service_drawing.specs.declared.reading.cause.Expected.{Expected}
-use Rattle.service_drawing.proofs.Reasons.{one_reason}
+use Rattle.service_drawing.proofs.SettingLines.{one_reason}
 
 -- the status 0 is that of an answer
 pub answered_at_zero : (end : Result Written Fault) (P : Type 0) → IfOk end (λ written. P)
@@ -54,10 +53,7 @@ pub draws_no_more : (base : Config) (warnings rest bytes : List ℕ) (expected :
     → TellsBadLine bytes expected fault → Draws bytes (Err fault)
 draws_no_more base warnings rest bytes expected (BadLine line cause prefix form) over s h =
     grind (arith, one_reason)
-draws_no_more base warnings rest bytes expected BadArgument over s h = h
-draws_no_more base warnings rest bytes expected (BadSettings lines) over s h = absurd h
-draws_no_more base warnings rest bytes expected NoEnd over s h = absurd h
-draws_no_more base warnings rest bytes expected NoMemory over s h = tt
+draws_no_more base warnings rest bytes expected _ over s h = absurd h
 
 -- what is true of what was read is true of what the reader gave
 pub true_of_given : (P : List ℕ → Type 0) (given : Option (List ℕ)) (items bytes : List ℕ)

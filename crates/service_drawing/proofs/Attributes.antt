@@ -9,7 +9,7 @@ use Rattle.line_streams.proofs.Places.{has_one}
 use Rattle.service_drawing.specs.Lines.{IsKey, IsPair, pair_text, IsLine, GivesPair, AreAttributes, HasAttributes, StopsAt, Requirement, OfPair, OfKey, GivesRequirement, RequiresToo, number_required, RequiresMore, RequiresNoMore, pair_of, key_of, AreRequired, HasRequirements}
 use Rattle.std.proofs.lemmas.List.Sorted.{IsPermutation-cons, IsPermutation-to_front, IsPermutation-trans, length_permutation}
 use Rattle.iox2_texts.specs.Attribute.{IsListing}
-use Rattle.service_drawing.proofs.LinesOf.{ReadMany, one_read, many_stops, longer_by_one, no_key}
+use Rattle.service_drawing.proofs.Forms.{ReadMany, one_read, many_stops, longer_by_one, no_key}
 use Rattle.std.proofs.lemmas.List.{append-nil}
 use Rattle.std.proofs.lemmas.List.Elements.{filter_map-append}
 use Rattle.iox2_texts.specs.Verify.{Requirements}

@@ -1,5 +1,5 @@
 -- Where the parts of a message end.
-use Rattle.std.proofs.Common.{◌≡◌, ℕ, ◌+◌, ◌*◌, ◌^◌, ◌<◌, ◌≤◌, arith}
+use Rattle.std.proofs.Common.{◌≡◌, ℕ, zero, suc, ◌+◌, ◌*◌, ◌^◌, ◌<◌, ◌≤◌, arith}
 use Rattle.std.proofs.Math.Nat.{mul-le-mul_right}
 use Rattle.std.proofs.lemmas.Nat.Gcd.{dvd-zero}
 use Rattle.iox2_config.specs.Blocks.{HoldsEverywhere}
@@ -23,3 +23,8 @@ pub elements_inside : (start element elements i end : ℕ) → end ≡ start + e
     → i ≤ elements
     → start + i * element ≤ end
 elements_inside start element elements i end is there = grind (arith, mul-le-mul_right)
+
+-- so many ports take no less than one
+pub no_less : (bytes ports : ℕ) → 0 < ports → bytes ≤ bytes * ports
+no_less bytes zero some = absurd (omega arith)
+no_less bytes (suc ports) some = grind arith

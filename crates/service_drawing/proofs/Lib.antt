@@ -1,12 +1,8 @@
 mod Answered
 mod Attributes
 mod Descriptions
-mod Exchanges
 mod Forms
 mod Fronts
 mod Inside
-mod LinesOf
-mod Reasons
-mod ServiceNames
 mod SettingLines
 mod Words

@@ -1,12 +1,11 @@
--- Lines, numbers and the lines of a message, in one way.
-use Rattle.std.proofs.Common.{◌≡◌, ◌≢◌, ℕ, ◌<◌, ◌^◌, List, [], ◌∷◌, ◌++◌, length, arith, sym, ◌∙◌, ap, subst, append_assoc, length-append, rules, ◌≤◌, cond, codes, Option, Some, None, Err, refl, IsTrue}
+-- Lines, names, numbers and the lines of a message, in one way.
+use Rattle.std.proofs.Common.{◌≡◌, ◌≢◌, ℕ, ◌<◌, ◌^◌, List, [], ◌∷◌, ◌++◌, length, arith, sym, ◌∙◌, ap, subst, append_assoc, length-append, rules, ◌≤◌, cond, codes, Option, Some, None, Err, refl, IsTrue, Bool, true, false, MatchBool, nat_eq}
 use Rattle.std.specs.Fmt.{decimal}
-use Rattle.std.proofs.lemmas.List.{append_cancel_left, append-nil}
+use Rattle.std.proofs.lemmas.List.{append_cancel_left}
 use Rattle.line_streams.specs.Numerals.{cons_same}
-use Rattle.line_streams.specs.Numerals as numerals
-use Rattle.line_streams.specs.OneWay.{before_one}
-use Rattle.line_streams.specs.Spelling.{EndsNumber, HasNo}
-use Rattle.service_drawing.specs.Lines.{IsPlain, IsLine, HasNoLine, HasLine, HasOpener, IsDescribed, AreAlignments, type_text, alignments_text, variant_word}
+use Rattle.line_streams.specs.OneWay.{after_one, before_one, number_one, sequence_one}
+use Rattle.line_streams.specs.Spelling.{EndsNumber, HasNo, OneWay, Spelling, after, number, sequence}
+use Rattle.service_drawing.specs.Lines.{IsPlain, IsLine, HasNoLine, HasLine, HasOpener, IsDescribed, AreAlignments, type_text, alignments_text, variant_word, MayBeNamed, IsInternal, HasService}
 use Rattle.std.specs.Prelude.{◌==◌}
 use Rattle.std.specs.Int.{is_power_of_two}
 use Rattle.std.proofs.lemmas.Fmt.{decimal_injective}
@@ -16,6 +15,15 @@ use Rattle.iox2_config.specs.declared.types.message_details.MessageTypeDetails.{
 use Rattle.iox2_config.specs.declared.types.type_detail.TypeDetailError.{TypeDetailError}
 use Rattle.iox2_config.specs.declared.types.type_detail.TypeVariant.{TypeVariant}
 use Rattle.iox2_config.specs.declared.types.type_detail.TypeVariant.TheVariants.{FixedSize, Dynamic}
+use Rattle.std.specs.List.{starts_with}
+use Rattle.iox2_texts.specs.Name.{IsName, MakesServiceName, MakesPublicName}
+use Rattle.iox2_texts.specs.declared.service_name.ServiceNameError.{ServiceNameError}
+use Rattle.iox2_texts.specs.declared.service_name.ServiceNameError.TheVariants.{InvalidContent, ExceedsMaximumLength}
+use Rattle.iox2_config.specs.Hashing.{hash_input, pattern_word, sha1_text, MakesHash}
+use Rattle.iox2_config.specs.declared.hash.input.PatternKind.{PatternKind}
+use Rattle.iox2_config.specs.declared.hash.input.PatternKind.TheVariants.{PublishSubscribe, Event, RequestResponse, Blackboard}
+use Rattle.iox2_config.specs.declared.hash.service_hash.ServiceHashError.{ServiceHashError}
+use Rattle.iox2_config.specs.declared.hash.service_hash.ServiceHashError.TheVariants.{HasherFailed, IllegalText}
 
 -- a plain byte is no newline
 pub plain_lacks : (text : List ℕ) → IsPlain text → HasNo 10 text
@@ -57,46 +65,33 @@ space_ends x digit = omega (arith, digit)
 pub nothing_ends : EndsNumber []
 nothing_ends digit = omega (arith, digit)
 
--- the number that a whole text is
-pub number_alone : (text : List ℕ) (m n : ℕ) (rest : List ℕ) → m < 2 ^ 64 → n < 2 ^ 64
-    → EndsNumber rest → text ≡ decimal m ++ rest → text ≡ decimal n → rest ≡ []
-number_alone text m n rest p q ends e f =
-    (numerals.same_number m n rest [] p q ends nothing_ends
-    (sym e ∙ f ∙ sym (append-nil (decimal n)))).1
-
--- the number before a space
-pub number_rest : (text : List ℕ) (m n : ℕ) (rest x : List ℕ) → m < 2 ^ 64 → n < 2 ^ 64
-    → EndsNumber rest → text ≡ decimal m ++ rest → text ≡ decimal n ++ 32 ∷ x
-    → (m ≡ n) × (rest ≡ 32 ∷ x)
-number_rest text m n rest x p q ends e f =
-    numerals.same_number m n rest (32 ∷ x) p q ends (space_ends x) (sym e ∙ f)
-
--- two numbers before a space, of one text
-pub same_number : (text : List ℕ) (m n : ℕ) (x y : List ℕ) → m < 2 ^ 64 → n < 2 ^ 64
-    → text ≡ decimal m ++ 32 ∷ x → text ≡ decimal n ++ 32 ∷ y → (m ≡ n) × (x ≡ y)
-same_number text m n x y p q e f =
-    let same = number_rest text m n (32 ∷ x) y p q (space_ends x) e f in
-    (same.0, (cons_same same.1).1)
-
 -- nothing is longer than itself
 pub longer : (xs ys : List ℕ) (y : ℕ) → xs ≡ xs ++ y ∷ ys → ⊥
 longer xs ys y e = omega (arith, ap length e, length-append xs (y ∷ ys))
 
--- no second number
-pub no_second : (text rest : List ℕ) (size : ℕ) → size < 2 ^ 64 → text ≡ decimal size ++ 32 ∷ rest
-    → ((n : ℕ) (x : List ℕ) → n < 2 ^ 64 → ¬ (rest ≡ decimal n ++ 32 ∷ x)) → (m n : ℕ)
-    (x : List ℕ) → m < 2 ^ 64 → n < 2 ^ 64 → ¬ (text ≡ decimal m ++ 32 ∷ (decimal n ++ 32 ∷ x))
-no_second text rest size fits e bad m n x p q is =
-    bad n x q (same_number text size m rest (decimal n ++ 32 ∷ x) fits p e is).1
+-- a number, a space and a number
+abbrev two : Spelling (ℕ × ℕ)
+two = sequence (number 18446744073709551615) (after (32 ∷ []) (number 18446744073709551615))
+
+pub two_one : OneWay two
+two_one = sequence_one (number_one 18446744073709551615)
+    (after_one (32 ∷ []) (number_one 18446744073709551615))
+
+-- two numbers fit where a space follows
+pub two_fit : (m n : ℕ) (rest : List ℕ) → m < 2 ^ 64 → n < 2 ^ 64 → two.Fits ((m, n), 32 ∷ rest)
+two_fit m n rest p q = (
+  (omega (arith, p), p, space_ends (decimal n ++ 32 ∷ rest)),
+  (omega (arith, q), q, space_ends rest),
+)
 
 -- two numbers, of one text
 pub same_numbers : (text : List ℕ) (a b m n : ℕ) (x y : List ℕ) → a < 2 ^ 64 → b < 2 ^ 64
     → m < 2 ^ 64 → n < 2 ^ 64 → text ≡ decimal a ++ 32 ∷ (decimal b ++ 32 ∷ x)
     → text ≡ decimal m ++ 32 ∷ (decimal n ++ 32 ∷ y) → (a ≡ m) × (b ≡ n) × (x ≡ y)
 same_numbers text a b m n x y pa pb pm pn e f =
-    let first = same_number text a m (decimal b ++ 32 ∷ x) (decimal n ++ 32 ∷ y) pa pm e f in
-    let second = same_number (decimal b ++ 32 ∷ x) b n x y pb pn refl first.1 in
-    (first.0, second.0, second.1)
+    let same = two_one.same ((a, b), 32 ∷ x) ((m, n), 32 ∷ y) (two_fit a b x pa pb)
+    (two_fit m n y pm pn) (sym e ∙ f) in
+    (ap (λ p. p.0) same.0, ap (λ p. p.1) same.0, (cons_same same.1).1)
 
 -- what no type of the one text may have
 pub no_type : (text name : List ℕ) (a b : ℕ) → a < 2 ^ 64 → b < 2 ^ 64
@@ -166,3 +161,61 @@ pub no_opener : (prefix text rest bytes : List ℕ)
     → (o : Option MessageTypeDetails) (x : List ℕ) → ¬ HasOpener prefix o x bytes
 no_opener prefix text rest bytes l bad None x h = search rules
 no_opener prefix text rest bytes l bad (Some d) x h = search (rules, no_line)
+
+abbrev pattern_at : List ℕ → PatternKind
+pattern_at [] = Event
+pattern_at (b ∷ bs) =
+    cond (b == 112) PublishSubscribe
+    (cond (b == 101) Event (cond (b == 114) RequestResponse Blackboard))
+
+pattern_front : (k : PatternKind) (x : List ℕ) → pattern_at (pattern_word k ++ x) ≡ k
+pattern_front PublishSubscribe x = refl
+pattern_front Event x = refl
+pattern_front RequestResponse x = refl
+pattern_front Blackboard x = refl
+
+-- a line has one pattern and one name
+pub same_pattern : (j k : PatternKind) (m n : List ℕ)
+    → pattern_word j ++ 32 ∷ m ≡ pattern_word k ++ 32 ∷ n → (j ≡ k) × (m ≡ n)
+same_pattern j k m n e = grind (arith, pattern_front, append_cancel_left)
+
+-- what is true of the one name of a line
+pub of_the_line : (P : PatternKind → List ℕ → Type 0) (line : List ℕ) (k : PatternKind)
+    (name : List ℕ) → line ≡ pattern_word k ++ 32 ∷ name → ¬ P k name → (j : PatternKind)
+    (m : List ℕ) → P j m → ¬ (line ≡ pattern_word j ++ 32 ∷ m)
+of_the_line P line k name e bad j m p is = grind (arith, same_pattern)
+
+-- a line without an internal name has none
+pub not_internal : (line : List ℕ) (k : PatternKind) (name : List ℕ)
+    → line ≡ pattern_word k ++ 32 ∷ name → false ≡ starts_with nat_eq name (codes "iox2://")
+    → ¬ IsInternal line
+not_internal line k name e other s = grind (arith, of_the_line)
+
+second : (b : Bool) (P Q : Type 0) → b ≡ false → MatchBool b P Q → Q
+second true P Q e h = cc
+second false P Q e h = h
+
+-- a name that is refused
+refused : (name : List ℕ) (why : ServiceNameError) → MakesServiceName name (Err why)
+    → ¬ IsName 255 name
+refused name InvalidContent h legal = h.1 legal
+refused name ExceedsMaximumLength h legal = omega (arith, h, legal.0.0)
+
+pub no_name : (k : PatternKind) (name : List ℕ) (why : ServiceNameError)
+    → MakesPublicName name (Err why) → starts_with nat_eq name (codes "iox2://") ≡ false
+    → ¬ MayBeNamed k name
+no_name k name why h e may = grind (arith, refused, second)
+
+-- a hash text that is refused
+pub not_hashed : (k : PatternKind) (name : List ℕ) (why : ServiceHashError)
+    → MakesHash sha1_text (λ input. ⊥) (hash_input k name) (Err why) → ¬ MayBeNamed k name
+not_hashed k name HasherFailed h may = h
+not_hashed k name IllegalText h may = h may.hashed
+
+-- a line that spells no service
+pub no_service : (line rest bytes : List ℕ) → IsLine line rest bytes
+    → ((k : PatternKind) (name : List ℕ) → MayBeNamed k name
+    → ¬ (line ≡ pattern_word k ++ 32 ∷ name))
+    → (k : PatternKind) (name more : List ℕ) → ¬ HasService k name more bytes
+no_service line rest bytes l bad k name more h =
+    bad k name h.named (line_one line _ rest more bytes l h.line).0

@@ -1,21 +1,27 @@
--- What a whole description is, and what stands in front of it.
-use Rattle.std.specs.Prelude.{◌≡◌, ◌≢◌, ◌⊎◌, ℕ, List, [], ◌++◌, All, codes, flat_map, string_bytes}
+-- What a whole description is, what stands in front of it, and why a line is bad.
+use Rattle.std.specs.Prelude.{◌≡◌, ◌≢◌, ◌⊎◌, ℕ, List, [], ◌++◌, All, codes, flat_map, string_bytes, ◌==◌, ◌+◌, ◌<◌, ◌∷◌, not, Some, None, IsTrue, length, nat_eq, slice_index, map}
 use Rattle.iox2_config.specs.Defaults.{IsDefaultConfig}
 use Rattle.iox2_config.specs.declared.config.Config.{Config}
 use Rattle.line_streams.specs.Spelling.{HasNo}
 use Rattle.config_report.specs.Findings.{HasConfig, IsRefusal}
 use Rattle.service_drawing.specs.declared.fault.Fault.{Fault}
-use Rattle.service_drawing.specs.declared.fault.Fault.TheVariants.{BadArgument, BadLine, BadSettings, NoEnd, NoMemory}
+use Rattle.service_drawing.specs.declared.fault.Fault.TheVariants.{BadSettings, NoEnd, NoMemory}
 use Rattle.service_drawing.specs.declared.front.Front.{Front}
 use Rattle.service_drawing.specs.declared.front.Front.TheVariants.{Absent, Block, Unended}
 use Rattle.iox2_texts.specs.Pair.{Pair}
 use Rattle.iox2_texts.specs.Verify.{Requirements}
 use Rattle.iox2_config.specs.Hashing.{hash_input, sha1_text}
 use Rattle.iox2_config.specs.declared.hash.input.PatternKind.{PatternKind}
-use Rattle.service_drawing.specs.Lines.{Form, Stops, line_by_line, sequence, exchange, HasService, HasAttributes, HasRequirements}
-use Rattle.service_drawing.specs.Settings.{HasConfiguration}
+use Rattle.service_drawing.specs.Lines.{Form, Stops, line_by_line, sequence, exchange, HasService, HasAttributes, HasRequirements, is_plain, IsLine, UpTo, IsInternal}
+use Rattle.service_drawing.specs.Settings.{HasConfiguration, Assignment, GivesSetting, HasName, IsSetting, section, word_of}
 use Rattle.service_drawing.specs.declared.description.Description.{Description}
 use Rattle.service_drawing.specs.declared.description.Exchange.{Exchange}
+use Rattle.std.specs.List.{find, before_first, ends_with, list_any}
+use Rattle.service_drawing.specs.declared.reading.cause.Cause.{Cause}
+use Rattle.service_drawing.specs.declared.reading.cause.Cause.TheVariants.{NoNewline, CarriageReturn, ForeignByte, TwoSpaces, Read}
+use Rattle.service_drawing.specs.declared.reading.cause.Reason.{Reason}
+use Rattle.service_drawing.specs.declared.reading.cause.Reason.TheVariants.{InternalName, UnknownSetting, SetTwice, OtherForm}
+use Rattle.service_drawing.specs.declared.settings.Value.{Value}
 
 -- the bytes begin with a line `config`
 abbrev pub Opens : List ℕ → Type 0
@@ -66,8 +72,7 @@ IsNotOver bytes (BadSettings lines) =
     × IsRefusal settings (string_bytes lines)
 IsNotOver bytes NoEnd = Opens bytes × ((settings rest : List ℕ) → ¬ HasBlock settings rest bytes)
 IsNotOver bytes NoMemory = Unit {0}
-IsNotOver bytes BadArgument = ⊥
-IsNotOver bytes (BadLine line cause prefix form) = ⊥
+IsNotOver bytes other = ⊥
 
 -- the lines that follow those of settings: what the ports exchange, attributes and what an opener
 -- requires
@@ -103,3 +108,110 @@ IsDescriptionOrNothing base bytes = IsDescription base bytes ⊎ (bytes ≡ [])
 abbrev pub StopsReading : Config → List ℕ → List ℕ → Type 0
 StopsReading base left bytes =
     Stops (IsDescriptionOrNothing base) (IsDescription base) left bytes
+
+-- what stands before the first newline
+abbrev pub line_of : List ℕ → List ℕ
+line_of bytes = before_first (λ b. b == 10) bytes
+
+-- the line ends in a carriage return
+abbrev pub EndsInReturn : List ℕ → Type 0
+EndsInReturn line = IsTrue (ends_with nat_eq line (13 ∷ []))
+
+-- one space follows another
+abbrev pub HasTwoSpaces : List ℕ → Type 0
+HasTwoSpaces line =
+    (i : ℕ) × (i + 1 < length line) × (slice_index line i ≡ 32) × (slice_index line (i + 1) ≡ 32)
+
+-- a newline ends the first line
+abbrev pub IsEnded : List ℕ → Type 0
+IsEnded bytes = length (line_of bytes) < length bytes
+
+-- for this cause no line begins what is left
+abbrev pub IsMisspelled : List ℕ → Cause → Type 0
+IsMisspelled bytes NoNewline = (bytes ≢ []) × (line_of bytes ≡ bytes)
+IsMisspelled bytes CarriageReturn = IsEnded bytes × EndsInReturn (line_of bytes)
+IsMisspelled bytes (ForeignByte b) =
+    IsEnded bytes × (¬ EndsInReturn (line_of bytes))
+    × (find (λ b. not (is_plain b)) (line_of bytes) ≡ Some b)
+IsMisspelled bytes other = ⊥
+
+-- a line begins what is left, or nothing is left
+abbrev pub IsSpelled : List ℕ → Type 0
+IsSpelled bytes =
+    (bytes ≡ []) ⊎ (IsEnded bytes × (find (λ b. not (is_plain b)) (line_of bytes) ≡ None))
+
+-- what is left begins with a line that is bad for this cause, where reading found this reason
+abbrev pub IsCause : List ℕ → Reason → Cause → Type 0
+IsCause bytes reason TwoSpaces =
+    IsSpelled bytes × (reason ≢ InternalName) × HasTwoSpaces (line_of bytes)
+IsCause bytes reason (Read reported) =
+    IsSpelled bytes × (reported ≡ reason) × ((reason ≡ InternalName) ⊎ (¬ HasTwoSpaces (line_of
+    bytes)))
+IsCause bytes reason cause = IsMisspelled bytes cause
+
+-- the first line names a service as those of the system itself are named
+pub record BeginsInternal (bytes : List ℕ) : Type 0 where
+  pub text : List ℕ
+  pub rest : List ℕ
+  pub line : IsLine text rest bytes
+  pub internal : IsInternal text
+
+-- this is the reason why the bytes begin with no line of a service
+abbrev pub IsServiceReason : Reason → List ℕ → Type 0
+IsServiceReason InternalName bytes = BeginsInternal bytes
+IsServiceReason OtherForm bytes = ¬ BeginsInternal bytes
+IsServiceReason other bytes = ⊥
+
+-- only lines that set settings stand before what is left of the bytes, and that begins with one
+-- more such line, in which a space follows the name of the setting
+pub record AtSetting (names : List (List ℕ)) (defaults : List Value)
+    (left bytes : List ℕ) : Type 0 where
+  pub sets : List Assignment
+  pub before : UpTo (codes "set ") (GivesSetting names defaults) sets left bytes
+  pub text : List ℕ
+  pub rest : List ℕ
+  pub line : IsLine (codes "set " ++ text) rest left
+  pub spaced : word_of text ≢ text
+
+-- the line with which what is left begins names none of the settings
+pub record IsUnknown (names : List (List ℕ)) (defaults : List Value)
+    (left bytes : List ℕ) : Type 0 where
+  pub at : AtSetting names defaults left bytes
+  pub none : (index : ℕ) → ¬ HasName names index (word_of at.text)
+
+-- the line with which what is left begins names a setting that a line before it has set
+pub record WasSet (names : List (List ℕ)) (defaults : List Value)
+    (left bytes : List ℕ) : Type 0 where
+  pub at : AtSetting names defaults left bytes
+  pub index : ℕ
+  pub setting : IsSetting names index (word_of at.text)
+  pub before : IsTrue (list_any (nat_eq index) (map (λ set. set.index) at.sets))
+
+-- this is the reason why a line sets nothing
+abbrev pub IsSettingReason : List (List ℕ) → List Value → Reason → List ℕ → List ℕ → Type 0
+IsSettingReason names defaults InternalName left bytes = ⊥
+IsSettingReason names defaults UnknownSetting left bytes = IsUnknown names defaults left bytes
+IsSettingReason names defaults SetTwice left bytes = WasSet names defaults left bytes
+IsSettingReason names defaults OtherForm left bytes =
+    (¬ IsUnknown names defaults left bytes) × (¬ WasSet names defaults left bytes)
+
+-- the bytes begin with the line of a service, and this holds of what follows it, for the settings
+-- of its pattern
+pub record AmongSettings (base : Config)
+    (Holds : List (List ℕ) → List Value → List ℕ → List ℕ → Type 0)
+    (left bytes : List ℕ) : Type 0 where
+  pub kind : PatternKind
+  pub name : List ℕ
+  pub at_settings : List ℕ
+  pub service : HasService kind name at_settings bytes
+  pub holds : Holds (section kind).names ((section kind).values base.defaults) left at_settings
+
+-- this is the reason why no description goes on with the line with which what is left begins:
+-- the name of the service, that of a setting, a setting that was set before, and else its form
+abbrev pub IsReason : Config → Reason → List ℕ → List ℕ → Type 0
+IsReason base InternalName left bytes = BeginsInternal bytes
+IsReason base UnknownSetting left bytes = AmongSettings base IsUnknown left bytes
+IsReason base SetTwice left bytes = AmongSettings base WasSet left bytes
+IsReason base OtherForm left bytes =
+    (¬ BeginsInternal bytes) × (¬ AmongSettings base IsUnknown left bytes)
+    × (¬ AmongSettings base WasSet left bytes)

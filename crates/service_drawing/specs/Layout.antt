@@ -14,10 +14,10 @@ use Rattle.service_drawing.specs.declared.description.Message.{Message}
 use Rattle.service_drawing.specs.declared.description.Segment.{Segment}
 use Rattle.std.specs.Fmt.{decimal}
 use Rattle.service_drawing.specs.declared.sentences.Counted.{Counted}
-use Rattle.service_drawing.specs.Extent.{Extent, InExtent}
+use Rattle.std.specs.declared.ops.Range.{Range}
 
--- the span of this many bytes from this place on
-abbrev pub span : ℕ → ℕ → Extent
+-- this many bytes from this place on
+abbrev pub span : ℕ → ℕ → Range ℕ
 span start size = record { start = start; end = start + size }
 
 -- the layout of a message of n elements whose header lies at the place 0
@@ -43,14 +43,18 @@ pub record IsWhole (l : MessageLayout) : Type 0 where
   pub inside : l.payload.end ≤ l.size
   pub limit : l.size < 2 ^ 63
 
+-- the byte at this offset is one of them
+abbrev pub IsIn : Range ℕ → ℕ → Type 0
+IsIn bytes offset = (bytes.start ≤ offset) × (offset < bytes.end)
+
 -- this is what lies at the byte
 abbrev pub IsPartAt : MessageLayout → ℕ → Part → Type 0
-IsPartAt l offset part.Header = InExtent l.header offset
-IsPartAt l offset part.UserHeader = InExtent l.user_header offset
+IsPartAt l offset part.Header = IsIn l.header offset
+IsPartAt l offset part.UserHeader = IsIn l.user_header offset
 IsPartAt l offset (part.Element i) =
     (i < l.elements) × (l.payload.start + i * l.element ≤ offset)
     × (offset < l.payload.start + (i + 1) * l.element)
-IsPartAt l offset part.Gap = (¬ InExtent l.header offset) × (¬ InExtent l.user_header offset)
+IsPartAt l offset part.Gap = (¬ IsIn l.header offset) × (¬ IsIn l.user_header offset)
     × (offset < l.payload.start)
 IsPartAt l offset part.Spare = l.payload.end ≤ offset
 

@@ -16,8 +16,7 @@ use Rattle.std.specs.Fmt.{decimal}
 use Rattle.std.specs.Io.KnownBytes.{Appends, IsAtEnd}
 use Rattle.line_streams.specs.Filters.{either}
 use Rattle.iox2_config.specs.declared.config.Config.{Config}
-use Rattle.service_drawing.specs.Reasons.{IsCause, IsReason}
-use Rattle.service_drawing.specs.Descriptions.{IsDescription, StopsReading, IsOver, IsNotOver}
+use Rattle.service_drawing.specs.Descriptions.{IsCause, IsReason, IsDescription, StopsReading, IsOver, IsNotOver}
 use Rattle.service_drawing.specs.declared.streams.TheConstants.{HELP, VERSION}
 use Rattle.service_drawing.specs.declared.reading.cause.Cause.{Cause}
 use Rattle.service_drawing.specs.declared.reading.cause.Cause.TheVariants.{NoNewline, CarriageReturn, ForeignByte, TwoSpaces, Read}
@@ -42,10 +41,7 @@ IsRequest words (Ok (Drawing Svg)) = words ≡ codes "svg" ∷ []
 IsRequest words (Ok Help) = words ≡ codes "--help" ∷ []
 IsRequest words (Ok Version) = words ≡ codes "--version" ∷ []
 IsRequest words (Err BadArgument) = IsNoRequest words
-IsRequest words (Err NoMemory) = ⊥
-IsRequest words (Err (BadLine line cause prefix form)) = ⊥
-IsRequest words (Err (BadSettings lines)) = ⊥
-IsRequest words (Err NoEnd) = ⊥
+IsRequest words (Err other) = ⊥
 
 -- what the arguments ask for: where they could not be had, there is no memory or they are bad
 abbrev pub IsRequestOf : Result (IntoIter (String Global) Global) Error → Result Asked Fault → Type
@@ -107,10 +103,7 @@ TellsBadLine bytes expected (BadLine line cause prefix form) =
     ((read : List ℕ) → bytes ≡ read ++ expected.rest.now → line ≡ count_by (λ b. b == 10) read + 1)
     × IsCause expected.rest.now expected.reason cause
     × (prefix.now ≡ expected.prefix.now) × (form.now ≡ expected.form.now)
-TellsBadLine bytes expected BadArgument = ⊥
-TellsBadLine bytes expected (BadSettings lines) = ⊥
-TellsBadLine bytes expected NoEnd = ⊥
-TellsBadLine bytes expected NoMemory = ⊥
+TellsBadLine bytes expected other = ⊥
 
 -- the line of this number is bad for this cause: behind the block in front, if there is one, it is
 -- the first that no description has there, and its cause follows from the reason why none has it
@@ -147,11 +140,8 @@ Answers given (Ok Version) end = IsTextOrNoMemory VERSION.now end
 
 -- the status of a fault
 abbrev pub fault_status : Fault → ℕ
-fault_status (BadLine line cause prefix form) = 1
-fault_status BadArgument = 1
-fault_status (BadSettings lines) = 1
-fault_status NoEnd = 1
 fault_status NoMemory = 2
+fault_status other = 1
 
 -- the status
 abbrev pub status_of : Result Written Fault → ℕ

@@ -1,84 +1,23 @@
 //! Where the parts of a message lie.
-ghost use Rattle.std.specs.Prelude.{◌≡◌, ◌-◌, ◌<◌, ◌≤◌, ◌↔◌, IsTrue, ◌^◌, ◌+◌, ◌*◌, IfSome, IfNone};
-ghost use Rattle.std.specs.Prelude.{MatchOption};
+ghost use Rattle.std.specs.Prelude.{◌≡◌, ◌<◌, ◌≤◌, ◌^◌, ◌+◌, ◌*◌, IfSome, IfNone, MatchOption};
 ghost use Rattle.iox2_config.specs.Layout.{HaveAlignments, sample_size};
 ghost use Rattle.service_drawing.specs.Layout.{IsLayoutOf, IsWhole, IsPartAt, span};
 
 use iox2_config::types::MessageTypeDetails;
-use std::marker::Model;
-
-/// The bytes from one offset on and before another.
-#[derive(Clone, Copy)]
-pub(crate) struct Span {
-    start: usize,
-    end: usize,
-}
-
-impl Model for Span {
-    ghost use Rattle.std.specs.Prelude.{◌≤◌};
-    ghost use Rattle.service_drawing.specs.Extent.{Extent};
-
-    ghost Value = { Extent };
-
-    ghost view = { λ s. record { start = s.start; end = s.end } };
-
-    ghost invariant = { λ s. s.start ≤ s.end };
-
-    ghost inverse = { λ e. record { start = e.start; end = e.end } };
-}
-
-impl Span {
-    ghost use Rattle.service_drawing.specs.Extent.{Extent, InExtent};
-
-    /// The bytes from `start` on and before `end`.
-    pub(crate) fn new(start: usize, end: usize) -> Self
-        requires { start ≤ end }
-        ensures { result ≡ record { start = start; end = end } }
-    {
-        Span { start, end }
-    }
-
-    /// The offset of the first byte.
-    pub(crate) fn start(&self) -> usize
-        ensures { result ≡ self.now.start }
-    {
-        self.start
-    }
-
-    /// The offset behind the last byte.
-    pub(crate) fn end(&self) -> usize
-        ensures { result ≡ self.now.end }
-    {
-        self.end
-    }
-
-    /// How many bytes there are.
-    pub(crate) fn len(&self) -> usize
-        ensures { result ≡ self.now.end - self.now.start }
-    {
-        self.end - self.start
-    }
-
-    /// Whether the byte at this offset is one of them.
-    pub(crate) fn has(&self, offset: usize) -> bool
-        ensures { IsTrue result ↔ InExtent self.now offset }
-    {
-        self.start <= offset && offset < self.end
-    }
-}
+use std::ops::Range;
 
 /// The offsets of the parts of a message from its header, and its layout.
-#[derive(Clone, Copy)]
+#[derive(Drop)]
 pub(crate) struct MessageLayout {
-    pub(crate) header: Span,
+    pub(crate) header: Range<usize>,
     /// Nothing lies between the header and the user header.
-    pub(crate) first_gap: Span,
-    pub(crate) user_header: Span,
+    pub(crate) first_gap: Range<usize>,
+    pub(crate) user_header: Range<usize>,
     /// Nothing lies between the user header and the payload.
-    pub(crate) second_gap: Span,
-    pub(crate) payload: Span,
+    pub(crate) second_gap: Range<usize>,
+    pub(crate) payload: Range<usize>,
     /// Nothing lies behind the payload.
-    pub(crate) spare: Span,
+    pub(crate) spare: Range<usize>,
     /// How many bytes an element of the payload takes.
     pub(crate) element: usize,
     /// How many elements there are.
@@ -120,12 +59,12 @@ impl MessageLayout {
         let element = details.payload.size();
         let payload_end = payload + element * elements;
         Some(MessageLayout {
-            header: Span::new(0, header_end),
-            first_gap: Span::new(header_end, user_header),
-            user_header: Span::new(user_header, user_header_end),
-            second_gap: Span::new(user_header_end, payload),
-            payload: Span::new(payload, payload_end),
-            spare: Span::new(payload_end, room.size()),
+            header: 0..header_end,
+            first_gap: header_end..user_header,
+            user_header: user_header..user_header_end,
+            second_gap: user_header_end..payload,
+            payload: payload..payload_end,
+            spare: payload_end..room.size(),
             element,
             elements,
             size: room.size(),
@@ -134,18 +73,18 @@ impl MessageLayout {
 
     /// Where the element of this number lies.
     #[tactic(auto, using(crate::proofs::Inside::element_inside))]
-    pub(crate) fn element(&self, i: usize) -> Span
+    pub(crate) fn element(&self, i: usize) -> Range<usize>
         requires whole { IsWhole self.now }
         requires there { i < self.now.elements }
         ensures { result ≡ span (self.now.payload.start + i * self.now.element) self.now.element }
     {
-        let start = self.payload.start() + i * self.element;
-        Span::new(start, start + self.element)
+        let start = self.payload.start + i * self.element;
+        start..start + self.element
     }
 
     /// Where the elements from this number on lie.
     #[tactic(auto, using(crate::proofs::Inside::elements_inside))]
-    pub(crate) fn elements_from(&self, i: usize) -> Span
+    pub(crate) fn elements_from(&self, i: usize) -> Range<usize>
         requires whole { IsWhole self.now }
         requires there { i ≤ self.now.elements }
         ensures { result ≡ record {
@@ -153,7 +92,7 @@ impl MessageLayout {
           end = self.now.payload.end;
         } }
     {
-        Span::new(self.payload.start() + i * self.element, self.payload.end())
+        self.payload.start + i * self.element..self.payload.end
     }
 
     /// What lies at the byte of this offset.
@@ -161,14 +100,14 @@ impl MessageLayout {
         requires { IsWhole self.now }
         ensures { IsPartAt self.now offset result }
     {
-        if self.header.has(offset) {
+        if self.header.contains(&offset) {
             Part::Header
-        } else if self.user_header.has(offset) {
+        } else if self.user_header.contains(&offset) {
             Part::UserHeader
-        } else if offset < self.payload.start() {
+        } else if offset < self.payload.start {
             Part::Gap
-        } else if offset < self.payload.end() {
-            Part::Element((offset - self.payload.start()) / self.element)
+        } else if offset < self.payload.end {
+            Part::Element((offset - self.payload.start) / self.element)
         } else {
             Part::Spare
         }
@@ -184,6 +123,7 @@ impl MessageLayout {
 
     /// How many bytes this many messages of each of so many ports take, or `None` where that passes
     /// 2^64 - 1.
+    #[tactic(auto, using(crate::proofs::Inside::no_less))]
     pub(crate) fn memory_of_all(&self, chunks: usize, ports: usize) -> Option<usize>
         ensures { MatchOption result (2 ^ 64 ≤ (chunks * self.now.size) * ports)
             (λ bytes. bytes ≡ (chunks * self.now.size) * ports) }

@@ -2,7 +2,7 @@
 ghost use Rattle.std.specs.Prelude.{MatchResult};
 ghost use Rattle.service_drawing.specs.Descriptions.{HasDescription, StopsReading};
 ghost use Rattle.service_drawing.specs.Lines.{IsFailure, StopsAt, exchange};
-ghost use Rattle.service_drawing.specs.Reasons.{IsReason, IsSettingReason};
+ghost use Rattle.service_drawing.specs.Descriptions.{IsReason, IsSettingReason};
 ghost use Rattle.service_drawing.specs.Settings.{HasConfiguration, section};
 
 mod attributes;

@@ -4,9 +4,10 @@ ghost use Rattle.service_drawing.specs.Layout.{counted_text};
 
 use crate::description::{Message, Segment};
 use crate::layout::MessageLayout;
-use iox2_config::types::Incompatibility;
+use iox2_config::types::{Incompatibility, TypeDetail};
 use std::alloc::AllocError;
 use std::fmt;
+use std::ops::Range;
 
 /// A number of things of one name: `1 byte`, `2 bytes`.
 #[derive(Clone, Copy)]
@@ -33,6 +34,77 @@ impl fmt::Display for Counted {
             _ => write!(f, "{number} {name}s"),
         }
     }
+}
+
+/// A part of a message, or the padding behind one.
+#[derive(Clone, Copy)]
+pub(crate) struct Row<'a> {
+    /// Its letter in the bar of a text; empty for a payload, whose elements have digits there.
+    pub(crate) letter: &'static str,
+    /// Its class in the style sheet of a picture.
+    pub(crate) class: &'static str,
+    pub(crate) name: &'static str,
+    pub(crate) span: &'a Range<usize>,
+    /// The type of a part, and that which an opener has for it, if there is one.
+    pub(crate) types: Option<(&'a TypeDetail, Option<&'a TypeDetail>)>,
+}
+
+impl<'a> Row<'a> {
+    /// The part with this letter and name, of the first type.
+    fn part(
+        letter: &'static str,
+        class: &'static str,
+        name: &'static str,
+        span: &'a Range<usize>,
+        types: (&'a TypeDetail, Option<&'a TypeDetail>),
+    ) -> Self {
+        Row {
+            letter,
+            class,
+            name,
+            span,
+            types: Some(types),
+        }
+    }
+
+    /// Bytes at which nothing lies.
+    fn padding(letter: &'static str, span: &'a Range<usize>) -> Self {
+        Row {
+            letter,
+            class: "empty",
+            name: "padding",
+            span,
+            types: None,
+        }
+    }
+
+    /// Whether it is shown: padding without bytes is not.
+    pub(crate) fn is_shown(&self) -> bool {
+        self.types.is_some() || !self.span.is_empty()
+    }
+}
+
+/// The parts of a message and the padding behind each, in their order.
+pub(crate) fn rows<'a>(message: &'a Message, layout: &'a MessageLayout) -> [Row<'a>; 6] {
+    let types = &message.details;
+    let opener = message.opener.as_ref();
+    let header = (&types.header, opener.map(|o| &o.header));
+    let user_header = (&types.user_header, opener.map(|o| &o.user_header));
+    let payload = (&types.payload, opener.map(|o| &o.payload));
+    [
+        Row::part("H", "header", "header", &layout.header, header),
+        Row::padding(".", &layout.first_gap),
+        Row::part(
+            "U",
+            "user-header",
+            "user header",
+            &layout.user_header,
+            user_header,
+        ),
+        Row::padding(".", &layout.second_gap),
+        Row::part("", "payload", "payload", &layout.payload, payload),
+        Row::padding("-", &layout.spare),
+    ]
 }
 
 /// Whether the opener of a message may use it, and if not, why. `None` where there is no opener.

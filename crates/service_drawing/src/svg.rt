@@ -55,40 +55,6 @@ pub(super) struct Sheet {
 }
 
 impl Sheet {
-    /// An empty sheet, with a margin above the first line.
-    pub(super) fn new(alloc: Global) -> Self {
-        Sheet {
-            alloc,
-            drawn: String::new(alloc),
-            top: 150,
-        }
-    }
-
-    /// Where memory for texts comes from.
-    pub(super) fn alloc(&self) -> Global {
-        self.alloc
-    }
-
-    /// What was drawn.
-    pub(super) fn drawn(&self) -> &str {
-        self.drawn.as_str()
-    }
-
-    /// To append what has a position of its own.
-    pub(super) fn text(&mut self) -> &mut String {
-        &mut self.drawn
-    }
-
-    /// Where the next line begins.
-    pub(super) fn top(&self) -> usize {
-        self.top
-    }
-
-    /// How high the picture is, with a margin below the last line.
-    pub(super) fn height(&self) -> usize {
-        self.top.saturating_add(100)
-    }
-
     /// Leaves a margin.
     pub(super) fn skip(&mut self, height: usize) {
         self.top = self.top.saturating_add(height);
@@ -165,9 +131,14 @@ pub(crate) fn write_svg(
     out: &mut String,
     service: &Description,
 ) -> Result<(), AllocError> {
-    let mut sheet = Sheet::new(alloc);
+    // There is a margin above the first line, and one below the last.
+    let mut sheet = Sheet {
+        alloc,
+        drawn: String::new(alloc),
+        top: 150,
+    };
     write_sheet(&mut sheet, service)?;
-    let height = sheet.height();
+    let height = sheet.top.saturating_add(100);
     writeln!(
         out,
         "<svg xmlns=\"http://www.w3.org/2000/svg\" viewBox=\"0 0 7600 {height}\" width=\"760\" role=\"img\" aria-labelledby=\"title description\" font-family=\"sans-serif\" font-size=\"130\" class=\"ink\">"
@@ -181,7 +152,7 @@ pub(crate) fn write_svg(
         out,
         "<rect class=\"page\" width=\"7600\" height=\"{height}\"/>"
     )?;
-    out.push_str(sheet.drawn())?;
+    out.push_str(sheet.drawn.as_str())?;
     writeln!(out, "</svg>")
 }
 
@@ -211,7 +182,7 @@ fn write_description(out: &mut String, service: &Description) -> Result<(), Allo
 /// Draws the name of a service, and below it its messages or the type of its keys.
 fn write_sheet(sheet: &mut Sheet, service: &Description) -> Result<(), AllocError> {
     let pattern = service.kind.word();
-    let heading = format!(in sheet.alloc(); "{} ({pattern})", service.name.as_str())?;
+    let heading = format!(in sheet.alloc; "{} ({pattern})", service.name.as_str())?;
     sheet.write_lines(NAME, heading.as_str())?;
     sheet.skip(120);
     for segment in segments(service) {
@@ -223,7 +194,7 @@ fn write_sheet(sheet: &mut Sheet, service: &Description) -> Result<(), AllocErro
         Exchange::Event => sheet.write_lines(NOTE, "no messages"),
         Exchange::Blackboard(key) => {
             sheet.write_lines(NOTE, "no messages, but values with keys of this type:")?;
-            let text = format!(in sheet.alloc();
+            let text = format!(in sheet.alloc;
                 "{}, alignment {}, {}",
                 Counted::new(key.size(), "byte"),
                 key.alignment(),

@@ -5,17 +5,18 @@ ghost use Rattle.iox2_texts.specs.Path.{IsPlain};
 ghost use Rattle.service_drawing.specs.Layout.{IsWhole};
 
 use crate::description::{Description, Exchange, Message, Segment, segments};
-use crate::layout::{MessageLayout, Part, Span};
-use crate::sentences::{opener_sentence, write_memory};
+use crate::layout::{MessageLayout, Part};
+use crate::sentences::{Row, opener_sentence, rows, write_memory};
 use crate::settings::Settings;
 use arrayvec::ArrayVec;
 use iox2_config::config::Config;
 use iox2_config::hash::{PatternKind, ServiceHash};
-use iox2_config::types::{MessageTypeDetails, TypeDetail};
+use iox2_config::types::TypeDetail;
 use iox2_texts::attribute::{Attribute, AttributeVerifier};
 use iox2_texts::bounded::SemanticStringError;
 use iox2_texts::paths::{FileName, FilePath};
 use std::alloc::AllocError;
+use std::ops::Range;
 
 /// The name of the file of a service: the prefix, the hash text and the suffix. Refused where it
 /// has more than 255 bytes.
@@ -83,37 +84,26 @@ fn write_files(out: &mut String, service: &Description) -> Result<(), AllocError
 fn write_port_files(out: &mut String, service: &Description) -> Result<(), AllocError> {
     let prefix = &service.config.global.prefix;
     let names = &service.config.global.service;
-    match service.exchange {
-        Exchange::PublishSubscribe(_) | Exchange::RequestResponse(..) => {
-            writeln!(
-                out,
-                "  data segments          {prefix}*{}",
-                names.data_segment_suffix
-            )?;
-            writeln!(
-                out,
-                "  connections            {prefix}*{}",
-                names.connection_suffix
-            )
-        }
-        Exchange::Event => writeln!(
-            out,
-            "  connections            {prefix}*{}",
-            names.event_connection_suffix
-        ),
-        Exchange::Blackboard(_) => {
-            writeln!(
-                out,
-                "  management segment     {prefix}*{}",
-                names.blackboard_mgmt_suffix
-            )?;
-            writeln!(
-                out,
-                "  data segment           {prefix}*{}",
-                names.blackboard_data_suffix
-            )
+    let files = match service.exchange {
+        Exchange::PublishSubscribe(_) | Exchange::RequestResponse(..) => [
+            Some(("data segments          ", &names.data_segment_suffix)),
+            Some(("connections            ", &names.connection_suffix)),
+        ],
+        Exchange::Event => [
+            Some(("connections            ", &names.event_connection_suffix)),
+            None,
+        ],
+        Exchange::Blackboard(_) => [
+            Some(("management segment     ", &names.blackboard_mgmt_suffix)),
+            Some(("data segment           ", &names.blackboard_data_suffix)),
+        ],
+    };
+    for file in files {
+        if let Some((what, suffix)) = file {
+            writeln!(out, "  {what}{prefix}*{suffix}")?;
         }
     }
+    Ok(())
 }
 
 /// Appends the settings of the service's pattern.
@@ -277,75 +267,22 @@ fn write_bar(out: &mut String, layout: &MessageLayout) -> Result<(), AllocError>
     }
 }
 
-/// Appends the columns of numbers of a row.
+/// Appends the columns of numbers of a row: where it lies, and the alignments of types.
 fn write_columns(
     out: &mut String,
-    span: Span,
-    alignment: Option<usize>,
-    opener: Option<usize>,
+    span: &Range<usize>,
+    types: [Option<&TypeDetail>; 2],
 ) -> Result<(), AllocError> {
-    let offset = span.start();
+    let offset = span.start;
     let size = span.len();
     write!(out, "{offset:>10} {size:>10}")?;
-    for cell in [alignment, opener] {
-        match cell {
-            Some(n) => write!(out, " {n:>10}")?,
+    for detail in types {
+        match detail {
+            Some(detail) => write!(out, " {:>10}", detail.alignment())?,
             None => write!(out, "           ")?,
         }
     }
     Ok(())
-}
-
-/// Appends the row of bytes at which nothing lies, if there are any.
-fn write_empty(out: &mut String, span: Span, what: &str) -> Result<(), AllocError> {
-    if span.len() == 0 {
-        return Ok(());
-    }
-    write_columns(out, span, None, None)?;
-    writeln!(out, "  {what}")
-}
-
-/// Appends the row of a part of one type, with its alignments and its name.
-fn write_typed(
-    out: &mut String,
-    span: Span,
-    what: &str,
-    detail: &TypeDetail,
-    opener: Option<usize>,
-) -> Result<(), AllocError> {
-    write_columns(out, span, Some(detail.alignment()), opener)?;
-    writeln!(out, "  {what} {}", detail.type_name())
-}
-
-/// Appends the row of the payload, and those of its first elements.
-fn write_payload(
-    out: &mut String,
-    layout: &MessageLayout,
-    detail: &TypeDetail,
-    opener: Option<usize>,
-) -> Result<(), AllocError>
-    requires { IsWhole layout.now }
-{
-    write_columns(out, layout.payload, Some(detail.alignment()), opener)?;
-    writeln!(
-        out,
-        "    payload {} of {}",
-        layout.elements,
-        detail.type_name()
-    )?;
-    write_elements(out, layout)
-}
-
-/// The alignments that an opener has for the parts of a message.
-fn opener_alignments(opener: Option<&MessageTypeDetails>) -> [Option<usize>; 3] {
-    match opener {
-        Some(o) => [
-            Some(o.header.alignment()),
-            Some(o.user_header.alignment()),
-            Some(o.payload.alignment()),
-        ],
-        None => [None; 3],
-    }
 }
 
 /// Appends a row for each part of a message, for the padding between them and for the first
@@ -357,27 +294,39 @@ fn write_table(
 ) -> Result<(), AllocError>
     requires { IsWhole layout.now }
 {
-    let types = &message.details;
-    let opener = message.opener.as_ref();
     writeln!(
         out,
         "    offset       size  alignment {:>10}  part",
-        if opener.is_some() { "opener's" } else { "" }
+        if message.opener.is_some() {
+            "opener's"
+        } else {
+            ""
+        }
     )?;
-    let [header, user_header, payload] = opener_alignments(opener);
-    write_typed(out, layout.header, "H header", &types.header, header)?;
-    write_empty(out, layout.first_gap, ". padding")?;
-    write_typed(
-        out,
-        layout.user_header,
-        "U user header",
-        &types.user_header,
-        user_header,
-    )?;
-    write_empty(out, layout.second_gap, ". padding")?;
-    write_payload(out, layout, &types.payload, payload)?;
-    write_empty(out, layout.spare, "- padding")?;
+    for row in rows(message, layout) {
+        if row.is_shown() {
+            write_row(out, row, layout)?;
+        }
+    }
     writeln!(out, "{:>10} {:>32}    end", layout.size, "")
+}
+
+/// Appends the row of a part or of padding, and below that of the payload its first elements.
+fn write_row(out: &mut String, row: Row<'_>, layout: &MessageLayout) -> Result<(), AllocError>
+    requires { IsWhole layout.now }
+{
+    let Some((detail, opener)) = row.types else {
+        write_columns(out, row.span, [None; 2])?;
+        return writeln!(out, "  {} {}", row.letter, row.name);
+    };
+    write_columns(out, row.span, [Some(detail), opener])?;
+    let name = row.name;
+    let type_name = detail.type_name();
+    if !row.letter.is_empty() {
+        return writeln!(out, "  {} {name} {type_name}", row.letter);
+    }
+    writeln!(out, "    {name} {} of {type_name}", layout.elements)?;
+    write_elements(out, layout)
 }
 
 /// How many elements follow those that are listed.
@@ -392,7 +341,7 @@ fn write_elements(out: &mut String, layout: &MessageLayout) -> Result<(), AllocE
     requires { IsWhole layout.now }
 {
     for i in 0..layout.elements.min(LISTED) {
-        write_columns(out, layout.element(i), None, None)?;
+        write_columns(out, &layout.element(i), [None; 2])?;
         writeln!(out, "  {i}   element {i}")?;
     }
     match others(layout.elements) {

@@ -1,6 +1,6 @@
 //! Text in a document, and what stands around the calls of a picture.
 ghost use Rattle.std.specs.Prelude.{◌≡◌, ◌++◌, ◌≤◌, OnOk, length, string_bytes};
-ghost use Rattle.history_drawing.specs.Svg.{heading_text, label, mark_of, mark_text, marks_text};
+ghost use Rattle.history_drawing.specs.Svg.{heading_text, label, mark_text, marks_text};
 ghost use Rattle.history_drawing.specs.Svg.{more_text, name_text, note_text, open_text};
 ghost use Rattle.history_drawing.specs.Svg.{element_text, escaped, escaped_byte};
 
@@ -122,24 +122,6 @@ fn write_mark(out: &mut String, x: usize, bottom: usize, line: usize) -> Result<
     )
 }
 
-/// Appends the mark of this line, if there is one.
-#[tactic(auto, unfolding(crate::specs::Svg::mark_of))]
-fn write_mark_of(
-    out: &mut String,
-    bars: &[Bar<'_>],
-    bottom: usize,
-    line: Option<usize>,
-) -> Result<(), AllocError>
-    requires { length bars.now ≤ 200 }
-    ensures { OnOk result (string_bytes out.new
-        ≡ string_bytes out.old ++ mark_of bars.now bottom line) }
-{
-    match line {
-        Some(line) => write_mark(out, left(bars, line), bottom, line),
-        None => Ok(()),
-    }
-}
-
 /// Appends the marks of the lines in which a call begins and ends.
 #[tactic(auto, unfolding(crate::specs::Svg::marks_text))]
 pub(super) fn write_marks(
@@ -153,8 +135,10 @@ pub(super) fn write_marks(
         ≡ string_bytes out.old ++ marks_text bars.now bottom bar.now) }
 {
     write_mark(out, left(bars, bar.begin), bottom, bar.begin)?;
-    write_mark_of(out, bars, bottom, own_end(bar))?;
-    Ok(())
+    match own_end(bar) {
+        Some(line) => write_mark(out, left(bars, line), bottom, line),
+        None => Ok(()),
+    }
 }
 
 /// The name by which a row is labelled: calls alone have no caller.

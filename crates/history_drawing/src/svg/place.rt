@@ -1,5 +1,5 @@
 //! Where things stand in a picture, in pixels.
-ghost use Rattle.std.specs.Prelude.{◌≡◌, ◌+◌, ◌≤◌, ◌<◌, count_by, length};
+ghost use Rattle.std.specs.Prelude.{◌≡◌, ◌+◌, ◌≤◌, ◌<◌, length};
 ghost use Rattle.history_drawing.specs.Places.{begin_of, column, columns, end_of, ends_above, is_apart};
 ghost use Rattle.history_drawing.specs.Places.{left, own_end, point_of, right, top};
 

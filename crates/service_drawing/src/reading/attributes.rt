@@ -67,7 +67,7 @@ pub(super) fn attributes_before(bytes: &[u8]) -> Result<(AttributeSet, &[u8]), E
 }
 
 /// The lines of the attributes that an opener requires, at most 16.
-#[tactic(auto, using(crate::proofs::LinesOf::all_read, crate::proofs::Attributes::one_more_required))]
+#[tactic(auto, using(crate::proofs::Forms::all_read, crate::proofs::Attributes::one_more_required))]
 pub(super) fn required_before(bytes: &[u8]) -> Result<(AttributeVerifier, &[u8]), Expected<'_>>
     ensures { MatchResult result (λ found. HasRequirements found.0 found.1.now bytes.now)
         (IsFailure (line_by_line HasRequirements) bytes.now) }

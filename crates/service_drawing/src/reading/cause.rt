@@ -2,8 +2,8 @@
 ghost use Rattle.std.specs.Prelude.{◌≡◌, ◌==◌, ◌↔◌, ◌≤◌, length, not, IsTrue, MatchOption};
 ghost use Rattle.std.specs.List.{find};
 ghost use Rattle.service_drawing.specs.Lines.{is_plain};
-ghost use Rattle.service_drawing.specs.Reasons.{line_of, HasTwoSpaces, IsMisspelled};
-ghost use Rattle.service_drawing.specs.Reasons.{IsSpelled, IsCause};
+ghost use Rattle.service_drawing.specs.Descriptions.{line_of, HasTwoSpaces, IsMisspelled};
+ghost use Rattle.service_drawing.specs.Descriptions.{IsSpelled, IsCause};
 
 use line_streams::before_byte;
 

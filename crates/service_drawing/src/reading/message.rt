@@ -1,5 +1,5 @@
 //! The lines of a message.
-ghost use Rattle.std.specs.Prelude.{◌≡◌, ◌∷◌, ◌++◌, ◌<◌, ◌^◌, ℕ, List, length, IsTrue, decimal, codes};
+ghost use Rattle.std.specs.Prelude.{◌≡◌, ◌∷◌, ◌++◌, ◌<◌, ◌^◌, ℕ, List, IsTrue, decimal};
 ghost use Rattle.std.specs.Prelude.{IfSome, IfOk, MatchOption, MatchResult, option_map};
 ghost use Rattle.std.specs.Int.{is_power_of_two};
 ghost use Rattle.iox2_config.specs.TypeDetailParts.{TypeDetailParts};
@@ -13,10 +13,10 @@ ghost use Rattle.service_drawing.specs.Lines.{type_line, payload_line, elements_
 ghost use Rattle.service_drawing.specs.Lines.{aligned, message};
 
 use super::cause::Expected;
-use super::words::{line_after, number, number_word};
+use super::words::{ANY, line_after, number};
 use crate::description::Message;
 use iox2_config::types::{MessageTypeDetails, TypeDetail, TypeVariant};
-use line_streams::after_word;
+use line_streams::{After, Phrase, Then, after_word};
 use std::str;
 
 /// Two numbers with a space after each, and what follows that.
@@ -26,13 +26,13 @@ fn numbers_in(text: &[u8]) -> Option<(usize, usize, &[u8])>
         → ¬ (text.now ≡ decimal m ++ 32 ∷ (decimal n ++ 32 ∷ rest)))
         (λ found. text.now ≡ decimal found.0 ++ 32 ∷ (decimal found.1 ++ 32 ∷ found.2.now)) }
 {
-    let Some((first, rest)) = number_word(text) else {
+    let Some(((first, second), rest)) = Then(ANY, After(b" ", ANY)).read(text) else {
         return None;
     };
-    let Some((second, rest)) = number_word(rest) else {
-        return None;
-    };
-    Some((first, second, rest))
+    match after_word(rest, b" ") {
+        Some(rest) => Some((first as usize, second as usize, rest)),
+        None => None,
+    }
 }
 
 /// The type with the size, the alignment and the name of the text.

@@ -6,7 +6,7 @@ ghost use Rattle.iox2_config.specs.declared.hash.input.PatternKind.{PatternKind}
 ghost use Rattle.iox2_config.specs.Hashing.{pattern_word};
 ghost use Rattle.service_drawing.specs.Lines.{IsHashed, MayBeNamed, HasService};
 ghost use Rattle.service_drawing.specs.Lines.{HasNoPattern, IsNoService};
-ghost use Rattle.service_drawing.specs.Reasons.{IsServiceReason};
+ghost use Rattle.service_drawing.specs.Descriptions.{IsServiceReason};
 
 use super::cause::{Expected, Reason};
 use super::words::next_line;
@@ -74,7 +74,7 @@ fn service_in(line: &[u8]) -> Result<Service, Reason>
 }
 
 /// The line of a service.
-#[tactic(auto, using(crate::proofs::Reasons::no_line_reason, crate::proofs::Reasons::service_reason))]
+#[tactic(auto, using(crate::proofs::SettingLines::no_line_reason, crate::proofs::SettingLines::service_reason))]
 pub(super) fn service_before(bytes: &[u8]) -> Result<(Service, &[u8]), Expected<'_>>
     ensures spelled { MatchResult result
         (λ found. HasService found.0.kind found.0.name found.1.now bytes.now)

@@ -2,7 +2,7 @@
 ghost use Rattle.std.specs.Prelude.{◌≡◌, ◌<◌, ◌↔◌, ℕ, IsTrue, Some, IfOk, IfSome, IfErr, MatchOption, MatchResult};
 ghost use Rattle.std.specs.Prelude.{slice_get};
 ghost use Rattle.service_drawing.specs.Lines.{StopsAt};
-ghost use Rattle.service_drawing.specs.Reasons.{IsSettingReason};
+ghost use Rattle.service_drawing.specs.Descriptions.{IsSettingReason};
 ghost use Rattle.service_drawing.specs.Settings.{HasName, HasSettings, IsDashed, IsNamed, IsNotSet};
 ghost use Rattle.service_drawing.specs.Settings.{IsSetting, Sets, dash_for};
 

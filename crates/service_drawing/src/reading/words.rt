@@ -1,9 +1,9 @@
 //! Lines and numbers, each with one text.
-ghost use Rattle.std.specs.Prelude.{◌≡◌, ◌∷◌, ◌++◌, ◌<◌, ◌^◌, ◌↔◌, ℕ, List, length};
+ghost use Rattle.std.specs.Prelude.{◌≡◌, ◌++◌, ◌<◌, ◌^◌, ◌↔◌, ℕ, List, length};
 ghost use Rattle.std.specs.Prelude.{IsTrue, IfSome, MatchOption, decimal};
 ghost use Rattle.service_drawing.specs.Lines.{IsPlain, IsLine, HasNoLine};
 
-use line_streams::{Number, Phrase, after_word, before_byte};
+use line_streams::{LineEnd, Number, Phrase, Then, after_word, before_byte};
 
 /// Whether a line may hold the bytes: each is from 32 to 126.
 fn is_plain(bytes: &[u8]) -> bool
@@ -51,31 +51,16 @@ pub(super) fn line_after<'a>(
     Some((text, rest))
 }
 
-/// The number of the text: no sign and no leading zero.
+/// A number of 64 bits: no sign and no leading zero.
+pub(super) const ANY: Number = Number(u64::MAX);
+
+/// The number that the text is.
 pub(crate) fn number(text: &[u8]) -> Option<usize>
     ensures { MatchOption result ((n : ℕ) → n < 2 ^ 64 → ¬ (text.now ≡ decimal n))
         (λ n. text.now ≡ decimal n) }
 {
-    let Some((n, rest)) = Number(u64::MAX).read(text) else {
-        return None;
-    };
-    if rest.len() > 0 {
-        return None;
-    }
-    Some(n as usize)
-}
-
-/// The number before the first space, and what follows that.
-pub(super) fn number_word(text: &[u8]) -> Option<(usize, &[u8])>
-    ensures { MatchOption result
-        ((n : ℕ) (rest : List ℕ) → n < 2 ^ 64 → ¬ (text.now ≡ decimal n ++ 32 ∷ rest))
-        (λ found. text.now ≡ decimal found.0 ++ 32 ∷ found.1.now) }
-{
-    let Some((n, rest)) = Number(u64::MAX).read(text) else {
-        return None;
-    };
-    match after_word(rest, b" ") {
-        Some(rest) => Some((n as usize, rest)),
+    match Then(ANY, LineEnd::Bytes).read(text) {
+        Some(((n, _), _)) => Some(n as usize),
         None => None,
     }
 }

@@ -3,12 +3,12 @@ ghost use Rattle.std.specs.Prelude.{◌≡◌, ◌+◌, ◌*◌, ◌/◌, ◌≤
 ghost use Rattle.service_drawing.specs.Layout.{IsWhole};
 
 use super::{NOTE, Sheet, TYPE};
-use crate::description::{Message, Segment};
-use crate::layout::{MessageLayout, Span};
-use crate::sentences::{Counted, opener_sentence, write_memory};
-use iox2_config::types::TypeDetail;
+use crate::description::Segment;
+use crate::layout::MessageLayout;
+use crate::sentences::{Counted, Row, opener_sentence, rows, write_memory};
 use itoa::Buffer;
 use std::alloc::AllocError;
+use std::ops::Range;
 
 /// Where a bar begins.
 const LEFT: usize = 200;
@@ -57,24 +57,29 @@ pub(super) fn write_bar(out: &mut String, layout: &MessageLayout) -> Result<(), 
     requires { IsWhole layout.now }
 {
     let size = layout.size;
-    write_rectangle(out, layout.header, size, "header")?;
-    write_rectangle(out, layout.first_gap, size, "empty")?;
-    write_rectangle(out, layout.user_header, size, "user-header")?;
-    write_rectangle(out, layout.second_gap, size, "empty")?;
+    write_rectangle(out, &layout.header, size, "header")?;
+    write_rectangle(out, &layout.first_gap, size, "empty")?;
+    write_rectangle(out, &layout.user_header, size, "user-header")?;
+    write_rectangle(out, &layout.second_gap, size, "empty")?;
     write_elements(out, layout)?;
-    write_rectangle(out, layout.spare, size, "empty")?;
+    write_rectangle(out, &layout.spare, size, "empty")?;
     write_marks(out, layout)
 }
 
 /// Appends the rectangle of bytes that lie within the message, if there are any.
-fn write_rectangle(out: &mut String, span: Span, size: usize, color: &str) -> Result<(), AllocError>
-    requires { span.end ≤ size }
+fn write_rectangle(
+    out: &mut String,
+    span: &Range<usize>,
+    size: usize,
+    color: &str,
+) -> Result<(), AllocError>
+    requires { span.now.end ≤ size }
 {
-    if span.len() == 0 {
+    if span.end <= span.start {
         return Ok(());
     }
-    let left = place(span.start(), size);
-    let width = place(span.end(), size).saturating_sub(left);
+    let left = place(span.start, size);
+    let width = place(span.end, size).saturating_sub(left);
     writeln!(
         out,
         "<rect x=\"{left}\" y=\"0\" width=\"{width}\" height=\"460\" class=\"part {color}\"/>"
@@ -88,15 +93,15 @@ fn write_elements(out: &mut String, layout: &MessageLayout) -> Result<(), AllocE
     let apart = drawn_apart(layout).min(layout.elements);
     for i in 0..apart {
         let color = if i % 2 == 0 { "payload" } else { "other" };
-        write_rectangle(out, layout.element(i), layout.size, color)?;
+        write_rectangle(out, &layout.element(i), layout.size, color)?;
     }
     let others = layout.elements - apart;
     let span = layout.elements_from(apart);
-    write_rectangle(out, span, layout.size, "payload")?;
+    write_rectangle(out, &span, layout.size, "payload")?;
     if apart == 0 {
-        write_label(out, span, layout.size, others, " elements")
+        write_label(out, &span, layout.size, others, " elements")
     } else {
-        write_label(out, span, layout.size, others, " more")
+        write_label(out, &span, layout.size, others, " more")
     }
 }
 
@@ -104,15 +109,18 @@ fn write_elements(out: &mut String, layout: &MessageLayout) -> Result<(), AllocE
 /// number alone.
 fn write_label(
     out: &mut String,
-    span: Span,
+    span: &Range<usize>,
     size: usize,
     elements: usize,
     what: &str,
 ) -> Result<(), AllocError>
-    requires { span.end ≤ size }
+    requires { span.now.end ≤ size }
 {
-    let left = place(span.start(), size);
-    let right = place(span.end(), size);
+    if span.end <= span.start {
+        return Ok(());
+    }
+    let left = place(span.start, size);
+    let right = place(span.end, size);
     let room = right.saturating_sub(left);
     let x = (left + right) / 2;
     let width = number_width(elements) + LETTER;
@@ -174,9 +182,9 @@ fn write_element_marks(
     let mut free = free;
     let apart = drawn_apart(layout).min(layout.elements);
     for i in 0..apart {
-        free = write_mark(out, layout.element(i).start(), layout.size, free)?;
+        free = write_mark(out, layout.element(i).start, layout.size, free)?;
     }
-    write_mark(out, layout.elements_from(apart).start(), layout.size, free)
+    write_mark(out, layout.elements_from(apart).start, layout.size, free)
 }
 
 /// Appends the offsets at which parts begin and end: the first and the last, and the others as far
@@ -193,12 +201,12 @@ fn write_marks(out: &mut String, layout: &MessageLayout) -> Result<(), AllocErro
         return Ok(());
     }
     let free = LEFT + LETTER + MARGIN;
-    let free = write_mark(out, layout.header.end(), size, free)?;
-    let free = write_mark(out, layout.user_header.start(), size, free)?;
-    let free = write_mark(out, layout.user_header.end(), size, free)?;
-    let free = write_mark(out, layout.payload.start(), size, free)?;
+    let free = write_mark(out, layout.header.end, size, free)?;
+    let free = write_mark(out, layout.user_header.start, size, free)?;
+    let free = write_mark(out, layout.user_header.end, size, free)?;
+    let free = write_mark(out, layout.payload.start, size, free)?;
     let free = write_element_marks(out, layout, free)?;
-    write_mark(out, layout.payload.end(), size, free)?;
+    write_mark(out, layout.payload.end, size, free)?;
     let right = LEFT + WIDTH;
     writeln!(
         out,
@@ -210,15 +218,15 @@ fn write_marks(out: &mut String, layout: &MessageLayout) -> Result<(), AllocErro
 pub(super) fn write_message(sheet: &mut Sheet, segment: Segment<'_>) -> Result<(), AllocError> {
     let title = segment.title;
     let message = segment.message;
-    let top = sheet.top();
+    let top = sheet.top;
     write!(
-        sheet.text(),
+        sheet.drawn,
         "<text x=\"200\" y=\"{top}\" dy=\"150\" font-size=\"150\">{title}: "
     )?;
     sheet.skip(240);
     let Some(layout) = MessageLayout::of(&message.details, message.elements) else {
         writeln!(
-            sheet.text(),
+            sheet.drawn,
             "no layout, since it would pass 9223372036854775807 bytes</text>"
         )?;
         sheet.skip(120);
@@ -226,13 +234,17 @@ pub(super) fn write_message(sheet: &mut Sheet, segment: Segment<'_>) -> Result<(
     };
     let size = Counted::new(layout.size, "byte");
     let alignment = message.details.header.alignment();
-    writeln!(sheet.text(), "{size}, alignment {alignment}</text>")?;
-    let top = sheet.top();
-    writeln!(sheet.text(), "<g transform=\"translate(0 {top})\">")?;
-    write_bar(sheet.text(), &layout)?;
-    writeln!(sheet.text(), "</g>")?;
+    writeln!(sheet.drawn, "{size}, alignment {alignment}</text>")?;
+    let top = sheet.top;
+    writeln!(sheet.drawn, "<g transform=\"translate(0 {top})\">")?;
+    write_bar(&mut sheet.drawn, &layout)?;
+    writeln!(sheet.drawn, "</g>")?;
     sheet.skip(740);
-    write_rows(sheet, message, &layout)?;
+    for row in rows(message, &layout) {
+        if row.is_shown() {
+            write_row(sheet, row)?;
+        }
+    }
     write_notes(sheet, segment, &layout)?;
     sheet.skip(160);
     Ok(())
@@ -251,96 +263,39 @@ pub(super) fn write_summary(out: &mut String, segment: Segment<'_>) -> Result<()
         Counted::new(layout.size, "byte"),
         Counted::new(layout.header.len(), "byte"),
         Counted::new(layout.user_header.len(), "byte"),
-        layout.user_header.start(),
+        layout.user_header.start,
         Counted::new(layout.elements, "element"),
-        layout.payload.start()
+        layout.payload.start
     )
 }
 
-/// Draws the color of a part, what it is and where it lies.
-fn write_row(sheet: &mut Sheet, color: &str, what: &str, span: Span) -> Result<(), AllocError> {
-    let top = sheet.top();
-    let offset = span.start();
-    let size = Counted::new(span.len(), "byte");
+/// Draws the color of a part or of padding, what it is and where it lies, and of a part the
+/// alignments and the name of its type.
+fn write_row(sheet: &mut Sheet, row: Row<'_>) -> Result<(), AllocError> {
+    let top = sheet.top;
+    let class = row.class;
+    let name = row.name;
+    let offset = row.span.start;
+    let size = Counted::new(row.span.len(), "byte");
     writeln!(
-        sheet.text(),
-        "<rect x=\"200\" y=\"{top}\" width=\"140\" height=\"140\" class=\"part {color}\"/>"
+        sheet.drawn,
+        "<rect x=\"200\" y=\"{top}\" width=\"140\" height=\"140\" class=\"part {class}\"/>"
     )?;
     writeln!(
-        sheet.text(),
-        "<text x=\"440\" y=\"{top}\" dy=\"115\">{what}: offset {offset}, {size}</text>"
+        sheet.drawn,
+        "<text x=\"440\" y=\"{top}\" dy=\"115\">{name}: offset {offset}, {size}</text>"
     )?;
     sheet.skip(200);
-    Ok(())
-}
-
-/// Draws the row of bytes at which nothing lies, if there are any.
-fn write_empty(sheet: &mut Sheet, what: &str, span: Span) -> Result<(), AllocError> {
-    if span.len() == 0 {
-        return Ok(());
+    if let Some((detail, opener)) = row.types {
+        let mut text = format!(in sheet.alloc; "alignment {}, ", detail.alignment())?;
+        if let Some(opener) = opener {
+            write!(text, "opener's {}, ", opener.alignment())?;
+        }
+        write!(text, "{}", detail.type_name())?;
+        sheet.write_lines(TYPE, text.as_str())?;
     }
-    write_row(sheet, "empty", what, span)?;
     sheet.skip(40);
     Ok(())
-}
-
-/// Draws the row of a part of some type, with its alignments and its name.
-fn write_typed(
-    sheet: &mut Sheet,
-    color: &str,
-    what: &str,
-    span: Span,
-    detail: &TypeDetail,
-    opener: Option<&TypeDetail>,
-) -> Result<(), AllocError> {
-    write_row(sheet, color, what, span)?;
-    let alignment = detail.alignment();
-    let name = detail.type_name();
-    let mut text = format!(in sheet.alloc(); "alignment {alignment}, ")?;
-    if let Some(opener) = opener {
-        write!(text, "opener's {}, ", opener.alignment())?;
-    }
-    write!(text, "{name}")?;
-    sheet.write_lines(TYPE, text.as_str())?;
-    sheet.skip(40);
-    Ok(())
-}
-
-/// Draws a row for each part of a message, and for each padding that has bytes.
-fn write_rows(
-    sheet: &mut Sheet,
-    message: &Message,
-    layout: &MessageLayout,
-) -> Result<(), AllocError> {
-    let types = &message.details;
-    let opener = message.opener.as_ref();
-    write_typed(
-        sheet,
-        "header",
-        "header",
-        layout.header,
-        &types.header,
-        opener.map(|o| &o.header),
-    )?;
-    write_empty(sheet, "padding", layout.first_gap)?;
-    write_typed(
-        sheet,
-        "user-header",
-        "user header",
-        layout.user_header,
-        &types.user_header,
-        opener.map(|o| &o.user_header),
-    )?;
-    write_empty(sheet, "padding", layout.second_gap)?;
-    write_typed(
-        sheet,
-        "payload",
-        "payload",
-        layout.payload,
-        &types.payload,
-        opener.map(|o| &o.payload),
-    )?;
-    write_empty(sheet, "padding", layout.spare)
 }
 
 /// Draws how many elements there are, the memory of a port, and whether the opener is compatible.
@@ -353,13 +308,13 @@ fn write_notes(
     let size = Counted::new(layout.element, "byte");
     let apart = drawn_apart(layout);
     sheet.skip(60);
-    let mut text = format!(in sheet.alloc(); "{elements} of {size}")?;
+    let mut text = format!(in sheet.alloc; "{elements} of {size}")?;
     if 0 < apart && apart < layout.elements {
         let others = layout.elements - apart;
         write!(text, ": {apart} one by one, and {others} more")?;
     }
     sheet.write_lines(NOTE, text.as_str())?;
-    let mut text = String::new(sheet.alloc());
+    let mut text = String::new(sheet.alloc);
     write_memory(&mut text, segment, layout)?;
     sheet.write_lines(NOTE, text.as_str())?;
     match opener_sentence(segment.message) {

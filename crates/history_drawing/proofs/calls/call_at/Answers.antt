@@ -1,6 +1,7 @@
-use Rattle.std.proofs.Common.{◌∙◌, ap, rules, sym}
-use Rattle.log_lines.specs.Lines.{line_seen, line_text}
-use Rattle.history_drawing.proofs.Begins.{no_call, no_line, none_begins}
+use Rattle.std.proofs.Common.{◌∙◌, rules, sym}
+use Rattle.history_drawing.specs.Calls.{Says}
+use Rattle.log_lines.specs.Lines.{line_seen}
+use Rattle.history_drawing.proofs.Begins.{no_begin, no_call, no_line, where_none}
 use Rattle.history_drawing.proofs.calls.call_at.Goals as goal
 
 pub returns-in_default-clause-none : goal.returns-in_default-clause-none
@@ -12,12 +13,15 @@ returns-in_default-clause-none c =
 pub returns-in_default-replied-clause-none : goal.returns-in_default-replied-clause-none
 returns-in_default-replied-clause-none c =
     let read = rw c.in-Some.is at c.in_ok-read.ensures in
-    no_call c.args.lines.now c.args.line c.args.last (line_seen c.in-Some.read) read.0
-    (sym c.text_at-text.ensures ∙ read.1) (search rules) c.in_default-replied.ensures.none
+    no_call c.args.lines.now c.args.line c.args.last (line_seen c.in-Some.read)
+    (read.0, sym c.text_at-text.ensures ∙ read.1) (search rules) c.in_default-replied.ensures.none
 
 pub returns-clause-none : goal.returns-clause-none
 returns-clause-none c =
     let read = rw c.in-Some.is at c.in_ok-read.ensures in
-    none_begins c.args.lines.now c.args.line c.args.last c.in-Some-replied.words.now
-    (sym c.text_at-text.ensures ∙ (read.1 ∙ ap line_text c.in-Some-replied.ensures.some))
-    c.in_ok-found.found c.in_ok-found.ensures.none
+    let words = c.in-Some-replied.words.now in
+    let seen : Says c.args.lines.now c.args.line (line_seen c.in-Some.read) =
+    (read.0, sym c.text_at-text.ensures ∙ read.1) in
+    let says = rw c.in-Some-replied.ensures.some at seen in
+    where_none c.in_ok-found.found (no_begin c.args.lines.now c.args.line c.args.last words says)
+    c.in_ok-found.ensures.none

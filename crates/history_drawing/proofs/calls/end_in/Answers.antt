@@ -1,5 +1,6 @@
 use Rattle.std.proofs.Common.{[], ◌∙◌, ℕ, ap, arith, length, sym}
-use Rattle.history_drawing.proofs.Begins.{no_mark, tail_same}
+use Rattle.line_streams.specs.Numerals.{cons_same}
+use Rattle.history_drawing.proofs.Begins.{no_mark}
 use Rattle.history_drawing.proofs.calls.end_in.Goals as goal
 
 pub returns-in_default-after_word-2-clause-none : goal.returns-in_default-after_word-2-clause-none
@@ -12,6 +13,6 @@ pub returns-then-not-is_empty-clause-none : goal.returns-then-not-is_empty-claus
 returns-then-not-is_empty-clause-none c =
     no_mark c.args.text.now c.args.caller.now c.in-Some.rest.now c.args.line
     c.in-Some.ensures.some c.in_default-after_word.ensures.none
-    (λ e. let n = ap (length {A = ℕ}) (tail_same 33 c.in-Some-after_word-2.rest.now []
-    (sym c.in-Some-after_word-2.ensures.some ∙ e)) in
+    (λ e. let n = ap (length {A = ℕ}) (cons_same
+    (sym c.in-Some-after_word-2.ensures.some ∙ e)).1 in
     absurd (grind (arith, n, c.if-not-is_empty.true, c.if-not-is_empty.ensures)))

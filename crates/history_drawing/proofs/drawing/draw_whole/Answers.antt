@@ -1,73 +1,64 @@
-use Rattle.std.proofs.Common.{◌≡◌, ℕ, List, None, length, refl, rules, subst, sym}
+use Rattle.std.proofs.Common.{ℕ, List, None, inl, inr, length, refl, subst, sym}
 use Rattle.std.specs.Prelude.{◌<◌, AllPairs}
 use Rattle.std.specs.Borrow.{Bor}
+use Rattle.std.proofs.lemmas.Result.{IfOk-weaker}
 use Rattle.history_drawing.proofs.Placed.{drawable}
 use Rattle.history_drawing.proofs.Rising.{in_bars}
-use Rattle.history_logs.specs.Orders.{HasOrders}
-use Rattle.history_logs.specs.declared.logs.verdict.Order.{Order}
-use Rattle.history_drawing.specs.Timelines.{ArePoints, AreBars, HasMany}
+use Rattle.history_drawing.specs.Drawings.{AreLines, IsWhole}
 use Rattle.history_drawing.specs.declared.timeline.Bar.{Bar}
 use Rattle.history_drawing.specs.declared.timeline.Timeline.{Timeline}
 use Rattle.history_drawing.specs.declared.timeline.Window.{Window}
 use Rattle.history_drawing.proofs.drawing.draw_whole.Goals as goal
 
+-- all lines
+abbrev all : List (Bor (List ℕ)) → Window
+all lines = record { first = 0; last = length lines; wanted = None; service = None }
+
+whole : (log : List ℕ) (lines : List (Bor (List ℕ))) → AreLines log lines
+    → IsWhole log lines (all lines)
+whole log lines are = record { are = are; first = refl; last = refl; wanted = refl }
+
 pub points_of-requires : goal.points_of-requires
 points_of-requires c =
     let shown = rw c.in-Some.is at c.in_ok-timeline.ensures.some in
     subst (λ (l : List Bar). AllPairs (λ (one other : Bar). one.begin < other.begin) l)
-    (sym c.deref-2.ensures.value) shown.bars.rising
+    (sym c.deref.ensures.value) shown.bars.rising
 
-pub picture_of-requires : goal.picture_of-requires
-picture_of-requires c =
+pub drawn-requires : goal.drawn-requires
+drawn-requires c =
     let shown = rw c.in-Some.is at c.in_ok-timeline.ensures.some in
     let points = c.in_ok-timeline-2.field-0 in
-    let w : Window =
-    record { first = 0; last = c.len.result; wanted = None; service = None } in
     let t : Timeline = record c.in-Some.timeline { points = points } in
-    drawable c.deref.result.now w t shown.bars
-    (in_bars t.bars.items c.deref-3.result.now points.items
-    (subst (λ (l : List Bar). ArePoints l c.deref-3.result.now points.items)
-    c.deref-2.ensures.value c.in_ok-timeline-2.ensures))
+    drawable c.as_slice-lines.result.now (all c.as_slice-lines.result.now) t shown.bars
+    (in_bars t.bars.items c.deref-2.result.now points.items
+    (rw c.deref.ensures.value at c.in_ok-timeline-2.ensures))
 
-pub returns-in_default-clause-none : goal.returns-in_default-clause-none
-returns-in_default-clause-none c =
+pub returns-in_default : goal.returns-in_default
+returns-in_default c =
     let many = rw c.in_default.is at c.in_ok-timeline.ensures.none in
-    let w : Window =
-    record { first = 0; last = c.len.result; wanted = None; service = None } in
-    let last : c.len.result ≡ length c.in_ok-lines.lines.items = search rules in (
-      c.in_ok-lines.lines.items,
-      w,
-      record { are = c.in_ok-lines.ensures; first = refl; last = last; wanted = refl },
-      subst (λ (l : List (Bor (List ℕ))). HasMany l w) c.deref.ensures.value many,
-    )
+    let is = whole c.args.log.now c.as_slice-lines.result.now
+    (rw c.as_slice-lines.ensures.value c.in_ok-lines.ensures) in
+    IfOk-weaker _ _ _ (λ d h. inl (h, (_, _, is, many))) c.undrawn.ensures
 
-pub returns-clause-some : goal.returns-clause-some
-returns-clause-some c =
+pub returns : goal.returns
+returns c =
     let shown = rw c.in-Some.is at c.in_ok-timeline.ensures.some in
-    let points = c.in_ok-timeline-2.field-0 in
-    let w : Window =
-    record { first = 0; last = c.len.result; wanted = None; service = None } in
-    let t : Timeline = record c.in-Some.timeline { points = points } in
-    let last : c.len.result ≡ length c.in_ok-lines.lines.items = search rules in
-    record {
-      lines = c.in_ok-lines.lines.items;
-      w = w;
-      whole = record {
-        are = c.in_ok-lines.ensures;
-        first = refl;
-        last = last;
-        wanted = refl;
-      };
-      t = t;
-      bars = subst (λ (l : List (Bor (List ℕ))). AreBars l w w.last t.rows.items t.bars.items)
-          c.deref.ensures.value shown.bars;
-      verdict = c.in_ok-orders.field-0-0;
-      judged = c.in_ok-orders.ensures.judged;
-      orders = c.deref-3.result.now;
-      explain = subst (λ (l : List Order). HasOrders c.args.log.now c.in_ok-orders.field-0-0 l)
-          (sym c.deref-3.ensures.value) c.in_ok-orders.ensures.orders;
-      points = subst (λ (l : List Bar). ArePoints l c.deref-3.result.now points.items)
-          c.deref-2.ensures.value c.in_ok-timeline-2.ensures;
-      refused = shown.refused;
-      is = c.in_ok-picture.ensures;
-    }
+    let is = whole c.args.log.now c.as_slice-lines.result.now
+    (rw c.as_slice-lines.ensures.value c.in_ok-lines.ensures) in
+    IfOk-weaker _ _ _ (λ d h. inr (
+      h.0,
+      record {
+        lines = c.as_slice-lines.result.now;
+        w = all c.as_slice-lines.result.now;
+        whole = is;
+        t = record c.in-Some.timeline { points = c.in_ok-timeline-2.field-0 };
+        bars = shown.bars;
+        verdict = c.in_ok-orders.field-0-0;
+        judged = c.in_ok-orders.ensures.judged;
+        orders = c.deref-2.result.now;
+        explain = rw c.deref-2.ensures.value c.in_ok-orders.ensures.orders;
+        points = rw c.deref.ensures.value at c.in_ok-timeline-2.ensures;
+        refused = shown.refused;
+        is = h.1;
+      },
+    )) c.drawn.ensures

@@ -1,5 +1,4 @@
-use Rattle.std.proofs.Common.{◌≡◌, ◌<◌, rules, length}
-use Rattle.history_drawing.proofs.Rising.{has_many}
+use Rattle.std.proofs.Common.{◌<◌, rules, length}
 use Rattle.history_drawing.proofs.Shown.{bars_more, bars_same}
 use Rattle.history_drawing.specs.Timelines.{IsWanted}
 use Rattle.history_drawing.proofs.timeline.add_line.Goals as goal
@@ -10,12 +9,16 @@ returns-in_default-clause-fits c = λ fits.
     c.args.bars.now.items c.requires.bars (rw c.in_default.is at c.in_ok-call.ensures.none)
 
 pub returns-then-len-eq-MAX_CALLS-clause-many : goal.returns-then-len-eq-MAX_CALLS-clause-many
-returns-then-len-eq-MAX_CALLS-clause-many c = λ full.
-    let wanted : IsWanted c.args.lines.now c.args.window.now c.args.line c.in-Some.call =
-    search rules in
-    let all : length c.args.bars.now.items ≡ 200 = search rules in
-    has_many c.args.lines.now c.args.window.now c.args.line c.args.rows.now.items
-    c.args.bars.now.items c.in-Some.call c.requires.bars c.requires.first c.requires.last wanted all
+returns-then-len-eq-MAX_CALLS-clause-many c = λ full. record {
+  limit = c.args.line;
+  rows = c.args.rows.now.items;
+  bars = c.args.bars.now.items;
+  are = c.requires.bars;
+  many = search rules;
+  inside = (c.requires.first, c.requires.last);
+  seen = c.in-Some.call;
+  wanted = search rules;
+}
 
 pub returns-clause-fits : goal.returns-clause-fits
 returns-clause-fits c = λ fits.

@@ -2,7 +2,7 @@ use Rattle.std.proofs.Common.{inl, inr}
 use Rattle.service_drawing.specs.Descriptions.{after_settings}
 use Rattle.service_drawing.proofs.Descriptions.{Breaks, no_service_here, stops_behind_service, no_more}
 use Rattle.service_drawing.proofs.Answered.{handed_on}
-use Rattle.service_drawing.proofs.Reasons.{no_service_reason, reason_in_settings, stops_behind_settings}
+use Rattle.service_drawing.proofs.SettingLines.{no_service_reason, reason_in_settings, stops_behind_settings}
 use Rattle.service_drawing.proofs.reading.read_description.Goals as goal
 
 pub returns-in_err-service : goal.returns-in_err-service

@@ -1,6 +1,6 @@
 use Rattle.std.proofs.Common.{length, inl, inr, rules}
 use Rattle.service_drawing.proofs.Attributes.{one_more_line, stops_at_attribute, many}
-use Rattle.service_drawing.proofs.LinesOf.{all_read}
+use Rattle.service_drawing.proofs.Forms.{all_read}
 use Rattle.service_drawing.proofs.reading.attributes.attributes_before.Goals as goal
 
 pub loop-text-preserved : goal.loop-text-preserved

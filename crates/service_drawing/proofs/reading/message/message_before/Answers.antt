@@ -1,6 +1,6 @@
 use Rattle.std.proofs.Common.{inl, inr}
 use Rattle.service_drawing.proofs.Answered.{handed_on}
-use Rattle.service_drawing.proofs.Exchanges.{same_message}
+use Rattle.service_drawing.proofs.Descriptions.{same_message}
 use Rattle.service_drawing.proofs.reading.message.message_before.Goals as goal
 
 pub returns-in_err-payload : goal.returns-in_err-payload

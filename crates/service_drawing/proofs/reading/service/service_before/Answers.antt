@@ -1,5 +1,5 @@
 use Rattle.std.proofs.Common.{rules}
-use Rattle.service_drawing.proofs.ServiceNames.{no_service}
+use Rattle.service_drawing.proofs.Words.{no_service}
 use Rattle.service_drawing.proofs.reading.service.service_before.Goals as goal
 
 pub returns-in-Err-clause-spelled : goal.returns-in-Err-clause-spelled

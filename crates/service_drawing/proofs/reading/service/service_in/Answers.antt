@@ -1,7 +1,7 @@
 use Rattle.std.proofs.Common.{sym, rules}
 use Rattle.iox2_texts.proofs.TextLemmas.{utf8_of_text}
 use Rattle.service_drawing.specs.Lines.{MayBeNamed}
-use Rattle.service_drawing.proofs.ServiceNames.{of_the_line, not_internal, not_made, not_hashed}
+use Rattle.service_drawing.proofs.Words.{of_the_line, not_internal, no_name, not_hashed}
 use Rattle.service_drawing.proofs.reading.service.service_in.Goals as goal
 
 pub returns-then-is_internal-clause-none : goal.returns-then-is_internal-clause-none
@@ -19,7 +19,7 @@ returns-in_default-new-clause-none c =
     let same = c.in-Ok.ensures.cases.0 in
     of_the_line MayBeNamed c.args.line.now c.in-Some.kind c.in-Ok.text.now
     (rw same c.in-Some.ensures)
-    (not_made c.in-Some.kind c.in-Ok.text.now c.in_default-new.field-0 c.in_default-new.ensures
+    (no_name c.in-Some.kind c.in-Ok.text.now c.in_default-new.field-0 c.in_default-new.ensures
     (rw same (sym c.if-is_internal.ensures)))
 
 pub returns-in_default-new-clause-reason : goal.returns-in_default-new-clause-reason

@@ -1,7 +1,6 @@
 use Rattle.std.proofs.Common.{rules}
-use Rattle.service_drawing.proofs.LinesOf.{all_read}
-use Rattle.service_drawing.proofs.SettingLines.{none_set, one_more_setting, stops_at_setting}
-use Rattle.service_drawing.proofs.Reasons.{setting_reason}
+use Rattle.service_drawing.proofs.Forms.{all_read}
+use Rattle.service_drawing.proofs.SettingLines.{none_set, one_more_setting, stops_at_setting, setting_reason}
 use Rattle.service_drawing.proofs.reading.settings.settings_before.Goals as goal
 
 pub loop-text-init : goal.loop-text-init
