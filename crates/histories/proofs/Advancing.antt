@@ -297,7 +297,12 @@ called_once : (slots : List (Option ℕ))
 unfolding called
 called_once [] apart call = omega (arith, times_none call)
 called_once (None ∷ slots) apart call =
-    grind (arith, pred_of, called_once slots (λ one other c a b. pred_of one other (apart (suc one) (suc other) c a b)) call)
+    grind (
+      arith,
+      pred_of,
+      called_once slots
+          (λ one other c a b. pred_of one other (apart (suc one) (suc other) c a b)) call,
+    )
 called_once (Some x ∷ slots) apart call =
     let rest = called_once slots
     (λ one other c a b. pred_of one other (apart (suc one) (suc other) c a b)) call in

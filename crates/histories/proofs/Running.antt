@@ -140,7 +140,17 @@ module _ {S : Type 0} (Step : S → ℕ → S → Type 0) where
         → Leaves slots order waiting → IsWaiting slots waiting slot call
         → Leaves slots (order ++ call ∷ []) (cleared waiting slot)
     leaves_made order waiting slot call few apart leaves is other c has =
-        grind (arith, slot_64, cases_eq, slot_once, cleared_same, times_one, times-append, cleared_other, times_other)
+        grind (
+          arith,
+          slot_64,
+          cases_eq,
+          slot_once,
+          cleared_same,
+          times_one,
+          times-append,
+          cleared_other,
+          times_other,
+        )
 
     pub leaves_run : (order : List ℕ) (old new : S) (waiting rest : ℕ) (calls : List ℕ)
         → length slots ≤ 64
@@ -201,7 +211,14 @@ module _ {S : Type 0} (Step : S → ℕ → S → Type 0) where
   runs_in slots other old new waiting rest [] t change swaps keeps few still run =
       (run.0, ap change run.1)
   runs_in slots other old new waiting rest (call ∷ calls) t change swaps keeps few still run =
-      grind (arith, slot_64, cases_eq, cleared_same, cleared_other, runs_in slots other run.2.0 new (cleared waiting run.0) rest calls t change swaps keeps few)
+      grind (
+        arith,
+        slot_64,
+        cases_eq,
+        cleared_same,
+        cleared_other,
+        runs_in slots other run.2.0 new (cleared waiting run.0) rest calls t change swaps keeps few,
+      )
 
   -- bits of those that wait only go
   pub runs_fewer : (slots : List (Option ℕ)) (old new : S) (waiting rest t : ℕ) (calls : List ℕ)
@@ -209,7 +226,12 @@ module _ {S : Type 0} (Step : S → ℕ → S → Type 0) where
       → bit_at rest t ≤ bit_at waiting t
   runs_fewer slots old new waiting rest t [] few h run = omega (arith, ap (λ w. bit_at w t) run.1)
   runs_fewer slots old new waiting rest t (call ∷ calls) few h run =
-      grind (arith, cleared_le, slot_64, runs_fewer slots run.2.0 new (cleared waiting run.0) rest t calls few h run.2.2)
+      grind (
+        arith,
+        cleared_le,
+        slot_64,
+        runs_fewer slots run.2.0 new (cleared waiting run.0) rest t calls few h run.2.2,
+      )
 
   -- a call that waits in the end need not wait for the others to be made
   pub runs_without : (slots : List (Option ℕ)) (old new : S) (waiting rest t : ℕ) (calls : List ℕ)
@@ -219,7 +241,16 @@ module _ {S : Type 0} (Step : S → ℕ → S → Type 0) where
   runs_without slots old new waiting rest t [] few h some run =
       (run.0, ap (λ w. cleared w t) run.1)
   runs_without slots old new waiting rest t (call ∷ calls) few h some run =
-      grind (arith, slot_64, runs_fewer, bit_at, cleared_same, cleared_other, cleared_swap, runs_without slots run.2.0 new (cleared waiting run.0) rest t calls few h some run.2.2)
+      grind (
+        arith,
+        slot_64,
+        runs_fewer,
+        bit_at,
+        cleared_same,
+        cleared_other,
+        cleared_swap,
+        runs_without slots run.2.0 new (cleared waiting run.0) rest t calls few h some run.2.2,
+      )
 
 -- as another relation has the steps
 module _ {S : Type 0} (A B : S → ℕ → S → Type 0) (slots : List (Option ℕ))

@@ -39,7 +39,8 @@ slot_open Step olds es front f c is =
     (subst (λ (l : List Event). IsOpen l c) w.split is))
 
 module _ {M S : Type 0} (StepOf : M → S → ℕ → S → Type 0) (machine : M) (old : Front S)
-    (events : List Event) (at : ℕ) (mid : Front S) (before : GoesOnTo StepOf machine old events at mid)
+    (events : List Event) (at : ℕ) (mid : Front S)
+    (before : GoesOnTo StepOf machine old events at mid)
   where
     -- so many events more
     goes_on : (k : ℕ) (more : List Event) → take k events ≡ take at events ++ more

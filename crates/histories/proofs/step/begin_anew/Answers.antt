@@ -13,7 +13,8 @@ returns g c whole events olds sound f =
     let empty = rw c.deref.ensures.value at (c.are_free.ensures.yes c.if-not-are_free.false) in
     let quiet = quiet_empty events slots f.table empty in
     let unlinked = c.unlink.new.configs in
-    let is : AreEach IsUnlinked configs unlinked = rw c.deref_mut.ensures.value at c.unlink.ensures in
+    let is : AreEach IsUnlinked configs unlinked =
+    rw c.deref_mut.ensures.value at c.unlink.ensures in
     let long : front.configs.len ≡ length configs = search rules in (
       quiet,
       (

@@ -31,4 +31,5 @@ pub returns-in-None : goal.returns-in-None
 returns-in-None g c =
     needed_whole (g.M.Machine.Step c.args.machine.now) c.args.states.now c.args.past.now
     c.args.window.now c.requires.history _ c.requires.cut c.requires.refused c.vec.result
-    (IfOk-weaker c.vec.result _ _ (λ v all. all (λ y same. same)) c.vec.ensures.items_if_clones_equal)
+    (IfOk-weaker c.vec.result _ _ (λ v all. all (λ y same. same))
+    c.vec.ensures.items_if_clones_equal)
