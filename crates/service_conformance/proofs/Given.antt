@@ -239,8 +239,8 @@ module _ (s : Service) (i : IsService s) where
       )) so r b
 
   module _ (side : Side) where
-    abbrev there_now : RegistryState PortDetails
-    there_now = (ports_at s side).registry
+    abbrev now : RegistryState PortDetails
+    now = (ports_at s side).registry
 
     -- what is given of the ports of a role is given of this side
     here : (P : Side → Type 0) (role : Role) → role ≡ role_at s.pattern side
@@ -248,12 +248,12 @@ module _ (s : Service) (i : IsService s) where
     here P role at g = subst P (one_side s.pattern side g.0 role at g.1) g.2
 
     pub gives_ports : (role : Role) (used : ℕ) (so : Bool) (r : RegistryState PortDetails)
-        → role ≡ role_at s.pattern side → Becomes (UsedSo there_now used false) there_now so r
+        → role ≡ role_at s.pattern side → Becomes (UsedSo now used false) now so r
         → Becomes (GivesPorts s role used) s so (with_ports side s r)
         × IsService (with_ports side s r)
     gives_ports role used so r at b =
-        becomes (with_ports side s) there_now s (UsedSo there_now used false) (GivesPorts s role used)
-        (same_ports s side) i
+        becomes (with_ports side s) now s (UsedSo now used false)
+        (GivesPorts s role used) (same_ports s side) i
         (λ r u.
         let is = ap (λ (x : RegistryState PortDetails). with_ports side s x) u.1 in
         let kept = subst IsService (sym is)
@@ -264,17 +264,18 @@ module _ (s : Service) (i : IsService s) where
         let w = here (λ z. IsUnused (ports_at s z).registry
         × IsService (with_ports z s (with_used (ports_at s z).registry used false))) role at
         (g.0, g.1, (g.2, subst IsService g.3 g.4)) in
-        (with_used there_now used false, (w.0, refl, (ports_only s side (with_used there_now used false) w.1).is_registry))) so r b
+        let p = ports_only s side (with_used now used false) w.1 in
+        (with_used now used false, (w.0, refl, p.is_registry))) so r b
 
     pub gives_port : (slot ticket : ℕ) (d : PortDetails) (so : Bool)
         (r : RegistryState PortDetails) → role_of d ≡ role_at s.pattern side
         → 0 < entries_of_node (node_of d) s.nodes.registry
-        → Becomes (StandsLast there_now (slot_entry slot ticket d)) there_now so r
+        → Becomes (StandsLast now (slot_entry slot ticket d)) now so r
         → Becomes (GivesPort s slot ticket d) s so (with_ports side s r)
         × IsService (with_ports side s r)
     gives_port slot ticket d so r at has b =
         let x : Entry PortDetails = slot_entry slot ticket d in
-        becomes (with_ports side s) there_now s (StandsLast there_now x) (GivesPort s slot ticket d)
+        becomes (with_ports side s) now s (StandsLast now x) (GivesPort s slot ticket d)
         (same_ports s side) i
         (λ r u.
         let is = ap (λ (x : RegistryState PortDetails). with_ports side s x) u.0 in
@@ -286,7 +287,8 @@ module _ (s : Service) (i : IsService s) where
         let w =
         here (λ z. IsService (with_ports z s (with_last (ports_at s z).registry x))) (role_of d) at
         (g.0, g.1, subst IsService g.2 g.3) in
-        (with_last there_now x, (refl, (ports_only s side (with_last there_now x) w).is_registry))) so r b
+        let p = ports_only s side (with_last now x) w in
+        (with_last now x, (refl, p.is_registry))) so r b
 
   -- a port of a node that is not registered
   pub no_node : (slot ticket : ℕ) (d : PortDetails)

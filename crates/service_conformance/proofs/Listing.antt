@@ -73,7 +73,8 @@ module _ (s : Service) where
     count_lacks n _ new so = absurd so.0
 
     pub counts_none : IsService s → LacksRole s.pattern role
-        → ArePossible s (Reports s (ServesCount s role)) (possible.One (line.Word word.WrongPattern))
+        → ArePossible s (Reports s (ServesCount s role))
+        (possible.One (line.Word word.WrongPattern))
     counts_none i n =
         alone _ _ (line.Word word.WrongPattern) s (λ r. refl) (n, refl) i (count_lacks n)
 

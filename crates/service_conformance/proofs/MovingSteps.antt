@@ -45,7 +45,7 @@ gives_handle c old new words step =
       subst (λ x. LeadsOn c old x new) g.1 step.2.2,
     )
 
--- with this reply the command, which the call names so, leads to a service that is seen as the new one
+-- with this reply the call's own command leads to a service that is seen as the new one
 record LeavesAs (c : Call) (own : Command) (r : Reply) (old new : Service) : Type 0 where
   pub mid : Service
   pub serves : Serves old None (c.handle ∷ []) own r mid
@@ -53,7 +53,8 @@ record LeavesAs (c : Call) (own : Command) (r : Reply) (old new : Service) : Typ
   pub left : quiet mid ≡ new
 
 -- a call of this command does this, and nothing else
-module _ (c : Call) (own : Command) (is : c.command ≡ own) (Step : Handle → Service → Service → Type 0)
+module _ (c : Call) (own : Command) (is : c.command ≡ own)
+    (Step : Handle → Service → Service → Type 0)
   where
     leaves : (r : Reply) (old new : Service) → LeavesAs c own r old new → LeadsOn c old r new
     leaves r old new l = (
@@ -64,7 +65,8 @@ module _ (c : Call) (own : Command) (is : c.command ≡ own) (Step : Handle → 
     )
 
     led : {May : Handle → Type 0} (r : Reply) (old new : Service)
-        → ((mid : Service) → Serves old None (c.handle ∷ []) own r mid → (h : Handle) × May h × Step h old (quiet mid))
+        → ((mid : Service) → Serves old None (c.handle ∷ []) own r mid
+        → (h : Handle) × May h × Step h old (quiet mid))
         → LeadsOn c old r new → (h : Handle) × May h × Step h old new
     led r old new there on =
         let lost = there on.0 (subst (λ x. Serves old None (c.handle ∷ []) x r on.0) is on.1) in
@@ -96,15 +98,16 @@ module _ (c : Call) (own : Command) (is : c.command ≡ own) (Step : Handle → 
 
     -- where it was answered with a handle
     by_given : ((slot : ℕ) × (ticket : ℕ) × (c.words ≡ Some (handle_words slot ticket)))
-        → ((h : Handle) (old mid : Service) → Serves old None (c.handle ∷ []) own (reply.Handle h) mid
-        → Step h old (quiet mid))
+        → ((h : Handle) (old mid : Service)
+        → Serves old None (c.handle ∷ []) own (reply.Handle h) mid → Step h old (quiet mid))
         → ((h : Handle) (old new : Service) → IsService old → Step h old new
         → LeavesAs c own (reply.Handle h) old new)
         → Does c (λ h. HasWords c.words (reply.Handle h)) Step
     by_given words there back = record {
       there = λ old new step.
           let g = gives_handle c old new words step in
-          led {May = λ h. HasWords c.words (reply.Handle h)} (reply.Handle g.0) old new (λ mid so. (g.0, g.1, there g.0 old mid so)) g.2;
+          led {May = λ h. HasWords c.words (reply.Handle h)} (reply.Handle g.0) old new
+          (λ mid so. (g.0, g.1, there g.0 old mid so)) g.2;
       back = λ h may old new i rest a.
           (i, rest, (reply.Handle h, may, leaves (reply.Handle h) old new (back h old new i a)));
     }

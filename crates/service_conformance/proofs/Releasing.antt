@@ -39,7 +39,8 @@ module _ (s : Service) (h : Handle) where
   pub elsewhere : IsService s → IsNeither (first_role s.pattern) (second_role s.pattern) h.role
       → ArePossible s (ServesRelease s (Some h)) (possible.One (line.Word word.NotOwned))
   elsewhere i n =
-      alone _ _ (line.Word word.NotOwned) s (λ r. refl) (inr (n, refl, refl), refl) i (elsewhere_only n)
+      alone _ _ (line.Word word.NotOwned) s (λ r. refl) (inr (n, refl, refl), refl) i
+      (elsewhere_only n)
 
   module _ (side : Side) (role : h.role ≡ role_at s.pattern side) where
     from_at : (answer : Result ReleaseState ContainerRemoveError) (new : Ports)
