@@ -1,18 +1,9 @@
 -- Adds that take a given slot.
-use Rattle.std.proofs.Common.{◌≡◌, ◌≢◌, ℕ, suc, ◌+◌, ◌<◌, Ok, Err, List, [], ◌∷◌, ◌++◌, take, drop, refl, sym, ◌∙◌, ap, subst, arith, inl, inr}
-use Rattle.std.specs.Prelude.{All, Result}
-use Rattle.std.specs.List.{insert}
-use Rattle.std.proofs.lemmas.Bool.{cases_order}
-use Rattle.std.proofs.lemmas.List.{take-append-drop}
-use Rattle.std.proofs.lemmas.List.Elements.{All-append, All-cons, All-nil, All-weaker, All-head, All-tail}
+use Rattle.service_conformance.proofs.Prelude.{All, All-append, All-cons, All-head, All-nil, All-tail, All-weaker, Err, List, Ok, [], ap, arith, cases_order, drop, inl, inr, insert, refl, subst, suc, sym, take, take-append-drop, ℕ, ◌++◌, ◌+◌, ◌<◌, ◌∙◌, ◌∷◌, ◌≡◌, ◌≢◌}
+use Rattle.service_conformance.proofs.Names.{AddStep, ContainerAddFailure, Entry, Handle, HasRoom, InsertsOne, IsFreePosition, IsFull, IsLocked, IsRegistry, MayGive, OutOfSpace, RegistryState, TakesEntry, entry_at, handle_of}
+use Rattle.std.specs.Prelude.{Result}
 use Rattle.iox2_container.proofs.Gaining.{All-back, AllPairs-head, AllPairs-tail}
 use Rattle.iox2_container.proofs.Keeping.{kept_add, All-gain}
-use Rattle.iox2_container.specs.declared.container.refusal.ContainerAddFailure.{ContainerAddFailure}
-use Rattle.iox2_container.specs.declared.container.refusal.ContainerAddFailure.TheVariants.{IsLocked, OutOfSpace}
-use Rattle.iox2_container.specs.Handle.{Handle}
-use Rattle.iox2_container.specs.State.{Entry, RegistryState, IsRegistry, handle_of}
-use Rattle.iox2_container.specs.Steps.{InsertsOne, HasRoom, IsFull, TakesEntry, AddStep}
-use Rattle.service_conformance.specs.Entries.{IsFreePosition, MayGive, entry_at}
 use Rattle.service_conformance.proofs.Rising.{Rise, one_position, rise_put}
 
 -- a full registry has no room

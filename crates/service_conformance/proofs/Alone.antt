@@ -1,40 +1,16 @@
 -- Calls that overlap nothing are runs.
-use Rattle.std.proofs.Common.{◌≡◌, ◌↔◌, ℕ, zero, suc, ◌+◌, ◌<◌, ◌^◌, Option, Some, None, List, [], ◌∷◌, ◌++◌, length, map, refl, sym, ◌∙◌, ap, subst, arith}
-use Rattle.std.specs.List.{AllByRecursion, Contains, range_with_len, slice_get}
-use Rattle.histories.specs.Histories.{IsExplained, Leads}
-use Rattle.histories.specs.Laws.{calls_alone, in_order}
+use Rattle.service_conformance.proofs.Prelude.{AllByRecursion, Contains, List, None, Option, Some, [], ap, arith, length, map, range_with_len, refl, slice_get, subst, suc, sym, zero, ℕ, ◌++◌, ◌+◌, ◌<◌, ◌^◌, ◌↔◌, ◌∙◌, ◌∷◌, ◌≡◌}
+use Rattle.service_conformance.proofs.Names.{Answered, Call, CallStep, Command, First, Gives, Handle, IsBare, IsBounded, IsBoundedRegistry, IsExplained, IsRegistry, IsService, Judged, JudgedStep, KeepsHandles, Leads, MayGive, PortDetails, RegistryState, Reply, Role, Run, Second, Serves, ServesDeregister, ServesRelease, Service, ServiceStep, Side, State, Watched, WindowStep, added_role, answered, at_first, call, call_of, calls_alone, calls_of, cons_same, handle_for, handle_in, handle_named, handle_words, judged_of, named, ports_at, quiet, quiet_state, role_at, role_of, text_of, unwatched}
+use Rattle.histories.specs.Laws.{in_order}
 use Rattle.histories.proofs.Alone.{calls_alone_are_runs}
-use Rattle.iox2_container.specs.declared.container.role.Role.{Role}
-use Rattle.iox2_container.specs.Handle.{Handle}
-use Rattle.iox2_container.specs.State.{IsRegistry, RegistryState}
-use Rattle.iox2_dynamic.specs.declared.dynamic_config.port_details.PortDetails.{PortDetails}
-use Rattle.iox2_dynamic.specs.Details.{role_of}
-use Rattle.iox2_dynamic.specs.PortsState.{Side}
-use Rattle.iox2_dynamic.specs.PortsState.Side.{First, Second}
-use Rattle.iox2_dynamic.specs.Service.{Service, IsService, role_at}
-use Rattle.line_streams.specs.Numerals.{cons_same}
-use Rattle.service_descriptions.specs.declared.replay.machine.command.Command.{Command}
 use Rattle.service_descriptions.specs.declared.replay.machine.command.Command.TheVariants as command
-use Rattle.service_descriptions.specs.declared.replay.machine.reply.Reply.{Reply}
 use Rattle.service_descriptions.specs.declared.replay.machine.reply.Reply.TheVariants as reply
-use Rattle.service_descriptions.specs.Handles.{KeepsHandles, named}
-use Rattle.service_descriptions.specs.Replies.{text_of}
-use Rattle.service_descriptions.specs.Steps.{Run, Serves, ServesDeregister, ServesRelease, ServiceStep, State, handle_in}
 use Rattle.service_descriptions.proofs.Moves.{moves}
 use Rattle.service_descriptions.proofs.Serving.{keeps}
-use Rattle.service_conformance.specs.Alone.{Answered, Gives, IsBare, IsBounded, IsBoundedRegistry, added_role, calls_of, handle_named, judged_of}
-use Rattle.service_conformance.specs.Calls.{Call, CallStep, answered, at_first, call_of, handle_for}
-use Rattle.service_conformance.specs.Judged.{Judged, JudgedStep, WindowStep}
-use Rattle.service_conformance.specs.Judged.Judged.{call}
-use Rattle.service_conformance.specs.Looks.{Watched, unwatched}
-use Rattle.service_conformance.specs.Entries.{MayGive}
-use Rattle.service_conformance.specs.Quiet.{quiet, quiet_state}
-use Rattle.service_conformance.specs.Sides.{ports_at}
-use Rattle.service_conformance.specs.Words.{handle_words}
 use Rattle.service_conformance.proofs.Fixed.{stays_bounded}
 use Rattle.service_conformance.proofs.Following.{attach_may, register_may}
 use Rattle.service_conformance.proofs.Quiet.{run_quiet, serves_quiet, service_quiet}
-use Rattle.service_conformance.proofs.Seen.{no_handle_text}
+use Rattle.service_conformance.proofs.Seen.{is_handle, no_handle_text}
 use Rattle.service_conformance.proofs.Words.{neither, parts_same}
 
 -- a handle that the service may give to a command
@@ -111,13 +87,6 @@ same_handle h k a b c d =
     ∙ (ap (λ x. make k.service x h.slot h.ticket) b
     ∙ (ap (λ x. make k.service k.role x h.ticket) c
     ∙ ap (λ x. make k.service k.role k.slot x) d))
-
-some_handle : (h k : Handle) → Some h ≡ Some k → h ≡ k
-some_handle h k e = cc
-
-is_handle : (r : Reply) (h : Handle) → handle_in r ≡ Some h → r ≡ reply.Handle h
-is_handle (reply.Handle k) h e = ap reply.Handle (some_handle k h e)
-is_handle _ h e = absurd (let z : ◌≡◌ {A = Option Handle} None (Some h) = e in cc)
 
 -- the handle that a reply gives is that which its words give
 module _ (s mid : Service) (i : IsService s) (kept : IsService mid) (b : IsBounded s)

@@ -1,29 +1,15 @@
 -- The replies to attaching a port.
-use Rattle.std.proofs.Common.{◌≡◌, true, false, Option, Some, None, Result, Ok, Err, refl, sym, subst, arith}
-use Rattle.iox2_container.specs.declared.container.refusal.ContainerAddFailure.{ContainerAddFailure}
-use Rattle.iox2_container.specs.declared.container.refusal.ContainerAddFailure.TheVariants.{IsLocked, OutOfSpace}
-use Rattle.iox2_container.specs.Changes.{Adds}
-use Rattle.iox2_container.specs.ContainerState.{container}
-use Rattle.iox2_container.specs.Handle.{Handle}
-use Rattle.iox2_container.specs.Steps.{IsFull, TakesEntry}
+use Rattle.service_conformance.proofs.Prelude.{Err, None, Ok, Option, Result, Some, arith, false, refl, subst, sym, true, ◌≡◌}
+use Rattle.service_conformance.proofs.Names.{Adds, AddsPort, Allows, ArePossible, ContainerAddFailure, Handle, HasRole, IsFull, IsLocked, IsOpenFor, IsService, LacksRole, OutOfSpace, PortDetails, Refuses, Reply, ServesAdd, Service, Side, TakesEntry, container, entries_of_node, node_of, part_at, ports_at, possible_add, role_at, role_of, with_ports_at}
 use Rattle.iox2_dynamic.specs.declared.dynamic_config.answers.AttachError.TheVariants as refusal
-use Rattle.iox2_dynamic.specs.declared.dynamic_config.port_details.PortDetails.{PortDetails}
-use Rattle.iox2_dynamic.specs.Details.{role_of, node_of}
-use Rattle.iox2_dynamic.specs.PortsState.{Side}
-use Rattle.iox2_dynamic.specs.Service.{Service, IsService, HasRole, LacksRole, entries_of_node, role_at}
-use Rattle.iox2_dynamic.specs.Steps.{AddsPort, IsOpenFor}
 use Rattle.iox2_dynamic.proofs.Moving.{attach_kept}
-use Rattle.service_descriptions.specs.declared.replay.machine.reply.Reply.{Reply}
 use Rattle.service_descriptions.specs.declared.replay.machine.reply.Reply.TheVariants as reply
-use Rattle.service_descriptions.specs.Steps.{ServesAdd}
 use Rattle.service_conformance.specs.declared.conformance.line_reply.LineReply.TheVariants as line
+use Rattle.service_conformance.specs.declared.conformance.seen_reply.ReplyWord.TheVariants as word
 use Rattle.service_conformance.specs.declared.conformance.possible.Possible.TheVariants as possible
-use Rattle.service_conformance.specs.Entries.{Refuses}
-use Rattle.service_conformance.specs.Possible.{Allows, ArePossible, possible_add}
-use Rattle.service_conformance.specs.Sides.{ports_at, part_at, with_ports_at}
 use Rattle.service_conformance.proofs.Adds.{can_give, no_room, was_given}
 use Rattle.service_conformance.proofs.Possibles.{alone, not_both}
-use Rattle.service_conformance.proofs.Touching.{untouching}
+use Rattle.service_conformance.proofs.Quiet.{untouching}
 use Rattle.service_conformance.proofs.Sides.{given_at, has_role, lacks, may_give_at, ports_are, step_at, steps_at}
 
 module _ (s : Service) (d : PortDetails) where
@@ -37,9 +23,9 @@ module _ (s : Service) (d : PortDetails) where
   lacking_only n _ new so = absurd so
 
   pub lacking : IsService s → LacksRole s.pattern (role_of d)
-      → ArePossible s (ServesAdd s d) (possible.One line.WrongPattern)
+      → ArePossible s (ServesAdd s d) (possible.One (line.Word word.WrongPattern))
   lacking i n =
-      alone _ _ line.WrongPattern s (λ r. refl) (n, refl) i (lacking_only n)
+      alone _ _ (line.Word word.WrongPattern) s (λ r. refl) (n, refl) i (lacking_only n)
 
   locked_only : HasRole s.pattern (role_of d) → s.nodes.registry.locked ≡ true → (r : Reply)
       (new : Service) → ServesAdd s d r new → reply.Locked ≡ r
@@ -51,9 +37,9 @@ module _ (s : Service) (d : PortDetails) where
   locked_only has l _ new so = absurd so
 
   pub locked : IsService s → HasRole s.pattern (role_of d) → s.nodes.registry.locked ≡ true
-      → ArePossible s (ServesAdd s d) (possible.One line.Locked)
+      → ArePossible s (ServesAdd s d) (possible.One (line.Word word.Locked))
   locked i has l =
-      alone _ _ line.Locked s (λ r. refl) (has, (l, refl)) i (locked_only has l)
+      alone _ _ (line.Word word.Locked) s (λ r. refl) (has, (l, refl)) i (locked_only has l)
 
   unregistered_only : HasRole s.pattern (role_of d) → s.nodes.registry.locked ≡ false
       → entries_of_node (node_of d) s.nodes.registry ≡ 0 → (r : Reply) (new : Service)
@@ -69,9 +55,9 @@ module _ (s : Service) (d : PortDetails) where
 
   pub unregistered : IsService s → HasRole s.pattern (role_of d)
       → s.nodes.registry.locked ≡ false → entries_of_node (node_of d) s.nodes.registry ≡ 0
-      → ArePossible s (ServesAdd s d) (possible.One line.NotRegistered)
+      → ArePossible s (ServesAdd s d) (possible.One (line.Word word.NotRegistered))
   unregistered i has l n =
-      alone _ _ line.NotRegistered s (λ r. refl) (has, (l, n, refl)) i
+      alone _ _ (line.Word word.NotRegistered) s (λ r. refl) (has, (l, n, refl)) i
       (unregistered_only has l n)
 
   module _ (side : Side) (role : role_of d ≡ role_at s.pattern side)
@@ -140,7 +126,7 @@ module _ (s : Service) (d : PortDetails) where
         let adds =
         steps_at s.pattern side s.ports (role_of d) (λ o n. Adds o d (Err OutOfSpace) n) old role
         (untouching _ old old.registry (l, full, refl) (ports_are s side i).is_registry) in
-        alone _ _ line.Full (record s { ports = ports }) (λ r. refl)
+        alone _ _ (line.Word word.Full) (record s { ports = ports }) (λ r. refl)
         (has_role s.pattern side (role_of d) role, (opens, (adds, refl)))
         (attach_kept s (record s { ports = ports }) d (Err refusal.OutOfSpace)
         (opens, (adds, refl)) i)

@@ -1,34 +1,10 @@
 -- What calls that were seen do.
-use Rattle.std.proofs.Common.{◌≡◌, ℕ, zero, suc, ◌+◌, ◌<◌, ◌⊎◌, inl, inr, true, false, Option, Some, None, Result, Ok, Err, List, [], ◌∷◌, ◌++◌, length, get_or, refl, sym, ◌∙◌, ap, subst, arith}
-use Rattle.std.specs.List.{Contains}
-use Rattle.std.specs.Prelude.{IfOk}
-use Rattle.std.specs.Global.{Vec}
-use Rattle.std.specs.declared.alloc.AllocError.{AllocError}
-use Rattle.std.proofs.lemmas.List.Elements.{All-push, All-weaker, Contains-append_left, Contains-push}
-use Rattle.histories.specs.Histories.{AreAll}
-use Rattle.iox2_container.specs.Handle.{Handle}
-use Rattle.iox2_dynamic.specs.Service.{Service, IsService}
-use Rattle.service_descriptions.specs.declared.replay.machine.command.Cleanup.TheVariants.{ByPort}
-use Rattle.service_descriptions.specs.declared.replay.machine.command.Command.{Command}
+use Rattle.service_conformance.proofs.Prelude.{All-push, All-weaker, AllocError, Contains, Contains-append_left, Contains-push, Err, IfOk, List, None, Ok, Option, Result, Some, Vec, [], ap, arith, false, get_or, inl, inr, length, refl, subst, suc, sym, true, zero, ℕ, ◌++◌, ◌+◌, ◌<◌, ◌∙◌, ◌∷◌, ◌≡◌, ◌⊎◌}
+use Rattle.service_conformance.proofs.Names.{AreAll, ArePossible, ArePossibleWords, AreRepliesOf, ByPort, Call, CallStep, CanServe, ChangesNothing, Command, GivesBelow, Handle, HasWords, IsCovered, IsIdleCall, IsSameReply, IsService, LeadsOn, LeadsTo, LineReply, MayGiveIn, Part, Possible, PossibleReplies, Reply, SeenReply, Serves, ServesCall, ServesDead, ServesDeregister, ServesRelease, Service, Tells, changes_nothing, handle_in, is_removal, named, quiet, reply_in, seen_text, text_of}
 use Rattle.service_descriptions.specs.declared.replay.machine.command.Command.TheVariants as command
-use Rattle.service_descriptions.specs.declared.replay.machine.reply.Reply.{Reply}
 use Rattle.service_descriptions.specs.declared.replay.machine.reply.Reply.TheVariants as reply
-use Rattle.service_descriptions.specs.Cleanups.{ServesDead}
-use Rattle.service_descriptions.specs.Handles.{named}
-use Rattle.service_descriptions.specs.Replies.{IsSameReply, text_of}
-use Rattle.service_descriptions.specs.Steps.{Serves, ServesDeregister, ServesRelease, handle_in}
-use Rattle.service_conformance.specs.declared.conformance.possible.Part.{Part}
 use Rattle.service_conformance.specs.declared.conformance.possible.Part.TheVariants as part
-use Rattle.service_conformance.specs.declared.conformance.possible.Possible.{Possible}
-use Rattle.service_conformance.specs.declared.conformance.line_reply.LineReply.{LineReply}
 use Rattle.service_conformance.specs.declared.conformance.possible.Possible.TheVariants as possible
-use Rattle.service_conformance.specs.declared.conformance.possible.PossibleReplies.{PossibleReplies}
-use Rattle.service_conformance.specs.declared.conformance.seen_reply.SeenReply.{SeenReply}
-use Rattle.service_conformance.specs.Calls.{AreRepliesOf, Call, CallStep, ChangesNothing, GivesBelow, IsIdleCall, LeadsOn, ServesCall, answered, unanswered}
-use Rattle.service_conformance.specs.Possible.{ArePossible, IsCovered, MayGiveIn, reply_in}
-use Rattle.service_conformance.specs.Quiet.{CanServe, LeadsTo, is_removal, quiet}
-use Rattle.service_conformance.specs.Seen.{changes_nothing, seen_text}
-use Rattle.service_conformance.specs.Words.{ArePossibleWords, Tells}
 use Rattle.service_conformance.proofs.Following.{attach_stays, deregister_none, deregister_stays, register_stays, release_none, release_stays}
 use Rattle.service_conformance.proofs.Seen.{reported_nothing}
 use Rattle.service_conformance.proofs.Words.{same_handle, same_reply, same_step}
@@ -93,35 +69,35 @@ module _ (call : Call) (s : Service) where
       (same_step s on.0 (call.handle ∷ []) call.command covered r q same on.1)
 
   module _ (is : IsService s) (rest : quiet s ≡ s) (covered : IsCovered call.command) where
-    module _ (p : Possible) (words : List ℕ) (all : ArePossible s (ServesCall call s) p) where
+    module _ (p : Possible) (words : List ℕ) (has : call.words ≡ Some words)
+        (all : ArePossible s (ServesCall call s) p) where
+      pub seen_never : Tells s p words None → (new : Service) → ¬ (CallStep call s new)
+      seen_never tells new step =
+          let q = step.2.0 in
+          let on = step.2.2 in
+          tells q (all.only q on.0 on.1 on.2) (rw has at step.2.1)
+
+      pub seen_none : Tells s p words None → AreAll (CallStep call s) []
+      seen_none tells = all_of_none (CallStep call s) (seen_never tells)
+
       pub seen_one : (r : Reply) (next : Service) → Tells s p words (Some r)
-          → LeadsTo (ServesCall call s) r next
-          → AreAll (CallStep (answered call words) s) (next ∷ [])
+          → LeadsTo (ServesCall call s) r next → AreAll (CallStep call s) (next ∷ [])
       seen_one r next tells leads =
-          all_of_one (CallStep (answered call words) s) next
-          (is, rest, (r, tells.1, leads_on r next (all.can r tells.0) leads))
+          all_of_one (CallStep call s) next
+          (is, rest, (r, rw has tells.1, leads_on r next (all.can r tells.0) leads))
           (λ other step.
           let q = step.2.0 in
           let on = step.2.2 in
           one_next covered r q next other
-          (tells.2 q (all.only q on.0 on.1 on.2) step.2.1) leads on)
+          (tells.2 q (all.only q on.0 on.1 on.2) (rw has at step.2.1)) leads on)
 
-      pub seen_none : Tells s p words None → AreAll (CallStep (answered call words) s) []
-      seen_none tells =
-          all_of_none (CallStep (answered call words) s)
-          (λ other step.
-          let q = step.2.0 in
-          let on = step.2.2 in
-          tells q (all.only q on.0 on.1 on.2) step.2.1)
-
-    pub any_one : (one : LineReply) (next : Service)
+    pub any_one : call.words ≡ None → (one : LineReply) (next : Service)
         → ArePossible s (ServesCall call s) (possible.One one)
-        → LeadsTo (ServesCall call s) (reply_in one) next
-        → AreAll (CallStep (unanswered call) s) (next ∷ [])
-    any_one one next all leads =
+        → LeadsTo (ServesCall call s) (reply_in one) next → AreAll (CallStep call s) (next ∷ [])
+    any_one none one next all leads =
         let r = reply_in one in
-        all_of_one (CallStep (unanswered call) s) next
-        (is, rest, (r, tt, leads_on r next (all.can r (same_reply r)) leads))
+        all_of_one (CallStep call s) next
+        (is, rest, (r, rw none tt, leads_on r next (all.can r (same_reply r)) leads))
         (λ other step.
         let q = step.2.0 in
         let on = step.2.2 in
@@ -163,12 +139,13 @@ module _ (call : Call) (s : Service) where
               (ap reply.Handle (same_given s p h g.0 may g.1 (at ∙ sym e))) leads g.3)
         ]))
 
-    pub all_given : IsService s → quiet s ≡ s → ArePossible s (ServesCall call s) (possible.Given p)
+    pub all_given : IsService s → quiet s ≡ s → call.words ≡ None
+        → ArePossible s (ServesCall call s) (possible.Given p)
         → (limit : ℕ) → ((h : Handle) → MayGiveIn s p h → h.slot < limit) → (xs : List Service)
-        → AreAll (GivesBelow call s p limit) xs → AreAll (CallStep (unanswered call) s) xs
-    all_given is rest all limit below xs =
-        all_as (GivesBelow call s p limit) (CallStep (unanswered call) s) xs
-        (λ x g. (is, rest, (reply.Handle g.0, tt, g.3)))
+        → AreAll (GivesBelow call s p limit) xs → AreAll (CallStep call s) xs
+    all_given is rest none all limit below xs =
+        all_as (GivesBelow call s p limit) (CallStep call s) xs
+        (λ x g. (is, rest, (reply.Handle g.0, rw none tt, g.3)))
         (λ x step.
         let on = step.2.2 in
         let a = all.only step.2.0 on.0 on.1 on.2 in
@@ -209,23 +186,32 @@ stays s mid handles (command.Dead dead (ByPort kept)) r i rest none e so =
 stays s mid handles _ r i rest none e so = absurd i
 
 module _ (call : Call) (covered : IsCovered call.command) (seen : SeenReply)
-    (nothing : changes_nothing seen ≡ true) where
+    (has : call.words ≡ Some (seen_text seen)) (nothing : changes_nothing seen ≡ true) where
   same_state : (old mid : Service) (r : Reply) → quiet old ≡ old → text_of r ≡ seen_text seen
       → ServesCall call old r mid → quiet mid ≡ old
   same_state old mid r rest text served =
       let reported = reported_nothing r seen nothing text in
       stays old mid (call.handle ∷ []) call.command r covered rest reported.0 reported.1 served
 
-  pub changes_none : ChangesNothing (answered call (seen_text seen))
+  pub changes_none : ChangesNothing call
   changes_none old new step =
-      let on = step.2.2 in sym on.3 ∙ same_state old on.0 step.2.0 step.1 step.2.1 on.1
+      let on = step.2.2 in
+      sym on.3 ∙ same_state old on.0 step.2.0 step.1 (rw has at step.2.1) on.1
 
   pub idle : (s : Service) (p : Possible) (r : Reply) → IsService s → quiet s ≡ s
       → ArePossible s (ServesCall call s) p → Tells s p (seen_text seen) (Some r)
-      → IsIdleCall (answered call (seen_text seen)) s
+      → IsIdleCall call s
   idle s p r is rest all tells =
       let can = all.can r tells.0 in (
-        (is, rest, (r, tells.1, (can.0, can.1, can.2, same_state s can.0 r rest tells.1 can.1))),
+        (
+          is,
+          rest,
+          (
+            r,
+            rw has tells.1,
+            (can.0, can.1, can.2, same_state s can.0 r rest tells.1 can.1),
+          ),
+        ),
         changes_none,
       )
 

@@ -1,41 +1,19 @@
 -- The recovery of a dead node can be a step, where ports of some values stay.
-use Rattle.std.proofs.Common.{◌≡◌, ℕ, ◌<◌, Bool, true, false, List, [], ◌∷◌, map, get_or, refl, sym, ◌∙◌, ap, subst, arith}
-use Rattle.std.specs.Prelude.{All, if◌then◌else◌, not, ◌==◌, filter}
-use Rattle.std.specs.Global.{Vec}
-use Rattle.std.proofs.lemmas.Bool.{eq-eqb, ne_eqb}
-use Rattle.std.proofs.lemmas.List.Elements.{All-cons, All-head, All-nil, All-tail}
-use Rattle.iox2_container.specs.declared.container.release.ReleaseMode.TheVariants.{Default, LockIfLastIndex}
-use Rattle.iox2_container.specs.declared.container.release.ReleaseState.{ReleaseState}
-use Rattle.iox2_container.specs.ContainerState.{ContainerState, container}
-use Rattle.iox2_container.specs.State.{Entry, RegistryState, IsRegistry}
-use Rattle.iox2_container.specs.Steps.{Asked, RecoverStep, asked_about, candidates, is_of, marks_of, release_state}
+use Rattle.service_conformance.proofs.Prelude.{All, All-cons, All-head, All-nil, All-tail, Bool, List, Vec, [], ap, arith, eq-eqb, false, filter, get_or, if◌then◌else◌, map, ne_eqb, not, refl, subst, sym, true, ℕ, ◌<◌, ◌==◌, ◌∙◌, ◌∷◌, ◌≡◌}
+use Rattle.service_conformance.proofs.Names.{ArePossible, Asked, ByPort, CleanedUp, Cleans, ContainerState, Default, DeregisterNodeState, Entry, IsRegistry, IsService, LockIfLastIndex, NodesAfter, PortCleanupAction, PortDetails, Ports, RecoverStep, RecoversBoth, RecoversNodes, RecoversPorts, RegistryState, ReleaseState, Reply, ServesDead, Service, action_for, asked_about, candidates, container, has_ports_of, is_kept, is_of, marks_of, node_of, nodes_if, port_of, port_value, ports_after, release_state, reply_in, reply_of_owners, state_of, without_node, without_ports}
 use Rattle.iox2_container.proofs.Gaining.{AllPairs-head, AllPairs-tail}
 use Rattle.iox2_container.proofs.Leaving.{staying_by}
-use Rattle.iox2_dynamic.specs.declared.dynamic_config.answers.DeregisterNodeState.{DeregisterNodeState}
 use Rattle.iox2_dynamic.specs.declared.dynamic_config.answers.DeregisterNodeState.TheVariants as nodes
-use Rattle.iox2_dynamic.specs.declared.dynamic_config.cleanup.PortCleanupAction.{PortCleanupAction}
-use Rattle.iox2_dynamic.specs.declared.dynamic_config.port_details.PortDetails.{PortDetails}
-use Rattle.iox2_dynamic.specs.Answers.{state_of}
-use Rattle.iox2_dynamic.specs.Details.{node_of, port_of}
-use Rattle.iox2_dynamic.specs.Ports.{Ports, RecoversBoth, has_ports_of}
-use Rattle.iox2_dynamic.specs.Recoveries.{RecoversPorts, RecoversNodes}
-use Rattle.iox2_dynamic.specs.Service.{Service, IsService}
-use Rattle.iox2_dynamic.specs.Steps.{NodesAfter}
 use Rattle.iox2_dynamic.proofs.Dying.{dead_kept, skipped_kept}
-use Rattle.iox2_ids.specs.PortId.{port_value}
-use Rattle.service_descriptions.specs.declared.replay.machine.command.Cleanup.TheVariants.{ByPort}
-use Rattle.service_descriptions.specs.declared.replay.machine.reply.Reply.{Reply}
 use Rattle.service_descriptions.specs.declared.replay.machine.reply.Reply.TheVariants as reply
-use Rattle.service_descriptions.specs.Cleanups.{CleanedUp, Cleans, ServesDead, action_for}
 use Rattle.service_conformance.specs.declared.conformance.line_reply.LineReply.TheVariants as line
+use Rattle.service_conformance.specs.declared.conformance.seen_reply.ReplyWord.TheVariants as word
 use Rattle.service_conformance.specs.declared.conformance.possible.Possible.TheVariants as possible
-use Rattle.service_conformance.specs.Dead.{is_kept, nodes_if, ports_after, without_node, without_ports}
-use Rattle.service_conformance.specs.Possible.{ArePossible, reply_in, reply_of_owners}
 use Rattle.service_conformance.proofs.Deregistering.{owned}
 use Rattle.service_conformance.proofs.Dying.{AsksCleanup, and_true, answered, dies, node_left, removed}
 use Rattle.service_conformance.proofs.Filters.{kept_filter}
 use Rattle.service_conformance.proofs.Possibles.{alone}
-use Rattle.service_conformance.proofs.Touching.{untouching}
+use Rattle.service_conformance.proofs.Quiet.{untouching}
 use Rattle.service_conformance.proofs.Rising.{Rise}
 
 -- marks of slots that agree with a test of entries
@@ -235,7 +213,7 @@ module _ (s : Service) (dead : ℕ) (kept : Vec ℕ) where
       → ArePossible s (ServesDead s dead (ByPort kept)) (possible.One (reply_of_owners b))
   dead_possible true i e =
       let can = can_die s dead kept nodes.NoMoreOwners i (ap release_state e) in
-      alone _ _ line.NoMoreOwners can.0 (λ r. refl) can.1 can.2 (dead_only true e)
+      alone _ _ (line.Word word.NoMoreOwners) can.0 (λ r. refl) can.1 can.2 (dead_only true e)
   dead_possible false i e =
       let can = can_die s dead kept nodes.HasOwners i (ap release_state e) in
-      alone _ _ line.HasOwners can.0 (λ r. refl) can.1 can.2 (dead_only false e)
+      alone _ _ (line.Word word.HasOwners) can.0 (λ r. refl) can.1 can.2 (dead_only false e)

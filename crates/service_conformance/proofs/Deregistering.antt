@@ -1,32 +1,17 @@
 -- The replies to removing a node's entry.
-use Rattle.std.proofs.Common.{◌≡◌, ℕ, zero, suc, ◌+◌, Bool, true, false, Some, None, Ok, List, length, refl, sym, ◌∙◌, ap, arith}
-use Rattle.std.specs.Prelude.{IsTrue, nat_eq}
-use Rattle.std.proofs.lemmas.Bool.{eq-eqb, ne_eqb}
-use Rattle.iox2_container.specs.declared.container.release.ReleaseMode.TheVariants.{LockIfLastIndex}
-use Rattle.iox2_container.specs.declared.container.release.ReleaseState.{ReleaseState}
+use Rattle.service_conformance.proofs.Prelude.{Bool, IsTrue, List, None, Ok, Some, ap, arith, eq-eqb, false, length, nat_eq, ne_eqb, refl, suc, sym, true, zero, ℕ, ◌+◌, ◌∙◌, ◌≡◌}
+use Rattle.service_conformance.proofs.Names.{ArePossible, DeregisterNodeState, Entry, Handle, HasEntry, InsertsOne, IsRegistry, IsService, IsUnknownHandle, LockIfLastIndex, RegistryState, ReleaseState, RemoveStep, Removes, Reply, ServesDeregister, Service, container, is_last_of_ports, lock_after, release_state, reply_in, reply_of_owners, reply_of_state, state_of, with_left}
 use Rattle.iox2_container.specs.declared.container.release.ReleaseState.TheVariants as state
-use Rattle.iox2_container.specs.Changes.{Removes}
-use Rattle.iox2_container.specs.ContainerState.{container}
-use Rattle.iox2_container.specs.Handle.{Handle}
-use Rattle.iox2_container.specs.State.{Entry, RegistryState, IsRegistry}
-use Rattle.iox2_container.specs.Steps.{InsertsOne, IsUnknownHandle, HasEntry, RemoveStep, lock_after, release_state}
 use Rattle.iox2_container.proofs.Gaining.{length-InsertsOne}
 use Rattle.iox2_container.proofs.Members.{one_by_ticket}
-use Rattle.iox2_dynamic.specs.declared.dynamic_config.answers.DeregisterNodeState.{DeregisterNodeState}
 use Rattle.iox2_dynamic.specs.declared.dynamic_config.answers.DeregisterNodeState.TheVariants as nodes
-use Rattle.iox2_dynamic.specs.Answers.{state_of}
-use Rattle.iox2_dynamic.specs.Service.{Service, IsService}
-use Rattle.iox2_dynamic.specs.Steps.{is_last_of_ports}
 use Rattle.iox2_dynamic.proofs.Keeping.{leaving_kept}
-use Rattle.service_descriptions.specs.declared.replay.machine.reply.Reply.{Reply}
 use Rattle.service_descriptions.specs.declared.replay.machine.reply.Reply.TheVariants as reply
-use Rattle.service_descriptions.specs.Steps.{ServesDeregister}
 use Rattle.service_conformance.specs.declared.conformance.line_reply.LineReply.TheVariants as line
+use Rattle.service_conformance.specs.declared.conformance.seen_reply.ReplyWord.TheVariants as word
 use Rattle.service_conformance.specs.declared.conformance.possible.Possible.TheVariants as possible
-use Rattle.service_conformance.specs.Entries.{with_left}
-use Rattle.service_conformance.specs.Possible.{ArePossible, reply_in, reply_of_owners, reply_of_state}
 use Rattle.service_conformance.proofs.Possibles.{alone, not_both}
-use Rattle.service_conformance.proofs.Touching.{untouching}
+use Rattle.service_conformance.proofs.Quiet.{untouching}
 use Rattle.service_conformance.proofs.Removes.{can_remove, known}
 
 -- without a handle
@@ -36,9 +21,9 @@ nothing_only s reply.NoHandle new so = refl
 nothing_only s _ new so = absurd so
 
 pub nothing : (s : Service) → IsService s
-    → ArePossible s (ServesDeregister s None) (possible.One line.NoHandle)
+    → ArePossible s (ServesDeregister s None) (possible.One (line.Word word.NoHandle))
 nothing s i =
-    alone _ _ line.NoHandle s (λ r. refl) refl i (nothing_only s)
+    alone _ _ (line.Word word.NoHandle) s (λ r. refl) refl i (nothing_only s)
 
 -- the entry of a handle is one
 pub one_details : {T : Type 0} (r : RegistryState T) (h : Handle) (a b : T) → IsRegistry r
@@ -95,9 +80,9 @@ module _ (s : Service) (h : Handle) where
   unknown_only u _ new so = absurd so
 
   pub unknown : IsService s → IsUnknownHandle s.nodes.registry h
-      → ArePossible s (ServesDeregister s (Some h)) (possible.One line.NotOwned)
+      → ArePossible s (ServesDeregister s (Some h)) (possible.One (line.Word word.NotOwned))
   unknown i u =
-      alone _ _ line.NotOwned s (λ r. refl) (u, refl) i (unknown_only u)
+      alone _ _ (line.Word word.NotOwned) s (λ r. refl) (u, refl) i (unknown_only u)
 
   module _ (i : IsService s) (id : ℕ) (has : HasEntry s.nodes.registry h id) where
     -- whether it is the last of its node's ports, for whom it is named
@@ -117,9 +102,9 @@ module _ (s : Service) (h : Handle) where
     attached_only l _ new so = absurd so
 
     pub attached : is_last_of_ports id s ≡ true
-        → ArePossible s (ServesDeregister s (Some h)) (possible.One line.PortsAttached)
+        → ArePossible s (ServesDeregister s (Some h)) (possible.One (line.Word word.PortsAttached))
     attached l =
-        alone _ _ line.PortsAttached s (λ r. refl) (id, has, l, refl) i
+        alone _ _ (line.Word word.PortsAttached) s (λ r. refl) (id, has, l, refl) i
         (attached_only l)
 
     -- the answer is by the lock
@@ -161,10 +146,10 @@ module _ (s : Service) (h : Handle) where
         (elim b as
         (λ b. left.locked ≡ b → b ≡ nat_eq (length s.nodes.registry.entries) 1
         → ArePossible s (ServesDeregister s (Some h)) (possible.One (reply_of_owners b))) [
-          | true ↦ λ k e. alone _ _ line.NoMoreOwners new (λ r. refl)
+          | true ↦ λ k e. alone _ _ (line.Word word.NoMoreOwners) new (λ r. refl)
               (id, has, l, leaves _ (sym (ap release_state k)), refl) kept
               (owners_only true e l)
-          | false ↦ λ k e. alone _ _ line.HasOwners new (λ r. refl)
+          | false ↦ λ k e. alone _ _ (line.Word word.HasOwners) new (λ r. refl)
               (id, has, l, leaves _ (sym (ap release_state k)), refl) kept
               (owners_only false e l)
         ]) locked e

@@ -1,31 +1,9 @@
 -- The one state that the recovery of a dead node leaves, where ports of some values stay.
-use Rattle.std.proofs.Common.{◌≡◌, ℕ, Bool, true, false, List, [], ◌∷◌, length, map, refl, ◌∙◌, ap}
-use Rattle.std.specs.Prelude.{if◌then◌else◌, not, ◌&&◌, filter}
-use Rattle.std.specs.Global.{Vec}
-use Rattle.iox2_container.specs.declared.container.release.ReleaseMode.TheVariants.{Default, LockIfLastIndex}
-use Rattle.iox2_container.specs.declared.container.release.ReleaseState.{ReleaseState}
-use Rattle.iox2_container.specs.ContainerState.{ContainerState}
-use Rattle.iox2_container.specs.State.{Entry, RegistryState}
-use Rattle.iox2_container.specs.Steps.{Asked, RecoverStep, asked_about, is_of, lock_after, marks_of, staying}
+use Rattle.service_conformance.proofs.Prelude.{Bool, List, Vec, [], ap, false, filter, if◌then◌else◌, length, map, not, refl, true, ℕ, ◌&&◌, ◌∙◌, ◌∷◌, ◌≡◌}
+use Rattle.service_conformance.proofs.Names.{Asked, AskedToGo, ByPort, CleanedUp, Cleans, ContainerState, Default, DeregisterNodeState, Entry, LeadsTo, LockIfLastIndex, NodesAfter, PortCleanupAction, PortDetails, RecoverStep, RegistryState, ReleaseState, RemovePort, Reply, ServesDead, Service, SkipPort, after_dead, asked_about, at_rest, has_ports_of, is_kept, is_of, lock_after, marks_of, node_of, nodes_if, port_of, ports_at_rest, quiet, removes, state_of, staying, with_left, without_node, without_ports}
 use Rattle.iox2_container.proofs.Leaving.{staying_by}
-use Rattle.iox2_dynamic.specs.declared.dynamic_config.answers.DeregisterNodeState.{DeregisterNodeState}
 use Rattle.iox2_dynamic.specs.declared.dynamic_config.answers.DeregisterNodeState.TheVariants as nodes
-use Rattle.iox2_dynamic.specs.declared.dynamic_config.cleanup.PortCleanupAction.{PortCleanupAction}
-use Rattle.iox2_dynamic.specs.declared.dynamic_config.cleanup.PortCleanupAction.TheVariants.{RemovePort, SkipPort}
-use Rattle.iox2_dynamic.specs.declared.dynamic_config.port_details.PortDetails.{PortDetails}
-use Rattle.iox2_dynamic.specs.Answers.{state_of}
-use Rattle.iox2_dynamic.specs.Details.{node_of, port_of}
-use Rattle.iox2_dynamic.specs.Ports.{has_ports_of}
-use Rattle.iox2_dynamic.specs.Recoveries.{AskedToGo, removes}
-use Rattle.iox2_dynamic.specs.Service.{Service}
-use Rattle.iox2_dynamic.specs.Steps.{NodesAfter}
-use Rattle.service_descriptions.specs.declared.replay.machine.command.Cleanup.TheVariants.{ByPort}
-use Rattle.service_descriptions.specs.declared.replay.machine.reply.Reply.{Reply}
 use Rattle.service_descriptions.specs.declared.replay.machine.reply.Reply.TheVariants as reply
-use Rattle.service_descriptions.specs.Cleanups.{CleanedUp, Cleans, ServesDead}
-use Rattle.service_conformance.specs.Dead.{after_dead, is_kept, nodes_if, without_node, without_ports}
-use Rattle.service_conformance.specs.Entries.{with_left}
-use Rattle.service_conformance.specs.Quiet.{LeadsTo, at_rest, ports_at_rest, quiet}
 
 pub removed : (b : Bool) → removes (if b then SkipPort else RemovePort) ≡ not b
 removed true = refl

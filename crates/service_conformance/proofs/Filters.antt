@@ -1,21 +1,7 @@
 -- Registries of which some entries are left.
-use Rattle.std.proofs.Common.{◌≡◌, ◌≢◌, ℕ, ◌<◌, Bool, true, false, List, [], ◌∷◌, length, refl, sym, ◌∙◌, ap, arith}
-use Rattle.std.specs.Prelude.{filter, not, nat_lt, ◌&&◌, ◌||◌, if◌then◌else◌}
-use Rattle.std.specs.List.{list_any}
-use Rattle.std.proofs.lemmas.Bool.{lt-ltb}
-use Rattle.std.proofs.lemmas.List.Elements.{All-filter}
-use Rattle.std.proofs.lemmas.List.Filters.{length-filter_both}
-use Rattle.std.proofs.lemmas.List.Kept.{AllPairs-filter}
+use Rattle.service_conformance.proofs.Prelude.{All-filter, AllPairs-filter, Bool, List, [], ap, arith, false, filter, if◌then◌else◌, length, length-filter_both, list_any, lt-ltb, nat_lt, not, refl, sym, true, ℕ, ◌&&◌, ◌<◌, ◌||◌, ◌∙◌, ◌∷◌, ◌≡◌, ◌≢◌}
+use Rattle.service_conformance.proofs.Names.{Entry, IsRegistry, PortDetails, RegistryState, ReleaseMode, Service, candidates, entries_of, goes, has_ports_of, is_kept, is_of, node_of, ports_after, stays, with_left, without_ports}
 use Rattle.iox2_container.proofs.Removing.{nothing_left, locks_empty}
-use Rattle.iox2_container.specs.declared.container.release.ReleaseMode.{ReleaseMode}
-use Rattle.iox2_container.specs.State.{Entry, RegistryState, IsRegistry}
-use Rattle.iox2_container.specs.Steps.{candidates, entries_of, is_of}
-use Rattle.iox2_dynamic.specs.declared.dynamic_config.port_details.PortDetails.{PortDetails}
-use Rattle.iox2_dynamic.specs.Details.{node_of}
-use Rattle.iox2_dynamic.specs.Ports.{has_ports_of}
-use Rattle.iox2_dynamic.specs.Service.{Service}
-use Rattle.service_conformance.specs.Dead.{goes, is_kept, ports_after, stays, without_ports}
-use Rattle.service_conformance.specs.Entries.{with_left}
 
 pub kept_filter : {T : Type 0} (r : RegistryState T) (mode : ReleaseMode) (p : Entry T → Bool)
     → IsRegistry r → IsRegistry (with_left r mode (filter p r.entries))

@@ -1,34 +1,11 @@
 -- Steps leave how many slots and tickets there are as it was.
-use Rattle.std.proofs.Common.{◌≡◌, ℕ, ◌<◌, ◌^◌, Bool, true, false, Option, Some, None, Result, Ok, Err, List, inl, inr, ◌∙◌, ap, subst, sym}
-use Rattle.iox2_container.specs.declared.container.refusal.ContainerAddFailure.{ContainerAddFailure}
+use Rattle.service_conformance.proofs.Prelude.{Bool, Err, List, None, Ok, Option, Result, Some, ap, false, inl, inr, subst, sym, true, ℕ, ◌<◌, ◌^◌, ◌∙◌, ◌≡◌}
+use Rattle.service_conformance.proofs.Names.{AddStep, AddsPort, CleanedUp, Cleanup, Command, ContainerAddFailure, ContainerRemoveError, ContainerState, Default, DeregisterNodeState, First, Handle, IsBounded, IsBoundedRegistry, LockIfLastIndex, NodesAfter, PortDetails, Recovers, RegistryState, ReleaseMode, ReleaseState, RemoveStep, RemovesPort, Reply, Second, Serves, ServesAdd, ServesDead, ServesDeregister, ServesRegister, ServesRelease, Service, Side, has_ports_of, named, of_side, other_side, state_of}
 use Rattle.iox2_container.specs.declared.container.refusal.ContainerAddFailure.TheVariants as container
-use Rattle.iox2_container.specs.declared.container.refusal.ContainerRemoveError.{ContainerRemoveError}
 use Rattle.iox2_container.specs.declared.container.refusal.ContainerRemoveError.TheVariants as remove
-use Rattle.iox2_container.specs.declared.container.release.ReleaseMode.{ReleaseMode}
-use Rattle.iox2_container.specs.declared.container.release.ReleaseMode.TheVariants.{Default, LockIfLastIndex}
-use Rattle.iox2_container.specs.declared.container.release.ReleaseState.{ReleaseState}
-use Rattle.iox2_container.specs.ContainerState.{ContainerState}
-use Rattle.iox2_container.specs.Handle.{Handle}
-use Rattle.iox2_container.specs.State.{RegistryState}
-use Rattle.iox2_container.specs.Steps.{AddStep, Recovers, RemoveStep}
-use Rattle.iox2_dynamic.specs.declared.dynamic_config.answers.DeregisterNodeState.{DeregisterNodeState}
 use Rattle.iox2_dynamic.specs.declared.dynamic_config.answers.DeregisterNodeState.TheVariants as nodes
-use Rattle.iox2_dynamic.specs.declared.dynamic_config.port_details.PortDetails.{PortDetails}
-use Rattle.iox2_dynamic.specs.Answers.{state_of}
-use Rattle.iox2_dynamic.specs.Ports.{has_ports_of}
-use Rattle.iox2_dynamic.specs.PortsState.{Side, of_side, other_side}
-use Rattle.iox2_dynamic.specs.PortsState.Side.{First, Second}
-use Rattle.iox2_dynamic.specs.Service.{Service}
-use Rattle.iox2_dynamic.specs.Steps.{AddsPort, NodesAfter, RemovesPort}
-use Rattle.service_descriptions.specs.declared.replay.machine.command.Cleanup.{Cleanup}
-use Rattle.service_descriptions.specs.declared.replay.machine.command.Command.{Command}
 use Rattle.service_descriptions.specs.declared.replay.machine.command.Command.TheVariants as command
-use Rattle.service_descriptions.specs.declared.replay.machine.reply.Reply.{Reply}
 use Rattle.service_descriptions.specs.declared.replay.machine.reply.Reply.TheVariants as reply
-use Rattle.service_descriptions.specs.Cleanups.{CleanedUp, ServesDead}
-use Rattle.service_descriptions.specs.Handles.{named}
-use Rattle.service_descriptions.specs.Steps.{Serves, ServesAdd, ServesDeregister, ServesRegister, ServesRelease}
-use Rattle.service_conformance.specs.Alone.{IsBounded, IsBoundedRegistry}
 
 -- as many slots, and as many tickets
 pub record Fixed {T : Type 0} (old new : RegistryState T) : Type 0 where

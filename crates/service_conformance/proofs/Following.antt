@@ -1,30 +1,8 @@
 -- The one state that a reply leaves.
-use Rattle.std.proofs.Common.{◌≡◌, ℕ, true, false, Option, Some, None, Ok, Err, refl, ◌∙◌, ap, subst, inl, inr}
-use Rattle.iox2_config.specs.declared.hash.input.PatternKind.{PatternKind}
-use Rattle.iox2_container.specs.declared.container.role.Role.{Role}
-use Rattle.iox2_container.specs.Changes.{Adds, Removes}
-use Rattle.iox2_container.specs.ContainerState.{ContainerState}
-use Rattle.iox2_dynamic.specs.Details.{role_of}
-use Rattle.iox2_dynamic.specs.Ports.{Ports, OnSide, IsNeither}
-use Rattle.iox2_dynamic.specs.PortsState.{Side, of_side, other_side}
-use Rattle.iox2_dynamic.specs.PortsState.Side.{First, Second}
-use Rattle.iox2_dynamic.specs.Steps.{AddsPort, RemovesPort}
-use Rattle.service_conformance.specs.Sides.{ports_at}
+use Rattle.service_conformance.proofs.Prelude.{Err, None, Ok, Option, Some, ap, false, inl, inr, refl, subst, true, ℕ, ◌∙◌, ◌≡◌}
+use Rattle.service_conformance.proofs.Names.{AddStep, Adds, AddsPort, CanServe, ContainerHandleNotOwnedByContainer, ContainerState, Default, First, Handle, IsNeither, IsRegistry, IsService, LeadsTo, LockIfLastIndex, MayGive, OnSide, OutOfSpace, PatternKind, PortDetails, Ports, RegistryState, ReleaseState, RemoveStep, Removes, RemovesPort, Reply, Reports, Role, Second, ServesAdd, ServesDeregister, ServesRegister, ServesRelease, Service, Side, TakesEntry, at_rest, first_role, handle_in, is_removal, of_side, other_side, ports_at, quiet, role_at, role_of, second_role}
 use Rattle.service_conformance.proofs.Sides.{has_role, lacks, one_side, step_at}
-use Rattle.iox2_container.specs.declared.container.refusal.ContainerRemoveError.TheVariants.{ContainerHandleNotOwnedByContainer}
-use Rattle.iox2_container.specs.declared.container.refusal.ContainerAddFailure.TheVariants.{OutOfSpace}
-use Rattle.iox2_container.specs.declared.container.release.ReleaseMode.TheVariants.{Default, LockIfLastIndex}
-use Rattle.iox2_container.specs.declared.container.release.ReleaseState.{ReleaseState}
-use Rattle.iox2_container.specs.Handle.{Handle}
-use Rattle.iox2_container.specs.State.{RegistryState, IsRegistry}
-use Rattle.iox2_container.specs.Steps.{AddStep, RemoveStep, TakesEntry}
-use Rattle.iox2_dynamic.specs.declared.dynamic_config.port_details.PortDetails.{PortDetails}
-use Rattle.iox2_dynamic.specs.Service.{Service, IsService, first_role, second_role, role_at}
-use Rattle.service_descriptions.specs.declared.replay.machine.reply.Reply.{Reply}
 use Rattle.service_descriptions.specs.declared.replay.machine.reply.Reply.TheVariants as reply
-use Rattle.service_descriptions.specs.Steps.{ServesAdd, ServesRegister, ServesDeregister, ServesRelease, handle_in}
-use Rattle.service_conformance.specs.Entries.{MayGive}
-use Rattle.service_conformance.specs.Quiet.{CanServe, LeadsTo, Reports, at_rest, quiet, is_removal}
 use Rattle.service_conformance.proofs.Adds.{add_once, was_given}
 use Rattle.service_conformance.proofs.Quiet.{service_quiet}
 use Rattle.service_conformance.proofs.Releasing.{never}

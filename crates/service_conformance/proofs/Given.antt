@@ -1,21 +1,8 @@
 -- What is given of a service that was in use.
-use Rattle.std.proofs.Common.{◌≡◌, ◌≢◌, ℕ, ◌<◌, ◌≤◌, Bool, true, false, List, [], ◌∷◌, ◌++◌, length, refl, sym, ◌∙◌, ap, subst, arith}
-use Rattle.std.specs.Prelude.{All, AllPairs, IfOk, OnErr, Result, Ok, Err}
-use Rattle.std.proofs.lemmas.List.{length-append}
-use Rattle.std.proofs.lemmas.List.Elements.{All-head, All-nil, All-cons, All-push, All-weaker, filter-append}
-use Rattle.std.proofs.lemmas.List.Quantifiers.{all_pairs_push}
+use Rattle.service_conformance.proofs.Prelude.{All, All-cons, All-head, All-nil, All-push, All-weaker, AllPairs, Bool, IfOk, List, OnErr, [], all_pairs_push, ap, arith, false, filter-append, length, length-append, refl, subst, sym, true, ℕ, ◌++◌, ◌<◌, ◌∙◌, ◌∷◌, ◌≡◌, ◌≢◌, ◌≤◌}
+use Rattle.service_conformance.proofs.Names.{Becomes, Entry, First, GivesNode, GivesNodes, GivesPort, GivesPorts, IsBefore, IsNeither, IsPortRegistry, IsRegistry, IsService, IsUnused, MayStand, PortDetails, Registered, RegistryState, Role, Second, Service, Side, StandsLast, UsedSo, candidates, entries_of_node, first_role, is_of, node_of, ports_at, role_at, role_of, second_role, slot_entry, with_last, with_nodes, with_ports, with_used}
+use Rattle.std.specs.Prelude.{Result, Ok, Err}
 use Rattle.iox2_container.proofs.Gaining.{All-back, AllPairs-head, AllPairs-tail}
-use Rattle.iox2_container.specs.declared.container.role.Role.{Role}
-use Rattle.iox2_container.specs.State.{Entry, IsRegistry, RegistryState}
-use Rattle.iox2_container.specs.Steps.{candidates, is_of}
-use Rattle.iox2_dynamic.specs.declared.dynamic_config.port_details.PortDetails.{PortDetails}
-use Rattle.iox2_dynamic.specs.Details.{node_of, role_of}
-use Rattle.iox2_dynamic.specs.Ports.{IsNeither}
-use Rattle.iox2_dynamic.specs.PortsState.{Side}
-use Rattle.iox2_dynamic.specs.PortsState.Side.{First, Second}
-use Rattle.iox2_dynamic.specs.Service.{IsPortRegistry, IsService, Registered, Service, entries_of_node, first_role, second_role, role_at}
-use Rattle.service_conformance.specs.Given.{Becomes, GivesNode, GivesNodes, GivesPort, GivesPorts, IsBefore, IsUnused, MayStand, StandsLast, UsedSo, slot_entry, with_last, with_nodes, with_ports, with_used}
-use Rattle.service_conformance.specs.Sides.{ports_at}
 use Rattle.service_conformance.proofs.Sides.{has_role, lacks, one_side, ports_are}
 
 -- so many tickets of an unused registry make it one
@@ -205,111 +192,103 @@ pub same_ports : (s : Service) (side : Side) → with_ports side s (ports_at s s
 same_ports s First = refl
 same_ports s Second = refl
 
--- What becomes of one registry becomes of the service.
-module _ (s : Service) (i : IsService s) where
-  pub gives_nodes : (used : ℕ) (locked yes : Bool) (r : RegistryState ℕ)
-      → Becomes (UsedSo s.nodes.registry used locked) s.nodes.registry yes r
-      → Becomes (GivesNodes s used locked) s yes (with_nodes s r) × IsService (with_nodes s r)
-  gives_nodes used locked true r b =
-      let k =
-      nodes_used s used locked i (subst (λ (x : RegistryState ℕ). IsRegistry x) b.1 b.2) in
-      let is = ap (λ (x : RegistryState ℕ). with_nodes s x) b.1 in
-      let kept = subst (λ (x : Service). IsService x) (sym is) k in
-      ((b.0, is, kept), kept)
-  gives_nodes used locked false r b =
-      let is : with_nodes s r ≡ s = ap (λ (x : RegistryState ℕ). with_nodes s x) b.1 in (
-        (
-          λ new g. b.0 (with_used s.nodes.registry used locked)
-              (g.0, refl, (subst (λ (x : Service). IsService x) g.1 g.2).nodes_are),
-          is,
-        ),
-        subst (λ (x : Service). IsService x) (sym is) i,
-      )
+-- what becomes of a registry becomes of the service that has it
+becomes : {T : Type 0} (put : RegistryState T → Service) (old : RegistryState T) (s : Service)
+    (Is : RegistryState T → Type 0) (Gives : Service → Type 0) → put old ≡ s → IsService s
+    → ((r : RegistryState T) → Is r → Gives (put r) × IsService (put r))
+    → ((new : Service) → Gives new → (r : RegistryState T) × Is r)
+    → (so : Bool) (r : RegistryState T) → Becomes Is old so r
+    → Becomes Gives s so (put r) × IsService (put r)
+becomes put old s Is Gives same i there back true r b = there r b
+becomes put old s Is Gives same i there back false r b =
+    let is : put r ≡ s = ap put b.1 ∙ same in
+    ((λ new g. b.0 (back new g).0 (back new g).1, is), subst IsService (sym is) i)
 
-  pub gives_node : (slot ticket id : ℕ) (yes : Bool) (r : RegistryState ℕ)
-      → Becomes (StandsLast s.nodes.registry (slot_entry slot ticket id)) s.nodes.registry yes r
-      → Becomes (GivesNode s slot ticket id) s yes (with_nodes s r) × IsService (with_nodes s r)
-  gives_node slot ticket id true r b =
-      let k =
-      node_last s (slot_entry slot ticket id) i
-      (subst (λ (x : RegistryState ℕ). IsRegistry x) b.0 b.1) in
-      let is = ap (λ (x : RegistryState ℕ). with_nodes s x) b.0 in
-      let kept = subst (λ (x : Service). IsService x) (sym is) k in
-      ((is, kept), kept)
-  gives_node slot ticket id false r b =
-      let is : with_nodes s r ≡ s = ap (λ (x : RegistryState ℕ). with_nodes s x) b.1 in (
-        (
-          λ new g. b.0 (with_last s.nodes.registry (slot_entry slot ticket id))
-              (refl, (subst (λ (x : Service). IsService x) g.0 g.1).nodes_are),
-          is,
-        ),
-        subst (λ (x : Service). IsService x) (sym is) i,
-      )
+module _ (s : Service) (i : IsService s) where
+  pub gives_nodes : (used : ℕ) (locked so : Bool) (r : RegistryState ℕ)
+      → Becomes (UsedSo s.nodes.registry used locked) s.nodes.registry so r
+      → Becomes (GivesNodes s used locked) s so (with_nodes s r) × IsService (with_nodes s r)
+  gives_nodes used locked so r b =
+      becomes (with_nodes s) s.nodes.registry s (UsedSo s.nodes.registry used locked)
+      (GivesNodes s used locked) refl i
+      (λ r u.
+      let is = ap (λ (x : RegistryState ℕ). with_nodes s x) u.1 in
+      let kept = subst IsService (sym is)
+      (nodes_used s used locked i (subst (λ (x : RegistryState ℕ). IsRegistry x) u.1 u.2)) in
+      ((u.0, is, kept), kept))
+      (λ new g. (
+        with_used s.nodes.registry used locked,
+        (g.0, refl, (subst IsService g.1 g.2).nodes_are),
+      )) so r b
+
+  pub gives_node : (slot ticket id : ℕ) (so : Bool) (r : RegistryState ℕ)
+      → Becomes (StandsLast s.nodes.registry (slot_entry slot ticket id)) s.nodes.registry so r
+      → Becomes (GivesNode s slot ticket id) s so (with_nodes s r) × IsService (with_nodes s r)
+  gives_node slot ticket id so r b =
+      let x : Entry ℕ = slot_entry slot ticket id in
+      becomes (with_nodes s) s.nodes.registry s (StandsLast s.nodes.registry x)
+      (GivesNode s slot ticket id) refl i
+      (λ r u.
+      let is = ap (λ (x : RegistryState ℕ). with_nodes s x) u.0 in
+      let kept = subst IsService (sym is)
+      (node_last s x i (subst (λ (x : RegistryState ℕ). IsRegistry x) u.0 u.1)) in
+      ((is, kept), kept))
+      (λ new g. (
+        with_last s.nodes.registry x,
+        (refl, (subst IsService g.0 g.1).nodes_are),
+      )) so r b
 
   module _ (side : Side) where
-    pub gives_ports : (role : Role) (used : ℕ) (yes : Bool) (r : RegistryState PortDetails)
-        → role ≡ role_at s.pattern side
-        → Becomes (UsedSo (ports_at s side).registry used false) (ports_at s side).registry yes r
-        → Becomes (GivesPorts s role used) s yes (with_ports side s r)
-        × IsService (with_ports side s r)
-    gives_ports role used true r at b =
-        let k =
-        ports_used s side used i (subst (λ (x : RegistryState PortDetails). IsRegistry x) b.1 b.2)
-        in
-        let is = ap (λ (x : RegistryState PortDetails). with_ports side s x) b.1 in
-        let kept = subst (λ (x : Service). IsService x) (sym is) k in
-        ((side, at, b.0, is, kept), kept)
-    gives_ports role used false r at b =
-        let is : with_ports side s r ≡ s =
-        ap (λ (x : RegistryState PortDetails). with_ports side s x) b.1 ∙ same_ports s side in (
-          (
-            λ new g.
-                let here : side ≡ g.0 = one_side s.pattern g.0 side role g.1 at in
-                b.0 (with_used (ports_at s side).registry used false) (
-                  subst (λ (z : Side). IsUnused (ports_at s z).registry) (sym here) g.2,
-                  refl,
-                  (ports_only s side (with_used (ports_at s side).registry used false)
-                      (subst (λ (z : Side). IsService
-                      (with_ports z s (with_used (ports_at s z).registry used false))) (sym here)
-                      (subst (λ (x : Service). IsService x) g.3 g.4))).is_registry,
-                ),
-            is,
-          ),
-          subst (λ (x : Service). IsService x) (sym is) i,
-        )
+    abbrev now : RegistryState PortDetails
+    now = (ports_at s side).registry
 
-    pub gives_port : (slot ticket : ℕ) (d : PortDetails) (yes : Bool)
+    -- what is given of the ports of a role is given of this side
+    here : (P : Side → Type 0) (role : Role) → role ≡ role_at s.pattern side
+        → ((at : Side) × (role ≡ role_at s.pattern at) × P at) → P side
+    here P role at g = subst P (one_side s.pattern side g.0 role at g.1) g.2
+
+    pub gives_ports : (role : Role) (used : ℕ) (so : Bool) (r : RegistryState PortDetails)
+        → role ≡ role_at s.pattern side → Becomes (UsedSo now used false) now so r
+        → Becomes (GivesPorts s role used) s so (with_ports side s r)
+        × IsService (with_ports side s r)
+    gives_ports role used so r at b =
+        becomes (with_ports side s) now s (UsedSo now used false)
+        (GivesPorts s role used) (same_ports s side) i
+        (λ r u.
+        let is = ap (λ (x : RegistryState PortDetails). with_ports side s x) u.1 in
+        let kept = subst IsService (sym is)
+        (ports_used s side used i (subst (λ (x : RegistryState PortDetails). IsRegistry x) u.1 u.2))
+        in
+        ((side, at, u.0, is, kept), kept))
+        (λ new g.
+        let w = here (λ z. IsUnused (ports_at s z).registry
+        × IsService (with_ports z s (with_used (ports_at s z).registry used false))) role at
+        (g.0, g.1, (g.2, subst IsService g.3 g.4)) in
+        let p = ports_only s side (with_used now used false) w.1 in
+        (with_used now used false, (w.0, refl, p.is_registry))) so r b
+
+    pub gives_port : (slot ticket : ℕ) (d : PortDetails) (so : Bool)
         (r : RegistryState PortDetails) → role_of d ≡ role_at s.pattern side
         → 0 < entries_of_node (node_of d) s.nodes.registry
-        → Becomes (StandsLast (ports_at s side).registry (slot_entry slot ticket d))
-        (ports_at s side).registry yes r
-        → Becomes (GivesPort s slot ticket d) s yes (with_ports side s r)
+        → Becomes (StandsLast now (slot_entry slot ticket d)) now so r
+        → Becomes (GivesPort s slot ticket d) s so (with_ports side s r)
         × IsService (with_ports side s r)
-    gives_port slot ticket d true r at has b =
-        let k =
-        port_last s side (slot_entry slot ticket d) i has
-        (subst (λ (x : RegistryState PortDetails). IsRegistry x) b.0 b.1) in
-        let is = ap (λ (x : RegistryState PortDetails). with_ports side s x) b.0 in
-        let kept = subst (λ (x : Service). IsService x) (sym is) k in
-        ((side, at, is, kept), kept)
-    gives_port slot ticket d false r at has b =
-        let is : with_ports side s r ≡ s =
-        ap (λ (x : RegistryState PortDetails). with_ports side s x) b.1 ∙ same_ports s side in (
-          (
-            λ new g.
-                let here : side ≡ g.0 = one_side s.pattern g.0 side (role_of d) g.1 at in
-                b.0 (with_last (ports_at s side).registry (slot_entry slot ticket d)) (
-                  refl,
-                  (ports_only s side (with_last (ports_at s side).registry (slot_entry slot ticket
-                      d))
-                      (subst (λ (z : Side). IsService (with_ports z s
-                      (with_last (ports_at s z).registry (slot_entry slot ticket d)))) (sym here)
-                      (subst (λ (x : Service). IsService x) g.2 g.3))).is_registry,
-                ),
-            is,
-          ),
-          subst (λ (x : Service). IsService x) (sym is) i,
-        )
+    gives_port slot ticket d so r at has b =
+        let x : Entry PortDetails = slot_entry slot ticket d in
+        becomes (with_ports side s) now s (StandsLast now x) (GivesPort s slot ticket d)
+        (same_ports s side) i
+        (λ r u.
+        let is = ap (λ (x : RegistryState PortDetails). with_ports side s x) u.0 in
+        let kept = subst IsService (sym is)
+        (port_last s side x i has (subst (λ (x : RegistryState PortDetails). IsRegistry x) u.0 u.1))
+        in
+        ((side, at, is, kept), kept))
+        (λ new g.
+        let w =
+        here (λ z. IsService (with_ports z s (with_last (ports_at s z).registry x))) (role_of d) at
+        (g.0, g.1, subst IsService g.2 g.3) in
+        let p = ports_only s side (with_last now x) w in
+        (with_last now x, (refl, p.is_registry))) so r b
 
   -- a port of a node that is not registered
   pub no_node : (slot ticket : ℕ) (d : PortDetails)

@@ -1,13 +1,7 @@
 -- What parsing says of the text that an id has.
-use Rattle.std.proofs.Common.{◌≡◌, ℕ, zero, suc, ◌<◌, ◌≤◌, Bool, false, List, [], ◌∷◌, drop, cond, ◌==◌, ap, subst, refl, arith}
-use Rattle.std.proofs.lemmas.Bool.{ne_eqb}
-use Rattle.std.proofs.lemmas.Bool.Decides.{nat_tests}
-use Rattle.std.specs.Char.{digit_value}
-use Rattle.std.specs.Str.{IsAscii}
-use Rattle.std.specs.Str.Parse.{AllDigits, IsNumeral, digits_value, without_leading_plus}
-use Rattle.iox2_ids.specs.Packing.{hexadecimal}
-use Rattle.service_conformance.specs.IdWords.{id_numeral}
-use Rattle.service_conformance.specs.Seen.{IsIdNumber}
+use Rattle.service_conformance.proofs.Prelude.{AllDigits, Bool, IsAscii, IsNumeral, List, [], ap, arith, cond, digit_value, digits_value, drop, false, nat_tests, ne_eqb, refl, subst, suc, without_leading_plus, zero, ℕ, ◌<◌, ◌∷◌, ◌≡◌, ◌≤◌}
+use Rattle.service_conformance.proofs.Names.{IsIdNumber, hexadecimal, id_numeral}
+use Rattle.std.proofs.Common.{◌==◌}
 
 from : (c : ℕ) → digit_value c < 16 → 48 ≤ c
 from c h = grind (arith, nat_tests)

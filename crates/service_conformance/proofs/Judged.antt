@@ -1,18 +1,6 @@
 -- What is judged leads from one state to another.
-use Rattle.std.proofs.Common.{◌≡◌, ◌↔◌, ℕ, zero, suc, ◌+◌, ◌<◌, Bool, true, false, Some, Result, Ok, Err, List, [], ◌∷◌, length, map, refl, sym, ◌∙◌, ap, subst, arith}
-use Rattle.std.specs.List.{Contains, slice_get}
-use Rattle.std.specs.Prelude.{◌==◌, IfOk}
-use Rattle.std.specs.declared.alloc.AllocError.{AllocError}
-use Rattle.std.proofs.lemmas.Bool.Decides.{nat_tests}
-use Rattle.std.proofs.lemmas.List.Elements.{All-map, All-weaker}
-use Rattle.std.proofs.lemmas.Option.{slice_get_within}
-use Rattle.histories.specs.declared.left.Left.{Left}
-use Rattle.histories.specs.Frontier.{IsIdle, IsMade, states_in}
-use Rattle.histories.specs.Histories.{AreAll}
-use Rattle.iox2_dynamic.specs.Service.{Service}
-use Rattle.service_conformance.specs.Calls.{Call, CallStep, ChangesNothing, HasNumber, IsIdleCall, LacksNumber}
-use Rattle.service_conformance.specs.Judged.{CallLeaves, IsIdleJudged, IsWithin, Judged, JudgedStep, WindowStep}
-use Rattle.service_conformance.specs.Looks.{IsWatched, Look, Watched, watched}
+use Rattle.service_conformance.proofs.Prelude.{All-map, All-weaker, AllocError, Bool, Contains, Err, IfOk, List, Ok, Result, Some, [], ap, arith, false, length, map, nat_tests, refl, slice_get, slice_get_within, subst, suc, sym, true, zero, ℕ, ◌+◌, ◌<◌, ◌==◌, ◌↔◌, ◌∙◌, ◌∷◌, ◌≡◌}
+use Rattle.service_conformance.proofs.Names.{AreAll, Call, CallLeaves, CallStep, ChangesNothing, HasNumber, IsIdle, IsIdleCall, IsIdleJudged, IsMade, IsWatched, IsWithin, Judged, JudgedStep, LacksNumber, Left, Look, Service, Watched, WindowStep, states_in, watched}
 use Rattle.service_conformance.proofs.Calls.{all_as, all_of_none}
 
 contains_map : {X Y : Type 0} (f : X → Y) (xs : List X) (x : X) → Contains xs x

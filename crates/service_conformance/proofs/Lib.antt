@@ -1,5 +1,6 @@
+pub mod Prelude
+pub mod Names
 pub mod Rising
-pub mod Touching
 pub mod Adds
 pub mod Removes
 pub mod Filters
@@ -29,5 +30,4 @@ pub mod MovingParts
 pub mod MovingNodes
 pub mod MovingPorts
 pub mod MovingSteps
-pub mod MovingPairs
 pub mod Moving

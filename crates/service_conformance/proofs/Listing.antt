@@ -1,24 +1,10 @@
 -- The replies to questions.
-use Rattle.std.proofs.Common.{◌≡◌, ℕ, Some, length, refl, sym, ◌∙◌, ap, inl, inr}
-use Rattle.std.specs.Global.{Vec}
-use Rattle.iox2_config.specs.declared.hash.input.PatternKind.{PatternKind}
-use Rattle.iox2_container.specs.declared.container.role.Role.{Role}
-use Rattle.iox2_container.specs.State.{RegistryState}
-use Rattle.iox2_container.specs.Steps.{listed}
-use Rattle.iox2_dynamic.specs.declared.dynamic_config.port_details.PortDetails.{PortDetails}
-use Rattle.iox2_dynamic.specs.Ports.{Ports, IsNeither, OfRole}
-use Rattle.iox2_dynamic.specs.PortsState.{Side, of_side}
-use Rattle.iox2_dynamic.specs.PortsState.Side.{First, Second}
-use Rattle.iox2_dynamic.specs.Service.{Service, IsService, LacksRole, first_role, second_role, role_at}
-use Rattle.service_descriptions.specs.declared.replay.machine.reply.Reply.{Reply}
+use Rattle.service_conformance.proofs.Prelude.{Some, Vec, ap, inl, inr, length, refl, sym, ℕ, ◌∙◌, ◌≡◌}
+use Rattle.service_conformance.proofs.Names.{ArePossible, First, IsNeither, IsSameReply, IsService, LacksRole, OfRole, PatternKind, PortDetails, Ports, RegistryState, Reply, Reports, Role, Second, ServesCount, ServesList, ServesNodes, Service, Side, first_role, listed, of_side, ports_at, role_at, second_role}
 use Rattle.service_descriptions.specs.declared.replay.machine.reply.Reply.TheVariants as reply
-use Rattle.service_descriptions.specs.Listings.{ServesNodes, ServesList, ServesCount}
-use Rattle.service_descriptions.specs.Replies.{IsSameReply}
 use Rattle.service_conformance.specs.declared.conformance.line_reply.LineReply.TheVariants as line
+use Rattle.service_conformance.specs.declared.conformance.seen_reply.ReplyWord.TheVariants as word
 use Rattle.service_conformance.specs.declared.conformance.possible.Possible.TheVariants as possible
-use Rattle.service_conformance.specs.Possible.{ArePossible}
-use Rattle.service_conformance.specs.Quiet.{Reports}
-use Rattle.service_conformance.specs.Sides.{ports_at}
 use Rattle.service_conformance.proofs.Possibles.{alone}
 use Rattle.service_conformance.proofs.Sides.{has_role, lacks, roles_apart}
 
@@ -75,9 +61,9 @@ module _ (s : Service) where
     list_lacks n _ new so = absurd so.0
 
     pub lists_none : IsService s → LacksRole s.pattern role
-        → ArePossible s (Reports s (ServesList s role)) (possible.One line.WrongPattern)
+        → ArePossible s (Reports s (ServesList s role)) (possible.One (line.Word word.WrongPattern))
     lists_none i n =
-        alone _ _ line.WrongPattern s (λ r. refl) (n, refl) i (list_lacks n)
+        alone _ _ (line.Word word.WrongPattern) s (λ r. refl) (n, refl) i (list_lacks n)
 
     count_lacks : LacksRole s.pattern role → (r : Reply) (new : Service)
         → Reports s (ServesCount s role) r new → reply.WrongPattern ≡ r
@@ -87,9 +73,10 @@ module _ (s : Service) where
     count_lacks n _ new so = absurd so.0
 
     pub counts_none : IsService s → LacksRole s.pattern role
-        → ArePossible s (Reports s (ServesCount s role)) (possible.One line.WrongPattern)
+        → ArePossible s (Reports s (ServesCount s role))
+        (possible.One (line.Word word.WrongPattern))
     counts_none i n =
-        alone _ _ line.WrongPattern s (λ r. refl) (n, refl) i (count_lacks n)
+        alone _ _ (line.Word word.WrongPattern) s (λ r. refl) (n, refl) i (count_lacks n)
 
     module _ (side : Side) (has : role ≡ role_at s.pattern side) where
       module _ (ports : Vec PortDetails)

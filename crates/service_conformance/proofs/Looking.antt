@@ -1,11 +1,7 @@
 -- What weak listings lack after they have looked.
-use Rattle.std.proofs.Common.{◌≡◌, inl, inr, ℕ, ◌+◌, ◌<◌, Bool, true, false, Option, Some, None, Result, Ok, Err, OnOk, OnErr, List, get_or, take, [], ◌∷◌, ◌++◌, length, refl, sym, ◌∙◌, ap, subst}
-use Rattle.std.specs.Prelude.{◌==◌, ◌&&◌, filter, not}
-use Rattle.std.proofs.lemmas.Bool.{cases_Bool}
-use Rattle.std.proofs.lemmas.List.{take_more}
-use Rattle.std.proofs.lemmas.List.Elements.{filter_map-append}
-use Rattle.iox2_dynamic.specs.Service.{Service}
-use Rattle.service_conformance.specs.Looks.{IsWatched, Look, Watched, ids_in, is_among, lacking, look_after, looks_after, watched, without}
+use Rattle.service_conformance.proofs.Prelude.{Bool, Err, List, None, Ok, OnOk, Option, Result, Some, [], ap, cases_Bool, false, filter, filter_map-append, get_or, inl, inr, length, not, refl, subst, sym, take, take_more, true, ℕ, ◌&&◌, ◌++◌, ◌+◌, ◌<◌, ◌==◌, ◌∙◌, ◌∷◌, ◌≡◌}
+use Rattle.service_conformance.proofs.Names.{IsWatched, Look, Service, Watched, ids_in, is_among, lacking, look_after, looks_after, watched, without}
+use Rattle.std.proofs.Common.{OnErr}
 
 filter_twice : {X : Type 0} (p : X → Bool) (xs : List X) → filter p (filter p xs) ≡ filter p xs
 filter_twice p [] = refl

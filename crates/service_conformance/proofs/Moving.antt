@@ -1,35 +1,149 @@
--- Calls that can be made before others.
-use Rattle.std.proofs.Common.{◌≡◌, ◌≢◌, ℕ, true, false, List, refl, sym, ◌∙◌, ap, subst}
-use Rattle.std.specs.Prelude.{◌==◌, IsTrue, not}
-use Rattle.std.proofs.lemmas.Bool.{eq-eqb}
-use Rattle.iox2_container.specs.declared.container.role.Role.{Role}
-use Rattle.iox2_container.specs.Handle.{Handle}
-use Rattle.iox2_dynamic.specs.Service.{Service, IsService}
-use Rattle.histories.specs.Frontier.{MovesBefore}
-use Rattle.service_conformance.specs.declared.conformance.mover.Change.{Change}
+-- Calls that can be made before others, by two changes of which the second is made first.
+use Rattle.service_conformance.proofs.Prelude.{IsTrue, List, ap, arith, cases_order, eq-eqb, false, inl, inr, not, refl, subst, sym, true, ℕ, ◌<◌, ◌==◌, ◌∙◌, ◌≡◌, ◌≢◌, ◌⊎◌}
+use Rattle.service_conformance.proofs.Names.{Call, CallStep, Change, ChangesAt, Handle, HasEntry, HasNumber, IsOpenFor, IsService, Judged, JudgedStep, Look, MovesBefore, MovesBeforeCall, MovesBeforeChange, PortDetails, RegistryState, Role, Service, Watched, WindowStep, call, entries_of_node, is_last_of_ports, looks_after, node_of, role_of, watched}
 use Rattle.service_conformance.specs.declared.conformance.mover.Change.TheVariants as change
-use Rattle.service_conformance.specs.Calls.{Call, CallStep, HasNumber}
-use Rattle.service_conformance.specs.Judged.{Judged, JudgedStep, WindowStep}
-use Rattle.service_conformance.specs.Judged.Judged.{call}
-use Rattle.service_conformance.specs.Looks.{Look, Watched, looks_after, watched}
-use Rattle.service_conformance.specs.Movers.{ChangesAt, MovesBeforeCall, MovesBeforeChange}
 use Rattle.service_conformance.proofs.Judged.{one_call}
 use Rattle.service_conformance.proofs.Looking.{watched_is}
 use Rattle.service_conformance.proofs.MovingLooks.{looks_between}
-use Rattle.service_conformance.proofs.MovingNodes.{GainsNode, LosesNode, node_losses_swap}
-use Rattle.service_conformance.proofs.MovingPairs.{add_before_add, add_before_deregister, add_before_register, add_before_release, register_before_add, register_before_release, release_before_add, release_before_deregister, release_before_register}
-use Rattle.service_conformance.proofs.MovingParts.{Exchange}
-use Rattle.service_conformance.proofs.MovingPorts.{GainsPort, LosesPort, port_losses_swap}
-use Rattle.service_conformance.proofs.MovingSteps.{Does, adds_port, leaves_service, of_node, of_port, registers_node, removes_node, removes_port, was_given}
+use Rattle.service_conformance.proofs.MovingNodes.{GainsNode, LosesNode, node_losses_swap, NodeAddition, NodeRemoval, apart, fewer_ports, loses_again, not_its_last, opened_before, opened_before_loss, opens_more}
+use Rattle.service_conformance.proofs.MovingParts.{Exchange, exchanged, nodes_first, nodes_stay, others_first, ports_first, with_nodes}
+use Rattle.service_conformance.proofs.MovingPorts.{GainsPort, LosesPort, port_losses_swap, PortAddition, PortRemoval, others_stay, ports_fewer}
+use Rattle.service_conformance.proofs.MovingSteps.{Does, adds_port, leaves_service, registers_node, removes_node, removes_port}
 
-module _ (c other : Call) (May Other : Handle → Type 0)
-    (First Second : Handle → Service → Service → Type 0) (one : Does other May First)
+-- a service with the same nodes is open for the same ones
+still_open : (x s : Service) (node : ℕ) → x.nodes.registry ≡ s.nodes.registry → IsOpenFor s node
+    → IsOpenFor x node
+still_open x s node e opens =
+    subst (λ (r : RegistryState ℕ). (r.locked ≡ false) × (0 < entries_of_node node r)) (sym e)
+    opens
+
+module _ (h k : Handle) (old mid new : Service) where
+  release_before_deregister : LosesNode h old mid → LosesPort k mid new
+      → Exchange (LosesNode h) (LosesPort k) old mid new
+  release_before_deregister a b =
+      let w = ports_first (NodeRemoval h) k.role (PortRemoval k b.state) old mid new a.changes
+      b.changes in
+      let before : LosesPort k old w.between = record { state = b.state; changes = w.before } in
+      let stay = nodes_stay k.role (PortRemoval k b.state) old w.between w.before in
+      exchanged w before
+      (loses_again h old mid a w.between new stay
+      (λ id last has. fewer_ports old w.between id stay
+      (ports_fewer k old w.between before id) last) w.after)
+
+  module _ (id : ℕ) where
+    pub release_before_register : GainsNode id h old mid → LosesPort k mid new
+        → Exchange (GainsNode id h) (LosesPort k) old mid new
+    release_before_register a b =
+        let w = ports_first (NodeAddition id h) k.role (PortRemoval k b.state) old mid new a
+        b.changes in
+        exchanged w (record { state = b.state; changes = w.before }) w.after
+
+    pub register_before_release : LosesPort h old mid → GainsNode id k mid new
+        → Exchange (LosesPort h) (GainsNode id k) old mid new
+    register_before_release a b =
+        let w = nodes_first (NodeAddition id k) h.role (PortRemoval h a.state) old mid new a.changes
+        b in
+        exchanged w w.before (record { state = a.state; changes = w.after })
+
+  module _ (d : PortDetails) where
+    pub release_before_add : role_of d ≢ k.role → GainsPort d h old mid → LosesPort k mid new
+        → Exchange (GainsPort d h) (LosesPort k) old mid new
+    release_before_add differ a b =
+        let w = others_first (role_of d) k.role differ (PortAddition d h) (PortRemoval k b.state)
+        old new mid a.changes b.changes in
+        let stay = nodes_stay k.role (PortRemoval k b.state) old w.between w.before in
+        exchanged w (record { state = b.state; changes = w.before })
+        (record {
+          opens = still_open w.between old (node_of d) stay a.opens;
+          changes = w.after;
+        })
+
+    pub add_before_release : h.role ≢ role_of d → LosesPort h old mid → GainsPort d k mid new
+        → Exchange (LosesPort h) (GainsPort d k) old mid new
+    add_before_release differ a b =
+        let w = others_first h.role (role_of d) differ (PortRemoval h a.state) (PortAddition d k)
+        old new mid a.changes b.changes in
+        let stay = nodes_stay h.role (PortRemoval h a.state) old mid a.changes in
+        exchanged w
+        (record {
+          opens = still_open old mid (node_of d) (sym stay) b.opens;
+          changes = w.before;
+        }) (record { state = a.state; changes = w.after })
+
+    pub add_before_add : (e : PortDetails) → role_of e ≢ role_of d → GainsPort e h old mid
+        → GainsPort d k mid new → Exchange (GainsPort e h) (GainsPort d k) old mid new
+    add_before_add e differ a b =
+        let w = others_first (role_of e) (role_of d) differ (PortAddition e h) (PortAddition d k)
+        old new mid a.changes b.changes in
+        let was = nodes_stay (role_of e) (PortAddition e h) old mid a.changes in
+        let stay = nodes_stay (role_of d) (PortAddition d k) old w.between w.before in
+        exchanged w
+        (record { opens = still_open old mid (node_of d) (sym was) b.opens; changes = w.before })
+        (record {
+          opens = still_open w.between old (node_of e) stay a.opens;
+          changes = w.after;
+        })
+
+    pub register_before_add : (id : ℕ) → GainsPort d h old mid → GainsNode id k mid new
+        → Exchange (GainsPort d h) (GainsNode id k) old mid new
+    register_before_add id a b =
+        let w = nodes_first (NodeAddition id k) (role_of d) (PortAddition d h) old mid new a.changes
+        b in
+        let opens : IsOpenFor (with_nodes old w.before.nodes) (node_of d) =
+        opens_more old.nodes.registry w.before.nodes id (node_of d) k w.before.step a.opens in
+        exchanged w w.before
+        (record {
+          opens = subst (λ (x : Service). IsOpenFor x (node_of d)) (sym w.before.left) opens;
+          changes = w.after;
+        })
+
+    pub add_before_register : (id : ℕ) → id ≢ node_of d → GainsNode id h old mid
+        → GainsPort d k mid new → Exchange (GainsNode id h) (GainsPort d k) old mid new
+    add_before_register id other a b =
+        let w = ports_first (NodeAddition id h) (role_of d) (PortAddition d k) old mid new a
+        b.changes in
+        let opens : IsOpenFor (with_nodes old a.nodes) (node_of d) =
+        subst (λ (x : Service). IsOpenFor x (node_of d)) a.left b.opens in
+        exchanged w
+        (record {
+          opens = opened_before old.nodes.registry a.nodes id (node_of d) h a.step other opens.1;
+          changes = w.before;
+        }) w.after
+
+    pub add_before_deregister : IsService old → LosesNode h old mid → GainsPort d k mid new
+        → Exchange (LosesNode h) (GainsPort d k) old mid new
+    add_before_deregister i a b =
+        let n : RegistryState ℕ = a.changes.nodes in
+        let w = ports_first (NodeRemoval h) (role_of d) (PortAddition d k) old mid new a.changes
+        b.changes in
+        let opens : IsOpenFor (with_nodes old n) (node_of d) =
+        subst (λ (x : Service). IsOpenFor x (node_of d)) a.changes.left b.opens in
+        let before : GainsPort d k old w.between = record {
+          opens = opened_before_loss old.nodes.registry n (node_of d) h i.nodes_are a.changes.step
+              opens.1;
+          changes = w.before;
+        } in
+        let stay = nodes_stay (role_of d) (PortAddition d k) old w.between w.before in
+        let more : (id : ℕ) → is_last_of_ports id old ≡ false → HasEntry old.nodes.registry h id
+        → is_last_of_ports id w.between ≡ false =
+        λ id last has. elim (cases_order (node_of d) id) [
+          | inl v ↦
+              not_its_last old w.between n id h i a.changes.step has
+              (subst (λ q. 0 < entries_of_node q n) v opens.1) stay
+          | inr v ↦
+              fewer_ports old w.between id stay
+              (λ t. sym (others_stay d k old w.between before id (apart (node_of d) id v)) ∙ t) last
+        ] in
+        exchanged w before (loses_again h old mid a w.between new stay more w.after)
+
+module _ (c other : Call) {May Other : Handle → Type 0}
+    {First Second : Handle → Service → Service → Type 0} (one : Does other May First)
     (two : Does c Other Second)
     (swap : (h k : Handle) → May h → Other k → (old mid new : Service) → IsService old
     → First h old mid → Second k mid new → Exchange (First h) (Second k) old mid new) where
-  exchanged : (old mid new : Service) → CallStep other old mid → CallStep c mid new
+  both_made : (old mid new : Service) → CallStep other old mid → CallStep c mid new
       → Exchange (CallStep other) (CallStep c) old mid new
-  exchanged old mid new s t =
+  both_made old mid new s t =
       let a = one.there old mid s in
       let b = two.there mid new t in
       let w = swap a.0 b.0 a.1 b.1 old mid new s.0 a.2 b.2 in
@@ -45,7 +159,7 @@ module _ (c other : Call) (May Other : Handle → Type 0)
 
   moves : MovesBeforeCall c other
   moves old mid new (io, so, eo) (im, sm, em) =
-      let w = exchanged old.service mid.service new.service so sm in
+      let w = both_made old.service mid.service new.service so sm in
       let same : looks_after new.service mid.looks
       ≡ looks_after new.service (looks_after w.between old.looks) =
       ap (λ (v : Watched). looks_after new.service v.looks) eo
@@ -62,83 +176,73 @@ module _ (c other : Call) (May Other : Handle → Type 0)
 
 pub node_removal_moves : MovesBeforeChange change.NodeRemoved change.NodeRemoved
 node_removal_moves c other is by =
-    moves c other (of_node other by) (of_node c is) LosesNode LosesNode (removes_node other by)
-    (removes_node c is) (λ h k m n old mid new i a b. node_losses_swap h k old mid new i a b)
+    moves c other (removes_node other by) (removes_node c is)
+    (λ h k m n old mid new i a b. node_losses_swap h k old mid new i a b)
 
 module _ (role : Role) where
   pub release_moves_before_deregister : MovesBeforeChange (change.PortRemoved role)
       change.NodeRemoved
   release_moves_before_deregister c other is by =
-      moves c other (of_node other by) (of_port c role is) LosesNode LosesPort
-      (removes_node other by) (removes_port c role is)
+      moves c other (removes_node other by) (removes_port c role is)
       (λ h k m n old mid new i a b. release_before_deregister h k old mid new a b)
 
   pub release_moves : (to : Role) → MovesBeforeChange (change.PortRemoved role)
       (change.PortRemoved to)
   release_moves to c other is by =
-      moves c other (of_port other to by) (of_port c role is) LosesPort LosesPort
-      (removes_port other to by) (removes_port c role is)
+      moves c other (removes_port other to by) (removes_port c role is)
       (λ h k m n old mid new i a b. port_losses_swap h k old mid new i a b)
 
   module _ (id : ℕ) where
     pub release_moves_before_register : MovesBeforeChange (change.PortRemoved role)
         (change.NodeRegistered id)
     release_moves_before_register c other is by =
-        moves c other (was_given other) (of_port c role is) (GainsNode id) LosesPort
-        (registers_node other id by) (removes_port c role is)
+        moves c other (registers_node other id by) (removes_port c role is)
         (λ h k m n old mid new i a b. release_before_register h k old mid new id a b)
 
     pub register_moves_before_release : MovesBeforeChange (change.NodeRegistered id)
         (change.PortRemoved role)
     register_moves_before_release c other is by =
-        moves c other (of_port other role by) (was_given c) LosesPort (GainsNode id)
-        (removes_port other role by) (registers_node c id is)
+        moves c other (removes_port other role by) (registers_node c id is)
         (λ h k m n old mid new i a b. register_before_release h k old mid new id a b)
 
     pub register_moves_before_add : (node : ℕ) → MovesBeforeChange (change.NodeRegistered id)
         (change.PortAdded role node)
     register_moves_before_add node c other is by =
-        moves c other (was_given other) (was_given c) (GainsPort by.0.0) (GainsNode id)
-        (adds_port other role node by) (registers_node c id is)
+        moves c other (adds_port other role node by) (registers_node c id is)
         (λ h k m n old mid new i a b. register_before_add h k old mid new by.0.0 id a b)
 
     pub add_moves_before_register : (node : ℕ) → node ≢ id
         → MovesBeforeChange (change.PortAdded role node) (change.NodeRegistered id)
     add_moves_before_register node differ c other is by =
-        moves c other (was_given other) (was_given c) (GainsNode id) (GainsPort is.0.0)
-        (registers_node other id by) (adds_port c role node is)
+        moves c other (registers_node other id by) (adds_port c role node is)
         (λ h k m n old mid new i a b. add_before_register h k old mid new is.0.0 id
         (λ e. differ (sym is.0.3 ∙ sym e)) a b)
 
   pub add_moves_before_deregister : (node : ℕ) → MovesBeforeChange (change.PortAdded role node)
       change.NodeRemoved
   add_moves_before_deregister node c other is by =
-      moves c other (of_node other by) (was_given c) LosesNode (GainsPort is.0.0)
-      (removes_node other by) (adds_port c role node is)
+      moves c other (removes_node other by) (adds_port c role node is)
       (λ h k m n old mid new i a b. add_before_deregister h k old mid new is.0.0 i a b)
 
   module _ (to : Role) (differ : role ≢ to) where
     pub release_moves_before_add : (node : ℕ) → MovesBeforeChange (change.PortRemoved role)
         (change.PortAdded to node)
     release_moves_before_add node c other is by =
-        moves c other (was_given other) (of_port c role is) (GainsPort by.0.0) LosesPort
-        (adds_port other to node by) (removes_port c role is)
+        moves c other (adds_port other to node by) (removes_port c role is)
         (λ h k m n old mid new i a b. release_before_add h k old mid new by.0.0
         (λ e. differ (sym n.1 ∙ (sym e ∙ by.0.2))) a b)
 
     pub add_moves_before_release : (node : ℕ) → MovesBeforeChange (change.PortAdded role node)
         (change.PortRemoved to)
     add_moves_before_release node c other is by =
-        moves c other (of_port other to by) (was_given c) LosesPort (GainsPort is.0.0)
-        (removes_port other to by) (adds_port c role node is)
+        moves c other (removes_port other to by) (adds_port c role node is)
         (λ h k m n old mid new i a b. add_before_release h k old mid new is.0.0
         (λ e. differ (sym is.0.2 ∙ (sym e ∙ m.1))) a b)
 
     pub add_moves_before_add : (node for : ℕ) → MovesBeforeChange (change.PortAdded role node)
         (change.PortAdded to for)
     add_moves_before_add node for c other is by =
-        moves c other (was_given other) (was_given c) (GainsPort by.0.0) (GainsPort is.0.0)
-        (adds_port other to for by) (adds_port c role node is)
+        moves c other (adds_port other to for by) (adds_port c role node is)
         (λ h k m n old mid new i a b. add_before_add h k old mid new is.0.0 by.0.0
         (λ e. differ (sym is.0.2 ∙ (sym e ∙ by.0.2))) a b)
 

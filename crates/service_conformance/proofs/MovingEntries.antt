@@ -1,14 +1,7 @@
 -- Two entries go in either order.
-use Rattle.std.proofs.Common.{◌≡◌, ℕ, Bool, true, false, Ok, List, [], ◌∷◌, ◌++◌, length, refl, sym, ◌∙◌, ap, subst, arith}
-use Rattle.std.specs.Prelude.{◌||◌}
-use Rattle.std.specs.List.{list_any}
-use Rattle.iox2_container.specs.declared.container.release.ReleaseMode.{ReleaseMode}
-use Rattle.iox2_container.specs.declared.container.release.ReleaseState.{ReleaseState}
-use Rattle.iox2_container.specs.Handle.{Handle}
-use Rattle.iox2_container.specs.State.{Entry, RegistryState, IsRegistry, handle_of}
-use Rattle.iox2_container.specs.Steps.{InsertsOne, RemoveStep, lock_after, release_state}
+use Rattle.service_conformance.proofs.Prelude.{Bool, List, Ok, [], ap, arith, false, length, list_any, refl, subst, sym, true, ℕ, ◌++◌, ◌||◌, ◌∙◌, ◌∷◌, ◌≡◌}
+use Rattle.service_conformance.proofs.Names.{Entry, Handle, InsertsOne, IsRegistry, RegistryState, ReleaseMode, ReleaseState, RemoveStep, handle_of, lock_after, release_state, with_left}
 use Rattle.iox2_container.proofs.Gaining.{length-InsertsOne}
-use Rattle.service_conformance.specs.Entries.{with_left}
 use Rattle.service_conformance.proofs.Removes.{kept_without}
 
 -- the entries without the second alone

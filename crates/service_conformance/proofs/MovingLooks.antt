@@ -1,10 +1,6 @@
 -- Weak listings look at a service between two others.
-use Rattle.std.proofs.Common.{◌≡◌, ◌⊎◌, inl, inr, ℕ, ◌≤◌, Bool, true, false, Option, Some, None, List, [], ◌∷◌, length, refl, sym, ◌∙◌, ap, subst, arith}
-use Rattle.std.specs.Prelude.{◌==◌, ◌&&◌, filter, not}
-use Rattle.std.specs.List.{cons_option}
-use Rattle.iox2_dynamic.specs.Service.{Service}
-use Rattle.service_conformance.specs.declared.conformance.possible.Part.{Part}
-use Rattle.service_conformance.specs.Looks.{Look, ids_in, is_among, lacking, look_after, looks_after, without}
+use Rattle.service_conformance.proofs.Prelude.{Bool, List, None, Option, Some, [], ap, arith, cons_option, false, filter, inl, inr, length, not, refl, subst, sym, true, ℕ, ◌&&◌, ◌==◌, ◌∙◌, ◌∷◌, ◌≡◌, ◌≤◌, ◌⊎◌}
+use Rattle.service_conformance.proofs.Names.{Look, Part, Service, ids_in, is_among, lacking, look_after, looks_after, without}
 use Rattle.service_conformance.proofs.Looking.{lacking_is, same_part, seen_of}
 use Rattle.service_conformance.proofs.WeakListings.{both_true, by_cases, empty_of}
 

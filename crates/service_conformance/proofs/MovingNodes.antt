@@ -1,28 +1,16 @@
 -- Nodes that go, and nodes that come.
-use Rattle.std.proofs.Common.{◌≡◌, ◌≢◌, ◌⊎◌, inl, inr, ℕ, ◌<◌, Bool, true, false, Option, Some, None, Ok, List, length, map, refl, sym, ◌∙◌, ap, subst, arith}
-use Rattle.std.specs.Prelude.{◌==◌, ◌&&◌, nat_eq}
-use Rattle.std.proofs.lemmas.Bool.{cases_order, eq-eqb, ne_eqb}
-use Rattle.iox2_container.specs.declared.container.release.ReleaseMode.TheVariants.{LockIfLastIndex}
-use Rattle.iox2_container.specs.declared.container.release.ReleaseState.TheVariants.{Unlocked}
-use Rattle.iox2_container.specs.ContainerState.{container}
-use Rattle.iox2_container.specs.Handle.{Handle}
-use Rattle.iox2_container.specs.State.{Entry, RegistryState, IsRegistry}
-use Rattle.iox2_container.specs.Steps.{AddStep, HasEntry, InsertsOne, RemoveStep, is_of}
+use Rattle.service_conformance.proofs.Prelude.{Bool, List, None, Ok, Option, Some, ap, arith, cases_order, eq-eqb, false, inl, inr, length, map, nat_eq, ne_eqb, refl, subst, sym, true, ℕ, ◌&&◌, ◌<◌, ◌==◌, ◌∙◌, ◌≡◌, ◌≢◌, ◌⊎◌}
+use Rattle.service_conformance.proofs.Names.{AddStep, Entry, Handle, HasEntry, InsertsOne, IsRegistry, IsService, LockIfLastIndex, RegistryState, RemoveStep, ServesDeregister, ServesRegister, Service, Unlocked, container, entries_of_node, has_ports_of, is_last_of_ports, is_of, quiet}
 use Rattle.iox2_container.proofs.Counting.{counted, counted-InsertsOne, one_if}
 use Rattle.iox2_container.proofs.Gaining.{length-InsertsOne}
-use Rattle.iox2_dynamic.specs.Ports.{has_ports_of}
-use Rattle.iox2_dynamic.specs.Service.{Service, IsService, entries_of_node}
-use Rattle.iox2_dynamic.specs.Steps.{is_last_of_ports}
 use Rattle.iox2_dynamic.proofs.Keeping.{leaving_kept, register_kept}
 use Rattle.service_descriptions.specs.declared.replay.machine.reply.Reply.TheVariants as reply
-use Rattle.service_descriptions.specs.Steps.{ServesDeregister, ServesRegister}
 use Rattle.service_conformance.specs.declared.conformance.possible.Part.TheVariants as part
-use Rattle.service_conformance.specs.Quiet.{quiet}
 use Rattle.service_conformance.proofs.Deregistering.{one_details, was_open}
 use Rattle.service_conformance.proofs.MovingEntries.{in_whole, removals_swap}
 use Rattle.service_conformance.proofs.MovingLooks.{LosesIds, loses_between}
 use Rattle.service_conformance.proofs.MovingParts.{ChangesNodes, Exchange, with_nodes}
-use Rattle.service_conformance.proofs.Touching.{untouching}
+use Rattle.service_conformance.proofs.Quiet.{untouching}
 
 -- an entry of nodes is removed, and others are left
 abbrev pub NodeRemoval : Handle → RegistryState ℕ → RegistryState ℕ → Type 0
@@ -129,7 +117,7 @@ module _ (h : Handle) (s t : Service) where
     changes = changes;
   }
 
-apart : (a b : ℕ) → (a < b) ⊎ (b < a) → a ≢ b
+pub apart : (a b : ℕ) → (a < b) ⊎ (b < a) → a ≢ b
 apart a b (inl l) = λ e. omega arith
 apart a b (inr l) = λ e. omega arith
 

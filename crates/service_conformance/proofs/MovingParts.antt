@@ -1,24 +1,11 @@
 -- Changes of one registry of a service.
-use Rattle.std.proofs.Common.{◌≡◌, ◌≢◌, inl, inr, ℕ, refl, sym, ◌∙◌, ap, subst}
-use Rattle.iox2_container.specs.declared.container.role.Role.{Role}
-use Rattle.iox2_container.specs.Changes.{Changes}
-use Rattle.iox2_container.specs.ContainerState.{ContainerState, container}
-use Rattle.iox2_container.specs.State.{RegistryState, IsRegistry}
-use Rattle.iox2_container.specs.Steps.{listed}
-use Rattle.iox2_dynamic.specs.declared.dynamic_config.port_details.PortDetails.{PortDetails}
-use Rattle.iox2_dynamic.specs.Ports.{Ports, OnSide}
-use Rattle.iox2_dynamic.specs.PortsState.{Side}
-use Rattle.iox2_dynamic.specs.PortsState.Side.{First, Second}
-use Rattle.iox2_dynamic.specs.Service.{Service, first_role, second_role}
+use Rattle.service_conformance.proofs.Prelude.{ap, inl, inr, refl, subst, sym, ℕ, ◌∙◌, ◌≡◌, ◌≢◌}
+use Rattle.service_conformance.proofs.Names.{Changes, ContainerState, First, IsRegistry, OnSide, PortDetails, Ports, RegistryState, Role, Second, Service, Side, at_rest, container, first_role, is_among, listed, ports_at, quiet, role_at, second_role, with_ports_at}
 use Rattle.service_conformance.specs.declared.conformance.possible.Part.TheVariants as part
-use Rattle.service_conformance.specs.Looks.{is_among}
-use Rattle.service_conformance.specs.Quiet.{at_rest, quiet}
-use Rattle.iox2_dynamic.specs.Service.{role_at}
-use Rattle.service_conformance.specs.Sides.{ports_at, with_ports_at}
 use Rattle.service_conformance.proofs.Following.{at_side, by_ports}
 use Rattle.service_conformance.proofs.MovingLooks.{IsBetween}
 use Rattle.service_conformance.proofs.Sides.{steps_at}
-use Rattle.service_conformance.proofs.Touching.{untouching}
+use Rattle.service_conformance.proofs.Quiet.{untouching}
 
 -- the service with other nodes
 abbrev pub with_nodes : Service → RegistryState ℕ → Service

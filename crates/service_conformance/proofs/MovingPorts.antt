@@ -1,31 +1,10 @@
 -- Ports that go, and ports that come.
-use Rattle.std.proofs.Common.{◌≡◌, ◌≢◌, ◌⊎◌, inl, inr, ℕ, zero, suc, ◌≤◌, true, false, Option, Some, None, Result, Ok, Err, List, map, refl, sym, ◌∙◌, ap, subst, arith}
-use Rattle.std.specs.Prelude.{◌==◌, ◌||◌, nat_lt}
-use Rattle.std.proofs.lemmas.Bool.{lt-ltb, ne_eqb}
-use Rattle.iox2_container.specs.declared.container.refusal.ContainerRemoveError.{ContainerRemoveError}
-use Rattle.iox2_container.specs.declared.container.refusal.ContainerRemoveError.TheVariants.{ContainerHandleNotOwnedByContainer}
-use Rattle.iox2_container.specs.declared.container.release.ReleaseMode.TheVariants.{Default}
-use Rattle.iox2_container.specs.declared.container.release.ReleaseState.{ReleaseState}
-use Rattle.iox2_container.specs.Handle.{Handle}
-use Rattle.iox2_container.specs.State.{Entry, RegistryState}
-use Rattle.iox2_container.specs.Steps.{AddStep, RemoveStep, is_of}
+use Rattle.service_conformance.proofs.Prelude.{Err, List, None, Ok, Option, Result, Some, ap, arith, false, inl, inr, lt-ltb, map, nat_lt, ne_eqb, refl, subst, suc, sym, true, zero, ℕ, ◌==◌, ◌||◌, ◌∙◌, ◌≡◌, ◌≢◌, ◌≤◌, ◌⊎◌}
+use Rattle.service_conformance.proofs.Names.{AddStep, ContainerHandleNotOwnedByContainer, ContainerRemoveError, Default, Entry, First, Handle, IsOpenFor, IsService, PortDetails, RegistryState, ReleaseState, RemoveStep, RemovesPort, Second, ServesAdd, ServesRelease, Service, Side, has_ports_of, is_among, is_of, node_of, port_ids, port_of, port_value, ports_at, quiet, role_at, role_of}
 use Rattle.iox2_container.proofs.Counting.{counted, counted-InsertsOne, one_if}
-use Rattle.iox2_dynamic.specs.declared.dynamic_config.port_details.PortDetails.{PortDetails}
-use Rattle.iox2_dynamic.specs.Details.{node_of, port_of, role_of}
-use Rattle.iox2_dynamic.specs.Ports.{has_ports_of}
-use Rattle.iox2_dynamic.specs.PortsState.{Side}
-use Rattle.iox2_dynamic.specs.PortsState.Side.{First, Second}
-use Rattle.iox2_dynamic.specs.Service.{Service, IsService}
-use Rattle.iox2_dynamic.specs.Steps.{IsOpenFor, RemovesPort}
 use Rattle.iox2_dynamic.proofs.Moving.{attach_kept, release_kept}
-use Rattle.iox2_ids.specs.PortId.{port_value}
 use Rattle.service_descriptions.specs.declared.replay.machine.reply.Reply.TheVariants as reply
-use Rattle.service_descriptions.specs.Steps.{ServesAdd, ServesRelease}
 use Rattle.service_conformance.specs.declared.conformance.possible.Part.TheVariants as part
-use Rattle.service_conformance.specs.Looks.{is_among, port_ids}
-use Rattle.service_conformance.specs.Quiet.{quiet}
-use Rattle.iox2_dynamic.specs.Service.{role_at}
-use Rattle.service_conformance.specs.Sides.{ports_at}
 use Rattle.service_conformance.proofs.Following.{at_side}
 use Rattle.service_conformance.proofs.MovingEntries.{in_whole, removals_swap}
 use Rattle.service_conformance.proofs.MovingLooks.{LosesIds, loses_between}

@@ -1,23 +1,14 @@
 -- The replies to registering a node.
-use Rattle.std.proofs.Common.{◌≡◌, ℕ, Bool, true, false, Option, Some, None, Ok, refl, sym, ◌∙◌, subst}
-use Rattle.iox2_container.specs.declared.container.refusal.ContainerAddFailure.{ContainerAddFailure}
-use Rattle.iox2_container.specs.declared.container.refusal.ContainerAddFailure.TheVariants.{IsLocked, OutOfSpace}
-use Rattle.iox2_container.specs.ContainerState.{container}
-use Rattle.iox2_container.specs.Steps.{IsFull, TakesEntry}
-use Rattle.iox2_dynamic.specs.Service.{Service, IsService}
+use Rattle.service_conformance.proofs.Prelude.{Bool, None, Ok, Option, Some, false, refl, subst, sym, true, ℕ, ◌∙◌, ◌≡◌}
+use Rattle.service_conformance.proofs.Names.{Allows, ArePossible, ContainerAddFailure, IsFull, IsLocked, IsSameReply, IsService, LineReply, OutOfSpace, Refuses, Reply, ServesRegister, Service, TakesEntry, container, possible_add, reply_in}
 use Rattle.iox2_dynamic.proofs.Keeping.{register_kept}
-use Rattle.service_descriptions.specs.declared.replay.machine.reply.Reply.{Reply}
 use Rattle.service_descriptions.specs.declared.replay.machine.reply.Reply.TheVariants as reply
-use Rattle.service_descriptions.specs.Replies.{IsSameReply}
-use Rattle.service_descriptions.specs.Steps.{ServesRegister}
 use Rattle.service_conformance.specs.declared.conformance.possible.Part.TheVariants as part
-use Rattle.service_conformance.specs.declared.conformance.line_reply.LineReply.{LineReply}
 use Rattle.service_conformance.specs.declared.conformance.line_reply.LineReply.TheVariants as line
+use Rattle.service_conformance.specs.declared.conformance.seen_reply.ReplyWord.TheVariants as word
 use Rattle.service_conformance.specs.declared.conformance.possible.Possible.TheVariants as possible
-use Rattle.service_conformance.specs.Entries.{Refuses}
-use Rattle.service_conformance.specs.Possible.{Allows, ArePossible, possible_add, reply_in}
 use Rattle.service_conformance.proofs.Adds.{can_give, no_room, was_given}
-use Rattle.service_conformance.proofs.Touching.{untouching}
+use Rattle.service_conformance.proofs.Quiet.{untouching}
 
 pub not_both : (b : Bool) → b ≡ true → b ≡ false → ⊥
 not_both b t f = (let z : true ≡ false = sym t ∙ f in cc)
@@ -71,9 +62,9 @@ registers s id None i takes = record {
   only = given_only s id takes;
 }
 registers s id (Some IsLocked) i l =
-    alone _ _ line.Locked s (λ r. refl)
+    alone _ _ (line.Word word.Locked) s (λ r. refl)
     (untouching _ s.nodes s.nodes.registry (l, refl) i.nodes_are, refl) i (locked_only s id l)
 registers s id (Some OutOfSpace) i (l, full) =
-    alone _ _ line.Full s (λ r. refl)
+    alone _ _ (line.Word word.Full) s (λ r. refl)
     (untouching _ s.nodes s.nodes.registry (l, full, refl) i.nodes_are, refl) i
     (full_only s id l full)

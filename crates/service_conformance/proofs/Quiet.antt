@@ -1,40 +1,25 @@
 -- Steps do not depend on how often slots were touched.
-use Rattle.std.proofs.Common.{◌≡◌, ℕ, Bool, true, false, Option, Some, None, Result, Ok, Err, List, [], ◌∷◌, inl, inr, ap}
-use Rattle.iox2_ids.specs.declared.identifiers.port_id.UniquePortId.{UniquePortId}
-use Rattle.iox2_container.specs.declared.container.refusal.ContainerAddFailure.{ContainerAddFailure}
+use Rattle.service_conformance.proofs.Prelude.{Bool, Err, List, None, Ok, Option, Result, Some, [], ap, arith, false, inl, inr, true, ℕ, ◌∷◌, ◌≡◌}
+use Rattle.service_conformance.proofs.Names.{AddStep, AddsPort, Changes, Cleans, Cleanup, Command, ContainerAddFailure, ContainerRemoveError, ContainerState, DeadStep, Default, DeregisterNodeState, Description, First, Handle, IsRegistry, IsService, NodesAfter, OnSide, PortCleanupAction, PortDetails, Ports, RegistryState, ReleaseState, RemoveStep, RemovesPort, Reply, Role, Run, Second, Serves, ServesAdd, ServesDead, ServesDeregister, ServesRegister, ServesRelease, Service, ServiceStep, Side, State, UniquePortId, container, first_role, has_ports_of, named, of_side, other_side, ports_at_rest, quiet, quiet_state, role_of, second_role, state_of, untouched}
 use Rattle.iox2_container.specs.declared.container.refusal.ContainerAddFailure.TheVariants as container
-use Rattle.iox2_container.specs.declared.container.refusal.ContainerRemoveError.{ContainerRemoveError}
 use Rattle.iox2_container.specs.declared.container.refusal.ContainerRemoveError.TheVariants as remove
-use Rattle.iox2_container.specs.declared.container.release.ReleaseMode.TheVariants.{Default}
-use Rattle.iox2_container.specs.declared.container.release.ReleaseState.{ReleaseState}
-use Rattle.iox2_container.specs.declared.container.role.Role.{Role}
-use Rattle.iox2_container.specs.Changes.{Changes}
-use Rattle.iox2_container.specs.ContainerState.{ContainerState}
-use Rattle.iox2_container.specs.Handle.{Handle}
-use Rattle.iox2_container.specs.State.{RegistryState}
-use Rattle.iox2_container.specs.Steps.{AddStep, RemoveStep}
-use Rattle.iox2_dynamic.specs.declared.dynamic_config.answers.DeregisterNodeState.{DeregisterNodeState}
 use Rattle.iox2_dynamic.specs.declared.dynamic_config.answers.DeregisterNodeState.TheVariants as nodes
-use Rattle.iox2_dynamic.specs.declared.dynamic_config.cleanup.PortCleanupAction.{PortCleanupAction}
-use Rattle.iox2_dynamic.specs.declared.dynamic_config.port_details.PortDetails.{PortDetails}
-use Rattle.iox2_dynamic.specs.Answers.{state_of}
-use Rattle.iox2_dynamic.specs.Details.{role_of}
-use Rattle.iox2_dynamic.specs.Ports.{Ports, OnSide, has_ports_of}
-use Rattle.iox2_dynamic.specs.PortsState.{Side, of_side, other_side}
-use Rattle.iox2_dynamic.specs.PortsState.Side.{First, Second}
-use Rattle.iox2_dynamic.specs.Service.{Service, IsService, first_role, second_role}
-use Rattle.iox2_dynamic.specs.Steps.{AddsPort, RemovesPort, NodesAfter, DeadStep}
-use Rattle.iox2_static.specs.Description.{Description}
-use Rattle.service_descriptions.specs.declared.replay.machine.command.Cleanup.{Cleanup}
-use Rattle.service_descriptions.specs.declared.replay.machine.command.Command.{Command}
 use Rattle.service_descriptions.specs.declared.replay.machine.command.Command.TheVariants as command
-use Rattle.service_descriptions.specs.declared.replay.machine.reply.Reply.{Reply}
 use Rattle.service_descriptions.specs.declared.replay.machine.reply.Reply.TheVariants as reply
-use Rattle.service_descriptions.specs.Cleanups.{Cleans, ServesDead}
-use Rattle.service_descriptions.specs.Handles.{named}
-use Rattle.service_descriptions.specs.Steps.{State, Serves, ServesRegister, ServesDeregister, ServesAdd, ServesRelease, ServiceStep, Run}
-use Rattle.service_conformance.specs.Quiet.{untouched, ports_at_rest, quiet, quiet_state}
-use Rattle.service_conformance.proofs.Touching.{changes}
+
+-- a change goes along with one of which no touch is counted
+changes : {T : Type 0} (Step : RegistryState T → RegistryState T → Type 0)
+    (old new : ContainerState T)
+    → Changes Step old new → Changes Step (untouched old.registry) (untouched new.registry)
+changes Step old new s =
+    record { step = s.step; kept = s.kept; touched = (omega arith, omega arith) }
+
+-- a step that touches nothing
+pub untouching : {T : Type 0} (Step : RegistryState T → RegistryState T → Type 0)
+    (old : ContainerState T) (new : RegistryState T) → Step old.registry new → IsRegistry new
+    → Changes Step old (container new old.touches)
+untouching Step old new step kept =
+    record { step = step; kept = kept; touched = (omega arith, omega arith) }
 
 abbrev quiet_ports : Ports → Ports
 quiet_ports p = ports_at_rest p.first.registry p.second.registry

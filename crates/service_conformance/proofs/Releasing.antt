@@ -1,29 +1,13 @@
 -- The replies to releasing a port.
-use Rattle.std.proofs.Common.{◌≡◌, Some, None, Result, Ok, Err, refl, inl, inr}
-use Rattle.iox2_container.specs.declared.container.refusal.ContainerRemoveError.{ContainerRemoveError}
-use Rattle.iox2_container.specs.declared.container.refusal.ContainerRemoveError.TheVariants.{ContainerHandleNotOwnedByContainer}
-use Rattle.iox2_container.specs.declared.container.release.ReleaseMode.TheVariants.{Default}
-use Rattle.iox2_container.specs.declared.container.release.ReleaseState.{ReleaseState}
-use Rattle.iox2_container.specs.Changes.{Removes}
-use Rattle.iox2_container.specs.ContainerState.{container}
-use Rattle.iox2_container.specs.Handle.{Handle}
-use Rattle.iox2_container.specs.Steps.{IsUnknownHandle, HasEntry, release_state}
-use Rattle.iox2_dynamic.specs.declared.dynamic_config.port_details.PortDetails.{PortDetails}
-use Rattle.iox2_dynamic.specs.Ports.{Ports, IsNeither, RemovesFrom}
-use Rattle.iox2_dynamic.specs.PortsState.{Side, of_side}
-use Rattle.iox2_dynamic.specs.Service.{Service, IsService, first_role, second_role, role_at}
-use Rattle.iox2_dynamic.specs.Steps.{RemovesPort}
+use Rattle.service_conformance.proofs.Prelude.{Err, None, Ok, Result, Some, inl, inr, refl, ◌≡◌}
+use Rattle.service_conformance.proofs.Names.{ArePossible, ContainerHandleNotOwnedByContainer, ContainerRemoveError, Default, Handle, HasEntry, IsNeither, IsService, IsUnknownHandle, PortDetails, Ports, ReleaseState, Removes, RemovesFrom, RemovesPort, Reply, ServesRelease, Service, Side, container, first_role, of_side, ports_at, release_state, role_at, second_role, with_left, with_ports_at}
 use Rattle.iox2_dynamic.proofs.Moving.{release_kept}
-use Rattle.service_descriptions.specs.declared.replay.machine.reply.Reply.{Reply}
 use Rattle.service_descriptions.specs.declared.replay.machine.reply.Reply.TheVariants as reply
-use Rattle.service_descriptions.specs.Steps.{ServesRelease}
 use Rattle.service_conformance.specs.declared.conformance.line_reply.LineReply.TheVariants as line
+use Rattle.service_conformance.specs.declared.conformance.seen_reply.ReplyWord.TheVariants as word
 use Rattle.service_conformance.specs.declared.conformance.possible.Possible.TheVariants as possible
-use Rattle.service_conformance.specs.Entries.{with_left}
-use Rattle.service_conformance.specs.Possible.{ArePossible}
-use Rattle.service_conformance.specs.Sides.{ports_at, with_ports_at}
 use Rattle.service_conformance.proofs.Possibles.{alone}
-use Rattle.service_conformance.proofs.Touching.{untouching}
+use Rattle.service_conformance.proofs.Quiet.{untouching}
 use Rattle.service_conformance.proofs.Removes.{can_remove, known, not_unknown}
 use Rattle.service_conformance.proofs.Sides.{has_role, lacks, ports_are, step_at, steps_at}
 
@@ -33,9 +17,9 @@ nothing_only s reply.NoHandle new so = refl
 nothing_only s _ new so = absurd so
 
 pub nothing : (s : Service) → IsService s
-    → ArePossible s (ServesRelease s None) (possible.One line.NoHandle)
+    → ArePossible s (ServesRelease s None) (possible.One (line.Word word.NoHandle))
 nothing s i =
-    alone _ _ line.NoHandle s (λ r. refl) refl i (nothing_only s)
+    alone _ _ (line.Word word.NoHandle) s (λ r. refl) refl i (nothing_only s)
 
 module _ (s : Service) (h : Handle) where
   pub never : (state : ReleaseState) (new : Ports)
@@ -53,9 +37,10 @@ module _ (s : Service) (h : Handle) where
   elsewhere_only n _ new so = absurd so
 
   pub elsewhere : IsService s → IsNeither (first_role s.pattern) (second_role s.pattern) h.role
-      → ArePossible s (ServesRelease s (Some h)) (possible.One line.NotOwned)
+      → ArePossible s (ServesRelease s (Some h)) (possible.One (line.Word word.NotOwned))
   elsewhere i n =
-      alone _ _ line.NotOwned s (λ r. refl) (inr (n, refl, refl), refl) i (elsewhere_only n)
+      alone _ _ (line.Word word.NotOwned) s (λ r. refl) (inr (n, refl, refl), refl) i
+      (elsewhere_only n)
 
   module _ (side : Side) (role : h.role ≡ role_at s.pattern side) where
     from_at : (answer : Result ReleaseState ContainerRemoveError) (new : Ports)
@@ -82,7 +67,7 @@ module _ (s : Service) (h : Handle) where
     unknown_only u _ new so = absurd so
 
     pub unknown : IsService s → IsUnknownHandle (ports_at s side).registry h
-        → ArePossible s (ServesRelease s (Some h)) (possible.One line.NotOwned)
+        → ArePossible s (ServesRelease s (Some h)) (possible.One (line.Word word.NotOwned))
     unknown i u =
         let old = ports_at s side in
         let ports = with_ports_at side s.ports old in
@@ -92,7 +77,7 @@ module _ (s : Service) (h : Handle) where
         (second_role s.pattern) s.ports h answer ports =
         inl (steps_at s.pattern side s.ports h.role (λ o n. Removes o h Default answer n) old role
         (untouching _ old old.registry (u, refl) (ports_are s side i).is_registry)) in
-        alone _ _ line.NotOwned (record s { ports = ports }) (λ r. refl) (removes, refl)
+        alone _ _ (line.Word word.NotOwned) (record s { ports = ports }) (λ r. refl) (removes, refl)
         (release_kept s s.pattern ports h answer refl removes i) (unknown_only u)
 
     module _ (d : PortDetails) (has : HasEntry (ports_at s side).registry h d) where
@@ -105,7 +90,7 @@ module _ (s : Service) (h : Handle) where
       released_only _ new so = absurd so
 
       pub released : IsService s
-          → ArePossible s (ServesRelease s (Some h)) (possible.One line.Released)
+          → ArePossible s (ServesRelease s (Some h)) (possible.One (line.Word word.Released))
       released i =
           let old = ports_at s side in
           let gone = can_remove old.registry h Default d (ports_are s side i).is_registry has in
@@ -116,6 +101,6 @@ module _ (s : Service) (h : Handle) where
           (second_role s.pattern) s.ports h answer ports =
           inl (steps_at s.pattern side s.ports h.role (λ o n. Removes o h Default answer n)
           (container left old.touches) role (untouching _ old left gone.0 gone.1)) in
-          alone _ _ line.Released (record s { ports = ports }) (λ r. refl)
+          alone _ _ (line.Word word.Released) (record s { ports = ports }) (λ r. refl)
           (release_state left.locked, (removes, refl))
           (release_kept s s.pattern ports h answer refl removes i) released_only

@@ -1,19 +1,10 @@
 -- Removals of a given entry.
-use Rattle.std.proofs.Common.{◌≡◌, ◌≢◌, ℕ, suc, ◌+◌, ◌<◌, Bool, Ok, Some, List, ◌∷◌, ◌++◌, length, take, drop, get_or, refl, sym, ◌∙◌, ap, subst, arith}
-use Rattle.std.specs.Prelude.{All, slice_get}
-use Rattle.std.specs.List.{remove}
-use Rattle.std.proofs.Math.Seq.{split_at}
-use Rattle.std.proofs.lemmas.Option.{get_or_from_slice_get, slice_get_within}
-use Rattle.std.proofs.lemmas.List.Elements.{All-head, All-weaker}
+use Rattle.service_conformance.proofs.Prelude.{All, All-head, All-weaker, Bool, List, Ok, Some, ap, arith, drop, get_or, get_or_from_slice_get, length, refl, remove, slice_get_within, split_at, subst, suc, sym, take, ℕ, ◌++◌, ◌+◌, ◌<◌, ◌∙◌, ◌∷◌, ◌≡◌, ◌≢◌}
+use Rattle.service_conformance.proofs.Names.{Entry, Handle, HasAt, HasEntry, InsertsOne, IsAt, IsRegistry, IsUnknownHandle, RegistryState, ReleaseMode, ReleaseState, RemoveStep, StandsAt, handle_of, lock_after, release_state, with_left}
+use Rattle.std.specs.Prelude.{slice_get}
 use Rattle.iox2_container.proofs.Gaining.{All-back, length-InsertsOne}
 use Rattle.iox2_container.proofs.Keeping.{kept_remove, All-loss}
 use Rattle.iox2_container.proofs.Removing.{nothing_left, locks_empty}
-use Rattle.iox2_container.specs.declared.container.release.ReleaseMode.{ReleaseMode}
-use Rattle.iox2_container.specs.declared.container.release.ReleaseState.{ReleaseState}
-use Rattle.iox2_container.specs.Handle.{Handle}
-use Rattle.iox2_container.specs.State.{Entry, RegistryState, IsRegistry, handle_of}
-use Rattle.iox2_container.specs.Steps.{InsertsOne, IsUnknownHandle, HasEntry, RemoveStep, lock_after, release_state}
-use Rattle.service_conformance.specs.Entries.{HasAt, IsAt, StandsAt, with_left}
 use Rattle.service_conformance.proofs.Rising.{one_gone}
 
 -- who has another service or role than the registry has no entry of it

@@ -1,21 +1,7 @@
 -- Lists of entries by rising slot.
-use Rattle.std.proofs.Common.{◌≡◌, ◌≢◌, ℕ, ◌+◌, ◌<◌, ◌≤◌, Option, Some, None, Result, Ok, Err, List, [], ◌∷◌, ◌++◌, length, get_or, sym, ap, subst, inl, inr, arith, length-drop}
-use Rattle.std.specs.Prelude.{All, AllPairs, IfNone, IfSome}
-use Rattle.std.specs.List.{HoldsAt}
-use Rattle.std.specs.List.Sorted.{IsBinarySearchResult, IsSearchInRange}
-use Rattle.std.specs.Option.{MatchOption}
-use Rattle.std.specs.Ordering.{nat_cmp, ordering_index}
-use Rattle.std.specs.Result.{result_err}
-use Rattle.std.proofs.lemmas.Bool.{cases_lt}
-use Rattle.std.proofs.lemmas.Bool.Decides.{nat_tests}
-use Rattle.std.proofs.lemmas.Cmp.{ranked}
-use Rattle.std.proofs.lemmas.List.{get_or-drop, get_or-take, length-take}
-use Rattle.std.proofs.lemmas.List.Elements.{All-head, All-tail}
-use Rattle.std.proofs.lemmas.List.Kept.{AllPairs-cons}
-use Rattle.std.proofs.lemmas.Option.{slice_get_cases}
+use Rattle.service_conformance.proofs.Prelude.{All, All-head, All-tail, AllPairs, AllPairs-cons, Err, HoldsAt, IfNone, IfSome, IsBinarySearchResult, IsSearchInRange, List, MatchOption, None, Ok, Option, Result, Some, [], ap, arith, cases_lt, get_or, get_or-drop, get_or-take, inl, inr, length, length-drop, length-take, nat_cmp, nat_tests, ordering_index, ranked, result_err, slice_get_cases, subst, sym, ℕ, ◌++◌, ◌+◌, ◌<◌, ◌∷◌, ◌≡◌, ◌≢◌, ◌≤◌}
+use Rattle.service_conformance.proofs.Names.{Entry, HasAt, IsAt, IsFreePosition}
 use Rattle.iox2_container.proofs.Gaining.{AllPairs-head, AllPairs-tail, All-back, All-put}
-use Rattle.service_conformance.specs.Entries.{HasAt, IsAt, IsFreePosition}
-use Rattle.iox2_container.specs.State.{Entry}
 
 -- the entries stand by rising slot
 abbrev pub Rise : {T : Type 0} → List (Entry T) → Type 0

@@ -1,31 +1,11 @@
 -- What the words of replies say.
-use Rattle.std.proofs.Common.{◌≡◌, ◌≢◌, ◌↔◌, ℕ, zero, suc, ◌<◌, ◌≤◌, ◌^◌, ◌+◌, ◌⊎◌, inl, inr, Bool, true, false, ◌&&◌, List, [], ◌∷◌, ◌++◌, All, codes, map, take, length, get_or, Option, Some, None, refl, sym, ◌∙◌, ap, subst, arith, cond, ◌==◌}
-use Rattle.std.specs.Fmt.{decimal}
-use Rattle.std.specs.List.{flat_map}
-use Rattle.std.proofs.lemmas.Fmt.{decimal_injective}
-use Rattle.iox2_container.specs.Handle.{Handle}
-use Rattle.line_streams.specs.Numerals.{cons_same}
-use Rattle.service_descriptions.specs.Steps.{handle_in}
-use Rattle.service_conformance.specs.Quiet.{is_removal}
-use Rattle.std.proofs.lemmas.List.{append-nil, append_cancel_left}
-use Rattle.std.proofs.lemmas.List.Elements.{All-cons, All-head, All-map, All-nil, All-tail}
-use Rattle.iox2_dynamic.specs.declared.dynamic_config.port_details.PortDetails.{PortDetails}
-use Rattle.iox2_dynamic.specs.Details.{port_of}
-use Rattle.iox2_ids.specs.PortId.{port_value}
-use Rattle.iox2_ids.specs.Packing.{hexadecimal}
-use Rattle.line_streams.specs.OneWay.{listed_one}
-use Rattle.line_streams.specs.declared.phrase.LineEnd.TheVariants.{Bytes}
-use Rattle.line_streams.specs.Spelling.{EndsNumber, OthersFit, Reads, Spelling, after, line_end, listed, number, others_text, sequence}
-use Rattle.service_descriptions.specs.declared.replay.machine.reply.Reply.{Reply}
+use Rattle.service_conformance.proofs.Prelude.{All-cons, All-head, All-map, All-nil, All-tail, Bool, List, None, Option, Some, [], ap, append-nil, append_cancel_left, arith, codes, cond, decimal, decimal_injective, eq-or-lt_of_le, false, flat_map, get_or, get_or-map, inl, inr, length, length-map, map, refl, subst, suc, sym, take, take-suc, take_all, true, zero, ℕ, ◌++◌, ◌+◌, ◌<◌, ◌^◌, ◌↔◌, ◌∙◌, ◌∷◌, ◌≡◌, ◌≢◌, ◌≤◌, ◌⊎◌}
+use Rattle.service_conformance.proofs.Names.{Bytes, EndsNumber, EndsWord, Handle, IsIdNumber, IsSeen, IsToLine, OthersFit, PortDetails, Reads, Reply, ReplyWord, SeenReply, Spelling, after, apart, changes_nothing, cons_same, count_words, handle_in, handle_words, has_no_space, hexadecimal, id_word, is_removal, line_end, list_words, listed_one, number, others_text, port_of, port_value, port_word, printed_id, printed_one, reply_named, same_id, seen_text, sequence, text_of, word_of, word_text}
+use Rattle.std.proofs.Common.{◌&&◌, All, ◌==◌}
+use Rattle.line_streams.specs.Spelling.{listed}
 use Rattle.service_descriptions.specs.declared.replay.machine.reply.Reply.TheVariants as reply
-use Rattle.service_descriptions.specs.Replies.{id_word, port_word, text_of}
-use Rattle.service_conformance.specs.declared.conformance.seen_reply.ReplyWord.{ReplyWord}
 use Rattle.service_conformance.specs.declared.conformance.seen_reply.ReplyWord.TheVariants as word
-use Rattle.service_conformance.specs.declared.conformance.seen_reply.SeenReply.{SeenReply}
 use Rattle.service_conformance.specs.declared.conformance.seen_reply.SeenReply.TheVariants as seen
-use Rattle.service_conformance.specs.IdWords.{apart, has_no_space, printed_one, same_id}
-use Rattle.service_conformance.specs.Seen.{EndsWord, IsIdNumber, IsSeen, IsToLine, changes_nothing, count_words, list_words, printed_id, seen_text, word_of, word_text}
-use Rattle.service_conformance.specs.Words.{handle_words}
 
 -- the ids of a list, each after a space
 abbrev pub ids_phrase : Spelling (List ℕ)
@@ -196,29 +176,38 @@ of_word word.NotOwned = refl
 of_word word.NoHandle = refl
 of_word word.WrongPattern = refl
 
--- the text of a reply without numbers, if there is one
-abbrev by_word : Option ReplyWord → List ℕ
-by_word None = []
-by_word (Some w) = word_text w
+-- the reply, by its name if it has one
+abbrev by_word : Reply → Option ReplyWord → Reply
+by_word r None = r
+by_word r (Some w) = reply_named w
 
-has_text : (r : Reply) (w : ReplyWord) → word_of r ≡ Some w → text_of r ≡ word_text w
-has_text reply.Locked w e = ap by_word e
-has_text reply.Full w e = ap by_word e
-has_text reply.NotRegistered w e = ap by_word e
-has_text reply.HasOwners w e = ap by_word e
-has_text reply.NoMoreOwners w e = ap by_word e
-has_text reply.PortsAttached w e = ap by_word e
-has_text reply.Released w e = ap by_word e
-has_text reply.NotOwned w e = ap by_word e
-has_text reply.NoHandle w e = ap by_word e
-has_text reply.WrongPattern w e = ap by_word e
-has_text _ w e = absurd (let z : ◌≡◌ {A = Option ReplyWord} None (Some w) = e in cc)
+by_its_word : (r : Reply) → by_word r (word_of r) ≡ r
+by_its_word reply.Locked = refl
+by_its_word reply.Full = refl
+by_its_word reply.NotRegistered = refl
+by_its_word reply.HasOwners = refl
+by_its_word reply.NoMoreOwners = refl
+by_its_word reply.PortsAttached = refl
+by_its_word reply.Released = refl
+by_its_word reply.NotOwned = refl
+by_its_word reply.NoHandle = refl
+by_its_word reply.WrongPattern = refl
+by_its_word _ = refl
 
--- a reply has the words of one without numbers exactly where it is that one
-pub is_word : (r : Reply) (w : ReplyWord) → (word_of r ≡ Some w) ↔ (text_of r ≡ word_text w)
-is_word r w = (
-  has_text r w,
-  λ e. sym (of_reply r) ∙ (ap by_text e ∙ of_word w),
+has_word : (r : Reply) (w : ReplyWord) → text_of r ≡ word_text w → word_of r ≡ Some w
+has_word r w e = sym (of_reply r) ∙ (ap by_text e ∙ of_word w)
+
+-- a reply has the words of one without numbers only where it is that one
+pub is_named : (r : Reply) (w : ReplyWord) → text_of r ≡ word_text w → r ≡ reply_named w
+is_named r w e = sym (by_its_word r) ∙ ap (by_word r) (has_word r w e)
+
+pub no_word : (r : Reply) (w : ReplyWord) → word_of r ≡ None → text_of r ≢ word_text w
+no_word r w none e = (let z : None ≡ Some w = sym none ∙ has_word r w e in cc)
+
+pub same_word : (v w : ReplyWord) → (v ≡ w) ↔ (word_text v ≡ word_text w)
+same_word v w = (
+  ap word_text,
+  λ e. (let z : Some v ≡ Some w = sym (of_word v) ∙ (ap by_text e ∙ of_word w) in cc),
 )
 
 -- whether a text begins with these letters
@@ -241,6 +230,13 @@ pub no_handle_text : (r : Reply) → handle_in r ≡ None → (slot ticket : ℕ
     → text_of r ≢ handle_words slot ticket
 no_handle_text r none slot ticket =
     differs (text_of r) (handle_words slot ticket) 104 110 (handle_begins r none) refl
+
+pub some_handle : (h k : Handle) → Some h ≡ Some k → h ≡ k
+some_handle h k e = cc
+
+pub is_handle : (r : Reply) (h : Handle) → handle_in r ≡ Some h → r ≡ reply.Handle h
+is_handle (reply.Handle k) h e = ap reply.Handle (some_handle k h e)
+is_handle _ h e = absurd (let z : ◌≡◌ {A = Option Handle} None (Some h) = e in cc)
 
 pub same_count : (m n : ℕ) → m < 2 ^ 64 → n < 2 ^ 64 → (m ≡ n) ↔ (count_words m ≡ count_words n)
 same_count m n p q = (
@@ -300,82 +296,52 @@ same_length (a ∷ xs) (b ∷ ys) (suc i) p q t end e =
     (e ∙ ap (λ x. id_word x ++ flat_map id_word ys) (sym both.0))) in
     ap suc rest
 
--- lists that were read to their ends are the same
-take_all : (xs : List ℕ) (n : ℕ) → n ≡ length xs → take n xs ≡ xs
-take_all [] zero e = refl
-take_all [] (suc n) e = absurd (omega (arith, e))
-take_all (x ∷ xs) zero e = absurd (omega (arith, e))
-take_all (x ∷ xs) (suc n) e = ap (λ (l : List ℕ). x ∷ l) (take_all xs n (omega (arith, e)))
-
 take_next : (xs ys : List ℕ) (i : ℕ) → i < length xs → i < length ys → take i xs ≡ take i ys
     → get_or xs i 0 ≡ get_or ys i 0 → take (suc i) xs ≡ take (suc i) ys
-take_next [] ys i p q t e = absurd (omega (arith, p))
-take_next (x ∷ xs) [] i p q t e = absurd (omega (arith, q))
-take_next (x ∷ xs) (y ∷ ys) zero p q t e = ap (λ z. z ∷ []) e
-take_next (x ∷ xs) (y ∷ ys) (suc i) p q t e =
-    let both = cons_same t in
-    ap (λ z. z ∷ take (suc i) xs) both.0
-    ∙ ap (λ (l : List ℕ). y ∷ l)
-    (take_next xs ys i (omega (arith, p)) (omega (arith, q)) both.1 e)
-
-below_or_at : (a b : ℕ) → a ≤ b → (a < b) ⊎ (a ≡ b)
-below_or_at zero zero h = inr refl
-below_or_at zero (suc b) h = inl (omega arith)
-below_or_at (suc a) zero h = absurd (omega (arith, h))
-below_or_at (suc a) (suc b) h = elim (below_or_at a b (omega (arith, h))) [
-  | inl l ↦ inl (omega (arith, l))
-  | inr e ↦ inr (ap suc e)
-]
+take_next xs ys i p q t e = rw (take-suc xs i 0 p, take-suc ys i 0 q, t, e) refl
 
 -- the ids of items, and others
 module _ {A : Type 0} (id : A → ℕ) where
-  mapped_length : (xs : List A) → length (map id xs) ≡ length xs
-  mapped_length [] = refl
-  mapped_length (x ∷ xs) = ap suc (mapped_length xs)
-
-  mapped_at : (xs : List A) (i : ℕ) (x : A) → i < length xs → x ≡ get_or xs i x
-      → get_or (map id xs) i 0 ≡ id x
-  mapped_at [] i x p e = absurd (omega (arith, p))
-  mapped_at (y ∷ ys) zero x p e = ap id (sym e)
-  mapped_at (y ∷ ys) (suc i) x p e = mapped_at ys i x (omega (arith, p)) e
-
   module _ (xs : List A) (ids : List ℕ) (i : ℕ) where
     module _ (p : i < length xs) (q : i < length ids)
         (same : take i (map id xs) ≡ take i ids) (x : A) (is : x ≡ get_or xs i x) (value : ℕ)
         (has : value ≡ id x) where
+      its_id : get_or (map id xs) i 0 ≡ id x
+      its_id = get_or-map id xs i x 0 p ∙ ap id (sym is)
+
       within : i < length (map id xs)
-      within = rw (mapped_length xs) p
+      within = rw (length-map xs id) p
 
       pub ids_differ : IsIdNumber value → IsIdNumber (get_or ids i 0)
           → (value ≡ get_or ids i 0 → ⊥)
           → flat_map id_word (map id xs) ≢ flat_map id_word ids
       ids_differ small other never =
-          let at : get_or (map id xs) i 0 ≡ value = mapped_at xs i x p is ∙ sym has in
-          differ_at (map id xs) ids i within q same (subst IsIdNumber (sym at) small) other
-          (λ e. never (sym at ∙ e))
+          let here : get_or (map id xs) i 0 ≡ value = its_id ∙ sym has in
+          differ_at (map id xs) ids i within q same (subst IsIdNumber (sym here) small) other
+          (λ e. never (sym here ∙ e))
 
       pub ids_go_on : value ≡ get_or ids i 0 → take (i + 1) (map id xs) ≡ take (i + 1) ids
       ids_go_on e =
           let next : suc i ≡ i + 1 = omega arith in
           ap (λ n. take n (map id xs)) (sym next)
-          ∙ (take_next (map id xs) ids i within q same (mapped_at xs i x p is ∙ sym has ∙ e)
+          ∙ (take_next (map id xs) ids i within q same (its_id ∙ sym has ∙ e)
           ∙ ap (λ n. take n ids) next)
 
     pub ids_alike : i ≤ length xs → i ≤ length ids → take i (map id xs) ≡ take i ids
         → (i < length xs → i < length ids → ⊥)
         → (length xs ≡ length ids) ↔ (flat_map id_word (map id xs) ≡ flat_map id_word ids)
     ids_alike p q same end = (
-      λ e. elim (below_or_at i (length xs) p) [
-        | inl l ↦ absurd (end l (omega (arith, l, e)))
-        | inr at ↦ ap (flat_map id_word)
-            (sym (take_all (map id xs) i (at ∙ sym (mapped_length xs)))
-            ∙ (same ∙ take_all ids i (at ∙ e)))
+      λ e. elim (eq-or-lt_of_le p) [
+        | inl at ↦ ap (flat_map id_word)
+            (sym (take_all i (map id xs) (omega (arith, at, length-map xs id)))
+            ∙ (same ∙ take_all i ids (omega (arith, at, e))))
+        | inr l ↦ absurd (end l (omega (arith, l, e)))
       ],
       λ e.
-          let within : i ≤ length (map id xs) = rw (mapped_length xs) p in
-          sym (mapped_length xs)
+          let within : i ≤ length (map id xs) = rw (length-map xs id) p in
+          sym (length-map xs id)
           ∙ same_length (map id xs) ids i within q same
-          (λ l m. end (rw (mapped_length xs) at l) m) e,
+          (λ l m. end (rw (length-map xs id) at l) m) e,
     )
 
 -- whether a text tells that something changed

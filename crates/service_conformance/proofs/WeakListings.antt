@@ -1,12 +1,6 @@
 -- Weak listings lack nothing where their replies see enough.
-use Rattle.std.proofs.Common.{◌≡◌, ◌⊎◌, inl, inr, ℕ, zero, suc, Bool, true, false, List, [], ◌∷◌, length, refl, sym, ◌∙◌, ap, subst, arith}
-use Rattle.std.specs.Prelude.{◌==◌, ◌&&◌, filter, if◌then◌else◌, not}
-use Rattle.std.specs.List.{AllByRecursion, Contains, list_any}
-use Rattle.std.proofs.lemmas.Bool.Decides.{nat_tests}
-use Rattle.iox2_dynamic.specs.Service.{Service}
-use Rattle.service_conformance.specs.declared.conformance.possible.Part.{Part}
-use Rattle.service_conformance.specs.Looks.{Look, ids_in, is_among, look_of, looks_after, without}
-use Rattle.service_conformance.specs.WeakLaws.{IsThere, WeakListingsSeeEnough, looks_through}
+use Rattle.service_conformance.proofs.Prelude.{AllByRecursion, Bool, Contains, List, [], ap, arith, false, filter, if◌then◌else◌, inl, inr, length, list_any, nat_tests, not, refl, subst, suc, sym, true, zero, ℕ, ◌&&◌, ◌==◌, ◌∙◌, ◌∷◌, ◌≡◌, ◌⊎◌}
+use Rattle.service_conformance.proofs.Names.{IsThere, Look, Part, Service, WeakListingsSeeEnough, ids_in, is_among, look_of, looks_after, looks_through, without}
 use Rattle.service_conformance.proofs.Looking.{seen_of}
 
 pub by_cases : (P : Type 0) (b : Bool) → (b ≡ true → P) → (b ≡ false → P) → P

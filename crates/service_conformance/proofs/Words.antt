@@ -1,39 +1,14 @@
 -- What words tell.
-use Rattle.std.proofs.Common.{◌≡◌, ◌≢◌, ℕ, ◌^◌, ◌<◌, ◌+◌, Option, Some, None, List, [], ◌∷◌, ◌++◌, All, codes, map, refl, sym, ◌∙◌, ap, subst, arith, append_assoc}
-use Rattle.std.specs.Fmt.{decimal}
-use Rattle.std.specs.Global.{Vec}
-use Rattle.std.proofs.lemmas.Fmt.{decimal_injective}
-use Rattle.std.proofs.lemmas.List.{append_cancel_left, append-nil}
-use Rattle.std.proofs.lemmas.List.Elements.{All-cons, All-head, All-map, All-nil, All-tail}
-use Rattle.iox2_container.specs.Handle.{Handle}
-use Rattle.iox2_container.specs.State.{Entry, RegistryState}
-use Rattle.iox2_dynamic.specs.declared.dynamic_config.port_details.PortDetails.{PortDetails}
-use Rattle.iox2_dynamic.specs.Service.{Service}
-use Rattle.line_streams.specs.Numerals.{cons_same}
-use Rattle.line_streams.specs.OneWay.{number_one}
-use Rattle.line_streams.specs.declared.phrase.LineEnd.TheVariants.{Bytes}
-use Rattle.line_streams.specs.Spelling.{EndsNumber, Spelling, after, line_end, sequence}
-use Rattle.service_descriptions.specs.declared.replay.machine.command.Cleanup.TheVariants.{ByPort}
-use Rattle.service_descriptions.specs.declared.replay.machine.command.Command.{Command}
+use Rattle.service_conformance.proofs.Prelude.{All-cons, All-head, All-map, All-nil, All-tail, List, None, Option, Some, Vec, [], ap, append-nil, append_assoc, append_cancel_left, arith, codes, decimal, decimal_injective, map, refl, subst, sym, ℕ, ◌++◌, ◌+◌, ◌<◌, ◌^◌, ◌∙◌, ◌∷◌, ◌≡◌, ◌≢◌}
+use Rattle.service_conformance.proofs.Names.{AllowsWords, ArePossible, ArePossibleWords, ByPort, Bytes, Command, EndsNumber, Entry, Handle, IsCovered, IsNextHandle, IsNextIn, IsSameReply, LineReply, MayGive, MayGiveIn, NextHandle, Part, PortDetails, RegistryState, Reply, Request, Serves, ServesDeregister, ServesRelease, Service, Spelling, Tells, TellsHandle, after, cons_same, handle_words, line_end, named, number_one, reply_in, request_command, sequence, text_of}
+use Rattle.std.proofs.Common.{All}
 use Rattle.service_descriptions.specs.declared.replay.machine.command.Command.TheVariants as command
-use Rattle.service_descriptions.specs.declared.replay.machine.reply.Reply.{Reply}
 use Rattle.service_descriptions.specs.declared.replay.machine.reply.Reply.TheVariants as reply
-use Rattle.service_descriptions.specs.Handles.{named}
-use Rattle.service_descriptions.specs.Replies.{IsSameReply, text_of}
-use Rattle.service_descriptions.specs.Steps.{Serves, ServesDeregister, ServesRelease}
 use Rattle.service_descriptions.proofs.Lines.{any_fits, any_number}
-use Rattle.service_conformance.specs.declared.conformance.possible.NextHandle.{NextHandle}
-use Rattle.service_conformance.specs.declared.conformance.possible.Part.{Part}
 use Rattle.service_conformance.specs.declared.conformance.possible.Part.TheVariants as part
-use Rattle.service_conformance.specs.declared.conformance.line_reply.LineReply.{LineReply}
 use Rattle.service_conformance.specs.declared.conformance.possible.Possible.TheVariants as possible
 use Rattle.service_conformance.specs.declared.conformance.possible.PossibleReplies.TheVariants as replies
-use Rattle.service_conformance.specs.declared.conformance.request.Request.{Request}
 use Rattle.service_conformance.specs.declared.conformance.request.Request.TheVariants as request
-use Rattle.service_conformance.specs.Entries.{MayGive}
-use Rattle.service_conformance.specs.Possible.{ArePossible, IsCovered, MayGiveIn, reply_in}
-use Rattle.service_conformance.specs.Requests.{request_command}
-use Rattle.service_conformance.specs.Words.{AllowsWords, ArePossibleWords, IsNextHandle, IsNextIn, Tells, TellsHandle, handle_words}
 
 -- the text of a handle: its slot, a space, and the rest
 spaced : (slot ticket : ℕ) → codes "handle " ++ decimal slot ++ codes " " ++ decimal ticket

@@ -1,20 +1,7 @@
 -- Calls that overlap nothing, and runs.
-use Rattle.std.specs.Prelude.{◌≡◌, ◌≢◌, ◌↔◌, ℕ, ◌<◌, ◌^◌, List, [], ◌∷◌, ◌++◌, Option, Some, None, length, map}
-use Rattle.std.specs.List.{AllByRecursion}
-use Rattle.histories.specs.Histories.{IsExplained}
-use Rattle.histories.specs.Laws.{calls_alone}
-use Rattle.iox2_container.specs.declared.container.role.Role.{Role}
+use Rattle.service_conformance.specs.Prelude.{AllByRecursion, Command, Handle, IsExplained, IsService, KeepsHandles, List, None, Option, RegistryState, Reply, Role, Run, Service, Some, State, [], calls_alone, length, map, named, role_of, text_of, ℕ, ◌++◌, ◌<◌, ◌^◌, ◌↔◌, ◌∷◌, ◌≡◌, ◌≢◌}
 use Rattle.iox2_container.specs.declared.container.role.Role.TheVariants as role
-use Rattle.iox2_container.specs.Handle.{Handle}
-use Rattle.iox2_container.specs.State.{RegistryState}
-use Rattle.iox2_dynamic.specs.Details.{role_of}
-use Rattle.iox2_dynamic.specs.Service.{Service, IsService}
-use Rattle.service_descriptions.specs.declared.replay.machine.command.Command.{Command}
 use Rattle.service_descriptions.specs.declared.replay.machine.command.Command.TheVariants as command
-use Rattle.service_descriptions.specs.declared.replay.machine.reply.Reply.{Reply}
-use Rattle.service_descriptions.specs.Handles.{KeepsHandles, named}
-use Rattle.service_descriptions.specs.Replies.{text_of}
-use Rattle.service_descriptions.specs.Steps.{Run, State}
 use Rattle.service_conformance.specs.Calls.{Call, answered, call_of}
 use Rattle.service_conformance.specs.Judged.{Judged, WindowStep}
 use Rattle.service_conformance.specs.Judged.Judged.{call}

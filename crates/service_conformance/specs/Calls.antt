@@ -1,18 +1,15 @@
 -- Calls as they were seen, and what they do.
-use Rattle.std.specs.Prelude.{◌≡◌, ℕ, ◌+◌, ◌<◌, ◌↔◌, List, [], ◌∷◌, Option, Some, None, slice_get}
-use Rattle.iox2_container.specs.Handle.{Handle}
-use Rattle.iox2_dynamic.specs.Service.{Service, IsService}
-use Rattle.service_descriptions.specs.declared.replay.machine.command.Command.{Command}
+use Rattle.service_conformance.specs.Prelude.{Command, Handle, IsService, List, None, Option, Reply, Serves, Service, Some, [], option_map, slice_get, text_of, ℕ, ◌+◌, ◌<◌, ◌↔◌, ◌∷◌, ◌≡◌}
 use Rattle.service_descriptions.specs.declared.replay.machine.command.Command.TheVariants as command
-use Rattle.service_descriptions.specs.declared.replay.machine.reply.Reply.{Reply}
 use Rattle.service_descriptions.specs.declared.replay.machine.reply.Reply.TheVariants as reply
-use Rattle.service_descriptions.specs.Replies.{text_of}
-use Rattle.service_descriptions.specs.Steps.{Serves}
 use Rattle.service_conformance.specs.declared.conformance.possible.Part.{Part}
 use Rattle.service_conformance.specs.declared.conformance.possible.PossibleReplies.{PossibleReplies}
 use Rattle.service_conformance.specs.Possible.{MayGiveIn}
 use Rattle.service_conformance.specs.Quiet.{quiet}
 use Rattle.service_conformance.specs.Words.{AllowsWords}
+use Rattle.service_conformance.specs.declared.conformance.seen_call.SeenCall.TheInside.{Inside}
+use Rattle.service_conformance.specs.Requests.{request_command, request_handle}
+use Rattle.service_conformance.specs.Seen.{seen_text}
 
 -- A call: its command, the handle that the command names, if it names one, and the words of the
 -- reply that was seen, or none. The command names it as command 0.
@@ -40,10 +37,6 @@ call_of c handle = record { command = at_first c; handle = handle_for c handle; 
 -- the same call, where the reply that was seen has these words
 abbrev pub answered : Call → List ℕ → Call
 answered call words = record call { words = Some words }
-
--- the same call, where none was seen
-abbrev pub unanswered : Call → Call
-unanswered call = record call { words = None }
 
 -- the reply has the words that were seen; where none were seen, it may be any
 abbrev pub HasWords : Option (List ℕ) → Reply → Type 0
@@ -93,3 +86,11 @@ abbrev pub AreRepliesOf : Service → Call → PossibleReplies → Type 0
 AreRepliesOf s call p =
     (words : List ℕ)
     → AllowsWords p words ↔ ((new : Service) × CallStep (answered call words) s new)
+
+-- the call that the fields tell
+abbrev pub seen_as : Inside → Call
+seen_as c = record {
+  command = request_command c.request;
+  handle = request_handle c.request;
+  words = option_map seen_text c.seen;
+}

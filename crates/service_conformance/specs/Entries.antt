@@ -1,11 +1,5 @@
 -- Entries by rising slot, and handles.
-use Rattle.std.specs.Prelude.{◌≡◌, ◌≢◌, ℕ, ◌<◌, ◌≤◌, List, length, take, drop, All, Some, slice_get, Option, None, false, true}
-use Rattle.iox2_container.specs.declared.container.refusal.ContainerAddFailure.{ContainerAddFailure}
-use Rattle.iox2_container.specs.declared.container.refusal.ContainerAddFailure.TheVariants.{IsLocked, OutOfSpace}
-use Rattle.iox2_container.specs.declared.container.release.ReleaseMode.{ReleaseMode}
-use Rattle.iox2_container.specs.Handle.{Handle}
-use Rattle.iox2_container.specs.State.{Entry, RegistryState, handle_of}
-use Rattle.iox2_container.specs.Steps.{IsFull, TakesEntry, lock_after}
+use Rattle.service_conformance.specs.Prelude.{All, ContainerAddFailure, Entry, Handle, IsFull, IsLocked, List, None, Option, OutOfSpace, RegistryState, ReleaseMode, Some, TakesEntry, drop, false, handle_of, length, lock_after, slice_get, take, true, ℕ, ◌<◌, ◌≡◌, ◌≢◌, ◌≤◌}
 
 -- an entry of this slot may be put in the position
 pub record IsFreePosition {T : Type 0} (es : List (Entry T)) (slot position : ℕ) : Type 0 where

@@ -1,12 +1,5 @@
 -- What is given of a service that was in use.
-use Rattle.std.specs.Prelude.{◌≡◌, ◌≢◌, ◌<◌, ℕ, Bool, true, false, [], ◌∷◌, ◌++◌, All}
-use Rattle.iox2_container.specs.declared.container.role.Role.{Role}
-use Rattle.iox2_container.specs.ContainerState.{container}
-use Rattle.iox2_container.specs.State.{Entry, IsRegistry, RegistryState}
-use Rattle.iox2_dynamic.specs.declared.dynamic_config.port_details.PortDetails.{PortDetails}
-use Rattle.iox2_dynamic.specs.Details.{role_of}
-use Rattle.iox2_dynamic.specs.PortsState.{Side}
-use Rattle.iox2_dynamic.specs.Service.{IsService, Service, role_at}
+use Rattle.service_conformance.specs.Prelude.{All, Bool, Entry, IsRegistry, IsService, PortDetails, RegistryState, Role, Service, Side, [], container, false, role_at, role_of, true, ℕ, ◌++◌, ◌<◌, ◌∷◌, ◌≡◌, ◌≢◌}
 use Rattle.service_conformance.specs.Sides.{ports_at, with_ports_at}
 
 -- the registry is as a new one

@@ -1,6 +1,5 @@
 -- What is judged of a service: calls, and weak listings that start and stop.
-use Rattle.std.specs.Prelude.{◌≡◌, ◌==◌, ◌<◌, ◌+◌, ◌↔◌, ℕ, ◌++◌, ◌∷◌, [], if◌then◌else◌, length, List, Option, Some, None, slice_get}
-use Rattle.std.specs.Option.{option_map}
+use Rattle.service_conformance.specs.Prelude.{List, None, Option, Some, [], if◌then◌else◌, length, option_map, slice_get, ℕ, ◌++◌, ◌+◌, ◌<◌, ◌==◌, ◌↔◌, ◌∷◌, ◌≡◌}
 use Rattle.service_conformance.specs.declared.conformance.possible.Part.{Part}
 use Rattle.service_conformance.specs.declared.conformance.possible.PossibleReplies.{PossibleReplies}
 use Rattle.service_conformance.specs.declared.conformance.possible.PossibleReplies.TheVariants as replies
@@ -9,6 +8,9 @@ use Rattle.service_conformance.specs.declared.conformance.seen_reply.SeenReply.{
 use Rattle.service_conformance.specs.declared.conformance.seen_reply.SeenReply.TheVariants as seen
 use Rattle.service_conformance.specs.Calls.{AreRepliesOf, Call, CallStep, HasNumber, answered}
 use Rattle.service_conformance.specs.Looks.{IsWatched, LacksNothing, Look, Watched, look_of, looks_after, watched}
+use Rattle.service_conformance.specs.declared.conformance.judged_call.JudgedCall.TheInside.{Inside}
+use Rattle.service_conformance.specs.declared.conformance.judged_call.What.{What}
+use Rattle.service_conformance.specs.declared.conformance.judged_call.What.TheVariants as what
 use Rattle.service_conformance.specs.Seen.{seen_text}
 
 -- What is judged: a call; a weak listing of a part that starts to look, with the ids of its reply,
@@ -113,3 +115,14 @@ WindowsAgree =
     → ((at : ℕ) → at < length calls → slice_get calls at ≡ slice_get all (first + at))
     → (number : ℕ) → IsWithin first (length calls) number → (old new : Watched)
     → WindowStep first calls old number new ↔ WindowStep 0 all old number new
+
+-- what the fields tell
+abbrev pub what_of : What → Judged
+what_of (what.Call c) = call c
+what_of (what.Starts p None) = starts p None
+what_of (what.Starts p (Some ids)) = starts p (Some ids.items)
+what_of (what.Stops start reply) = stops start reply
+
+-- what is judged, by its fields
+abbrev pub judged_of : Inside → Judged
+judged_of c = what_of c.what

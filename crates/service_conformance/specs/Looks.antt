@@ -1,13 +1,7 @@
 -- Weak listings, and services at which they look.
-use Rattle.std.specs.Prelude.{◌≡◌, ◌≢◌, ◌==◌, ◌&&◌, ℕ, Bool, not, List, [], All, Option, Some, None, filter, if◌then◌else◌, length, map}
-use Rattle.std.specs.List.{filter_map, list_any}
-use Rattle.iox2_container.specs.State.{RegistryState}
-use Rattle.iox2_container.specs.Steps.{listed}
-use Rattle.iox2_dynamic.specs.declared.dynamic_config.port_details.PortDetails.{PortDetails}
-use Rattle.iox2_dynamic.specs.Details.{port_of}
-use Rattle.iox2_dynamic.specs.Service.{Service}
-use Rattle.iox2_ids.specs.PortId.{port_value}
+use Rattle.service_conformance.specs.Prelude.{All, Bool, List, None, Option, PortDetails, RegistryState, Service, Some, [], filter, filter_map, if◌then◌else◌, length, list_any, listed, map, not, port_of, port_value, ℕ, ◌&&◌, ◌==◌, ◌≡◌, ◌≢◌}
 use Rattle.service_conformance.specs.declared.conformance.possible.Part.{Part}
+use Rattle.service_conformance.specs.declared.conformance.look.OpenLook.TheInside as look
 use Rattle.service_conformance.specs.declared.conformance.possible.Part.TheVariants as part
 
 -- A weak listing that is open, and lacks something: the number of the call with which it began, the
@@ -83,3 +77,12 @@ IsWatched w = looks_after w.service w.looks ≡ w.looks
 -- the weak listing with this number lacks nothing
 abbrev pub LacksNothing : List Look → ℕ → Type 0
 LacksNothing looks number = All (λ (l : Look). l.number ≢ number) looks
+
+-- the weak listing that the fields tell
+abbrev pub look_in : look.Inside → Look
+look_in c = record {
+  number = c.number;
+  part = c.part;
+  unseen = c.unseen.items;
+  lasting = c.lasting.items;
+}

@@ -1,8 +1,5 @@
 -- Calls that can be made before others, wherever they can be made right after them.
-use Rattle.std.specs.Prelude.{◌≡◌, ℕ, List, Option, Some}
-use Rattle.iox2_container.specs.Handle.{Handle}
-use Rattle.iox2_dynamic.specs.declared.dynamic_config.port_details.PortDetails.{PortDetails}
-use Rattle.iox2_dynamic.specs.Details.{node_of, role_of}
+use Rattle.service_conformance.specs.Prelude.{Handle, List, Option, PortDetails, Some, node_of, role_of, ℕ, ◌≡◌}
 use Rattle.service_descriptions.specs.declared.replay.machine.command.Command.TheVariants as command
 use Rattle.service_conformance.specs.declared.conformance.mover.Change.{Change}
 use Rattle.service_conformance.specs.declared.conformance.mover.Change.TheVariants as change

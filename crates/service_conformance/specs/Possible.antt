@@ -1,23 +1,16 @@
 -- The replies that a run could give.
-use Rattle.std.specs.Prelude.{◌≡◌, Bool, true, false, Option, Some, None}
-use Rattle.iox2_container.specs.declared.container.refusal.ContainerAddFailure.{ContainerAddFailure}
-use Rattle.iox2_container.specs.declared.container.refusal.ContainerAddFailure.TheVariants.{IsLocked, OutOfSpace}
-use Rattle.iox2_container.specs.Handle.{Handle}
-use Rattle.iox2_dynamic.specs.declared.dynamic_config.answers.DeregisterNodeState.{DeregisterNodeState}
+use Rattle.service_conformance.specs.Prelude.{Bool, ByPort, Command, ContainerAddFailure, DeregisterNodeState, Handle, IsLocked, IsSameReply, IsService, None, Option, OutOfSpace, Reply, Service, Some, false, true, ◌≡◌}
 use Rattle.iox2_dynamic.specs.declared.dynamic_config.answers.DeregisterNodeState.TheVariants as nodes
-use Rattle.iox2_dynamic.specs.Service.{Service, IsService}
-use Rattle.service_descriptions.specs.declared.replay.machine.command.Cleanup.TheVariants.{ByPort}
-use Rattle.service_descriptions.specs.declared.replay.machine.command.Command.{Command}
 use Rattle.service_descriptions.specs.declared.replay.machine.command.Command.TheVariants as command
-use Rattle.service_descriptions.specs.declared.replay.machine.reply.Reply.{Reply}
 use Rattle.service_descriptions.specs.declared.replay.machine.reply.Reply.TheVariants as reply
-use Rattle.service_descriptions.specs.Replies.{IsSameReply}
 use Rattle.service_conformance.specs.declared.conformance.line_reply.LineReply.{LineReply}
 use Rattle.service_conformance.specs.declared.conformance.line_reply.LineReply.TheVariants as line
 use Rattle.service_conformance.specs.declared.conformance.possible.Part.{Part}
 use Rattle.service_conformance.specs.declared.conformance.possible.Part.TheVariants as part
 use Rattle.service_conformance.specs.declared.conformance.possible.Possible.{Possible}
 use Rattle.service_conformance.specs.declared.conformance.possible.Possible.TheVariants as possible
+use Rattle.service_conformance.specs.declared.conformance.seen_reply.ReplyWord.{ReplyWord}
+use Rattle.service_conformance.specs.declared.conformance.seen_reply.ReplyWord.TheVariants as word
 use Rattle.service_conformance.specs.Entries.{MayGive}
 
 -- the registry of this part may give the handle next
@@ -26,19 +19,23 @@ MayGiveIn s part.Nodes handle = MayGive s.nodes.registry handle
 MayGiveIn s part.First handle = MayGive s.ports.first.registry handle
 MayGiveIn s part.Second handle = MayGive s.ports.second.registry handle
 
+-- the reply without numbers that has this name
+abbrev pub reply_named : ReplyWord → Reply
+reply_named word.Locked = reply.Locked
+reply_named word.Full = reply.Full
+reply_named word.NotRegistered = reply.NotRegistered
+reply_named word.HasOwners = reply.HasOwners
+reply_named word.NoMoreOwners = reply.NoMoreOwners
+reply_named word.PortsAttached = reply.PortsAttached
+reply_named word.Released = reply.Released
+reply_named word.NotOwned = reply.NotOwned
+reply_named word.NoHandle = reply.NoHandle
+reply_named word.WrongPattern = reply.WrongPattern
+
 -- the reply itself
 abbrev pub reply_in : LineReply → Reply
 reply_in (line.Handle h) = reply.Handle h
-reply_in line.Locked = reply.Locked
-reply_in line.Full = reply.Full
-reply_in line.NotRegistered = reply.NotRegistered
-reply_in line.HasOwners = reply.HasOwners
-reply_in line.NoMoreOwners = reply.NoMoreOwners
-reply_in line.PortsAttached = reply.PortsAttached
-reply_in line.Released = reply.Released
-reply_in line.NotOwned = reply.NotOwned
-reply_in line.NoHandle = reply.NoHandle
-reply_in line.WrongPattern = reply.WrongPattern
+reply_in (line.Word w) = reply_named w
 reply_in (line.Nodes ids) = reply.Nodes ids
 reply_in (line.Ports ports) = reply.Ports ports
 reply_in (line.Count n) = reply.Count n
@@ -57,13 +54,13 @@ pub record ArePossible (s : Service) (Step : Reply → Service → Type 0) (p : 
 -- the replies to an add in this part, by why it is refused
 abbrev pub possible_add : Option ContainerAddFailure → Part → Possible
 possible_add None in_part = possible.Given in_part
-possible_add (Some IsLocked) in_part = possible.One line.Locked
-possible_add (Some OutOfSpace) in_part = possible.One line.Full
+possible_add (Some IsLocked) in_part = possible.One (line.Word word.Locked)
+possible_add (Some OutOfSpace) in_part = possible.One (line.Word word.Full)
 
 -- how a service answers whether it is locked, when entries were removed
 abbrev pub reply_of_owners : Bool → LineReply
-reply_of_owners true = line.NoMoreOwners
-reply_of_owners false = line.HasOwners
+reply_of_owners true = line.Word word.NoMoreOwners
+reply_of_owners false = line.Word word.HasOwners
 
 -- the reply that says so
 abbrev pub reply_of_state : DeregisterNodeState → Reply

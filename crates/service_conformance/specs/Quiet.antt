@@ -1,14 +1,6 @@
 -- Services of which no touch is counted.
-use Rattle.std.specs.Prelude.{◌≡◌, ℕ, Bool, true, false}
-use Rattle.iox2_config.specs.declared.hash.input.PatternKind.{PatternKind}
-use Rattle.iox2_container.specs.ContainerState.{ContainerState, container}
-use Rattle.iox2_container.specs.State.{RegistryState}
-use Rattle.iox2_dynamic.specs.declared.dynamic_config.port_details.PortDetails.{PortDetails}
-use Rattle.iox2_dynamic.specs.Ports.{Ports}
-use Rattle.iox2_dynamic.specs.Service.{Service, IsService}
-use Rattle.service_descriptions.specs.declared.replay.machine.reply.Reply.{Reply}
+use Rattle.service_conformance.specs.Prelude.{Bool, ContainerState, IsService, PatternKind, PortDetails, Ports, RegistryState, Reply, Service, State, container, false, true, ℕ, ◌≡◌}
 use Rattle.service_descriptions.specs.declared.replay.machine.reply.Reply.TheVariants as reply
-use Rattle.service_descriptions.specs.Steps.{State}
 
 -- a registry of which no touch is counted
 abbrev pub untouched : {T : Type 0} → RegistryState T → ContainerState T

@@ -1,13 +1,6 @@
 -- Commands as they were called.
-use Rattle.std.specs.Prelude.{[], ◌∷◌, Option, None}
-use Rattle.iox2_container.specs.Handle.{Handle}
-use Rattle.iox2_dynamic.specs.Service.{Service}
-use Rattle.service_descriptions.specs.declared.replay.machine.command.Cleanup.TheVariants.{ByPort}
-use Rattle.service_descriptions.specs.declared.replay.machine.command.Command.{Command}
+use Rattle.service_conformance.specs.Prelude.{ByPort, Command, Handle, None, Option, Reply, Serves, Service, [], plain_of, ◌∷◌}
 use Rattle.service_descriptions.specs.declared.replay.machine.command.Command.TheVariants as command
-use Rattle.service_descriptions.specs.declared.replay.machine.reply.Reply.{Reply}
-use Rattle.service_descriptions.specs.Lines.{plain_of}
-use Rattle.service_descriptions.specs.Steps.{Serves}
 use Rattle.service_conformance.specs.declared.conformance.request.Request.{Request}
 use Rattle.service_conformance.specs.declared.conformance.request.Request.TheVariants as request
 

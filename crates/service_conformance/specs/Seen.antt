@@ -1,32 +1,16 @@
 -- What the words of replies say.
-use Rattle.std.specs.Prelude.{◌≡◌, ◌≢◌, ℕ, ◌<◌, ◌^◌, Bool, true, false, List, ◌++◌, All, codes, get_or, Option, Some, None}
-use Rattle.std.specs.Fmt.{decimal}
-use Rattle.std.specs.List.{flat_map}
-use Rattle.iox2_dynamic.specs.Details.{port_of}
-use Rattle.iox2_ids.specs.PortId.{port_value}
-use Rattle.iox2_ids.specs.Packing.{hexadecimal}
-use Rattle.line_streams.specs.Spelling.{Spelling}
-use Rattle.service_descriptions.specs.declared.replay.machine.reply.Reply.{Reply}
+use Rattle.service_conformance.specs.Prelude.{All, Bool, List, None, Option, Reply, Some, Spelling, codes, decimal, false, flat_map, get_or, hexadecimal, id_word, port_of, port_value, text_of, true, ℕ, ◌++◌, ◌<◌, ◌^◌, ◌≡◌, ◌≢◌}
 use Rattle.service_descriptions.specs.declared.replay.machine.reply.Reply.TheVariants as reply
-use Rattle.service_descriptions.specs.Replies.{id_word}
 use Rattle.service_conformance.specs.declared.conformance.seen_reply.ReplyWord.{ReplyWord}
 use Rattle.service_conformance.specs.declared.conformance.seen_reply.ReplyWord.TheVariants as word
 use Rattle.service_conformance.specs.declared.conformance.seen_reply.SeenReply.{SeenReply}
 use Rattle.service_conformance.specs.declared.conformance.seen_reply.SeenReply.TheVariants as seen
+use Rattle.service_conformance.specs.Possible.{reply_named}
 use Rattle.service_conformance.specs.Words.{handle_words}
 
 -- the words of a reply without numbers
 abbrev pub word_text : ReplyWord → List ℕ
-word_text word.Locked = codes "locked"
-word_text word.Full = codes "full"
-word_text word.NotRegistered = codes "not-registered"
-word_text word.HasOwners = codes "has-owners"
-word_text word.NoMoreOwners = codes "no-owners"
-word_text word.PortsAttached = codes "ports-attached"
-word_text word.Released = codes "released"
-word_text word.NotOwned = codes "not-owned"
-word_text word.NoHandle = codes "no-handle"
-word_text word.WrongPattern = codes "wrong-pattern"
+word_text w = text_of (reply_named w)
 
 -- the words of a list of ids
 abbrev pub list_words : List ℕ → List ℕ

@@ -1,12 +1,6 @@
 -- What the words of a reply tell.
-use Rattle.std.specs.Prelude.{◌≡◌, ◌≢◌, ◌↔◌, ◌<◌, ℕ, List, ◌++◌, All, codes, map, Option, Some, None}
-use Rattle.std.specs.Fmt.{decimal}
-use Rattle.iox2_container.specs.Handle.{Handle}
-use Rattle.iox2_container.specs.State.{Entry, RegistryState}
-use Rattle.iox2_dynamic.specs.Service.{Service}
-use Rattle.service_descriptions.specs.declared.replay.machine.reply.Reply.{Reply}
+use Rattle.service_conformance.specs.Prelude.{All, Entry, Handle, IsSameReply, List, None, Option, RegistryState, Reply, Service, Some, codes, decimal, map, text_of, ℕ, ◌++◌, ◌<◌, ◌↔◌, ◌≡◌, ◌≢◌}
 use Rattle.service_descriptions.specs.declared.replay.machine.reply.Reply.TheVariants as reply
-use Rattle.service_descriptions.specs.Replies.{IsSameReply, text_of}
 use Rattle.service_conformance.specs.declared.conformance.possible.NextHandle.{NextHandle}
 use Rattle.service_conformance.specs.declared.conformance.possible.Part.{Part}
 use Rattle.service_conformance.specs.declared.conformance.possible.Part.TheVariants as part

@@ -8,17 +8,14 @@ mod look;
 mod mover;
 mod possible;
 mod registry_check;
-mod replies;
 mod request;
 mod same;
 mod says;
 mod seen_call;
 mod seen_reply;
 mod service_check;
-mod sides;
 mod slot_entry;
 mod watched;
-mod words;
 
 pub use calls::Calls;
 pub use judged_call::{JudgedCall, possible_replies};

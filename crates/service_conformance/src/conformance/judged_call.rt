@@ -38,8 +38,7 @@ pub struct JudgedCall {
 }
 
 impl Model for JudgedCall {
-    ghost use Rattle.service_conformance.specs.Judged.{Judged};
-    ghost use Rattle.service_conformance.specs.JudgedFields.{judged_of};
+    ghost use Rattle.service_conformance.specs.Judged.{Judged, judged_of};
 
     ghost Value = { Judged };
 

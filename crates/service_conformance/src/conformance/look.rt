@@ -17,8 +17,7 @@ pub(super) struct OpenLook {
 }
 
 impl Model for OpenLook {
-    ghost use Rattle.service_conformance.specs.LookFields.{look_in};
-    ghost use Rattle.service_conformance.specs.Looks.{Look};
+    ghost use Rattle.service_conformance.specs.Looks.{Look, look_in};
 
     ghost Value = { Look };
 

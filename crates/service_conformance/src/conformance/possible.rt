@@ -1,6 +1,12 @@
 //! The replies that a run could give.
+ghost use Rattle.std.specs.Prelude.{◌≡◌};
+ghost use Rattle.iox2_dynamic.specs.PortsState.{side_of};
+ghost use Rattle.service_conformance.specs.Possible.{possible_add};
+ghost use Rattle.service_conformance.specs.Sides.{part_at};
 
 use super::line_reply::LineReply;
+use super::seen_reply::ReplyWord;
+use iox2_container::container::ContainerAddFailure;
 use service_descriptions::replay::Reply;
 
 /// One of the three registries of a service.
@@ -14,6 +20,15 @@ pub enum Part {
     Second,
 }
 
+impl Part {
+    /// The part of a service that the first or the second ports are.
+    pub(super) fn of_ports(first: bool) -> Part
+        ensures { result ≡ part_at (side_of first) }
+    {
+        if first { Part::First } else { Part::Second }
+    }
+}
+
 /// The replies that a run could give to a command.
 #[derive(Debug, Drop)]
 pub(super) enum Possible {
@@ -21,6 +36,17 @@ pub(super) enum Possible {
     One(LineReply),
     /// Each handle of a free slot of this registry, with its next ticket.
     Given(Part),
+}
+
+/// The possible replies to an add, by why it is refused.
+pub(super) fn possible_add(why: Option<ContainerAddFailure>, part: Part) -> Possible
+    ensures { result ≡ possible_add why part }
+{
+    match why {
+        None => Possible::Given(part),
+        Some(ContainerAddFailure::IsLocked) => Possible::One(LineReply::Word(ReplyWord::Locked)),
+        Some(ContainerAddFailure::OutOfSpace) => Possible::One(LineReply::Word(ReplyWord::Full)),
+    }
 }
 
 /// The handles that an add may give: each of a free slot, with the next ticket.

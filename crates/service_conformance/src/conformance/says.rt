@@ -8,8 +8,7 @@ ghost use Rattle.service_conformance.specs.Seen.{IsIdNumber, IsSeen, count_words
 ghost use Rattle.service_conformance.specs.Words.{handle_words};
 ghost use Rattle.service_descriptions.specs.Replies.{id_word, text_of};
 
-use super::line_reply::LineReply;
-use super::replies::given;
+use super::line_reply::{LineReply, given};
 use super::seen_reply::{ReplyWord, SeenReply};
 use iox2_dynamic::dynamic_config::PortDetails;
 use iox2_ids::identifiers::UniqueNodeId;
@@ -87,30 +86,14 @@ fn is_handle(reply: &LineReply, slot: usize, ticket: u64) -> bool
     handle.slot() == slot && handle.ticket() == ticket
 }
 
-/// The reply without numbers that it is, if it is one.
-fn word_of(reply: &LineReply) -> Option<ReplyWord>
-    ensures { result ≡ word_of (reply_in reply.now) }
-{
-    match reply {
-        LineReply::Locked => Some(ReplyWord::Locked),
-        LineReply::Full => Some(ReplyWord::Full),
-        LineReply::NotRegistered => Some(ReplyWord::NotRegistered),
-        LineReply::HasOwners => Some(ReplyWord::HasOwners),
-        LineReply::NoMoreOwners => Some(ReplyWord::NoMoreOwners),
-        LineReply::PortsAttached => Some(ReplyWord::PortsAttached),
-        LineReply::Released => Some(ReplyWord::Released),
-        LineReply::NotOwned => Some(ReplyWord::NotOwned),
-        LineReply::NoHandle => Some(ReplyWord::NoHandle),
-        LineReply::WrongPattern => Some(ReplyWord::WrongPattern),
-        _ => None,
-    }
-}
-
 /// Whether the reply is the one without numbers.
 fn is_word(reply: &LineReply, word: ReplyWord) -> bool
     ensures { IsTrue result ↔ (text_of (reply_in reply.now) ≡ word_text word) }
 {
-    word_of(reply) == Some(word)
+    match reply {
+        LineReply::Word(replied) => *replied == word,
+        _ => false,
+    }
 }
 
 /// Whether the reply has the words of what was seen.

@@ -1,10 +1,10 @@
 //! Calls that were seen.
-ghost use Rattle.std.specs.Prelude.{◌≡◌, ◌+◌, IfOk, IfSome, IsTrue, OnErr, OnOk};
+ghost use Rattle.std.specs.Prelude.{◌≡◌, ◌+◌, IfNone, IfOk, IfSome, IsTrue, None, OnErr, OnOk, Some};
 ghost use Rattle.histories.specs.Frontier.{IsMade, states_in};
 ghost use Rattle.histories.specs.Histories.{AreAll};
 ghost use Rattle.service_conformance.specs.Calls.{AreRepliesOf, CallStep, ChangesNothing, GivesBelow};
 ghost use Rattle.service_conformance.specs.Calls.{IsIdleCall, ServesCall};
-ghost use Rattle.service_conformance.specs.Calls.{answered, call_of, unanswered};
+ghost use Rattle.service_conformance.specs.Calls.{answered, call_of};
 ghost use Rattle.service_conformance.specs.Movers.{IsChange};
 ghost use Rattle.service_conformance.specs.Possible.{ArePossible, IsCovered, reply_in};
 ghost use Rattle.service_conformance.specs.Quiet.{CanServe, LeadsTo, quiet};
@@ -34,8 +34,7 @@ pub struct SeenCall {
 }
 
 impl Model for SeenCall {
-    ghost use Rattle.service_conformance.specs.Calls.{Call};
-    ghost use Rattle.service_conformance.specs.SeenFields.{seen_as};
+    ghost use Rattle.service_conformance.specs.Calls.{Call, seen_as};
 
     ghost Value = { Call };
 
@@ -61,6 +60,18 @@ impl SeenCall {
         ensures { self.new ≡ answered self.old (seen_text reply) }
     {
         self.seen = Some(reply);
+    }
+
+    /// The reply that was seen.
+    #[inline(always)]
+    fn seen(&self) -> Option<&SeenReply>
+        ensures some { IfSome result (λ seen. self.now.words ≡ Some (seen_text seen.now)) }
+        ensures none { IfNone result (self.now.words ≡ None) }
+    {
+        match &self.seen {
+            Some(seen) => Some(seen),
+            None => None,
+        }
     }
 
     /// The replies that the call may have in this state.
@@ -100,52 +111,20 @@ impl SeenCall {
         Ok(next)
     }
 
-    /// Makes the call in this state, if the reply that was seen can be given there. Returns whether
-    /// it did; else nothing changed.
-    fn make_seen(
-        &self,
-        alloc: Global,
-        state: &mut ServiceCheck,
-        seen: &SeenReply,
-    ) -> Result<bool, AllocError>
-        ensures { IfOk result (IsMade (CallStep (answered self.now (seen_text seen.now)) state.old)
-            state.old state.new) }
+    /// Makes the call in this state, if it was answered and can be made. Returns whether it did;
+    /// else nothing changed.
+    pub(super) fn make(&self, alloc: Global, state: &mut ServiceCheck) -> Result<bool, AllocError>
+        ensures { IfOk result (IsMade (CallStep self.now state.old) state.old state.new) }
     {
+        let Some(seen) = self.seen() else {
+            return Ok(false);
+        };
         let possible = self.possible(alloc, state)?;
         let Some(reply) = state.reply_seen(possible, seen) else {
             return Ok(false);
         };
         self.make_with(state, &reply)?;
         Ok(true)
-    }
-
-    /// Makes the call in this state, if it was answered and can be made. Returns whether it did;
-    /// else nothing changed.
-    pub(super) fn make(&self, alloc: Global, state: &mut ServiceCheck) -> Result<bool, AllocError>
-        ensures { IfOk result (IsMade (CallStep self.now state.old) state.old state.new) }
-    {
-        match &self.seen {
-            Some(seen) => self.make_seen(alloc, state, seen),
-            None => Ok(false),
-        }
-    }
-
-    /// The states that the call leaves with the reply that was seen: one, or none.
-    fn follow_seen(
-        &self,
-        alloc: Global,
-        state: &ServiceCheck,
-        seen: &SeenReply,
-    ) -> Result<Left<ServiceCheck>, AllocError>
-        ensures { IfOk result (λ left.
-            AreAll (CallStep (answered self.now (seen_text seen.now)) state.now)
-            (states_in left)) }
-    {
-        let possible = self.possible(alloc, state)?;
-        let Some(reply) = state.reply_seen(possible, seen) else {
-            return Ok(Left::Nothing);
-        };
-        Ok(Left::One(self.state_after(alloc, state, &reply)?))
     }
 
     /// Adds the state that an add leaves where it gives this slot, if it is free.
@@ -177,10 +156,10 @@ impl SeenCall {
         state: &ServiceCheck,
         part: Part,
     ) -> Result<Vec<ServiceCheck>, AllocError>
+        requires words { self.now.words ≡ None }
         requires covered { IsCovered self.now.command }
         requires all { ArePossible state.now (ServesCall self.now state.now) (possible.Given part) }
-        ensures { IfOk result (λ found.
-            AreAll (CallStep (unanswered self.now) state.now) found.items) }
+        ensures { IfOk result (λ found. AreAll (CallStep self.now state.now) found.items) }
     {
         let mut found = Vec::new(alloc);
         for slot in 0..state.capacity(part) {
@@ -195,8 +174,8 @@ impl SeenCall {
         alloc: Global,
         state: &ServiceCheck,
     ) -> Result<Left<ServiceCheck>, AllocError>
-        ensures { IfOk result (λ left.
-            AreAll (CallStep (unanswered self.now) state.now) (states_in left)) }
+        requires { self.now.words ≡ None }
+        ensures { IfOk result (λ left. AreAll (CallStep self.now state.now) (states_in left)) }
     {
         match self.possible(alloc, state)? {
             Possible::One(reply) => Ok(Left::One(self.state_after(alloc, state, &reply)?)),
@@ -204,7 +183,7 @@ impl SeenCall {
         }
     }
 
-    /// All states that the call leaves.
+    /// All states that the call leaves: with a reply that was seen one, or none.
     pub(super) fn follow(
         &self,
         alloc: Global,
@@ -212,16 +191,24 @@ impl SeenCall {
     ) -> Result<Left<ServiceCheck>, AllocError>
         ensures { IfOk result (λ left. AreAll (CallStep self.now state.now) (states_in left)) }
     {
-        match &self.seen {
-            Some(seen) => self.follow_seen(alloc, state, seen),
-            None => self.follow_any(alloc, state),
-        }
+        let Some(seen) = self.seen() else {
+            return self.follow_any(alloc, state);
+        };
+        let possible = self.possible(alloc, state)?;
+        let Some(reply) = state.reply_seen(possible, seen) else {
+            return Ok(Left::Nothing);
+        };
+        Ok(Left::One(self.state_after(alloc, state, &reply)?))
     }
 
-    /// Whether the reply can be given in this state, and says that nothing changed.
-    fn is_idle_with(&self, alloc: Global, state: &ServiceCheck, seen: &SeenReply) -> bool
-        ensures { IsTrue result → IsIdleCall (answered self.now (seen_text seen.now)) state.now }
+    /// Whether the call can be made in this state, and changes nothing in whatever state it is
+    /// made. A no says nothing.
+    pub(super) fn is_idle(&self, alloc: Global, state: &ServiceCheck) -> bool
+        ensures { IsTrue result → IsIdleCall self.now state.now }
     {
+        let Some(seen) = self.seen() else {
+            return false;
+        };
         if !changes_nothing(seen) {
             return false;
         }
@@ -234,36 +221,17 @@ impl SeenCall {
         true
     }
 
-    /// Whether the call can be made in this state, and changes nothing in whatever state it is
-    /// made. A no says nothing.
-    pub(super) fn is_idle(&self, alloc: Global, state: &ServiceCheck) -> bool
-        ensures { IsTrue result → IsIdleCall self.now state.now }
-    {
-        match &self.seen {
-            Some(seen) => self.is_idle_with(alloc, state, seen),
-            None => false,
-        }
-    }
-
-    /// Whether the reply cannot be given in this state. A no says nothing.
-    fn is_blocked_with(&self, alloc: Global, state: &ServiceCheck, seen: &SeenReply) -> bool
-        ensures { IsTrue result → (new : Service)
-            → ¬ (CallStep (answered self.now (seen_text seen.now)) state.now new) }
-    {
-        let Ok(possible) = self.possible(alloc, state) else {
-            return false;
-        };
-        state.reply_seen(possible, seen).is_none()
-    }
-
     /// Whether a reply was seen, and the call cannot be made in this state. A no says nothing.
     pub(super) fn is_blocked(&self, alloc: Global, state: &ServiceCheck) -> bool
         ensures { IsTrue result → (new : Service) → ¬ (CallStep self.now state.now new) }
     {
-        let Some(seen) = &self.seen else {
+        let Some(seen) = self.seen() else {
             return false;
         };
-        self.is_blocked_with(alloc, state, seen)
+        let Ok(possible) = self.possible(alloc, state) else {
+            return false;
+        };
+        state.reply_seen(possible, seen).is_none()
     }
 
     /// Whether the reply that was seen says that nothing changed. Such a call changes nothing, in

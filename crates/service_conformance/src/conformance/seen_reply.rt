@@ -7,8 +7,7 @@ ghost use Rattle.service_descriptions.specs.declared.replay.machine.reply.Reply.
 ghost use Rattle.service_descriptions.specs.Replies.{text_of};
 
 use super::id_word::PrintedId;
-use super::words::{NUMBER, slot_and_ticket};
-use line_streams::{After, LineEnd, Phrase, Then, after_word, list_before};
+use line_streams::{After, LineEnd, Number, Phrase, Then, after_word, list_before};
 use service_descriptions::replay::Reply;
 use std::alloc::{AllocError, Global};
 
@@ -63,6 +62,25 @@ pub(super) fn changes_nothing(seen: &SeenReply) -> bool
         SeenReply::List(_) => true,
         SeenReply::Count(_) => true,
     }
+}
+
+/// A number.
+const NUMBER: Number = Number(u64::MAX);
+
+/// The slot and the ticket of the handle in the words.
+#[tactic(auto, using(crate::proofs::Words::unread))]
+#[inline(always)]
+fn slot_and_ticket(words: &[u8]) -> Option<(usize, u64)>
+    ensures some { IfSome result (λ h. handle_words h.0 h.1 ≡ words.now) }
+    ensures words { IfSome result (λ h. (h.0 < 2 ^ 64) × (h.1 < 2 ^ 64)) }
+    ensures none { IfNone result ((slot ticket : ℕ) → slot < 2 ^ 64 → ticket < 2 ^ 64
+        → handle_words slot ticket ≢ words.now) }
+{
+    let ticket = After(b" ", Then(NUMBER, LineEnd::Bytes));
+    let Some(((slot, (ticket, ())), _)) = After(b"handle ", Then(NUMBER, ticket)).read(words) else {
+        return None;
+    };
+    Some((slot as usize, ticket))
 }
 
 /// The reply without numbers that the words are.

@@ -1,23 +1,21 @@
 //! What a service must hold, by the commands and replies that were seen.
-ghost use Rattle.std.specs.Prelude.{◌≡◌, ◌↔◌, ◌-◌, ◌^◌, ◌||◌, IfNone, IfOk, IfSome, IsTrue};
+ghost use Rattle.std.specs.Prelude.{◌≡◌, ◌↔◌, ◌-◌, ◌^◌, ◌<◌, ◌||◌, IfNone, IfOk, IfSome, IsTrue, OnErr};
 ghost use Rattle.std.specs.List.{list_any};
 ghost use Rattle.iox2_dynamic.specs.Ports.{has_ports_of};
-ghost use Rattle.iox2_dynamic.specs.Service.{IsService, capacities_in, fresh_service};
+ghost use Rattle.iox2_dynamic.specs.Service.{IsService, capacities_in, entries_of_node, fresh_service};
 ghost use Rattle.iox2_dynamic.specs.Steps.{is_last_of_ports};
 ghost use Rattle.service_conformance.specs.Dead.{after_dead, ports_after, stays};
+ghost use Rattle.service_conformance.specs.Given.{Becomes, GivesNode, GivesNodes, GivesPort};
+ghost use Rattle.service_conformance.specs.Given.{GivesPorts};
 ghost use Rattle.service_conformance.specs.Quiet.{ports_at_rest, quiet};
 ghost use Rattle.iox2_dynamic.specs.PortsState.{side_of};
 ghost use Rattle.service_conformance.specs.Sides.{HasPart, LacksPart, ports_at};
 
 mod following;
-mod given;
 mod replies_possible;
-mod reported_reply;
-mod seeing;
 
 use super::possible::Part;
 use super::registry_check::RegistryCheck;
-use super::sides::part;
 use iox2_config::hash::PatternKind;
 use iox2_container::container::Role;
 use iox2_dynamic::dynamic_config::{MessagingPatternSettings, PortDetails, PortRoles};
@@ -161,7 +159,8 @@ impl ServiceCheck {
         })
     }
 
-    /// Whether two services hold the same.
+    /// Whether two services hold the same. The pattern says what the roles of the ports do, and is
+    /// compared last.
     pub(super) fn same(&self, other: &Self) -> bool
         ensures { IsTrue result ↔ (self.now ≡ other.now) }
     {
@@ -181,16 +180,14 @@ impl ServiceCheck {
 
     /// Whether some port has the node.
     fn has_ports(&self, node: &UniqueNodeId) -> bool
-        ensures ports { result ≡ has_ports_of node.now self.now.ports }
-        ensures kept { IsService self.now }
+        ensures { result ≡ has_ports_of node.now self.now.ports }
     {
         has_ports_in(&self.first, &self.second, node)
     }
 
     /// Whether the node has one entry, and some port has the node.
     fn is_last_of_ports(&self, node: &UniqueNodeId) -> bool
-        ensures last { result ≡ is_last_of_ports node.now self.now }
-        ensures kept { IsService self.now }
+        ensures { result ≡ is_last_of_ports node.now self.now }
     {
         self.nodes.count(node) == 1 && self.has_ports(node)
     }
@@ -215,7 +212,7 @@ impl ServiceCheck {
         let Some(first) = self.pattern.side(role) else {
             return None;
         };
-        Some(part(first))
+        Some(Part::of_ports(first))
     }
 
     /// The nodes.
@@ -228,8 +225,7 @@ impl ServiceCheck {
 
     /// Whether a port of the dead node is left, where those of these values stay.
     fn has_left(&self, dead: &UniqueNodeId, kept: &[u128]) -> bool
-        ensures left { result ≡ has_ports_of dead.now (ports_after self.now dead.now kept.now) }
-        ensures kept { IsService self.now }
+        ensures { result ≡ has_ports_of dead.now (ports_after self.now dead.now kept.now) }
     {
         let first = self.ports(true);
         let second = self.ports(false);
@@ -247,5 +243,83 @@ impl ServiceCheck {
             return nodes.is_locked();
         }
         nodes.locks_without(dead)
+    }
+
+    /// Whether the node is registered.
+    fn has_node(&self, node: &UniqueNodeId) -> bool
+        ensures yes { IsTrue result → 0 < entries_of_node node.now self.now.nodes.registry }
+        ensures no { 0 < entries_of_node node.now self.now.nodes.registry → IsTrue result }
+    {
+        self.nodes.count(node) > 0
+    }
+
+    /// So many tickets of its nodes were used, and it is locked or not. Returns whether it can be
+    /// so, of a service of which nothing was given; else nothing changes.
+    pub fn give_nodes(&mut self, used: u64, locked: bool) -> bool
+        ensures gives { Becomes (GivesNodes self.old used locked) self.old result self.new }
+        ensures kept { IsService self.new }
+    {
+        self.nodes.give_used(used, locked)
+    }
+
+    /// So many tickets of its ports of this role were used. Returns whether it can be so, where
+    /// nothing was given of them; else nothing changes.
+    pub fn give_ports(&mut self, role: Role, used: u64) -> bool
+        ensures gives { Becomes (GivesPorts self.old role used) self.old result self.new }
+        ensures kept { IsService self.new }
+    {
+        let Some(first) = self.pattern.side(role) else {
+            return false;
+        };
+        if first {
+            return self.first.give_used(used, false);
+        }
+        self.second.give_used(used, false)
+    }
+
+    /// The node has an entry in this slot, behind those that were given, with this ticket. Returns
+    /// whether it can be so: the slot is below the capacity, and the ticket one that was used and
+    /// that no other entry has. Else, and where memory is refused, nothing changes.
+    pub fn give_node(
+        &mut self,
+        slot: usize,
+        ticket: u64,
+        id: UniqueNodeId,
+    ) -> Result<bool, AllocError>
+        ensures gives { IfOk result (λ yes.
+            Becomes (GivesNode self.old slot ticket id) self.old yes self.new) }
+        ensures err { OnErr result (self.new ≡ self.old) }
+        ensures kept { IsService self.new }
+    {
+        self.nodes.give_entry(slot, ticket, id)
+    }
+
+    /// The port stands in this slot, behind those of its role that were given, with this ticket.
+    /// Returns whether it can be so: the pattern has the role, the node is registered, the slot is
+    /// below the capacity, and the ticket one that was used and that no other port of the role has.
+    /// Else, and where memory is refused, nothing changes.
+    pub fn give_port(
+        &mut self,
+        slot: usize,
+        ticket: u64,
+        details: PortDetails,
+    ) -> Result<bool, AllocError>
+        ensures gives { IfOk result (λ yes.
+            Becomes (GivesPort self.old slot ticket details) self.old yes self.new) }
+        ensures err { OnErr result (self.new ≡ self.old) }
+        ensures kept { IsService self.new }
+    {
+        // For the proof: what is true of every check.
+        let _pattern = &self.pattern;
+        if !self.has_node(&details.node_id()) {
+            return Ok(false);
+        }
+        let Some(first) = self.pattern.side(details.role()) else {
+            return Ok(false);
+        };
+        if first {
+            return self.first.give_entry(slot, ticket, details);
+        }
+        self.second.give_entry(slot, ticket, details)
     }
 }

@@ -1,6 +1,5 @@
 //! The state that a reply leaves.
 ghost use Rattle.std.specs.Prelude.{◌≡◌, OnOk, OnErr};
-ghost use Rattle.iox2_dynamic.specs.Service.{IsService};
 ghost use Rattle.service_conformance.specs.Requests.{ServesRequest};
 ghost use Rattle.service_conformance.specs.Possible.{reply_in};
 ghost use Rattle.service_conformance.specs.Quiet.{CanServe, LeadsTo};
@@ -8,8 +7,7 @@ ghost use Rattle.service_descriptions.specs.Cleanups.{ServesDead};
 ghost use Rattle.service_descriptions.specs.Steps.{ServesAdd, ServesDeregister, ServesRegister, ServesRelease};
 ghost use Rattle.service_descriptions.specs.declared.replay.machine.command.Cleanup.TheVariants as cleanup;
 
-use super::super::line_reply::LineReply;
-use super::super::replies::{given, is_removal};
+use super::super::line_reply::{LineReply, given, is_removal};
 use super::super::request::Request;
 use super::{ServiceCheck, has_ports_in};
 use iox2_container::container::{ContainerHandle, ReleaseMode};
@@ -24,7 +22,6 @@ impl ServiceCheck {
         ensures ok { OnOk result (LeadsTo (ServesRegister self.old id) (reply_in reply.now)
             self.new) }
         ensures err { OnErr result (self.new ≡ self.old) }
-        ensures kept { IsService self.new }
     {
         // For the proof: what is true of every check.
         let _pattern = &self.pattern;
@@ -38,8 +35,7 @@ impl ServiceCheck {
     /// The service after a node's entry was to be removed and this was replied.
     fn follow_deregister(&mut self, handle: Option<ContainerHandle>, reply: &LineReply)
         requires { CanServe (ServesDeregister self.old handle) (reply_in reply.now) }
-        ensures one { LeadsTo (ServesDeregister self.old handle) (reply_in reply.now) self.new }
-        ensures kept { IsService self.new }
+        ensures { LeadsTo (ServesDeregister self.old handle) (reply_in reply.now) self.new }
     {
         // For the proof: what is true of every check.
         let _pattern = &self.pattern;
@@ -58,7 +54,6 @@ impl ServiceCheck {
         ensures ok { OnOk result (LeadsTo (ServesAdd self.old details) (reply_in reply.now)
             self.new) }
         ensures err { OnErr result (self.new ≡ self.old) }
-        ensures kept { IsService self.new }
     {
         // For the proof: what is true of every check.
         let _pattern = &self.pattern;
@@ -79,8 +74,7 @@ impl ServiceCheck {
     /// The service after a port was to be released and this was replied.
     fn follow_release(&mut self, handle: Option<ContainerHandle>, reply: &LineReply)
         requires { CanServe (ServesRelease self.old handle) (reply_in reply.now) }
-        ensures one { LeadsTo (ServesRelease self.old handle) (reply_in reply.now) self.new }
-        ensures kept { IsService self.new }
+        ensures { LeadsTo (ServesRelease self.old handle) (reply_in reply.now) self.new }
     {
         // For the proof: what is true of every check.
         let _pattern = &self.pattern;
@@ -104,9 +98,8 @@ impl ServiceCheck {
     fn follow_dead(&mut self, dead: &UniqueNodeId, kept: &Vec<u128>, _reply: &LineReply)
         requires { CanServe (ServesDead self.old dead.now (cleanup.ByPort kept.now))
             (reply_in _reply.now) }
-        ensures one { LeadsTo (ServesDead self.old dead.now (cleanup.ByPort kept.now))
+        ensures { LeadsTo (ServesDead self.old dead.now (cleanup.ByPort kept.now))
             (reply_in _reply.now) self.new }
-        ensures kept { IsService self.new }
     {
         let kept = kept.as_slice();
         self.first.recover(dead, kept);
@@ -128,7 +121,6 @@ impl ServiceCheck {
         ensures ok { OnOk result (LeadsTo (ServesRequest request.now self.old) (reply_in reply.now)
             self.new) }
         ensures err { OnErr result (self.new ≡ self.old) }
-        ensures kept { IsService self.new }
     {
         // For the proof: what is true of every check.
         let _pattern = &self.pattern;

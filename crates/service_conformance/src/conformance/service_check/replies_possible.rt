@@ -1,25 +1,41 @@
-//! The replies that a command may have.
-ghost use Rattle.std.specs.Prelude.{◌≡◌, ◌<◌, IfNone, IfOk, IfSome};
+//! The replies that a command may have, and who is there.
+ghost use Rattle.std.specs.Option.{option_map};
+ghost use Rattle.std.specs.Prelude.{◌≡◌, ◌++◌, ◌<◌, IfNone, IfOk, IfSome, map};
 ghost use Rattle.iox2_container.specs.Handle.{Handle};
+ghost use Rattle.iox2_container.specs.Steps.{listed};
 ghost use Rattle.iox2_dynamic.specs.Service.{IsService};
-ghost use Rattle.service_conformance.specs.Requests.{ServesRequest};
-ghost use Rattle.service_conformance.specs.Possible.{ArePossible, MayGiveIn};
+ghost use Rattle.service_conformance.specs.Looks.{ids_in};
+ghost use Rattle.service_conformance.specs.Possible.{ArePossible, MayGiveIn, reply_in};
 ghost use Rattle.service_conformance.specs.Quiet.{Reports, quiet};
+ghost use Rattle.service_conformance.specs.Requests.{ServesRequest};
+ghost use Rattle.service_conformance.specs.Seen.{seen_text};
+ghost use Rattle.service_conformance.specs.Words.{ArePossibleWords, IsNextIn, Tells, TellsHandle, handle_words};
 ghost use Rattle.service_descriptions.specs.Cleanups.{ServesDead};
 ghost use Rattle.service_descriptions.specs.Listings.{ServesCount, ServesList, ServesNodes};
 ghost use Rattle.service_descriptions.specs.Steps.{ServesAdd, ServesDeregister, ServesRegister, ServesRelease};
 ghost use Rattle.service_descriptions.specs.declared.replay.machine.command.Cleanup.TheVariants as cleanup;
 
-use super::super::line_reply::LineReply;
-use super::super::possible::{Part, Possible};
-use super::super::replies::{possible_add, reply_of_owners};
+use super::super::line_reply::{LineReply, reply_of_owners};
+use super::super::possible::{NextHandle, Part, Possible, PossibleReplies, possible_add};
 use super::super::request::Request;
-use super::super::sides::part;
+use super::super::says::{Printed, says};
+use super::super::seen_reply::{ReplyWord, SeenReply};
 use super::ServiceCheck;
 use iox2_container::container::{ContainerHandle, Role};
 use iox2_dynamic::dynamic_config::{PortDetails, PortRoles};
 use iox2_ids::identifiers::UniqueNodeId;
 use std::alloc::{AllocError, Global};
+
+/// The ids that are printed of the items.
+fn ids_of<T: Printed>(alloc: Global, items: &[T]) -> Result<Vec<u128>, AllocError>
+    ensures { IfOk result (λ ids. ids.items ≡ map T.id items.now) }
+{
+    let mut ids = Vec::with_capacity(alloc, items.len())?;
+    for item in items {
+        ids.push(item.printed())?;
+    }
+    Ok(ids)
+}
 
 impl ServiceCheck {
     /// The replies that registering a node may have.
@@ -35,16 +51,16 @@ impl ServiceCheck {
         ensures { ArePossible self.now (ServesAdd self.now details) result }
     {
         let Some(first) = self.pattern.side(details.role()) else {
-            return Possible::One(LineReply::WrongPattern);
+            return Possible::One(LineReply::Word(ReplyWord::WrongPattern));
         };
         if self.nodes.is_locked() {
-            return Possible::One(LineReply::Locked);
+            return Possible::One(LineReply::Word(ReplyWord::Locked));
         }
         if self.nodes.count(&details.node_id()) == 0 {
-            return Possible::One(LineReply::NotRegistered);
+            return Possible::One(LineReply::Word(ReplyWord::NotRegistered));
         }
         let why = self.ports(first).refusal();
-        possible_add(why, part(first))
+        possible_add(why, Part::of_ports(first))
     }
 
     /// The replies that removing a node's entry may have.
@@ -53,13 +69,13 @@ impl ServiceCheck {
     {
         let nodes = self.nodes();
         let Some(handle) = handle else {
-            return Possible::One(LineReply::NoHandle);
+            return Possible::One(LineReply::Word(ReplyWord::NoHandle));
         };
         let Some(id) = nodes.get(handle) else {
-            return Possible::One(LineReply::NotOwned);
+            return Possible::One(LineReply::Word(ReplyWord::NotOwned));
         };
         if self.is_last_of_ports(&id) {
-            return Possible::One(LineReply::PortsAttached);
+            return Possible::One(LineReply::Word(ReplyWord::PortsAttached));
         }
         let locks = nodes.len() == 1;
         Possible::One(reply_of_owners(locks))
@@ -71,15 +87,15 @@ impl ServiceCheck {
     {
         let kind = self.kind();
         let Some(handle) = handle else {
-            return Possible::One(LineReply::NoHandle);
+            return Possible::One(LineReply::Word(ReplyWord::NoHandle));
         };
         let Some(first) = kind.side(handle.role()) else {
-            return Possible::One(LineReply::NotOwned);
+            return Possible::One(LineReply::Word(ReplyWord::NotOwned));
         };
         let Some(_details) = self.ports(first).get(handle) else {
-            return Possible::One(LineReply::NotOwned);
+            return Possible::One(LineReply::Word(ReplyWord::NotOwned));
         };
-        Possible::One(LineReply::Released)
+        Possible::One(LineReply::Word(ReplyWord::Released))
     }
 
     /// The replies that removing a dead node may have, where the ports of these values stay.
@@ -106,7 +122,7 @@ impl ServiceCheck {
     {
         let kind = self.kind();
         let Some(first) = kind.side(role) else {
-            return Ok(Possible::One(LineReply::WrongPattern));
+            return Ok(Possible::One(LineReply::Word(ReplyWord::WrongPattern)));
         };
         let ports = self.ports(first).listed(alloc)?;
         Ok(Possible::One(LineReply::Ports(ports)))
@@ -118,7 +134,7 @@ impl ServiceCheck {
     {
         let kind = self.kind();
         let Some(first) = kind.side(role) else {
-            return Possible::One(LineReply::WrongPattern);
+            return Possible::One(LineReply::Word(ReplyWord::WrongPattern));
         };
         let n = self.ports(first).len();
         Possible::One(LineReply::Count(n))
@@ -175,5 +191,101 @@ impl ServiceCheck {
             Part::First => self.first.next(slot),
             Part::Second => self.second.next(slot),
         }
+    }
+
+    /// The handle of this slot and this ticket that the registry of the part may give next.
+    fn handle_at(&self, part: Part, slot: usize, ticket: u64) -> Option<ContainerHandle>
+        ensures { TellsHandle (MayGiveIn self.now part) (handle_words slot ticket) result }
+    {
+        match part {
+            Part::Nodes => self.nodes.handle_at(slot, ticket),
+            Part::First => self.first.handle_at(slot, ticket),
+            Part::Second => self.second.handle_at(slot, ticket),
+        }
+    }
+
+    /// Of the possible replies, the one that says what was seen.
+    #[inline(always)]
+    pub(in super::super) fn reply_seen(
+        &self,
+        possible: Possible,
+        seen: &SeenReply,
+    ) -> Option<LineReply>
+        ensures { Tells self.now possible (seen_text seen.now)
+            (option_map reply_in result) }
+    {
+        match possible {
+            Possible::One(one) => { if says(&one, seen) { Some(one) } else { None } }
+            Possible::Given(part) => {
+                let SeenReply::Handle(slot, ticket) = seen else {
+                    return None;
+                };
+                let Some(handle) = self.handle_at(part, *slot, *ticket) else {
+                    return None;
+                };
+                Some(LineReply::Handle(handle))
+            }
+        }
+    }
+
+    /// The ids that a list of the part has.
+    pub(in super::super) fn ids_in(
+        &self,
+        alloc: Global,
+        part: Part,
+    ) -> Result<Vec<u128>, AllocError>
+        ensures { IfOk result (λ ids. ids.items ≡ ids_in self.now part) }
+    {
+        match part {
+            Part::Nodes => ids_of(alloc, &self.nodes.listed(alloc)?),
+            Part::First => ids_of(alloc, &self.first.listed(alloc)?),
+            Part::Second => ids_of(alloc, &self.second.listed(alloc)?),
+        }
+    }
+
+    /// The handles that the registry of the part may give next, where an add is not refused.
+    fn next_in(&self, alloc: Global, part: Part) -> Result<NextHandle, AllocError>
+        ensures { IfOk result (IsNextIn self.now part) }
+    {
+        match part {
+            Part::Nodes => self.nodes.next_handle(alloc),
+            Part::First => self.first.next_handle(alloc),
+            Part::Second => self.second.next_handle(alloc),
+        }
+    }
+
+    /// The replies that a command may have.
+    pub(in super::super) fn possible_replies(
+        &self,
+        alloc: Global,
+        request: &Request,
+    ) -> Result<PossibleReplies, AllocError>
+        ensures replies { IfOk result (ArePossibleWords (ServesRequest request.now self.now)) }
+        ensures kept { IsService self.now }
+        ensures rest { quiet self.now ≡ self.now }
+    {
+        match self.possible_for(alloc, request)? {
+            Possible::One(one) => Ok(PossibleReplies::One(one.reply())),
+            Possible::Given(part) => Ok(PossibleReplies::Handle(self.next_in(alloc, part)?)),
+        }
+    }
+
+    /// The nodes that are registered now, by rising slot.
+    pub fn nodes_listed(&self, alloc: Global) -> Result<Vec<UniqueNodeId>, AllocError>
+        ensures { IfOk result (λ nodes. nodes.items ≡ listed self.now.nodes.registry) }
+    {
+        self.nodes.listed(alloc)
+    }
+
+    /// The ports that are attached now: those of the pattern's first kind by rising slot, and then
+    /// the others.
+    pub fn ports_listed(&self, alloc: Global) -> Result<Vec<PortDetails>, AllocError>
+        ensures { IfOk result (λ ports. ports.items ≡ listed self.now.ports.first.registry
+            ++ listed self.now.ports.second.registry) }
+    {
+        let mut ports = self.first.listed(alloc)?;
+        let others = self.second.listed(alloc)?;
+        ports.extend_from_slice(&others)?;
+        Ok(ports)
     }
 }

@@ -1,8 +1,6 @@
 -- A text of an id is UTF-8, is parsed as its number, and is what that number has.
-use Rattle.std.proofs.Common.{◌≡◌, ◌<◌, ◌^◌, sym, ap, subst, ◌∙◌, arith, rules}
-use Rattle.std.specs.Str.Parse.{IsNumeral, digits_value}
-use Rattle.std.proofs.lemmas.Str.{IsUtf8-from_ascii}
-use Rattle.iox2_ids.specs.Packing.{hexadecimal}
+use Rattle.service_conformance.proofs.Prelude.{IsNumeral, IsUtf8-from_ascii, ap, arith, digits_value, rules, subst, sym, ◌<◌, ◌^◌, ◌∙◌, ◌≡◌}
+use Rattle.service_conformance.proofs.Names.{hexadecimal}
 use Rattle.service_conformance.proofs.IdTexts.{read_as}
 use Rattle.service_conformance.proofs.conformance.id_word.id_of.Goals as goal
 

@@ -1,6 +1,5 @@
-use Rattle.std.proofs.Common.{List, [], ◌∷◌, ◌∙◌, ap, map, refl}
-use Rattle.iox2_dynamic.specs.Service.{Service}
-use Rattle.service_conformance.specs.Looks.{Look, Watched, watched}
+use Rattle.service_conformance.proofs.Prelude.{List, [], ap, map, refl, ◌∙◌, ◌∷◌}
+use Rattle.service_conformance.proofs.Names.{Look, Service, Watched, watched}
 use Rattle.service_conformance.proofs.Judged.{follow_leaves}
 use Rattle.service_conformance.proofs.conformance.judged_call.follow_call.Goals as goal
 

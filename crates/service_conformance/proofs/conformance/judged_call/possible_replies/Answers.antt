@@ -1,7 +1,6 @@
-use Rattle.std.proofs.Common.{◌≡◌, refl, subst}
+use Rattle.service_conformance.proofs.Prelude.{refl, subst, ◌≡◌}
+use Rattle.service_conformance.proofs.Names.{AreJudgedReplies, stops}
 use Rattle.service_conformance.specs.declared.conformance.possible.PossibleReplies.TheVariants as replies
-use Rattle.service_conformance.specs.Judged.{AreJudgedReplies}
-use Rattle.service_conformance.specs.Judged.Judged.{stops}
 use Rattle.service_conformance.proofs.conformance.judged_call.possible_replies.Goals as goal
 
 pub returns-in_ok-lacking-in-Stops : goal.returns-in_ok-lacking-in-Stops

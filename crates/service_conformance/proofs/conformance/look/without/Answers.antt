@@ -1,7 +1,5 @@
-use Rattle.std.proofs.Common.{ℕ, ◌∙◌, ap, rules}
-use Rattle.std.specs.Prelude.{filter, not}
-use Rattle.std.proofs.lemmas.Fn.{filter_same}
-use Rattle.service_conformance.specs.Looks.{is_among}
+use Rattle.service_conformance.proofs.Prelude.{ap, filter, filter_same, not, rules, ℕ, ◌∙◌}
+use Rattle.service_conformance.proofs.Names.{is_among}
 use Rattle.service_conformance.proofs.conformance.look.without.Goals as goal
 
 pub returns : goal.returns

@@ -1,5 +1,4 @@
-use Rattle.std.proofs.Common.{rules}
-use Rattle.std.proofs.lemmas.List.Sorted.{answers_always}
+use Rattle.service_conformance.proofs.Prelude.{answers_always, rules}
 use Rattle.service_conformance.proofs.Rising.{searched}
 use Rattle.service_conformance.proofs.conformance.slot_entry.free_position.Goals as goal
 

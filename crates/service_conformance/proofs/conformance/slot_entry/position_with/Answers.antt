@@ -1,6 +1,5 @@
-use Rattle.std.proofs.Common.{rules, tests}
-use Rattle.std.proofs.lemmas.Iterator.{IsFirst-from_position, YieldsList-from_slice}
-use Rattle.service_conformance.specs.Entries.{IsAt}
+use Rattle.service_conformance.proofs.Prelude.{IsFirst-from_position, YieldsList-from_slice, rules, tests}
+use Rattle.service_conformance.proofs.Names.{IsAt}
 use Rattle.service_conformance.proofs.Rising.{first_at}
 use Rattle.service_conformance.proofs.conformance.slot_entry.position_with.Goals as goal
 

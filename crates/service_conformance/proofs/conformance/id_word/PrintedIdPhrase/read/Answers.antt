@@ -1,6 +1,5 @@
-use Rattle.std.proofs.Common.{sym, ◌∙◌}
-use Rattle.iox2_ids.specs.Packing.{hexadecimal}
-use Rattle.service_conformance.specs.IdWords.{apart, has_no_space}
+use Rattle.service_conformance.proofs.Prelude.{sym, ◌∙◌}
+use Rattle.service_conformance.proofs.Names.{apart, has_no_space, hexadecimal}
 use Rattle.service_conformance.proofs.conformance.id_word.PrintedIdPhrase.read.Goals as goal
 
 pub returns-in_default-clause-read : goal.returns-in_default-clause-read

@@ -1,6 +1,5 @@
-use Rattle.std.proofs.Common.{◌≡◌, refl, subst, sym}
-use Rattle.service_conformance.specs.Judged.{JudgedStep}
-use Rattle.service_conformance.specs.Judged.Judged.{call}
+use Rattle.service_conformance.proofs.Prelude.{refl, subst, sym, ◌≡◌}
+use Rattle.service_conformance.proofs.Names.{JudgedStep, call}
 use Rattle.service_conformance.proofs.Judged.{changes_none}
 use Rattle.service_conformance.proofs.conformance.judged_call.JudgedCall.changes_nothing.Goals as goal
 

@@ -1,7 +1,5 @@
-use Rattle.std.proofs.Common.{◌≡◌, refl, subst, sym}
-use Rattle.service_conformance.specs.Calls.{CallStep}
-use Rattle.service_conformance.specs.Judged.{CallLeaves, JudgedStep}
-use Rattle.service_conformance.specs.Judged.Judged.{call}
+use Rattle.service_conformance.proofs.Prelude.{refl, subst, sym, ◌≡◌}
+use Rattle.service_conformance.proofs.Names.{CallLeaves, CallStep, JudgedStep, call}
 use Rattle.service_conformance.proofs.conformance.judged_call.JudgedCall.is_blocked.Goals as goal
 
 pub returns-in-Call : goal.returns-in-Call

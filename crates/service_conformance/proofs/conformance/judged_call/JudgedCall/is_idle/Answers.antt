@@ -1,7 +1,5 @@
-use Rattle.std.proofs.Common.{◌≡◌, refl, subst}
-use Rattle.service_conformance.specs.Calls.{IsIdleCall}
-use Rattle.service_conformance.specs.Judged.{IsIdleJudged, JudgedStep}
-use Rattle.service_conformance.specs.Judged.Judged.{call}
+use Rattle.service_conformance.proofs.Prelude.{refl, subst, ◌≡◌}
+use Rattle.service_conformance.proofs.Names.{IsIdleCall, IsIdleJudged, JudgedStep, call}
 use Rattle.service_conformance.proofs.Judged.{idle_leaves}
 use Rattle.service_conformance.proofs.conformance.judged_call.JudgedCall.is_idle.Goals as goal
 

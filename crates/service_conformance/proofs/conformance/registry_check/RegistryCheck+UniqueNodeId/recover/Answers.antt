@@ -1,9 +1,5 @@
-use Rattle.std.proofs.Common.{◌≡◌, ℕ, sym, subst, rules}
-use Rattle.std.specs.Prelude.{filter, not}
-use Rattle.std.proofs.lemmas.Fn.{filter_same}
-use Rattle.iox2_container.specs.declared.container.release.ReleaseMode.TheVariants.{LockIfLastIndex}
-use Rattle.iox2_container.specs.State.{Entry, IsRegistry}
-use Rattle.iox2_container.specs.Steps.{is_of}
+use Rattle.service_conformance.proofs.Prelude.{filter, filter_same, not, rules, subst, sym, ℕ, ◌≡◌}
+use Rattle.service_conformance.proofs.Names.{Entry, IsRegistry, LockIfLastIndex, is_of}
 use Rattle.service_conformance.proofs.Filters.{kept_filter}
 use Rattle.service_conformance.proofs.Removes.{with_left_is}
 use Rattle.service_conformance.proofs.conformance.registry_check.RegistryCheck+UniqueNodeId.recover.Goals as goal

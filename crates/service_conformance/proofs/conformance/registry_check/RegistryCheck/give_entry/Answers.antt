@@ -1,6 +1,5 @@
-use Rattle.std.proofs.Common.{refl, sym, subst, rules}
-use Rattle.iox2_container.specs.State.{IsRegistry}
-use Rattle.service_conformance.specs.Given.{slot_entry}
+use Rattle.service_conformance.proofs.Prelude.{refl, rules, subst, sym}
+use Rattle.service_conformance.proofs.Names.{IsRegistry, slot_entry}
 use Rattle.service_conformance.proofs.Given.{last_is, stands_is, stands_only}
 use Rattle.service_conformance.proofs.conformance.registry_check.RegistryCheck.give_entry.Goals as goal
 

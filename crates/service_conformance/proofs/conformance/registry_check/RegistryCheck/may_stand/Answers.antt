@@ -1,6 +1,5 @@
-use Rattle.std.proofs.Common.{◌∙◌, ap, sym, subst}
-use Rattle.std.specs.Prelude.{All}
-use Rattle.service_conformance.specs.Given.{IsBefore}
+use Rattle.service_conformance.proofs.Prelude.{All, ap, subst, sym, ◌∙◌}
+use Rattle.service_conformance.proofs.Names.{IsBefore}
 use Rattle.service_conformance.proofs.conformance.registry_check.RegistryCheck.may_stand.Goals as goal
 
 pub returns-then-ticket-self-clause-no : goal.returns-then-ticket-self-clause-no

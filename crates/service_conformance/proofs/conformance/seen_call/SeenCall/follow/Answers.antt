@@ -1,21 +1,11 @@
-use Rattle.std.proofs.Common.{◌≡◌, subst, refl}
-use Rattle.std.specs.Prelude.{IfOk}
-use Rattle.histories.specs.Frontier.{states_in}
-use Rattle.histories.specs.Histories.{AreAll}
-use Rattle.service_conformance.specs.Calls.{CallStep, answered, unanswered}
-use Rattle.service_conformance.specs.Seen.{seen_text}
+use Rattle.service_conformance.proofs.Names.{reply_in, seen_text}
+use Rattle.service_conformance.proofs.Calls.{seen_one}
 use Rattle.service_conformance.proofs.conformance.seen_call.SeenCall.follow.Goals as goal
 
-pub returns-in-Some : goal.returns-in-Some
-returns-in-Some c =
-    let same : answered c.args.self.now (seen_text c.in-Some.seen) ≡ c.args.self.now =
-    rw (← c.self.view_is, c.in-Some.is) refl in
-    subst (λ call. IfOk c.follow_seen.result
-    (λ left. AreAll (CallStep call c.args.state.now) (states_in left))) same c.follow_seen.ensures
-
-pub returns-in-None : goal.returns-in-None
-returns-in-None c =
-    let same : unanswered c.args.self.now ≡ c.args.self.now =
-    rw (← c.self.view_is, c.in-None.is) refl in
-    subst (λ call. IfOk c.follow_any.result
-    (λ left. AreAll (CallStep call c.args.state.now) (states_in left))) same c.follow_any.ensures
+pub returns : goal.returns
+returns c =
+    let possible = c.in_ok-possible.ensures in
+    seen_one c.args.self.now c.args.state.now possible.kept possible.rest possible.covered
+    c.in_ok-possible.possible (seen_text c.in-Some.seen.now) c.in-Some.ensures.some
+    possible.possible (reply_in c.in-Some-reply_seen.reply) c.in_ok-state_after.field-0
+    c.in-Some-reply_seen.ensures c.in_ok-state_after.ensures

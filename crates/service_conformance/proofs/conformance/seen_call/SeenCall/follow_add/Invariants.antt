@@ -1,5 +1,4 @@
-use Rattle.histories.specs.Histories.{AreAll}
-use Rattle.service_conformance.specs.Calls.{GivesBelow}
+use Rattle.service_conformance.proofs.Names.{AreAll, GivesBelow}
 use Rattle.service_conformance.proofs.conformance.seen_call.SeenCall.follow_add.Given as goal
 
 abbrev pub invariant-loop-slot : goal.invariant-loop-slot

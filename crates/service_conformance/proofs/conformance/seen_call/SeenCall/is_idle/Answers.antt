@@ -1,10 +1,12 @@
-use Rattle.std.proofs.Common.{◌≡◌, subst, refl}
-use Rattle.service_conformance.specs.Calls.{IsIdleCall, answered}
-use Rattle.service_conformance.specs.Seen.{seen_text}
+use Rattle.service_conformance.proofs.Prelude.{rules, true, ◌≡◌}
+use Rattle.service_conformance.proofs.Names.{changes_nothing, reply_in}
+use Rattle.service_conformance.proofs.Calls.{idle}
 use Rattle.service_conformance.proofs.conformance.seen_call.SeenCall.is_idle.Goals as goal
 
-pub returns-in-Some : goal.returns-in-Some
-returns-in-Some c t =
-    let same : answered c.args.self.now (seen_text c.in-Some.seen) ≡ c.args.self.now =
-    rw (← c.self.view_is, c.in-Some.is) refl in
-    subst (λ call. IsIdleCall call c.args.state.now) same (c.is_idle_with.ensures t)
+pub returns : goal.returns
+returns c t =
+    let nothing : changes_nothing c.in-Some.seen.now ≡ true = search rules in
+    let possible = c.in-Ok.ensures in
+    idle c.args.self.now possible.covered c.in-Some.seen.now c.in-Some.ensures.some
+    nothing c.args.state.now c.in-Ok.possible (reply_in c.in-Some-reply_seen._reply) possible.kept
+    possible.rest possible.possible c.in-Some-reply_seen.ensures

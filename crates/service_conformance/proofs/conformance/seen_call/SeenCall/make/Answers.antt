@@ -1,14 +1,11 @@
-use Rattle.std.proofs.Common.{◌≡◌, subst, refl}
-use Rattle.std.specs.Prelude.{IfOk}
-use Rattle.histories.specs.Frontier.{IsMade}
-use Rattle.service_conformance.specs.Calls.{CallStep, answered}
-use Rattle.service_conformance.specs.Seen.{seen_text}
+use Rattle.service_conformance.proofs.Names.{reply_in, seen_text}
+use Rattle.service_conformance.proofs.Calls.{seen_one}
 use Rattle.service_conformance.proofs.conformance.seen_call.SeenCall.make.Goals as goal
 
-pub returns-in-Some : goal.returns-in-Some
-returns-in-Some c =
-    let same : answered c.args.self.now (seen_text c.in-Some.seen) ≡ c.args.self.now =
-    rw (← c.self.view_is, c.in-Some.is) refl in
-    subst (λ call. IfOk c.make_seen.result
-    (IsMade (CallStep call c.args.state.now) c.args.state.now c.make_seen.new.state)) same
-    c.make_seen.ensures
+pub returns : goal.returns
+returns c =
+    let possible = c.in_ok-possible.ensures in
+    seen_one c.args.self.now c.args.state.now possible.kept possible.rest possible.covered
+    c.in_ok-possible.possible (seen_text c.in-Some.seen.now) c.in-Some.ensures.some
+    possible.possible (reply_in c.in-Some-reply_seen.reply) c.make_with.new.state
+    c.in-Some-reply_seen.ensures c.in_ok-make_with.ensures.ok

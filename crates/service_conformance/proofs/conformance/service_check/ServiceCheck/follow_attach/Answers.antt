@@ -1,12 +1,6 @@
-use Rattle.std.proofs.Common.{◌≡◌, refl, sym, ◌∙◌}
-use Rattle.iox2_dynamic.specs.Details.{role_of}
-use Rattle.iox2_dynamic.specs.PortsState.Side.{First, Second}
+use Rattle.service_conformance.proofs.Prelude.{refl, sym, ◌∙◌, ◌≡◌}
+use Rattle.service_conformance.proofs.Names.{CanServe, First, Second, ServesAdd, role_at, role_of, service_of, side_of}
 use Rattle.service_descriptions.specs.declared.replay.machine.reply.Reply.TheVariants as reply
-use Rattle.service_descriptions.specs.Steps.{ServesAdd}
-use Rattle.service_conformance.specs.Quiet.{CanServe}
-use Rattle.service_conformance.specs.ServiceFields.{service_of}
-use Rattle.iox2_dynamic.specs.PortsState.{side_of}
-use Rattle.iox2_dynamic.specs.Service.{role_at}
 use Rattle.service_conformance.proofs.Following.{attach_enters, attach_may, attach_stays}
 use Rattle.service_conformance.proofs.conformance.service_check.ServiceCheck.follow_attach.Goals.{In-Some-side}
 use Rattle.service_conformance.proofs.conformance.service_check.ServiceCheck.follow_attach.Goals as goal
@@ -42,9 +36,6 @@ returns-then-first-clause-ok c =
     (attach_enters _ _ First _ (rw c.if-first.true at (role_is p)) (can p) _
     c.in_ok-enter.ensures.ok c.enter.ensures.kept).0
 
-pub returns-then-first-clause-kept : goal.returns-then-first-clause-kept
-returns-then-first-clause-kept c = invariant_of-self-then-first c
-
 pub enter-requires-2-clause-may : goal.enter-requires-2-clause-may
 enter-requires-2-clause-may c =
     let p = (goal.at.enter-requires-2-clause-may c).In-Some-side in
@@ -62,6 +53,3 @@ returns-clause-ok c =
     rw (← c.self.view_is, c.in-Some.ensures.some)
     (attach_enters _ _ Second _ (rw c.if-first.false at (role_is p)) (can p) _
     c.in_ok-enter-2.ensures.ok c.enter-2.ensures.kept).0
-
-pub returns-clause-kept : goal.returns-clause-kept
-returns-clause-kept c = invariant_of-self-2 c

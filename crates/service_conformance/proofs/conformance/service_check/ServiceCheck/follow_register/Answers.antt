@@ -1,8 +1,6 @@
-use Rattle.std.proofs.Common.{refl}
+use Rattle.service_conformance.proofs.Prelude.{refl}
+use Rattle.service_conformance.proofs.Names.{CanServe, ServesRegister, service_of}
 use Rattle.service_descriptions.specs.declared.replay.machine.reply.Reply.TheVariants as reply
-use Rattle.service_descriptions.specs.Steps.{ServesRegister}
-use Rattle.service_conformance.specs.Quiet.{CanServe}
-use Rattle.service_conformance.specs.ServiceFields.{service_of}
 use Rattle.service_conformance.proofs.Following.{register_enters, register_may, register_stays}
 use Rattle.service_conformance.proofs.conformance.service_check.ServiceCheck.follow_register.Goals.{In-Some}
 use Rattle.service_conformance.proofs.conformance.service_check.ServiceCheck.follow_register.Goals as goal
@@ -30,6 +28,3 @@ returns-clause-ok c =
     rw (← c.self.view_is, c.in-Some.ensures.some)
     (register_enters _ _ _ (can (goal.at.returns-clause-ok c).In-Some) _
     c.in_ok-enter.ensures.ok c.enter.ensures.kept).0
-
-pub returns-clause-kept : goal.returns-clause-kept
-returns-clause-kept c = invariant_of-self-2 c

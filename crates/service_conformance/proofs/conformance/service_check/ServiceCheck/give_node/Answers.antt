@@ -1,6 +1,4 @@
-use Rattle.iox2_dynamic.specs.Service.{IsService}
-use Rattle.service_conformance.specs.Given.{with_nodes}
-use Rattle.service_conformance.specs.ServiceFields.{service_of}
+use Rattle.service_conformance.proofs.Names.{IsService, service_of, with_nodes}
 use Rattle.service_conformance.proofs.Given.{err_by, gives_node, if_ok, kept_by}
 use Rattle.service_conformance.proofs.conformance.service_check.ServiceCheck.give_node.Goals as goal
 

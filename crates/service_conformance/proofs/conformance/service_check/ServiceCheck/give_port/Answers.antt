@@ -1,10 +1,5 @@
-use Rattle.std.proofs.Common.{◌∙◌, refl, rules, sym}
-use Rattle.iox2_dynamic.specs.Details.{node_of}
-use Rattle.iox2_dynamic.specs.PortsState.Side.{First, Second}
-use Rattle.iox2_dynamic.specs.Service.{IsService}
-use Rattle.service_conformance.specs.Given.{with_ports}
-use Rattle.service_conformance.specs.ServiceFields.{service_of}
-use Rattle.service_conformance.specs.Sides.{ports_at}
+use Rattle.service_conformance.proofs.Prelude.{refl, rules, sym, ◌∙◌}
+use Rattle.service_conformance.proofs.Names.{First, IsService, Second, node_of, ports_at, service_of, with_ports}
 use Rattle.service_conformance.proofs.Given.{err_by, gives_port, has_moved, if_ok, kept_by, no_node, no_side}
 use Rattle.service_conformance.proofs.conformance.service_check.ServiceCheck.give_port.Goals as goal
 

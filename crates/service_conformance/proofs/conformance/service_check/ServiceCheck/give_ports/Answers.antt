@@ -1,6 +1,5 @@
-use Rattle.std.proofs.Common.{refl}
-use Rattle.iox2_dynamic.specs.PortsState.Side.{First, Second}
-use Rattle.service_conformance.specs.ServiceFields.{service_of}
+use Rattle.service_conformance.proofs.Prelude.{refl}
+use Rattle.service_conformance.proofs.Names.{First, Second, service_of}
 use Rattle.service_conformance.proofs.Given.{gives_ports, no_side}
 use Rattle.service_conformance.proofs.conformance.service_check.ServiceCheck.give_ports.Goals as goal
 

@@ -1,9 +1,5 @@
-use Rattle.std.proofs.Common.{◌≡◌, ◌<◌, sym, ◌∙◌, ap}
-use Rattle.iox2_dynamic.specs.Details.{role_of, node_of}
-use Rattle.iox2_dynamic.specs.Service.{entries_of_node, role_at}
-use Rattle.service_conformance.specs.Possible.{possible_add}
-use Rattle.service_conformance.specs.ServiceFields.{service_of}
-use Rattle.iox2_dynamic.specs.PortsState.{side_of}
+use Rattle.service_conformance.proofs.Prelude.{ap, sym, ◌<◌, ◌∙◌, ◌≡◌}
+use Rattle.service_conformance.proofs.Names.{entries_of_node, node_of, possible_add, role_at, role_of, service_of, side_of}
 use Rattle.service_conformance.proofs.Attaching.{locked, unregistered, attaches}
 use Rattle.service_conformance.proofs.Sides.{has_role, positive}
 use Rattle.service_conformance.proofs.conformance.service_check.ServiceCheck.possible_attach.Goals.{In-Some}
@@ -37,7 +33,7 @@ returns c =
     let some : 0 < entries_of_node (node_of c.args.details) s.nodes.registry =
     positive _ (λ e. c.if-count-eq0.false (count ∙ e)) in
     rw (← c.self.view_is)
-    (rw (c.possible_add.ensures ∙ ap (possible_add c.refusal-why.result) c.part.ensures)
+    (rw (c.possible_add.ensures ∙ ap (possible_add c.refusal-why.result) c.of_ports.ensures)
     (attaches s c.args.details (side_of c.in-Some.first) (role_is (goal.at.returns c).In-Some)
     (sym c.is_locked.ensures.locked ∙ c.if-is_locked.false, some) c.refusal-why.result
     c.self.invariant

@@ -1,5 +1,4 @@
-use Rattle.std.proofs.Common.{◌≡◌, length, sym, ◌∙◌, ap}
-use Rattle.std.specs.Prelude.{nat_eq}
+use Rattle.service_conformance.proofs.Prelude.{ap, length, nat_eq, sym, ◌∙◌, ◌≡◌}
 use Rattle.service_conformance.proofs.Deregistering.{attached, leaves, unknown}
 use Rattle.service_conformance.proofs.conformance.service_check.ServiceCheck.possible_deregister.Goals as goal
 
@@ -14,7 +13,7 @@ returns-then-is_last_of_ports c =
     rw c.in-Some.is
     (attached c.args.self.now c.in-Some.handle c.nodes-nodes.ensures.kept c.in-Some-get.id
     (rw c.nodes-nodes.ensures.nodes at c.in-Some-get.ensures.some)
-    (sym c.is_last_of_ports.ensures.last ∙ c.if-is_last_of_ports.true))
+    (sym c.is_last_of_ports.ensures ∙ c.if-is_last_of_ports.true))
 
 pub returns : goal.returns
 returns c =
@@ -25,4 +24,4 @@ returns c =
     rw (c.reply_of_owners.ensures, c.in-Some.is)
     (leaves c.args.self.now c.in-Some.handle c.nodes-nodes.ensures.kept c.in-Some-get.id
     (rw c.nodes-nodes.ensures.nodes at c.in-Some-get.ensures.some) (nat_eq c.len-locks.result 1)
-    locks (sym c.is_last_of_ports.ensures.last ∙ c.if-is_last_of_ports.false))
+    locks (sym c.is_last_of_ports.ensures ∙ c.if-is_last_of_ports.false))

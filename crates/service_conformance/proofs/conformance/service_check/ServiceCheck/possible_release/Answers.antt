@@ -1,6 +1,5 @@
-use Rattle.std.proofs.Common.{◌≡◌, sym, ◌∙◌}
-use Rattle.iox2_dynamic.specs.PortsState.{side_of}
-use Rattle.iox2_dynamic.specs.Service.{role_at}
+use Rattle.service_conformance.proofs.Prelude.{sym, ◌∙◌, ◌≡◌}
+use Rattle.service_conformance.proofs.Names.{role_at, side_of}
 use Rattle.service_conformance.proofs.Releasing.{released, unknown}
 use Rattle.service_conformance.proofs.conformance.service_check.ServiceCheck.possible_release.Goals.{In-Some-side}
 use Rattle.service_conformance.proofs.conformance.service_check.ServiceCheck.possible_release.Goals as goal

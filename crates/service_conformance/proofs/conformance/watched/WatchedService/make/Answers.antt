@@ -1,8 +1,6 @@
-use Rattle.std.proofs.Common.{◌≡◌, [], IfOk, subst, sym, ◌∙◌}
-use Rattle.histories.specs.Frontier.{IsMade}
-use Rattle.service_conformance.specs.Judged.{CallLeaves}
-use Rattle.service_conformance.specs.Looks.{Watched}
-use Rattle.service_conformance.specs.WatchedFields.{watched_of}
+use Rattle.service_conformance.proofs.Prelude.{[], subst, sym, ◌∙◌, ◌≡◌}
+use Rattle.service_conformance.proofs.Names.{CallLeaves, IsMade, Watched, watched_of}
+use Rattle.std.proofs.Common.{IfOk}
 use Rattle.service_conformance.proofs.Judged.{made_leaves, none_of}
 use Rattle.service_conformance.proofs.conformance.watched.WatchedService.make.Goals as goal
 

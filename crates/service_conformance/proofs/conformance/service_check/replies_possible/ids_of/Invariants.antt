@@ -1,5 +1,5 @@
 use Rattle.std.proofs.Common.{◌≡◌, map, take}
-use Rattle.service_conformance.proofs.conformance.service_check.reported_reply.ids_of.Given as goal
+use Rattle.service_conformance.proofs.conformance.service_check.replies_possible.ids_of.Given as goal
 
 abbrev pub invariant-loop-item : goal.invariant-loop-item
 invariant-loop-item g l = l.ids.items ≡ map g.T.Printed.id (take l.item-index l.items)

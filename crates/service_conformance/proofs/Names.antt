@@ -1,0 +1,77 @@
+-- The definitions and types that the proofs cite.
+pub use Rattle.histories.specs.Frontier.{IsIdle, IsMade, MovesBefore, states_in}
+pub use Rattle.histories.specs.Histories.{AreAll, IsExplained, Leads}
+pub use Rattle.histories.specs.Laws.{calls_alone}
+pub use Rattle.histories.specs.declared.left.Left.{Left}
+pub use Rattle.iox2_config.specs.declared.hash.input.PatternKind.{PatternKind}
+pub use Rattle.iox2_container.specs.Changes.{Adds, Changes, Removes}
+pub use Rattle.iox2_container.specs.ContainerState.{ContainerState, container}
+pub use Rattle.iox2_container.specs.Handle.{Handle}
+pub use Rattle.iox2_container.specs.State.{Entry, IsRegistry, RegistryState, handle_of}
+pub use Rattle.iox2_container.specs.Steps.{AddStep, Asked, HasEntry, HasRoom, InsertsOne, IsFull, IsUnknownHandle, RecoverStep, Recovers, RemoveStep, TakesEntry, asked_about, candidates, entries_of, is_of, listed, lock_after, marks_of, release_state, staying}
+pub use Rattle.iox2_container.specs.declared.container.refusal.ContainerAddFailure.{ContainerAddFailure}
+pub use Rattle.iox2_container.specs.declared.container.refusal.ContainerAddFailure.TheVariants.{IsLocked, OutOfSpace}
+pub use Rattle.iox2_container.specs.declared.container.refusal.ContainerRemoveError.{ContainerRemoveError}
+pub use Rattle.iox2_container.specs.declared.container.refusal.ContainerRemoveError.TheVariants.{ContainerHandleNotOwnedByContainer}
+pub use Rattle.iox2_container.specs.declared.container.release.ReleaseMode.{ReleaseMode}
+pub use Rattle.iox2_container.specs.declared.container.release.ReleaseMode.TheVariants.{Default, LockIfLastIndex}
+pub use Rattle.iox2_container.specs.declared.container.release.ReleaseState.{ReleaseState}
+pub use Rattle.iox2_container.specs.declared.container.release.ReleaseState.TheVariants.{Unlocked}
+pub use Rattle.iox2_container.specs.declared.container.role.Role.{Role}
+pub use Rattle.iox2_dynamic.specs.Answers.{state_of}
+pub use Rattle.iox2_dynamic.specs.Details.{node_of, port_of, role_of}
+pub use Rattle.iox2_dynamic.specs.Ports.{IsEither, IsNeither, OfRole, OnSide, Ports, RecoversBoth, RemovesFrom, has_ports_of}
+pub use Rattle.iox2_dynamic.specs.PortsState.{Side, of_side, other_side, side_of}
+pub use Rattle.iox2_dynamic.specs.PortsState.Side.{First, Second}
+pub use Rattle.iox2_dynamic.specs.Recoveries.{AskedToGo, RecoversNodes, RecoversPorts, removes}
+pub use Rattle.iox2_dynamic.specs.Service.{HasRole, IsPortRegistry, IsService, LacksRole, Registered, Service, entries_of_node, first_role, role_at, second_role}
+pub use Rattle.iox2_dynamic.specs.Steps.{AddsPort, DeadStep, IsOpenFor, NodesAfter, RemovesPort, is_last_of_ports}
+pub use Rattle.iox2_dynamic.specs.declared.dynamic_config.answers.DeregisterNodeState.{DeregisterNodeState}
+pub use Rattle.iox2_dynamic.specs.declared.dynamic_config.cleanup.PortCleanupAction.{PortCleanupAction}
+pub use Rattle.iox2_dynamic.specs.declared.dynamic_config.cleanup.PortCleanupAction.TheVariants.{RemovePort, SkipPort}
+pub use Rattle.iox2_dynamic.specs.declared.dynamic_config.port_details.PortDetails.{PortDetails}
+pub use Rattle.iox2_ids.specs.Packing.{hexadecimal}
+pub use Rattle.iox2_ids.specs.PortId.{port_value}
+pub use Rattle.iox2_ids.specs.declared.identifiers.port_id.UniquePortId.{UniquePortId}
+pub use Rattle.iox2_static.specs.Description.{Description}
+pub use Rattle.line_streams.specs.Numerals.{cons_same}
+pub use Rattle.line_streams.specs.OneWay.{listed_one, number_one}
+pub use Rattle.line_streams.specs.Spelling.{EndsNumber, OthersFit, Reads, Spelling, after, line_end, number, others_text, sequence}
+pub use Rattle.line_streams.specs.declared.phrase.LineEnd.TheVariants.{Bytes}
+pub use Rattle.service_conformance.specs.Alone.{Answered, Gives, IsBare, IsBounded, IsBoundedRegistry, added_role, calls_of, handle_named, judged_of}
+pub use Rattle.service_conformance.specs.Calls.{AreRepliesOf, Call, CallStep, ChangesNothing, GivesBelow, HasNumber, HasWords, IsIdleCall, LacksNumber, LeadsOn, ServesCall, answered, at_first, call_of, handle_for}
+pub use Rattle.service_conformance.specs.Dead.{after_dead, goes, is_kept, nodes_if, ports_after, stays, without_node, without_ports}
+pub use Rattle.service_conformance.specs.Entries.{HasAt, IsAt, IsFreePosition, MayGive, Refuses, StandsAt, entry_at, with_left}
+pub use Rattle.service_conformance.specs.Given.{Becomes, GivesNode, GivesNodes, GivesPort, GivesPorts, IsBefore, IsUnused, MayStand, StandsLast, UsedSo, slot_entry, with_last, with_nodes, with_ports, with_used}
+pub use Rattle.service_conformance.specs.IdWords.{apart, has_no_space, id_numeral, printed_one, same_id}
+pub use Rattle.service_conformance.specs.Judged.{AreJudgedReplies, CallLeaves, IsIdleJudged, IsWithin, Judged, JudgedStep, WindowStep}
+pub use Rattle.service_conformance.specs.Judged.Judged.{call, stops}
+pub use Rattle.service_conformance.specs.Laws.{IsThere, WeakListingsSeeEnough, looks_through}
+pub use Rattle.service_conformance.specs.Looks.{IsWatched, Look, Watched, ids_in, is_among, lacking, look_after, look_of, looks_after, port_ids, unwatched, watched, without}
+pub use Rattle.service_conformance.specs.Movers.{ChangesAt, IsChange, MovesBeforeCall, MovesBeforeChange}
+pub use Rattle.service_conformance.specs.Possible.{Allows, ArePossible, IsCovered, MayGiveIn, possible_add, reply_in, reply_named, reply_of_owners, reply_of_state}
+pub use Rattle.service_conformance.specs.Quiet.{CanServe, LeadsTo, Reports, at_rest, is_removal, ports_at_rest, quiet, quiet_state, untouched}
+pub use Rattle.service_conformance.specs.Requests.{request_command}
+pub use Rattle.service_conformance.specs.Seen.{EndsWord, IsIdNumber, IsSeen, IsToLine, changes_nothing, count_words, list_words, printed_id, seen_text, word_of, word_text}
+pub use Rattle.service_conformance.specs.ServiceFields.{service_of}
+pub use Rattle.service_conformance.specs.Sides.{part_at, ports_at, with_ports_at}
+pub use Rattle.service_conformance.specs.WatchedFields.{watched_of}
+pub use Rattle.service_conformance.specs.Words.{AllowsWords, ArePossibleWords, IsNextHandle, IsNextIn, Tells, TellsHandle, handle_words}
+pub use Rattle.service_conformance.specs.declared.conformance.line_reply.LineReply.{LineReply}
+pub use Rattle.service_conformance.specs.declared.conformance.mover.Change.{Change}
+pub use Rattle.service_conformance.specs.declared.conformance.possible.NextHandle.{NextHandle}
+pub use Rattle.service_conformance.specs.declared.conformance.possible.Part.{Part}
+pub use Rattle.service_conformance.specs.declared.conformance.possible.Possible.{Possible}
+pub use Rattle.service_conformance.specs.declared.conformance.possible.PossibleReplies.{PossibleReplies}
+pub use Rattle.service_conformance.specs.declared.conformance.request.Request.{Request}
+pub use Rattle.service_conformance.specs.declared.conformance.seen_reply.ReplyWord.{ReplyWord}
+pub use Rattle.service_conformance.specs.declared.conformance.seen_reply.SeenReply.{SeenReply}
+pub use Rattle.service_descriptions.specs.Cleanups.{CleanedUp, Cleans, ServesDead, action_for}
+pub use Rattle.service_descriptions.specs.Handles.{KeepsHandles, named}
+pub use Rattle.service_descriptions.specs.Listings.{ServesCount, ServesList, ServesNodes}
+pub use Rattle.service_descriptions.specs.Replies.{IsSameReply, id_word, port_word, text_of}
+pub use Rattle.service_descriptions.specs.Steps.{Run, Serves, ServesAdd, ServesDeregister, ServesRegister, ServesRelease, ServiceStep, State, handle_in}
+pub use Rattle.service_descriptions.specs.declared.replay.machine.command.Cleanup.{Cleanup}
+pub use Rattle.service_descriptions.specs.declared.replay.machine.command.Cleanup.TheVariants.{ByPort}
+pub use Rattle.service_descriptions.specs.declared.replay.machine.command.Command.{Command}
+pub use Rattle.service_descriptions.specs.declared.replay.machine.reply.Reply.{Reply}
