@@ -5,7 +5,7 @@ use Rattle.iox2_config_file.specs.declared.section.Section.TheVariants.{Global, 
 use Rattle.iox2_config_file.specs.Read.{IsSettingsOf, read_section}
 use Rattle.iox2_config_file.specs.Settings.{settings_in}
 use Rattle.toml.specs.Data.{Members}
-use Rattle.iox2_config_file.proofs.build.config.Goals as goal
+use Rattle.iox2_config_file.proofs.read.config.Goals as goal
 
 abbrev Reads : Section → Members → Config → Config → Type 0
 Reads s file d c = settings_in s c ≡ read_section s file (settings_in s d)
