@@ -1,15 +1,13 @@
 -- What the settings of two configurations give, one after the other.
-use Rattle.std.proofs.Common.{◌≡◌, ℕ, ◌+◌, ◌≤◌, ◌<◌, List, [], ◌∷◌, ◌++◌, length, map, drop, get_or, slice_get, Some, None, refl, sym, ap, ◌∙◌, subst, add-one, append_assoc, append-nil, arith, length-append, drop-cons, drop_of_length-le}
+use Rattle.std.proofs.Common.{◌≡◌, ℕ, ◌+◌, ◌≤◌, List, [], ◌∷◌, ◌++◌, length, map, drop, slice_get, Some, None, refl, sym, ap, ◌∙◌, subst, add-one, append_assoc, append-nil, arith, length-append, drop_of_length-le}
 use Rattle.std.proofs.lemmas.List.{length-map}
-use Rattle.iox2_config.specs.declared.config.Config.{Config}
 use Rattle.iox2_config_file.specs.declared.fault.Kind.{Kind}
 use Rattle.iox2_config_file.specs.declared.section.Row.{Row}
-use Rattle.iox2_config_file.specs.declared.section.Section.{Section}
 use Rattle.iox2_config_file.specs.Read.{row_view}
-use Rattle.iox2_config_file.specs.Settings.{Setting, held_at, settings_in}
+use Rattle.iox2_config_file.specs.Settings.{Setting, held_at}
 use Rattle.iox2_config_file.specs.Values.{SettingValue}
 use Rattle.iox2_config_file.proofs.Rowed.{past, here, keyed, row_key}
-use Rattle.config_report.specs.Text.{Adds, SettingsGive, TablesGive}
+use Rattle.config_report.specs.Text.{Adds, SettingsGive}
 
 -- no settings give nothing
 no_settings : {A : Type 0} (Gives : Setting → Setting → List A → Type 0) (ys : List Setting)
@@ -70,37 +68,3 @@ pub ends_at_rows : {A : Type 0} (Gives : Setting → Setting → List A → Type
     → SettingsGive Gives xs ys done
 ends_at_rows Gives rows xs ys keys i done same past_rows h =
     grind (arith, length-map, length-append, keyed, ends, drop_of_length-le)
-
--- what the tables from one on give follows what those before it gave
-abbrev pub TablesFollow : {A : Type 0} → (Section → Setting → Setting → List A → Type 0) → Config
-    → Config → List Section → ℕ → List A → Type 0
-TablesFollow {A} Gives a b ss i done =
-    (more : List A) → TablesGive Gives a b (drop i ss) more → TablesGive Gives a b ss (done ++ more)
-
--- one table more
-pub table_next : {A : Type 0} (Gives : Section → Setting → Setting → List A → Type 0)
-    (a b : Config) (ss : List Section) (i : ℕ) (d : Section) (before old new done table : List A)
-    → i < length ss → old ≡ before ++ done → new ≡ old ++ table
-    → SettingsGive (Gives (get_or ss i d)) (settings_in (get_or ss i d) a)
-    (settings_in (get_or ss i d) b) table
-    → TablesFollow Gives a b ss i done
-    → (all : List A) × (new ≡ before ++ all) × TablesFollow Gives a b ss (i + 1) all
-table_next Gives a b ss i d before old new done table lt was now h rest =
-    let split : drop i ss ≡ get_or ss i d ∷ drop (i + 1) ss = rw add-one (drop-cons ss i d lt) in (
-      done ++ table,
-      now ∙ ap (λ l. l ++ table) was ∙ append_assoc before done table,
-      λ more tables.
-          let here : TablesGive Gives a b (drop i ss) (table ++ more) =
-          subst (λ l. TablesGive Gives a b l (table ++ more)) (sym split)
-          (table, more, refl, h, tables) in
-          subst (λ l. TablesGive Gives a b ss l) (sym (append_assoc done table more))
-          (rest (table ++ more) here),
-    )
-
--- behind the last table nothing is left
-pub tables_end : {A : Type 0} (Gives : Section → Setting → Setting → List A → Type 0)
-    (a b : Config) (ss : List Section) (i : ℕ) (done : List A) → length ss ≤ i
-    → TablesFollow Gives a b ss i done → TablesGive Gives a b ss done
-tables_end Gives a b ss i done past_all rest =
-    subst (λ l. TablesGive Gives a b ss l) (append-nil done)
-    (rest [] (subst (λ l. TablesGive Gives a b l []) (sym (drop_of_length-le ss past_all)) refl))

@@ -25,10 +25,10 @@ use Rattle.toml_positions.specs.declared.position.Position.{Position}
 use Rattle.std.specs.List.{All}
 use Rattle.iox2_config_file.specs.Write.{IsConfigText}
 use Rattle.config_report.specs.Text.{IsReportText}
-use Rattle.config_report.specs.declared.report.FileConfig.{FileConfig}
-use Rattle.config_report.specs.declared.report.Report.{Report}
-use Rattle.config_report.specs.declared.report.ReportError.{ReportError}
-use Rattle.config_report.specs.declared.report.ReportError.TheVariants as refusal
+use Rattle.config_report.specs.declared.check.FileConfig.{FileConfig}
+use Rattle.config_report.specs.declared.check.Report.{Report}
+use Rattle.config_report.specs.declared.check.ReportError.{ReportError}
+use Rattle.config_report.specs.declared.check.ReportError.TheVariants as refusal
 
 -- an error behind the first n bytes, of no key
 abbrev pub error_behind : ℕ → List ℕ → List ℕ → Note

@@ -14,8 +14,8 @@ use Rattle.config_report.specs.declared.finding.Finding.{Finding}
 use Rattle.config_report.specs.declared.finding.Severity.{Severity}
 use Rattle.config_report.specs.declared.finding.Severity.TheVariants.{Error, Warning}
 use Rattle.toml_writer.specs.Text.{key_text}
-use Rattle.config_report.specs.declared.subject.Subject.{Subject}
-use Rattle.config_report.specs.declared.subject.Subject.TheVariants as subject
+use Rattle.config_report.specs.declared.finding.Subject.{Subject}
+use Rattle.config_report.specs.declared.finding.Subject.TheVariants as subject
 
 -- the keys that lead to a table
 abbrev pub table_path : Section → List (List ℕ)

@@ -13,7 +13,7 @@ use Rattle.iox2_config.specs.Defaults.{IsDefaultConfig}
 use Rattle.iox2_config.specs.declared.config.node.Node.{Node}
 use Rattle.iox2_config.specs.declared.config.service.Service.{Service}
 use Rattle.iox2_config_file.specs.Read.{sections}
-use Rattle.iox2_config_file.specs.Write.{value_text}
+use Rattle.iox2_config_file.specs.Write.{value_text, InTurn}
 use Rattle.iox2_static.specs.Chunks.{TellsGreatest}
 use Rattle.iox2_texts.specs.Path.{join}
 use Rattle.config_report.specs.declared.text.FileKind.{FileKind}
@@ -27,13 +27,13 @@ SettingsGive {A} Gives (x ∷ xs) (y ∷ ys) all =
 SettingsGive Gives _ _ all = all ≡ []
 
 -- what all settings of some tables give, in the order of the tables
+abbrev pub TableGives : {A : Type 0} → (Section → Setting → Setting → List A → Type 0) → Config
+    → Config → Section → List A → Type 0
+TableGives Gives a b s = SettingsGive (Gives s) (settings_in s a) (settings_in s b)
+
 abbrev pub TablesGive : {A : Type 0} → (Section → Setting → Setting → List A → Type 0) → Config
     → Config → List Section → List A → Type 0
-TablesGive Gives a b [] all = all ≡ []
-TablesGive {A} Gives a b (s ∷ ss) all =
-    (table : List A) × (more : List A) × (all ≡ table ++ more)
-    × SettingsGive (Gives s) (settings_in s a) (settings_in s b) table
-    × TablesGive Gives a b ss more
+TablesGive Gives a b = InTurn (TableGives Gives a b)
 
 -- what a setting of this key and this value gives, beside this other value, is added
 abbrev pub Adds : {A : Type 0} → (Setting → Setting → List A → Type 0) → List ℕ → SettingValue

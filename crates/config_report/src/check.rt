@@ -1,6 +1,6 @@
-//! What is found in a file of settings, or why bytes are none.
+//! What is found in a file of settings, or why bytes are none, and what is reported of it.
 ghost use Rattle.std.specs.Prelude.{◌≡◌, ◌++◌, ◌≤◌, ℕ, List, IfErr, IfOk, IsSome, IsUtf8, OnOk, Some, None};
-ghost use Rattle.std.specs.Prelude.{length, map};
+ghost use Rattle.std.specs.Prelude.{length, map, string_bytes};
 ghost use Rattle.std.specs.Str.{IsValidUpTo};
 ghost use Rattle.iox2_config_file.specs.Answers.{ReadsAll};
 ghost use Rattle.iox2_config_file.specs.Depth.{too_deep};
@@ -9,16 +9,22 @@ ghost use Rattle.config_report.specs.Contradictions.{contradictions_in};
 ghost use Rattle.config_report.specs.Findings.{Checks, FindsInFile, FindsNoFile, Lists, topics_of};
 ghost use Rattle.config_report.specs.Notes.{finding_view, note, note_in, topic_position};
 ghost use Rattle.config_report.specs.Notes.{subject_view};
-ghost use Rattle.config_report.specs.Findings.{IsNoFile, IsText, IsUnread};
+ghost use Rattle.config_report.specs.Findings.{IsNoFile, IsText, IsUnread, lines_of, ReadsFile};
+ghost use Rattle.config_report.specs.Findings.{Reports, HasDefaults};
+ghost use Rattle.config_report.specs.Text.{IsReportText};
 ghost use Rattle.config_report.specs.declared.finding.Severity.TheVariants as severity;
 ghost use Rattle.toml.specs.Parse.{parse_document};
 ghost use Rattle.toml_positions.specs.Position.{position_after};
 
 use crate::contradiction::{Contradiction, contradiction_finding};
 use crate::contradictions::contradictions_in;
-use crate::finding::{Finding, Findings, Severity, in_line, place};
-use crate::subject::{Subject, position_at, subject_positions, subjects_of};
-use iox2_config_file::{ConfigFileError, FileContents, read_config, too_deep};
+use crate::finding::{
+    Finding, Findings, Severity, Subject, in_line, place, position_at, subject_positions,
+    subjects_of,
+};
+use crate::text::write_text;
+use iox2_config::config::Config;
+use iox2_config_file::{ConfigFileError, FileContents, read_config, too_deep, write_config};
 use std::alloc::{AllocError, Global};
 use std::str;
 use toml_positions::{Position, position_after};
@@ -238,5 +244,100 @@ fn start_of(error: &toml::de::Error, bytes: &[u8]) -> usize
     match error.span() {
         Some(span) => span.start.min(bytes.len()),
         None => 0,
+    }
+}
+
+/// What a file without faults says.
+#[derive(Debug, Drop)]
+pub struct Report {
+    /// All settings, and what follows from them.
+    pub text: String,
+    /// A line for each key that no setting has.
+    pub warnings: String,
+}
+
+/// The settings of a file without faults.
+#[derive(Debug, Drop)]
+pub struct FileConfig {
+    /// All settings, those that the file does not have being the defaults.
+    pub config: Config,
+    /// A line for each key that no setting has.
+    pub warnings: String,
+}
+
+/// Why a file gives no settings.
+#[derive(Debug, Drop)]
+pub enum ReportError {
+    /// It is no UTF-8, no TOML, or has values that are not allowed: what is wrong, in lines.
+    Refused(String),
+    /// Memory was refused.
+    NoMemory,
+}
+
+/// The settings of a file, or what is wrong with it: a line for each finding, in the order of the
+/// file.
+pub fn read_file(alloc: Global, bytes: &[u8]) -> Result<FileConfig, ReportError>
+    ensures { ReadsFile bytes.now result }
+{
+    let Ok(found) = check_file(alloc, bytes) else {
+        return Err(ReportError::NoMemory);
+    };
+    let Findings { config, list } = found;
+    let Ok(lines) = lines_of(alloc, list.as_slice()) else {
+        return Err(ReportError::NoMemory);
+    };
+    match config {
+        Some(config) => Ok(FileConfig {
+            config,
+            warnings: lines,
+        }),
+        None => Err(ReportError::Refused(lines)),
+    }
+}
+
+/// What a file of settings says, or what is wrong with it: a line for each finding, in the order of
+/// the file.
+pub fn report_file(alloc: Global, bytes: &[u8]) -> Result<Report, ReportError>
+    ensures { Reports bytes.now result }
+{
+    let file = read_file(alloc, bytes)?;
+    match settings_text(alloc, &file.config) {
+        Ok(text) => Ok(Report {
+            text,
+            warnings: file.warnings,
+        }),
+        Err(_) => Err(ReportError::NoMemory),
+    }
+}
+
+/// A line for each of some findings.
+#[tactic(auto, using(crate::proofs::Lines::one_more))]
+fn lines_of(alloc: Global, list: &[Finding]) -> Result<String, AllocError>
+    ensures { IfOk result (λ lines. string_bytes lines ≡ lines_of list.now) }
+{
+    let mut lines = String::new(alloc);
+    for finding in list {
+        write!(lines, "{finding}\n")?;
+    }
+    Ok(lines)
+}
+
+/// All settings, each marked where it differs from its default, and the directories, the files and
+/// the chunks that follow.
+pub fn settings_text(alloc: Global, config: &Config) -> Result<String, AllocError>
+    ensures { IfOk result (λ text. IsReportText config.now (string_bytes text)) }
+{
+    let mut text = String::new(alloc);
+    write_text(&mut text, config, &Config::default())?;
+    Ok(text)
+}
+
+/// The file of the default settings, each below a comment.
+pub fn default_file(alloc: Global) -> Result<String, AllocError>
+    ensures { IfOk result (λ text. HasDefaults (string_bytes text)) }
+{
+    match write_config(alloc, &Config::default()) {
+        Ok(text) => Ok(text),
+        Err(_) => Err(AllocError),
     }
 }

@@ -8,8 +8,7 @@ ghost use Rattle.config_report.specs.Notes.{table_path};
 ghost use Rattle.toml.specs.Parse.{parse_document};
 ghost use Rattle.toml_positions.specs.Written.{path_view};
 
-use crate::finding::{Finding, Severity, in_line};
-use crate::subject::{key_path, position_of};
+use crate::finding::{Finding, Severity, finding_of, key_path, position_of};
 use iox2_config_file::{Section, SettingValue};
 use std::alloc::{AllocError, Global};
 use std::fmt;
@@ -105,13 +104,9 @@ fn side_finding(
         (side_view said.now.one) (other_view said.now.other) said.now.effect) }
 {
     let prefix = said.one.section.prefix();
-    let key = said.one.key;
-    Ok(Finding {
-        position,
-        severity: Severity::Warning,
-        key: Some(in_line(alloc, format!(in alloc; "{prefix}{key}")?)?),
-        message: in_line(alloc, format!(in alloc; "{said}")?)?,
-    })
+    let key = format!(in alloc; "{prefix}{}", said.one.key)?;
+    let message = format!(in alloc; "{said}")?;
+    finding_of(alloc, position, Severity::Warning, key, message)
 }
 
 /// Whether the second position is in the file, and the first is not, or stands before it.

@@ -1,14 +1,24 @@
-//! What is found in a file of settings. Its texts stand in one line.
-ghost use Rattle.std.specs.Prelude.{◌≡◌, Some, IfOk, string_bytes};
+//! What is found in a file of settings, in texts that stand in one line, and where its keys stand.
+ghost use Rattle.std.specs.Prelude.{◌≡◌, ◌++◌, ◌∷◌, [], IfOk, IsSome, None, Some, map};
+ghost use Rattle.std.specs.Prelude.{option_map, slice_index_or, string_bytes};
+ghost use Rattle.iox2_config_file.specs.Read.{fault_view};
+ghost use Rattle.iox2_config_file.specs.Unknown.{unknown_view, proposal_view};
 ghost use Rattle.config_report.specs.Findings.{place_of};
-ghost use Rattle.config_report.specs.Notes.{has_no_control, in_line};
-ghost use Rattle.config_report.specs.Notes.{at_text};
-ghost use Rattle.config_report.specs.Notes.{severity_text, note_text, finding_view};
+ghost use Rattle.config_report.specs.Notes.{at_text, fault, fault_position, finding_view};
+ghost use Rattle.config_report.specs.Notes.{has_no_control, in_line, meant_text, note, note_text};
+ghost use Rattle.config_report.specs.Notes.{position_for, proposed_text, severity_text};
+ghost use Rattle.config_report.specs.Notes.{subject_view, table_path, table_text, topic_note};
+ghost use Rattle.config_report.specs.Notes.{topic_path, topic_position, unknown, unknown_position};
+ghost use Rattle.toml.specs.Parse.{parse_document};
+ghost use Rattle.toml_positions.specs.Written.{path_view};
+ghost use Rattle.toml_writer.specs.Text.{key_text};
 
 use iox2_config::config::Config;
+use iox2_config_file::{Likeness, Proposal, Section, SettingFault, UnknownKey};
 use std::alloc::{AllocError, Global};
 use std::fmt;
-use toml_positions::Position;
+use toml_positions::{KeyPath, Position, positions_of};
+use toml_writer::write_key;
 
 /// How much a finding weighs.
 #[derive(Clone, Copy, Debug, PartialEq, Eq)]
@@ -73,7 +83,7 @@ impl fmt::Display for Finding {
 
     fn fmt<W: fmt::Write>(&self, f: &mut fmt::Formatter<W>) -> fmt::Result {
         let at = At(self.position);
-        let severity = self.severity;
+        let severity = self.severity.word();
         let message = self.message.as_str();
         match &self.key {
             Some(key) => write!(f, "{at}{severity}: {}: {message}", key.as_str()),
@@ -117,4 +127,281 @@ pub(crate) fn in_line(alloc: Global, text: String) -> Result<String, AllocError>
     } else {
         String::from_str(alloc, "a text with control characters")
     }
+}
+
+/// What there is to say something of.
+#[derive(Clone, Copy)]
+pub enum Subject<'a> {
+    /// A value that is not allowed.
+    Fault(&'a SettingFault),
+    /// A key that no setting has.
+    Unknown(&'a UnknownKey),
+}
+
+impl<'a> Subject<'a> {
+    /// The path of its key.
+    pub(crate) fn path(self) -> KeyPath<'a>
+        ensures { path_view result ≡ topic_path (subject_view self.entry) }
+    {
+        match self {
+            Subject::Fault(fault) => key_path(fault.section, fault.key),
+            Subject::Unknown(key) => key_path(key.section, key.key.as_str()),
+        }
+    }
+
+    /// What is said of it.
+    pub fn finding(self, alloc: Global, position: Option<Position>) -> Result<Finding, AllocError>
+        ensures { IfOk result (λ found.
+            finding_view found ≡ topic_note position (subject_view self.entry)) }
+    {
+        match self {
+            Subject::Fault(found) => {
+                let prefix = found.section.prefix();
+                let key = format!(in alloc; "{prefix}{}", found.key)?;
+                let message = format!(in alloc; "{}", found.fault)?;
+                finding_of(alloc, position, Severity::Error, key, message)
+            }
+            Subject::Unknown(found) => {
+                let prefix = found.section.prefix();
+                let key = format!(in alloc; "{prefix}{}", TomlKey(found.key.as_str()))?;
+                let message = format!(in alloc; "{}", Meant(found.meant))?;
+                finding_of(alloc, position, Severity::Warning, key, message)
+            }
+        }
+    }
+}
+
+/// What is said of a key at a position, in one line each.
+pub(crate) fn finding_of(
+    alloc: Global,
+    position: Option<Position>,
+    severity: Severity,
+    key: String,
+    message: String,
+) -> Result<Finding, AllocError>
+    ensures { IfOk result (λ finding. finding_view finding
+        ≡ note position severity (Some (string_bytes key)) (string_bytes message)) }
+{
+    Ok(Finding {
+        position,
+        severity,
+        key: Some(in_line(alloc, key)?),
+        message: in_line(alloc, message)?,
+    })
+}
+
+/// Some faults, and then some unknown keys.
+pub(crate) fn subjects_of<'a>(
+    alloc: Global,
+    faults: &'a [SettingFault],
+    keys: &'a [UnknownKey],
+) -> Result<Vec<Subject<'a>>, AllocError>
+    ensures { IfOk result (λ subjects. map subject_view subjects.items
+        ≡ map fault (map fault_view faults.now) ++ map unknown (map unknown_view keys.now)) }
+{
+    let mut subjects = Vec::new(alloc);
+    for found in faults {
+        subjects.push(Subject::Fault(found))?;
+    }
+    for key in keys {
+        subjects.push(Subject::Unknown(key))?;
+    }
+    Ok(subjects)
+}
+
+/// The size of the largest file, in bytes, in which positions are searched for.
+const LARGEST_SEARCHED: usize = 131_072;
+
+/// The keys that lead to a table.
+fn table_path(section: Section) -> &'static [&'static str]
+    ensures { map (λ k. k.now) result.now ≡ table_path section }
+{
+    match section {
+        Section::Root => &[],
+        Section::Global => &["global"],
+        Section::Service => &["global", "service"],
+        Section::Node => &["global", "node"],
+        Section::Defaults => &["defaults"],
+        Section::PublishSubscribe => &["defaults", "publish-subscribe"],
+        Section::Event => &["defaults", "event"],
+        Section::RequestResponse => &["defaults", "request-response"],
+        Section::Blackboard => &["defaults", "blackboard"],
+    }
+}
+
+/// The path of a key of a table.
+pub(crate) fn key_path(section: Section, key: &str) -> KeyPath<'_>
+    ensures { path_view result ≡ table_path section ++ key.now ∷ [] }
+{
+    KeyPath {
+        table: table_path(section),
+        key,
+    }
+}
+
+/// The positions of some paths, or none of them where the file is too large. Where there is no path
+/// the file is not gone over.
+fn positions_for(
+    alloc: Global,
+    text: &str,
+    paths: &[KeyPath<'_>],
+) -> Result<Vec<Option<Position>>, AllocError>
+    ensures { IfOk result (λ found. IsSome (parse_document text.now)
+        → found.items ≡ map (position_for text.now) (map path_view paths.now)) }
+{
+    if paths.is_empty() {
+        return Ok(Vec::new(alloc));
+    }
+    if text.len() <= LARGEST_SEARCHED {
+        return positions_of(alloc, text, paths);
+    }
+    let mut found = Vec::new(alloc);
+    found.resize(paths.len(), None)?;
+    Ok(found)
+}
+
+/// The position of a path, or none where the file is too large.
+pub(crate) fn position_of(
+    alloc: Global,
+    text: &str,
+    path: KeyPath<'_>,
+) -> Result<Option<Position>, AllocError>
+    ensures { IfOk result (λ found. IsSome (parse_document text.now)
+        → found ≡ position_for text.now (path_view path.entry)) }
+{
+    let found = positions_for(alloc, text, &[path])?;
+    Ok(position_at(found.as_slice(), 0))
+}
+
+/// The positions of the keys of some subjects.
+pub(crate) fn subject_positions(
+    alloc: Global,
+    text: &str,
+    subjects: &[Subject<'_>],
+) -> Result<Vec<Option<Position>>, AllocError>
+    ensures { IfOk result (λ found. IsSome (parse_document text.now)
+        → found.items ≡ map (topic_position text.now) (map subject_view subjects.now)) }
+{
+    let mut paths = Vec::new(alloc);
+    for subject in subjects {
+        paths.push(subject.path())?;
+    }
+    positions_for(alloc, text, paths.as_slice())
+}
+
+/// The position of this index, if it is known.
+pub fn position_at(positions: &[Option<Position>], index: usize) -> Option<Position>
+    ensures { result ≡ slice_index_or positions.now index None }
+{
+    match positions.get(index) {
+        Some(position) => *position,
+        None => None,
+    }
+}
+
+/// A key, as TOML writes it.
+#[derive(Clone, Copy)]
+pub(crate) struct TomlKey<'a>(pub(crate) &'a str);
+
+impl fmt::Display for TomlKey<'_> {
+    ghost output = { λ key. Some (key_text key.0.now) };
+
+    fn fmt<W: fmt::Write>(&self, f: &mut fmt::Formatter<W>) -> fmt::Result {
+        write_key(f, self.0)
+    }
+}
+
+/// A table, as a header names it.
+#[derive(Clone, Copy)]
+struct Table(Section);
+
+impl fmt::Display for Table {
+    ghost output = { λ table. Some (table_text table.0) };
+
+    fn fmt<W: fmt::Write>(&self, f: &mut fmt::Formatter<W>) -> fmt::Result {
+        match self.0 {
+            Section::Root => f.write_str("the top of the file"),
+            section => write!(f, "[{}]", section.name()),
+        }
+    }
+}
+
+/// A known key that was probably meant.
+#[derive(Clone, Copy)]
+struct Proposed(Proposal);
+
+impl fmt::Display for Proposed {
+    ghost output = { λ proposed. Some (proposed_text (proposal_view proposed.0)) };
+
+    fn fmt<W: fmt::Write>(&self, f: &mut fmt::Formatter<W>) -> fmt::Result {
+        let Proposal {
+            section,
+            key,
+            likeness,
+        } = self.0;
+        let prefix = section.prefix();
+        match likeness {
+            Likeness::Spelling | Likeness::Near => write!(f, "{prefix}{key} may be meant"),
+            Likeness::OtherTable => write!(f, "it belongs to {}", Table(section)),
+            Likeness::Quoted => write!(f, "{prefix}{key} without the quotes may be meant"),
+        }
+    }
+}
+
+/// That a table has no such key, and what was probably meant.
+#[derive(Clone, Copy)]
+pub(crate) struct Meant(pub(crate) Option<Proposal>);
+
+impl fmt::Display for Meant {
+    ghost output = { λ meant. Some (meant_text (option_map proposal_view meant.0)) };
+
+    fn fmt<W: fmt::Write>(&self, f: &mut fmt::Formatter<W>) -> fmt::Result {
+        match self.0 {
+            Some(proposal) => write!(f, "this table has no such key, {}", Proposed(proposal)),
+            None => f.write_str("this table has no such key"),
+        }
+    }
+}
+
+/// The positions of the keys of some faults, and then of some unknown keys, of a text that is TOML.
+fn key_positions(
+    alloc: Global,
+    text: &str,
+    faults: &[SettingFault],
+    keys: &[UnknownKey],
+) -> Result<Vec<Option<Position>>, AllocError>
+    requires { IsSome (parse_document text.now) }
+    ensures { IfOk result (λ found.
+        found.items ≡ map (fault_position text.now) (map fault_view faults.now)
+        ++ map (unknown_position text.now) (map unknown_view keys.now)) }
+{
+    let subjects = subjects_of(alloc, faults, keys)?;
+    subject_positions(alloc, text, subjects.as_slice())
+}
+
+/// The positions of the keys of some faults of a text that is TOML. One past 128 KiB is not
+/// searched.
+pub fn fault_positions(
+    alloc: Global,
+    text: &str,
+    faults: &[SettingFault],
+) -> Result<Vec<Option<Position>>, AllocError>
+    requires { IsSome (parse_document text.now) }
+    ensures { IfOk result (λ found.
+        found.items ≡ map (fault_position text.now) (map fault_view faults.now)) }
+{
+    key_positions(alloc, text, faults, &[])
+}
+
+/// The same of some keys that no setting has.
+pub fn unknown_positions(
+    alloc: Global,
+    text: &str,
+    keys: &[UnknownKey],
+) -> Result<Vec<Option<Position>>, AllocError>
+    requires { IsSome (parse_document text.now) }
+    ensures { IfOk result (λ found.
+        found.items ≡ map (unknown_position text.now) (map unknown_view keys.now)) }
+{
+    key_positions(alloc, text, &[], keys)
 }

@@ -6,21 +6,18 @@
 #![tactic(auto)]
 
 mod check;
-mod chunks;
 mod contradiction;
 mod contradictions;
 mod finding;
 pub mod laws;
-mod report;
-mod subject;
 mod text;
 
-pub use check::{Unread, check_file, contents_of, text_of};
-pub use chunks::{requests, responses, samples};
-pub use finding::{Finding, Findings, Severity};
-pub use report::{
-    FileConfig, Report, ReportError, default_file, read_file, report_file, settings_text,
+pub use check::{
+    FileConfig, Report, ReportError, Unread, check_file, contents_of, default_file, read_file,
+    report_file, settings_text, text_of,
 };
-pub use subject::{Subject, fault_positions, position_at, unknown_positions};
-pub use text::is_same;
+pub use finding::{
+    Finding, Findings, Severity, Subject, fault_positions, position_at, unknown_positions,
+};
+pub use text::{is_same, requests, responses, samples};
 pub use toml_positions::Position;

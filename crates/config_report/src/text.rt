@@ -1,22 +1,28 @@
 //! All settings, and the directories, the files and the chunks that follow, as text.
-ghost use Rattle.std.specs.Prelude.{◌≡◌, ◌++◌, ◌↔◌, ℕ, List, IsTrue, OnOk, string_bytes, map};
-ghost use Rattle.std.specs.Prelude.{flat_map};
+ghost use Rattle.std.specs.Prelude.{◌≡◌, ◌++◌, ◌↔◌, ℕ, List, IsTrue, OnOk, Some, string_bytes};
+ghost use Rattle.std.specs.Prelude.{map, flat_map};
+ghost use Rattle.iox2_config_file.specs.Read.{sections};
 ghost use Rattle.iox2_config_file.specs.Settings.{settings_in};
 ghost use Rattle.iox2_config_file.specs.Write.{value_view};
 ghost use Rattle.config_report.specs.Text.{Adds, SettingsGive, TablesGive, IsSettingLine};
 ghost use Rattle.config_report.specs.Text.{IsReportOver, usual_line, marked_line, named_line};
 ghost use Rattle.config_report.specs.Text.{directory_text, directories_text, file_line, files_text};
 ghost use Rattle.config_report.specs.Text.{kind_view, service_files_of, node_files_of};
+ghost use Rattle.config_report.specs.Text.{sample_limits_of, request_limits_of};
+ghost use Rattle.config_report.specs.Text.{all_limits, response_limits_of};
+ghost use Rattle.config_report.specs.Text.{need_line, need_text, IsNeedLine, IsNeedsText};
+ghost use Rattle.iox2_static.specs.Chunks.{TellsGreatest};
 ghost use Rattle.std.specs.Duration.{as_nanos};
 ghost use Rattle.iox2_config_file.specs.Values.{duration};
 ghost use Rattle.iox2_texts.specs.Path.{MakesJoined};
 
-use crate::chunks::write_needs;
 use iox2_config::config::{Config, Node, Service};
 use iox2_config_file::{Row, SECTIONS, Section, SettingValue, rows, value_at};
+use iox2_static::static_config::{publish_subscribe, request_response};
 use iox2_texts::bounded::SemanticStringError;
 use iox2_texts::paths::{FileName, Path};
 use std::alloc::AllocError;
+use std::fmt;
 use std::time::Duration;
 
 /// Appends all settings, each marked where it differs from a default, and what follows from them.
@@ -33,24 +39,19 @@ pub(crate) fn write_text(
         out,
         "settings, with ! where they differ from the defaults\n"
     )?;
-    write_tables(out, &SECTIONS, config, default)?;
+    write_tables(out, config, default)?;
     write_directories(out, config)?;
     write_files(out, config)?;
     write_needs(out, config)
 }
 
-/// Appends the settings of some tables.
-fn write_tables(
-    out: &mut String,
-    sections: &[Section],
-    config: &Config,
-    default: &Config,
-) -> Result<(), AllocError>
+/// Appends the settings of all tables.
+fn write_tables(out: &mut String, config: &Config, default: &Config) -> Result<(), AllocError>
     ensures { OnOk result ((lines : List ℕ)
         × (string_bytes out.new ≡ string_bytes out.old ++ lines)
-        × TablesGive IsSettingLine config.now default.now sections.now lines) }
+        × TablesGive IsSettingLine config.now default.now sections lines) }
 {
-    for section in sections {
+    for section in &SECTIONS {
         write_table(out, *section, config, default)?;
     }
     Ok(())
@@ -152,7 +153,7 @@ fn is_time(value: SettingValue<'_>, time: Duration) -> bool
 }
 
 /// Appends the directories.
-pub(crate) fn write_directories(out: &mut String, config: &Config) -> Result<(), AllocError>
+fn write_directories(out: &mut String, config: &Config) -> Result<(), AllocError>
     ensures { OnOk result
         (string_bytes out.new ≡ string_bytes out.old ++ directories_text config.now) }
 {
@@ -229,7 +230,7 @@ fn node_files(node: &Node) -> [FileKind<'_>; 5]
 }
 
 /// Appends the names of files.
-pub(crate) fn write_files(out: &mut String, config: &Config) -> Result<(), AllocError>
+fn write_files(out: &mut String, config: &Config) -> Result<(), AllocError>
     ensures { OnOk result (string_bytes out.new ≡ string_bytes out.old ++ files_text config.now) }
 {
     let prefix = &config.global.prefix;
@@ -266,9 +267,124 @@ fn write_kind(out: &mut String, prefix: &FileName, kind: &FileKind<'_>) -> Resul
 }
 
 /// Appends a name, filled with spaces to 22 characters, and what stands beside it.
-pub(crate) fn write_named(out: &mut String, name: &str, text: &str) -> Result<(), AllocError>
+fn write_named(out: &mut String, name: &str, text: &str) -> Result<(), AllocError>
     ensures { OnOk result
         (string_bytes out.new ≡ string_bytes out.old ++ named_line name.now text.now) }
 {
     write!(out, "  {name:<22} {text}\n")
+}
+
+/// How many samples of a publisher can be in use at once.
+pub fn samples(config: &Config) -> Option<usize>
+    ensures { TellsGreatest (sample_limits_of config.now.defaults) result }
+{
+    let loans = config
+        .defaults
+        .publish_subscribe
+        .publisher_max_loaned_samples;
+    publish_subscribe::StaticConfig::new(config).required_amount_of_samples_per_data_segment(loans)
+}
+
+/// How many requests of a client can be in use at once.
+pub fn requests(config: &Config) -> Option<usize>
+    ensures { TellsGreatest (request_limits_of config.now.defaults) result }
+{
+    let loans = config.defaults.request_response.max_loaned_requests;
+    request_response::StaticConfig::new(config).required_amount_of_chunks_per_client_data_segment(
+        loans,
+    )
+}
+
+/// How many responses of a server can be in use at once.
+pub fn responses(config: &Config) -> Option<usize>
+    ensures { TellsGreatest (response_limits_of config.now.defaults) result }
+{
+    let loans = config
+        .defaults
+        .request_response
+        .server_max_loaned_responses_per_request;
+    request_response::StaticConfig::new(config).required_amount_of_chunks_per_server_data_segment(
+        loans,
+    )
+}
+
+/// How many chunks all ports of a kind can have in use at once, by how many one of them can.
+#[tactic(auto, using(crate::proofs::AllPorts::all_of_some, crate::proofs::AllPorts::all_of_many))]
+fn of_all(one: Option<usize>, ports: usize) -> Option<usize>
+    ensures { (limits : List ℕ) → TellsGreatest limits one
+        → TellsGreatest (all_limits ports limits) result }
+{
+    match one {
+        Some(chunks) => chunks.checked_mul(ports),
+        None if ports == 0 => Some(0),
+        None => None,
+    }
+}
+
+/// A number of chunks, or none where 64 bits do not have it.
+#[derive(Clone, Copy)]
+struct Chunks(Option<usize>);
+
+impl fmt::Display for Chunks {
+    ghost output = { λ chunks. Some (need_text chunks.0) };
+
+    fn fmt<W: fmt::Write>(&self, f: &mut fmt::Formatter<W>) -> fmt::Result {
+        match self.0 {
+            Some(count) => write!(f, "{count}"),
+            None => f.write_str("more than 18446744073709551615"),
+        }
+    }
+}
+
+/// Appends how many chunks a port of each kind needs, and all ports of the kind.
+fn write_needs(out: &mut String, config: &Config) -> Result<(), AllocError>
+    ensures { OnOk result ((needs : List ℕ)
+        × (string_bytes out.new ≡ string_bytes out.old ++ needs)
+        × IsNeedsText config.now.defaults needs) }
+{
+    let publishers = config.defaults.publish_subscribe.max_publishers;
+    let clients = config.defaults.request_response.max_clients;
+    let servers = config.defaults.request_response.max_servers;
+    write!(
+        out,
+        "\nchunks that a port needs at these limits, and all ports of its kind\n"
+    )?;
+    write_need(out, "publisher", samples(config), publishers)?;
+    write_need(out, "client", requests(config), clients)?;
+    write_need(out, "server", responses(config), servers)?;
+    write!(
+        out,
+        "  event, blackboard      none: their ports send no messages\n"
+    )
+}
+
+/// Appends how many chunks a port of one kind needs, and all of so many.
+fn write_need(
+    out: &mut String,
+    port: &str,
+    one: Option<usize>,
+    ports: usize,
+) -> Result<(), AllocError>
+    ensures { OnOk result ((limits : List ℕ) → TellsGreatest limits one → (line : List ℕ)
+        × (string_bytes out.new ≡ string_bytes out.old ++ line)
+        × IsNeedLine port.now limits ports line) }
+{
+    let all = of_all(one, ports);
+    write_line(out, port, one, ports, all)
+}
+
+/// Appends how many chunks a port of one kind needs, and so many of them together.
+fn write_line(
+    out: &mut String,
+    port: &str,
+    one: Option<usize>,
+    ports: usize,
+    all: Option<usize>,
+) -> Result<(), AllocError>
+    ensures { OnOk result (string_bytes out.new
+        ≡ string_bytes out.old ++ need_line port.now one ports all) }
+{
+    let one = Chunks(one);
+    let all = Chunks(all);
+    write!(out, "  {port:<22} {one}, all {ports} together {all}\n")
 }

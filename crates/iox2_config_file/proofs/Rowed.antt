@@ -1,5 +1,5 @@
 -- The settings of a table beside its rows, and the tables of a file, one after the other.
-use Rattle.std.proofs.Common.{◌≡◌, ℕ, zero, suc, ◌+◌, ◌≤◌, true, false, cond, List, [], ◌∷◌, ◌++◌, length, map, drop, slice_get, Option, Some, None, refl, sym, ap, add-one, append_assoc, arith, length-append, drop_of_length-le, rules, ◌<◌, get_or, drop-cons}
+use Rattle.std.proofs.Common.{◌≡◌, ℕ, zero, suc, ◌+◌, ◌≤◌, true, false, cond, List, [], ◌∷◌, ◌++◌, length, map, drop, slice_get, Option, Some, None, refl, sym, ap, ◌∙◌, subst, add-one, append_assoc, append-nil, arith, length-append, drop_of_length-le, rules, ◌<◌, get_or, drop-cons}
 use Rattle.std.specs.List.{filter_map}
 use Rattle.std.proofs.lemmas.List.{length-map, length-drop}
 use Rattle.std.proofs.lemmas.Option.{none-some, same_Some, slice_get-map}
@@ -8,7 +8,7 @@ use Rattle.iox2_config_file.specs.declared.section.Row.{Row}
 use Rattle.iox2_config_file.specs.Read.{row_view}
 use Rattle.iox2_config_file.specs.Settings.{Setting, held_at}
 use Rattle.iox2_config_file.specs.Values.{SettingValue}
-use Rattle.iox2_config_file.specs.Write.{value_fits, entry_text, entries_text, section_misfits, located_misfits, IsTableText, IsTablesText}
+use Rattle.iox2_config_file.specs.Write.{value_fits, entry_text, entries_text, section_misfits, located_misfits, InTurn}
 use Rattle.std.specs.Prelude.{flat_map}
 use Rattle.iox2_config.specs.declared.config.Config.{Config}
 use Rattle.iox2_config_file.specs.declared.section.Section.{Section}
@@ -148,18 +148,30 @@ pub misfit_next : (config : Config) (ss : List Section) (i : ℕ) (d : Section) 
     ≡ flat_map (located_misfits config) (drop i ss)
 misfit_next config ss i d lt h = grind (arith, none-some, split_at)
 
--- one table more is written
-pub tables_next : (default config : Config) (ss : List Section) (i : ℕ) (d : Section)
-    (before old new done table : List ℕ) → i < length ss → old ≡ before ++ done
-    → new ≡ old ++ table → IsTableText default config (get_or ss i d) table
-    → ((more : List ℕ) → IsTablesText default config (drop i ss) more
-    → IsTablesText default config ss (done ++ more))
-    → (all : List ℕ) × (new ≡ before ++ all)
-    × ((more : List ℕ) → IsTablesText default config (drop (i + 1) ss) more
-    → IsTablesText default config ss (all ++ more))
-tables_next default config ss i d before old new done table lt was now h rest = (
-  done ++ table,
-  grind (arith, append_assoc),
-  λ more tables. rw (append_assoc done table more) (rest (table ++ more)
-      (rw (split_at ss i d lt) (table, more, refl, h, tables))),
-)
+-- what the things from one on give follows what those before it gave
+abbrev pub Follow : {A B : Type 0} → (B → List A → Type 0) → List B → ℕ → List A → Type 0
+Follow {A} Gives xs i done =
+    (more : List A) → InTurn Gives (drop i xs) more → InTurn Gives xs (done ++ more)
+
+-- one thing more
+pub turn_next : {A B : Type 0} (Gives : B → List A → Type 0) (xs : List B) (i : ℕ) (d : B)
+    (before old new done one : List A) → i < length xs → old ≡ before ++ done → new ≡ old ++ one
+    → Gives (get_or xs i d) one → Follow Gives xs i done
+    → (all : List A) × (new ≡ before ++ all) × Follow Gives xs (i + 1) all
+turn_next Gives xs i d before old new done one lt was now gives rest =
+    let split : drop i xs ≡ get_or xs i d ∷ drop (i + 1) xs = rw add-one (drop-cons xs i d lt) in (
+      done ++ one,
+      now ∙ ap (λ l. l ++ one) was ∙ append_assoc before done one,
+      λ more others.
+          let here : InTurn Gives (drop i xs) (one ++ more) =
+          subst (λ l. InTurn Gives l (one ++ more)) (sym split) (one, more, refl, gives, others) in
+          subst (λ l. InTurn Gives xs l) (sym (append_assoc done one more))
+          (rest (one ++ more) here),
+    )
+
+-- behind the last thing nothing is left
+pub turns_end : {A B : Type 0} (Gives : B → List A → Type 0) (xs : List B) (i : ℕ)
+    (done : List A) → length xs ≤ i → Follow Gives xs i done → InTurn Gives xs done
+turns_end Gives xs i done past_all rest =
+    subst (λ l. InTurn Gives xs l) (append-nil done)
+    (rest [] (subst (λ l. InTurn Gives l []) (sym (drop_of_length-le xs past_all)) refl))

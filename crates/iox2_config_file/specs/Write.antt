@@ -10,8 +10,8 @@ use Rattle.iox2_config.specs.Defaults.{IsDefaultConfig}
 use Rattle.iox2_config.specs.declared.config.Config.{Config}
 use Rattle.iox2_config_file.specs.declared.section.Row.{Row}
 use Rattle.iox2_config_file.specs.declared.section.Section.{Section}
-use Rattle.iox2_config_file.specs.declared.setting.SettingValue.{SettingValue as Held}
-use Rattle.iox2_config_file.specs.declared.setting.SettingValue.TheVariants as held
+use Rattle.iox2_config_file.specs.declared.value.SettingValue.{SettingValue as Held}
+use Rattle.iox2_config_file.specs.declared.value.SettingValue.TheVariants as held
 use Rattle.iox2_config_file.specs.declared.write.ConfigWriteError.{ConfigWriteError}
 use Rattle.iox2_config_file.specs.declared.write.ConfigWriteError.TheVariants.{OutOfRange, NoMemory}
 use Rattle.iox2_config_file.specs.declared.write.Misfit.{Misfit}
@@ -99,12 +99,16 @@ IsTableText default config s table =
     (head : List ℕ) × (entries : List ℕ) × (table ≡ head ++ entries) × IsHeaderText s head
     × IsEntriesText default config s entries
 
+-- what some things give, one after the other
+abbrev pub InTurn : {A B : Type 0} → (B → List A → Type 0) → List B → List A → Type 0
+InTurn Gives [] all = all ≡ []
+InTurn {A} Gives (x ∷ xs) all =
+    (first : List A) × (more : List A) × (all ≡ first ++ more) × Gives x first
+    × InTurn Gives xs more
+
 -- tables, one after the other
 abbrev pub IsTablesText : Config → Config → List Section → List ℕ → Type 0
-IsTablesText default config [] tables = tables ≡ []
-IsTablesText default config (s ∷ ss) tables =
-    (table : List ℕ) × (more : List ℕ) × (tables ≡ table ++ more)
-    × IsTableText default config s table × IsTablesText default config ss more
+IsTablesText default config = InTurn (IsTableText default config)
 
 -- the text of a configuration: all tables with all settings
 abbrev pub IsConfigText : Config → Config → List ℕ → Type 0

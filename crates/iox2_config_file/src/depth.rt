@@ -84,51 +84,19 @@ impl Inside {
     {
         match self {
             Inside::Nothing => begun(byte),
-            Inside::Comment => {
-                if byte == b'\n' {
-                    Inside::Nothing
-                } else {
-                    Inside::Comment
-                }
-            }
-            Inside::Quote(quote) => {
-                if byte == quote {
-                    Inside::TwoQuotes(quote)
-                } else {
-                    on_line(quote, byte)
-                }
-            }
-            Inside::TwoQuotes(quote) => {
-                if byte == quote {
-                    Inside::Lines(quote)
-                } else {
-                    begun(byte)
-                }
-            }
-            Inside::Line(quote) => on_line(quote, byte),
+            Inside::Comment if byte == b'\n' => Inside::Nothing,
+            Inside::Comment => Inside::Comment,
+            Inside::Quote(quote) if byte == quote => Inside::TwoQuotes(quote),
+            Inside::TwoQuotes(quote) if byte == quote => Inside::Lines(quote),
+            Inside::LinesQuote(quote) if byte == quote => Inside::LinesTwoQuotes(quote),
+            Inside::LinesTwoQuotes(quote) if byte == quote => Inside::LinesEnd(quote),
+            Inside::LinesEnd(quote) if byte == quote => Inside::LinesEnd(quote),
+            Inside::Quote(quote) | Inside::Line(quote) => on_line(quote, byte),
+            Inside::TwoQuotes(_) | Inside::LinesEnd(_) => begun(byte),
             Inside::LineEscape(quote) => Inside::Line(quote),
-            Inside::Lines(quote) => on_lines(quote, byte),
             Inside::LinesEscape(quote) => Inside::Lines(quote),
-            Inside::LinesQuote(quote) => {
-                if byte == quote {
-                    Inside::LinesTwoQuotes(quote)
-                } else {
-                    on_lines(quote, byte)
-                }
-            }
-            Inside::LinesTwoQuotes(quote) => {
-                if byte == quote {
-                    Inside::LinesEnd(quote)
-                } else {
-                    on_lines(quote, byte)
-                }
-            }
-            Inside::LinesEnd(quote) => {
-                if byte == quote {
-                    Inside::LinesEnd(quote)
-                } else {
-                    begun(byte)
-                }
+            Inside::Lines(quote) | Inside::LinesQuote(quote) | Inside::LinesTwoQuotes(quote) => {
+                on_lines(quote, byte)
             }
         }
     }

@@ -6,7 +6,7 @@ ghost use Rattle.iox2_config_file.specs.Answers.{AreConfig, IsNoMemory};
 use crate::fault::{Fault, Kind, SettingFault, TomlType};
 use crate::read::{ConfigFileError, FileContents, read_config};
 use crate::section::{Row, Section};
-use crate::setting::SettingValue;
+use crate::value::SettingValue;
 use crate::write::{ConfigWriteError, Misfit, write_config};
 use iox2_config::config::Config;
 use std::alloc::{AllocError, Global};

@@ -1,15 +1,12 @@
 //! The file of the middleware's settings, `iceoryx2.toml`.
 #![tactic(auto)]
 
-mod build;
 mod depth;
 mod fault;
 pub mod laws;
 mod proposal;
 mod read;
 mod section;
-mod setting;
-mod table;
 mod unknown;
 mod value;
 mod write;
@@ -19,6 +16,6 @@ pub use fault::{Fault, Kind, SettingFault, TomlType};
 pub use proposal::{Likeness, Proposal};
 pub use read::{ConfigFileError, FileContents, read_config};
 pub use section::{Row, SECTIONS, Section, rows};
-pub use setting::{SettingValue, value_at};
 pub use unknown::UnknownKey;
+pub use value::{SettingValue, value_at};
 pub use write::{ConfigWriteError, Misfit, write_config};

@@ -2,7 +2,7 @@
 ghost use Rattle.std.specs.Prelude.{◌≡◌, ◌∷◌, ◌<◌, [], length, bytes_eq, MatchOption, map};
 ghost use Rattle.std.specs.Prelude.{option_map, ◌==◌, IfOk};
 ghost use Rattle.iox2_config_file.specs.Unknown.{is_dash, spelling, respelled, is_path, is_wanted};
-ghost use Rattle.iox2_config_file.specs.Unknown.{keys_in, keys_of, wanted_in, wanted_view};
+ghost use Rattle.iox2_config_file.specs.Unknown.{keys_of, wanted_in, wanted_view};
 ghost use Rattle.iox2_config_file.specs.Unknown.{distance_below, edit_distance, nearest, of_any};
 ghost use Rattle.iox2_config_file.specs.Unknown.{of_table, nearest_below, proposal_view, proposed};
 ghost use Rattle.iox2_config_file.specs.Unknown.{unquoted};
@@ -117,26 +117,18 @@ fn find_among(wanted: Wanted<'_>, section: Section, rows: &[Row]) -> Option<&'st
     None
 }
 
-/// The first key of some tables that is wanted.
-fn find_in(wanted: Wanted<'_>, sections: &[Section]) -> Option<(Section, &'static str)>
-    ensures { (c : Config) → option_map (λ p. (p.0, p.1.now)) result
-        ≡ find (is_wanted (wanted_view wanted.entry)) (keys_in c sections.now) }
+/// The first known key of all tables that is wanted.
+#[tactic(auto, unfolding(crate::specs::Unknown::wanted_in))]
+fn find_wanted(wanted: Wanted<'_>) -> Option<(Section, &'static str)>
+    ensures { (c : Config)
+        → option_map (λ p. (p.0, p.1.now)) result ≡ wanted_in c (wanted_view wanted.entry) }
 {
-    for section in sections {
+    for section in &SECTIONS {
         if let Some(key) = find_among(wanted, *section, rows(*section)) {
             return Some((*section, key));
         }
     }
     None
-}
-
-/// The first known key of all tables that is wanted.
-#[tactic(auto, unfolding(crate::specs::Unknown::wanted_in))]
-pub(crate) fn find_wanted(wanted: Wanted<'_>) -> Option<(Section, &'static str)>
-    ensures { (c : Config)
-        → option_map (λ p. (p.0, p.1.now)) result ≡ wanted_in c (wanted_view wanted.entry) }
-{
-    find_in(wanted, &SECTIONS)
 }
 
 /// How a known key is like one that is not known.

@@ -3,13 +3,13 @@ ghost use Rattle.std.specs.Prelude.{◌≡◌, ◌++◌, ℕ, List, Some, OnOk, 
 ghost use Rattle.std.specs.Prelude.{flat_map, string_bytes};
 ghost use Rattle.iox2_config_file.specs.Write.{value_view, entry_text, assignment, section_misfits};
 ghost use Rattle.iox2_config_file.specs.Write.{located_misfits, FirstMisfitOf, IsHeaderText};
-ghost use Rattle.iox2_config_file.specs.Write.{IsEntriesText, IsTableText, IsTablesText};
+ghost use Rattle.iox2_config_file.specs.Write.{IsEntriesText, IsTableText};
 ghost use Rattle.iox2_config_file.specs.Write.{IsConfigText, Writes, WritesOver};
 ghost use Rattle.iox2_config_file.specs.Answers.{ReadsBack, AreLegal};
 ghost use Rattle.iox2_config_file.specs.Settings as table_of;
 
 use crate::section::{Row, SECTIONS, Section, header, rows};
-use crate::setting::{SettingValue, value_at};
+use crate::value::{SettingValue, value_at};
 use iox2_config::config::{Config, Node, Service};
 use std::alloc::{AllocError, Global};
 use std::fmt;
@@ -150,25 +150,10 @@ fn text_of(alloc: Global, config: &Config, default: &Config) -> Result<String, A
 {
     let mut out = String::new(alloc);
     out.push_str(TITLE)?;
-    write_tables(&mut out, &SECTIONS, config, default)?;
-    Ok(out)
-}
-
-/// Appends some tables.
-fn write_tables(
-    out: &mut String,
-    sections: &[Section],
-    config: &Config,
-    default: &Config,
-) -> Result<(), AllocError>
-    ensures { OnOk result ((tables : List ℕ)
-        × (string_bytes out.new ≡ string_bytes out.old ++ tables)
-        × IsTablesText default.now config.now sections.now tables) }
-{
-    for section in sections {
-        write_table(out, *section, config, default)?;
+    for section in &SECTIONS {
+        write_table(&mut out, *section, config, default)?;
     }
-    Ok(())
+    Ok(out)
 }
 
 /// Appends a table.

@@ -11,9 +11,9 @@ use Rattle.line_streams.specs.Filters.{either, status_number}
 use Rattle.iox2_config.specs.declared.config.Config.{Config}
 use Rattle.config_report.specs.Text.{IsReportText}
 use Rattle.settings_check.specs.Answer.{AreCompared, IsTextOf}
-use Rattle.settings_check.specs.Compare.{AreAllDifferences}
+use Rattle.settings_check.specs.Found.{AreAllDifferences}
 use Rattle.settings_check.specs.Found.{Said}
-use Rattle.settings_check.specs.Streams.{input_is_read, AnswersArguments, Ends}
+use Rattle.settings_check.specs.Answer.{input_is_read, AnswersArguments, Ends}
 use Rattle.settings_check.specs.Words.{Requests}
 use Rattle.settings_check.specs.declared.answer.Answer.{Answer}
 use Rattle.settings_check.specs.declared.arguments.Request.{Request}

@@ -1,11 +1,13 @@
 -- What is found in files, one after the other.
-use Rattle.std.proofs.Common.{arith, ◌≡◌, ℕ, ◌+◌, ◌≤◌, ◌<◌, List, ◌∷◌, length, drop, get_or, refl, sym, ap, ◌∙◌, subst, append_assoc, append-nil, Result, drop_of_length-le, string_bytes}
+use Rattle.std.proofs.Common.{arith, ◌≡◌, ℕ, ◌+◌, ◌≤◌, ◌<◌, List, [], ◌∷◌, ◌++◌, length, drop, get_or, refl, sym, ap, ◌∙◌, subst, append_assoc, append-nil, Result, drop_of_length-le, string_bytes}
 use Rattle.std.specs.Prelude.{String}
+use Rattle.std.proofs.lemmas.List.{map-append}
 use Rattle.std.specs.declared.alloc.Global.{Global}
-use Rattle.settings_check.specs.Found.{Said, Seen, nothing_seen, both_seen, AddsFile, IsFound, AreFound}
+use Rattle.settings_check.specs.Found.{Said, report_of, reports_of, Seen, nothing_seen, both_seen, AddsFile, IsFound, AreFound}
 use Rattle.iox2_config.specs.declared.config.Config.{Config}
 use Rattle.settings_check.specs.Words.{texts_of}
 use Rattle.settings_check.specs.declared.found.FileError.{FileError}
+use Rattle.settings_check.specs.declared.found.Report.{Report}
 use Rattle.settings_check.proofs.Lists.{split_at}
 
 pub both_assoc : (a b c : Seen) → both_seen (both_seen a b) c ≡ both_seen a (both_seen b c)
@@ -58,3 +60,9 @@ seen said unread configs = record { said = said; unread = unread; configs = conf
 pub same_parts : (a b : Seen) → a.said ≡ b.said → a.unread ≡ b.unread → a.configs ≡ b.configs
     → a ≡ b
 same_parts a b p q r = grind arith
+
+-- one report more
+pub reported : (old new : List Report) (r : Report) → new ≡ old ++ r ∷ []
+    → reports_of new ≡ reports_of old ++ report_of r.file.now r.finding ∷ []
+reported old new r added =
+    ap (λ l. reports_of l) added ∙ map-append (λ r. report_of r.file.now r.finding) old (r ∷ [])

@@ -57,8 +57,8 @@ request_end o files all (Err BadArguments) same h = grind (arith, append-nil)
 request_end o files all (Err NoMemory) same h = tt
 
 -- what all words request, where none of them is left
-pub words_end : (o : Chosen) (files : List (List ℕ)) (left first words : List (String Global))
-    (result : Result Request RequestError)
-    → after_files files (said o (texts_of left)) ≡ said none_chosen (texts_of first) → left ≡ []
-    → first ≡ words → RequestsWith o files result → RequestsIn (texts_of words) result
-words_end o files left first words result same none all h = grind (arith, request_end)
+pub words_end : (o : Chosen) (files : List (List ℕ)) (left : List (String Global))
+    (all : List (List ℕ)) (result : Result Request RequestError)
+    → after_files files (said o (texts_of left)) ≡ said none_chosen all → left ≡ []
+    → RequestsWith o files result → RequestsIn all result
+words_end o files left all result same none h = grind (arith, request_end)

@@ -1,15 +1,22 @@
--- Files, by their names, and what is found in them.
-use Rattle.std.specs.Prelude.{◌≡◌, ◌≢◌, ◌⊎◌, ℕ, List, codes, Result, Ok, Err, Vec, Bool, [], ◌∷◌, ◌++◌, map, String, string_bytes, option_to_list}
+-- Files, by their names, what is found in them, and which settings of two of them differ.
+use Rattle.std.specs.Prelude.{◌≡◌, ◌≢◌, ◌⊎◌, ℕ, List, codes, Result, Ok, Err, Vec, Bool, true, false, [], ◌∷◌, ◌++◌, map, if◌then◌else◌, Some, None, String, string_bytes, option_to_list}
 use Rattle.std.specs.declared.alloc.Global.{Global}
 use Rattle.settings_check.specs.declared.found.FileError.{FileError}
 use Rattle.settings_check.specs.declared.found.FileError.TheVariants.{NotFound, PermissionDenied, IsADirectory, Other}
-use Rattle.std.specs.List.{list_any}
-use Rattle.std.specs.Str.{bytes_eq}
 use Rattle.iox2_config.specs.declared.config.Config.{Config}
 use Rattle.config_report.specs.Findings.{Checks}
 use Rattle.config_report.specs.Notes.{Note, finding_view}
 use Rattle.config_report.specs.declared.finding.Finding.{Finding}
 use Rattle.config_report.specs.declared.finding.Findings.{Findings}
+use Rattle.config_report.specs.declared.finding.Severity.{Severity}
+use Rattle.config_report.specs.declared.finding.Severity.TheVariants.{Error, Warning}
+use Rattle.config_report.specs.Text.{TablesGive}
+use Rattle.iox2_config_file.specs.Read.{sections}
+use Rattle.iox2_config_file.specs.Settings.{prefix_of, Setting}
+use Rattle.iox2_config_file.specs.Values.{SettingValue}
+use Rattle.iox2_config_file.specs.Write.{value_text}
+use Rattle.iox2_config_file.specs.declared.section.Section.{Section}
+use Rattle.iox2_config_file.specs.declared.section.Section.TheVariants as section
 use Rattle.settings_check.specs.declared.found.Found.{Found}
 use Rattle.settings_check.specs.declared.found.Report.{Report}
 use Rattle.settings_check.specs.declared.found.Unread.{Unread}
@@ -119,6 +126,41 @@ AreFound Gives input (file ∷ files) seen =
     (first : Seen) × (others : Seen) × IsFound Gives input file first
     × AreFound Gives input files others × (seen ≡ both_seen first others)
 
--- the standard input is one of the files
-abbrev pub reads_input : List (String Global) → Bool
-reads_input files = list_any (λ file. bytes_eq (string_bytes file) (codes "-")) files
+-- all processes of one system share the settings of the table
+abbrev pub is_shared : Section → Bool
+is_shared section.Global = true
+is_shared section.Service = true
+is_shared section.Node = true
+is_shared other = false
+
+-- how much a difference weighs
+abbrev pub difference_severity : Section → Severity
+difference_severity s = if is_shared s then Error else Warning
+
+-- what is said of a setting that all processes share
+abbrev pub sharing_text : Section → List ℕ
+sharing_text s =
+    if is_shared s then codes ", and must be the same in all processes of one system" else []
+
+-- what is said of a setting that differs: its value in the file, and that in the other one
+abbrev pub difference : List ℕ → Section → List ℕ → SettingValue → SettingValue → Said
+difference file s key value other = (
+  file,
+  record {
+    position = None;
+    severity = difference_severity s;
+    key = Some (prefix_of s ++ key);
+    message = codes "is " ++ (value_text value ++ (codes " here and " ++ (value_text other
+        ++ (codes " in the other file" ++ sharing_text s))));
+  },
+)
+
+-- what is said of a setting beside that of the other file: something exactly where they differ
+abbrev pub IsDifference : List ℕ → Section → Setting → Setting → List Said → Type 0
+IsDifference file s x y said =
+    ((x.value ≡ y.value) × (said ≡ []))
+    ⊎ ((x.value ≢ y.value) × (said ≡ difference file s x.key x.value y.value ∷ []))
+
+-- what is said of all settings, in the order of the tables: those that all processes share first
+abbrev pub AreAllDifferences : List ℕ → Config → Config → List Said → Type 0
+AreAllDifferences file a b said = TablesGive (IsDifference file) a b sections said

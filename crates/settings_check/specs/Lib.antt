@@ -1,9 +1,7 @@
 -- Promises: what arguments request, what is found in files, how it is written, and what the streams
 -- of the program get.
 pub mod Answer
-pub mod Compare
 pub mod Found
 pub mod Lines
 pub mod Schema
-pub mod Streams
 pub mod Words

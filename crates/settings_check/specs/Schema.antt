@@ -8,6 +8,7 @@ use Rattle.iox2_config_file.specs.declared.section.Section.{Section}
 use Rattle.iox2_config_file.specs.declared.section.Section.TheVariants as section
 use Rattle.iox2_config_file.specs.Read.{row_view, rows_in, sections}
 use Rattle.iox2_config_file.specs.Settings.{prefix_of}
+use Rattle.iox2_config_file.specs.Write.{InTurn}
 use Rattle.settings_check.specs.declared.schema.TheConstants.{HEAD, DEFINITIONS, TAIL}
 
 -- what the value of a key may be, but for which table
@@ -76,20 +77,13 @@ name_of s = codes "  \"" ++ (prefix_of s ++ codes "\": {\n")
 abbrev pub definition_of : Section → List Row → List ℕ
 definition_of s rows = name_of s ++ (object_schema s rows ++ codes "},\n")
 
-abbrev pub HasDefinition : Section → List ℕ → List ℕ → Type 0
-HasDefinition s old new = (rows : List Row) × IsTable s rows × (new ≡ old ++ definition_of s rows)
-
--- some tables by their names
-abbrev pub AreDefinitions : List Section → List ℕ → Type 0
-AreDefinitions [] text = text ≡ []
-AreDefinitions (s ∷ ss) text =
-    (rows : List Row) × (more : List ℕ) × IsTable s rows
-    × AreDefinitions ss more × (text ≡ definition_of s rows ++ more)
+abbrev pub IsDefinition : Section → List ℕ → Type 0
+IsDefinition s text = (rows : List Row) × IsTable s rows × (text ≡ definition_of s rows)
 
 -- the whole: the top of the file, and the other tables
 abbrev pub IsSchema : List ℕ → Type 0
 IsSchema text =
     (rows : List Row) × (others : List ℕ)
-    × IsTable section.Root rows × AreDefinitions (drop 1 sections) others
+    × IsTable section.Root rows × InTurn IsDefinition (drop 1 sections) others
     × (text ≡ HEAD.now ++ (object_schema section.Root rows
     ++ (DEFINITIONS.now ++ (others ++ TAIL.now))))

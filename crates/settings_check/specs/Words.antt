@@ -22,9 +22,9 @@ abbrev pub is_file_word : List ℕ → Bool
 is_file_word (a ∷ b ∷ rest) = not (nat_eq a 45)
 is_file_word other = true
 
--- what an option is
-abbrev pub option_of : List ℕ → Word
-option_of w =
+-- what a word is that names no file
+abbrev pub word_of : List ℕ → Word
+word_of w =
     if bytes_eq w (codes "--strict") then word.Strict
     else (if bytes_eq w (codes "--format") then word.Format
     else (if bytes_eq w (codes "--show") then word.Task task.Show
@@ -34,10 +34,6 @@ option_of w =
     else (if bytes_eq w (codes "--help") then word.Task task.Help
     else (if bytes_eq w (codes "--version") then word.Task task.Version
     else word.Unknown)))))))
-
--- what a word is
-abbrev pub word_of : List ℕ → Word
-word_of w = if is_file_word w then word.File else option_of w
 
 -- no option is chosen
 abbrev pub none_chosen : Chosen
@@ -58,7 +54,6 @@ option_with o word.Strict = Some (record o { strict = true })
 option_with o word.Format =
     if is_some o.format then None else Some (record o { awaits_format = true })
 option_with o (word.Task t) = if is_some o.task then None else Some (record o { task = Some t })
-option_with o word.File = None
 option_with o word.Unknown = None
 
 -- what is chosen with one word more, which names no file

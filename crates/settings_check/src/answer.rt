@@ -1,31 +1,36 @@
-//! What is answered to a request.
-ghost use Rattle.std.specs.Prelude.{◌≡◌, ◌++◌, IfOk, OnOk, List, option_copied, string_bytes};
+//! The program: files come by their names, and what is answered to a request goes to writers.
+ghost use Rattle.std.specs.Prelude.{◌≡◌, ◌++◌, ◌<◌, ◌⊎◌, true, IfErr, IfOk, OnOk, List, option_copied};
+ghost use Rattle.std.specs.Prelude.{string_bytes};
+ghost use Rattle.std.specs.Io.KnownBytes.{IsAtEnd};
 ghost use Rattle.line_streams.specs.Filters.{status_number};
-ghost use Rattle.settings_check.specs.Answer.{IsDefaultAnswer, IsSchemaAnswer, status_of, end_text};
-ghost use Rattle.settings_check.specs.Answer.{IsChecked, IsTextOf, IsShown, AreCompared};
-ghost use Rattle.settings_check.specs.Answer.{AddsCompared, AnswersFiles, IsTextAnswer};
-ghost use Rattle.settings_check.specs.Answer.{AnswersRequest, IsRefusedAnswer, Answers};
+ghost use Rattle.line_streams.specs.Streams.{Fails, IsFlushed, ReadFails};
+ghost use Rattle.settings_check.specs.Answer.{status_of, end_text, IsChecked, IsTextOf, IsShown};
+ghost use Rattle.settings_check.specs.Answer.{AreCompared, AddsCompared, AnswersFiles};
+ghost use Rattle.settings_check.specs.Answer.{IsDefaultAnswer, IsRefusedAnswer, IsSchemaAnswer, IsTextAnswer, Answers};
+ghost use Rattle.settings_check.specs.Answer.{IsInput, reads_input, input_is_read, AnswersArguments, Reported};
+ghost use Rattle.settings_check.specs.Answer.{Ends, RefusesMemory};
 ghost use Rattle.settings_check.specs.Found.{Said, found_view, reports_of};
 
-use crate::arguments::{Request, RequestError, Task};
-use crate::compare::add_differences;
-use crate::found::{Files, Found, Report, find_in};
+use crate::arguments::{Request, RequestError, Task, request_of};
+use crate::found::{Files, Found, Report, add_differences, find_in};
 use crate::lines::{
     Style, errors_in, style_of, warnings_in, write_counts, write_lines, write_unread,
 };
 use crate::schema::schema;
 use config_report::{default_file, settings_text};
 use iox2_config::config::Config;
-use line_streams::{Outcome, Sink, Status, write_whole};
+use line_streams::{Outcome, Sink, Source, Status, read_all, write_outcome, write_whole};
 use std::alloc::{AllocError, Global};
+use std::env::Args;
 use std::io;
+use std::io::Error;
 
 /// What is written, and the status.
 #[derive(Drop)]
-pub(crate) struct Answer {
-    pub(crate) output: String,
-    pub(crate) errors: String,
-    pub(crate) status: Status,
+struct Answer {
+    output: String,
+    errors: String,
+    status: Status,
 }
 
 impl Outcome for Answer {
@@ -49,7 +54,7 @@ impl Outcome for Answer {
 }
 
 /// How the program is used.
-pub(crate) const HELP: &str = "usage: iox2-check [--strict] [--format text|json] FILE..
+const HELP: &str = "usage: iox2-check [--strict] [--format text|json] FILE..
        iox2-check --show FILE
        iox2-check --compare FILE FILE
        iox2-check --default > iceoryx2.toml
@@ -74,10 +79,10 @@ that cannot be read, 3 where memory was refused or a stream failed. docs/CONFIG.
 ";
 
 /// The version of the program, and that of the iceoryx2 whose files it checks.
-pub(crate) const VERSION: &str = "iox2-check 0.1.0 (iceoryx2 0.9.3)\n";
+const VERSION: &str = "iox2-check 0.1.0 (iceoryx2 0.9.3)\n";
 
 /// What is said of bad arguments.
-pub(crate) const BAD_ARGUMENTS: &str =
+const BAD_ARGUMENTS: &str =
     "bad arguments: expected FILE.., --show FILE, --compare FILE FILE, --default, --schema, --help \
      or --version; for files also --strict, --format text or --format json\n";
 
@@ -239,28 +244,6 @@ fn schema_answer(alloc: Global) -> Result<Answer, AllocError>
     Ok(text_answer(alloc, text))
 }
 
-/// What is requested is answered.
-fn answer_request<F: Files>(
-    alloc: Global,
-    coloured: bool,
-    files: &F,
-    input: &[u8],
-    request: &Request,
-) -> Result<Answer, AllocError>
-    ensures { IfOk result
-        (AnswersRequest request.now.task (F.Gives files.now) coloured input.now request.now) }
-{
-    match request.task {
-        Task::DefaultFile => default_answer(alloc),
-        Task::Schema => schema_answer(alloc),
-        Task::Help => Ok(text_answer(alloc, String::from_str(alloc, HELP)?)),
-        Task::Version => Ok(text_answer(alloc, String::from_str(alloc, VERSION)?)),
-        Task::Check | Task::Show | Task::Compare => {
-            answer_files(alloc, coloured, files, input, request)
-        }
-    }
-}
-
 /// Bad arguments are reported.
 fn refused(alloc: Global) -> Result<Answer, AllocError>
     ensures { IfOk result IsRefusedAnswer }
@@ -273,7 +256,7 @@ fn refused(alloc: Global) -> Result<Answer, AllocError>
 }
 
 /// What is answered to arguments. `Err` where memory is refused.
-pub(crate) fn respond<F: Files>(
+fn respond<F: Files>(
     alloc: Global,
     coloured: bool,
     files: &F,
@@ -283,8 +266,137 @@ pub(crate) fn respond<F: Files>(
     ensures { IfOk result (Answers (F.Gives files.now) coloured input.now asked.now) }
 {
     match asked {
-        Ok(request) => answer_request(alloc, coloured, files, input, request),
+        Ok(request) => match request.task {
+            Task::DefaultFile => default_answer(alloc),
+            Task::Schema => schema_answer(alloc),
+            Task::Help => Ok(text_answer(alloc, String::from_str(alloc, HELP)?)),
+            Task::Version => Ok(text_answer(alloc, String::from_str(alloc, VERSION)?)),
+            Task::Check | Task::Show | Task::Compare => {
+                answer_files(alloc, coloured, files, input, request)
+            }
+        },
         Err(RequestError::BadArguments) => refused(alloc),
         Err(RequestError::NoMemory) => Err(AllocError),
     }
+}
+
+/// Whether the standard input is one of the files.
+fn reads_input(names: &[String]) -> bool
+    ensures { result ≡ reads_input names.now }
+{
+    names.iter().any(|name| name.as_str() == "-")
+}
+
+/// Whether a request reads the standard input.
+fn reads(asked: &Result<Request, RequestError>) -> bool
+    ensures { result ≡ input_is_read asked.now }
+{
+    match asked {
+        Ok(request) => reads_input(request.files.as_slice()),
+        Err(_) => false,
+    }
+}
+
+/// The standard input where it is one of the files, and else no bytes.
+fn input_for<R: Source>(
+    alloc: Global,
+    asked: &Result<Request, RequestError>,
+    input: &mut R,
+) -> io::Result<Result<Vec<u8>, AllocError>>
+    ensures given { IfOk result (λ read. IfOk read (λ bytes.
+        IsInput asked.now (R.remaining input.old) bytes.items)) }
+    ensures read { IfOk result (λ read. OnOk read
+        (input_is_read asked.now ≡ true → IsAtEnd (R.remaining input.new))) }
+    ensures failed { IfErr result (ReadFails R.FailsBy input.new) }
+{
+    if reads(asked) {
+        read_all(alloc, input)
+    } else {
+        Ok(Ok(Vec::new(alloc)))
+    }
+}
+
+/// What is answered to the arguments.
+fn answered<R: Source, F: Files>(
+    alloc: Global,
+    coloured: bool,
+    files: &F,
+    asked: &Result<Request, RequestError>,
+    input: &mut R,
+) -> io::Result<Result<Answer, AllocError>>
+    ensures answered { IfOk result (λ end. IfOk end (AnswersArguments (F.Gives files.now)
+        coloured asked.now (R.remaining input.old))) }
+    ensures read { IfOk result (λ end. OnOk end
+        (input_is_read asked.now ≡ true → IsAtEnd (R.remaining input.new))) }
+    ensures failed { IfErr result (ReadFails R.FailsBy input.new) }
+{
+    match input_for(alloc, asked, input)? {
+        Ok(bytes) => Ok(respond(alloc, coloured, files, &bytes, asked)),
+        Err(refused) => Ok(Err(refused)),
+    }
+}
+
+/// Does what is requested, and returns the status unless a stream fails.
+fn run<R: Source, W: Sink, E: Sink, F: Files>(
+    alloc: Global,
+    coloured: bool,
+    arguments: io::Result<Args>,
+    files: &F,
+    input: &mut R,
+    output: &mut W,
+    errors: &mut E,
+) -> io::Result<u8>
+    ensures ends { IfOk result (λ status. Ends (F.Gives files.now) coloured arguments status
+        (R.remaining input.old) (R.remaining input.new)
+        (W.contents output.old) (W.contents output.new)
+        (E.contents errors.old) (E.contents errors.new)) }
+    ensures flushed { OnOk result
+        (IsFlushed W.Flushes output.new × IsFlushed E.Flushes errors.new) }
+    ensures failed { IfErr result (λ e. ReadFails R.FailsBy input.new e
+        ⊎ (Fails W.Writes W.FailsToFlush output.new e
+        ⊎ Fails E.Writes E.FailsToFlush errors.new e)) }
+{
+    let asked = request_of(alloc, arguments);
+    let end = answered(alloc, coloured, files, &asked, input)?;
+    write_outcome(output, errors, &end)
+}
+
+/// Checks files of settings, shows or compares their settings, or writes the default file or the
+/// schema, as the arguments request, and returns the status of the program. The first argument is
+/// the program's name. Files are read by `files`, and the name `-` is `input`. With `coloured`, the
+/// lines of findings on `output` are in colour.
+///
+/// - 0: what was requested was written to `output`. No file has an error, or, with `--strict`, a
+///   warning.
+/// - 1: the same, and a file has an error, or, with `--strict`, a warning.
+/// - 2: the arguments are bad, or a file cannot be read: `errors` has a line for that.
+/// - 3: memory was refused: nothing was written to `output`, and `no memory` to `errors`. Or a
+///   read, a write or a flush failed, for any cause, and nothing was written after it.
+pub fn check_streams<R: Source, W: Sink, E: Sink, F: Files>(
+    alloc: Global,
+    coloured: bool,
+    arguments: io::Result<Args>,
+    files: &F,
+    input: &mut R,
+    output: &mut W,
+    errors: &mut E,
+) -> u8
+    ensures range { result < 4 }
+    // A status below 3 says what was found, and the writers got what fits it.
+    ensures reported { result < 3 → Reported (F.Gives files.now) coloured arguments result
+        (R.remaining input.old) (R.remaining input.new)
+        (W.contents output.old) (W.contents output.new)
+        (E.contents errors.old) (E.contents errors.new) }
+    // Both writers were flushed last.
+    ensures flushed { result < 3
+        → IsFlushed W.Flushes output.new × IsFlushed E.Flushes errors.new }
+    // Memory was refused, or a read, a write or a flush failed, and that stream was left as it was.
+    ensures failed { result ≡ 3
+        → RefusesMemory (W.contents output.old) (W.contents output.new)
+        (E.contents errors.old) (E.contents errors.new)
+        ⊎ ((e : Error) × (ReadFails R.FailsBy input.new e
+        ⊎ (Fails W.Writes W.FailsToFlush output.new e
+        ⊎ Fails E.Writes E.FailsToFlush errors.new e))) }
+{
+    run(alloc, coloured, arguments, files, input, output, errors).unwrap_or(3)
 }

@@ -1,7 +1,7 @@
 //! What the arguments of the program request.
 ghost use Rattle.std.specs.Prelude.{◌≡◌, ◌∷◌, ◌++◌, [], ℕ, List, None, IfOk, IfErr, drop};
 ghost use Rattle.std.specs.Prelude.{string_bytes};
-ghost use Rattle.settings_check.specs.Words.{word_of, is_file_word, none_chosen, names_file};
+ghost use Rattle.settings_check.specs.Words.{word_of, names_file};
 ghost use Rattle.settings_check.specs.Words.{chosen_with, format_with, option_with, said, after_files};
 ghost use Rattle.settings_check.specs.Words.{fits, IsBadArguments, Requests, RequestsIn, RequestsWith};
 ghost use Rattle.settings_check.specs.Words.{texts_of, words_of};
@@ -39,11 +39,9 @@ pub(crate) enum Task {
     Version,
 }
 
-/// A word of the command line.
+/// A word of the command line that names no file.
 #[derive(Clone, Copy)]
 pub(crate) enum Word {
-    /// The name of a file, or `-`.
-    File,
     /// `--strict`.
     Strict,
     /// `--format`, which a format follows.
@@ -85,23 +83,10 @@ pub(crate) enum RequestError {
     NoMemory,
 }
 
-/// Whether a word is the name of a file: it begins with no dash, or is `-` alone.
-fn is_file_word(word: &str) -> bool
-    ensures { result ≡ is_file_word word.now }
-{
-    match word.as_bytes() {
-        [b'-', _, ..] => false,
-        _ => true,
-    }
-}
-
 /// What a word is.
 fn word_of(word: &str) -> Word
     ensures { result ≡ word_of word.now }
 {
-    if is_file_word(word) {
-        return Word::File;
-    }
     match word {
         "--strict" => Word::Strict,
         "--format" => Word::Format,
@@ -112,18 +97,6 @@ fn word_of(word: &str) -> Word
         "--help" => Word::Task(Task::Help),
         "--version" => Word::Task(Task::Version),
         _ => Word::Unknown,
-    }
-}
-
-/// No options.
-fn none_chosen() -> Chosen
-    ensures { result ≡ none_chosen }
-{
-    Chosen {
-        strict: false,
-        format: None,
-        task: None,
-        awaits_format: false,
     }
 }
 
@@ -169,11 +142,11 @@ fn chosen_with(chosen: Chosen, word: &str) -> Option<Chosen>
     }
 }
 
-/// Whether a word names a file, where no format is awaited.
+/// Whether a word names a file: no format is awaited, and it begins with no dash, or is `-` alone.
 fn names_file(chosen: Chosen, word: &str) -> bool
     ensures { result ≡ names_file chosen word.now }
 {
-    !chosen.awaits_format && is_file_word(word)
+    !chosen.awaits_format && !matches!(word.as_bytes(), [b'-', _, ..])
 }
 
 /// Takes the name of a file.
@@ -235,28 +208,25 @@ fn request_with(chosen: Chosen, files: Vec<String>) -> Result<Request, RequestEr
     })
 }
 
-/// What words request.
-#[tactic(auto, using(crate::proofs::Lists::nothing_left, crate::proofs::Saying::words_end))]
-fn request_in(alloc: Global, words: Args) -> Result<Request, RequestError>
-    ensures { RequestsIn (words_of words) result }
-{
-    let mut files = Vec::new(alloc);
-    let mut chosen = none_chosen();
-    for word in words {
-        chosen = take_word(chosen, &mut files, word)?;
-    }
-    request_with(chosen, files)
-}
-
 /// What the words after the first request.
-#[tactic(auto, using(crate::proofs::Saying::drop_first))]
-fn request_after(alloc: Global, words: Args) -> Result<Request, RequestError>
+#[tactic(auto, using(crate::proofs::Lists::nothing_left, crate::proofs::Saying::words_end, crate::proofs::Saying::drop_first))]
+fn request_in(alloc: Global, words: Args) -> Result<Request, RequestError>
     ensures { RequestsIn (drop 1 (words_of words)) result }
 {
     let mut words = words;
     // The program's name requests nothing.
     let _program = words.next();
-    request_in(alloc, words)
+    let mut files = Vec::new(alloc);
+    let mut chosen = Chosen {
+        strict: false,
+        format: None,
+        task: None,
+        awaits_format: false,
+    };
+    for word in words {
+        chosen = take_word(chosen, &mut files, word)?;
+    }
+    request_with(chosen, files)
 }
 
 /// What the arguments request. The first is the program's name.
@@ -267,7 +237,7 @@ pub(crate) fn request_of(
     ensures { Requests arguments result }
 {
     match arguments {
-        Ok(words) => request_after(alloc, words),
+        Ok(words) => request_in(alloc, words),
         Err(why) if why.kind() == ErrorKind::OutOfMemory => Err(RequestError::NoMemory),
         Err(_) => Err(RequestError::BadArguments),
     }

@@ -4,11 +4,9 @@
 
 mod answer;
 mod arguments;
-mod compare;
 mod found;
 mod lines;
 mod schema;
-mod streams;
 
+pub use answer::check_streams;
 pub use found::{FileError, Files};
-pub use streams::check_streams;

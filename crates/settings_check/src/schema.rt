@@ -1,8 +1,9 @@
 //! The JSON Schema of files of settings.
 ghost use Rattle.std.specs.Prelude.{◌≡◌, ◌++◌, ℕ, List, true, IfOk, OnOk, string_bytes};
 ghost use Rattle.settings_check.specs.Schema.{kind_schema, reference, value_schema, property};
-ghost use Rattle.settings_check.specs.Schema.{comma_if, properties, name_of, HasObject, HasDefinition};
-ghost use Rattle.settings_check.specs.Schema.{AreDefinitions, IsSchema};
+ghost use Rattle.settings_check.specs.Schema.{comma_if, properties, name_of, HasObject, IsDefinition};
+ghost use Rattle.settings_check.specs.Schema.{IsSchema};
+ghost use Rattle.iox2_config_file.specs.Write.{InTurn};
 
 use iox2_config_file::{Kind, Row, SECTIONS, Section, rows};
 use std::alloc::{AllocError, Global};
@@ -140,7 +141,8 @@ fn write_name(out: &mut String, section: Section) -> Result<(), AllocError>
 
 /// Appends a table by its name.
 fn write_definition(out: &mut String, section: Section) -> Result<(), AllocError>
-    ensures { OnOk result (HasDefinition section (string_bytes out.old) (string_bytes out.new)) }
+    ensures { OnOk result ((text : List ℕ)
+        × (string_bytes out.new ≡ string_bytes out.old ++ text) × IsDefinition section text) }
 {
     write_name(out, section)?;
     write_object(out, section)?;
@@ -149,11 +151,11 @@ fn write_definition(out: &mut String, section: Section) -> Result<(), AllocError
 }
 
 /// Appends some tables.
-#[tactic(auto, using(crate::proofs::Defining::definitions_end))]
+#[tactic(auto, using(iox2_config_file::proofs::Rowed::turns_end))]
 fn write_definitions(out: &mut String, sections: &[Section]) -> Result<(), AllocError>
     ensures { OnOk result ((text : List ℕ)
         × (string_bytes out.new ≡ string_bytes out.old ++ text)
-        × AreDefinitions sections.now text) }
+        × InTurn IsDefinition sections.now text) }
 {
     for section in sections {
         write_definition(out, *section)?;

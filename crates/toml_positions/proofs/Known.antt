@@ -1,13 +1,77 @@
--- What is known of the positions of paths as a text is gone over.
-use Rattle.std.proofs.Common.{◌≡◌, ℕ, zero, suc, ◌-◌, ◌<◌, Bool, true, false, List, ◌∷◌, Option, Some, None, refl, ap, ◌∙◌, arith}
+-- What a text that is TOML goes on with, a line at a time, and what is known of the positions of
+-- paths as it is gone over.
+use Rattle.std.proofs.Common.{◌≡◌, ℕ, zero, suc, ◌-◌, ◌<◌, ◌==◌, Bool, true, false, List, [], ◌∷◌, length, Option, Some, None, option_and_then, IsSome, refl, ap, ◌∙◌, arith}
 use Rattle.std.specs.Option.{option_or}
-use Rattle.std.specs.Prelude.{if◌then◌else◌, is_some}
-use Rattle.toml_parser.specs.Lexical.{skip_blank}
-use Rattle.toml.specs.Tables.{Expression}
-use Rattle.toml.specs.Parse.{line}
+use Rattle.std.specs.Prelude.{if◌then◌else◌, is_some, option_map}
+use Rattle.std.proofs.lemmas.Bool.{false≢true}
+use Rattle.std.proofs.lemmas.Bool.Decides.{nat_tests}
+use Rattle.std.proofs.lemmas.Option.{none-some, option_and_then_some}
+use Rattle.toml_parser.specs.Lexical.{Read, skip_blank, skip_ws}
+use Rattle.toml.specs.Tables.{Document, Expression, define, no_nodes, close}
+use Rattle.toml.specs.Parse.{line, lines, expression, ends_line, skip_bom, parse_document}
 use Rattle.toml_positions.specs.Position.{position_of}
 use Rattle.toml_positions.specs.declared.position.Position.{Position}
 use Rattle.toml_positions.specs.Written.{Written, written, written_below, writes, seen, path_below, header_after, past_brackets, first_position, marked}
+
+-- a text that goes on with a line
+pub record Line (m : ℕ) (doc final : Document) (text : List ℕ) : Type 0 where
+  pub e : Expression
+  pub after : List ℕ
+  pub next : Document
+  pub some : 0 < m
+  pub read : line (skip_blank text) ≡ Some (e, after)
+  pub rest : lines (m - 1) next after ≡ Some final
+
+pub line_of : (m : ℕ) (doc final : Document) (text : List ℕ)
+    → (length (skip_blank text) == 0) ≡ false → lines m doc text ≡ Some final
+    → Line m doc final text
+unfolding lines
+line_of zero doc final text other is = absurd (none-some final is)
+line_of (suc m) doc final text other is =
+    let less : suc m - 1 ≡ m = omega arith in
+    option_and_then_some
+    (λ e. option_and_then (λ next. lines m next e.1) (define doc e.0)) (line (skip_blank text))
+    final (rw other at is) (λ e read more.
+    option_and_then_some (λ next. lines m next e.1) (define doc e.0) final more
+    (λ next made rest. record {
+      e = e.0;
+      after = e.1;
+      next = next;
+      some = omega arith;
+      read = read;
+      rest = rw less rest;
+    }))
+
+ended : (text : List ℕ) (r e : Expression × List ℕ) (b : Bool) → expression text ≡ Some r
+    → (if b then Some r else None) ≡ Some e → expression text ≡ Some e
+ended text r e true read is = read ∙ is
+ended text r e false read is = absurd (none-some e is)
+
+-- a line begins with its expression
+pub line_expression : (text : List ℕ) (e : Expression × List ℕ) → line text ≡ Some e
+    → expression text ≡ Some e
+unfolding line
+line_expression text e is =
+    option_and_then_some (λ r. if ends_line (skip_ws r.1) then Some r else None)
+    (expression text) e is (λ r read ends. ended text r e (ends_line (skip_ws r.1)) read ends)
+
+some_of : {A B : Type 0} (f : A → B) (o : Option A) → IsSome (option_map f o)
+    → (x : A) × (o ≡ Some x)
+some_of f None h = absurd (false≢true h)
+some_of f (Some x) h = (x, refl)
+
+-- a text that is TOML is read to its end
+pub document_lines : (text : List ℕ) → IsSome (parse_document text)
+    → (final : Document) × (lines (suc (length text)) (no_nodes, []) (skip_bom text) ≡ Some final)
+unfolding parse_document
+document_lines text some = some_of (λ doc. close doc.0) _ some
+
+pub not_empty : (n k : ℕ) → k < n → (n == 0) ≡ false
+not_empty n k less = grind (arith, nat_tests)
+
+pub no_line : (o : Read Expression) → ((e : Expression × List ℕ) → o ≡ Some e → ⊥) → o ≡ None
+no_line None refuted = refl
+no_line (Some e) refuted = absurd (refuted e refl)
 
 -- one expression more
 below : (m : ℕ) (header : List (List ℕ)) (text after : List ℕ) (e : Expression) → 0 < m

@@ -1,3 +1,3 @@
 mod Known
+mod Passed
 mod Paths
-mod Steps

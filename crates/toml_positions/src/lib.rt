@@ -5,7 +5,6 @@
 //! paths is first written.
 #![tactic(auto)]
 
-mod expression;
 mod position;
 
 pub use position::{KeyPath, Position, position_after, positions_of};

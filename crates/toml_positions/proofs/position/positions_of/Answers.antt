@@ -7,12 +7,12 @@ use Rattle.std.specs.Option.{option_or}
 use Rattle.toml_parser.specs.Lexical.{skip_blank}
 use Rattle.toml_parser.specs.Reading.{key_view, path_view as keys_view}
 use Rattle.toml.specs.Tables.{no_nodes}
-use Rattle.toml.specs.Parse.{line, lines, expression}
-use Rattle.toml_positions.specs.Reading.{head_view, seen_view}
+use Rattle.toml.specs.Parse.{line, lines}
+use Rattle.toml_positions.specs.Reading.{head_view, seen_in, seen_view}
 use Rattle.toml_positions.specs.Written.{path_view, position_in, seen, header_after, path_below, past_brackets, written, written_below, marked, first_position}
-use Rattle.toml_positions.proofs.Known.{known_step, known_all, none_below}
+use Rattle.toml_positions.proofs.Known.{document_lines, line_of, line_expression, no_line, not_empty, known_step, known_all, none_below}
+use Rattle.toml_positions.proofs.Passed.{seen_is}
 use Rattle.toml_positions.proofs.Paths.{all_by_index}
-use Rattle.toml_positions.proofs.Steps.{document_lines, line_of, line_expression, no_line, not_empty}
 use Rattle.toml_positions.proofs.position.positions_of.Goals as goal
 
 pub expressions-init : goal.expressions-init
@@ -43,8 +43,9 @@ returns-in_default c some =
     let ended : line (skip_blank l.rest.now) ≡ None = no_line (line (skip_blank l.rest.now))
     (λ e is.
     let read = line_expression (skip_blank l.rest.now) e is in
-    let reported = c.in_ok-head.ensures.value (seen_view e)
-    (rw start_is (ap (λ o. option_map seen_view o) read)) in
+    let reported = c.in_ok-head.ensures.value
+    ∙ subst (λ t. seen_in t ≡ Some (seen_view e)) (sym start_is)
+    (seen_is (skip_blank l.rest.now) e read) in
     none-some _ (sym (ap (λ o. option_map head_view o) c.in_default.is) ∙ reported)) in
     let (m, doc, final, is, known) = l.invariant.4 some in
     all_by_index (λ path. position_in text path) l.found.items (map path_view paths)
@@ -77,10 +78,9 @@ expressions-preserved c =
           longer in
           let line = line_of m doc final l.rest.now other is in
           let read = line_expression (skip_blank l.rest.now) (line.e, line.after) line.read in
-          let there : expression c.skip_blank-start.result.now ≡ Some (line.e, line.after) =
-          subst (λ t. expression t ≡ Some (line.e, line.after)) (sym start_is) read in
-          let reported = c.in_ok-head.ensures.value (seen_view (line.e, line.after))
-          (ap (λ o. option_map seen_view o) there) in
+          let reported = c.in_ok-head.ensures.value
+          ∙ subst (λ t. seen_in t ≡ Some (seen_view (line.e, line.after))) (sym start_is)
+          (seen_is (skip_blank l.rest.now) (line.e, line.after) read) in
           let both : ◌≡◌ {A = ((List (List ℕ) × List ℕ) × _) × List ℕ}
           ((key_view c.in-Some.head.key, c.in-Some.head.pair), c.in-Some.after.now)
           (seen line.e, line.after) =
