@@ -1,6 +1,8 @@
 -- How many chunks the data segment of a port needs.
 use Rattle.std.specs.Prelude.{◌≡◌, ℕ, List, Option, Some, None, false}
-use Rattle.iox2sd_values.specs.Prelude.{CountAnswer, PublishSubscribe, RequestResponse}
+use Rattle.iox2_static.specs.declared.static_config.publish_subscribe.StaticConfig.{StaticConfig as PublishSubscribe}
+use Rattle.iox2_static.specs.declared.static_config.request_response.StaticConfig.{StaticConfig as RequestResponse}
+use Rattle.iox2sd_values.specs.Prelude.{CountAnswer}
 use Rattle.iox2_config.specs.DefaultTypes.{default_details}
 use Rattle.iox2_static.specs.Chunks.{TellsGreatest}
 use Rattle.iox2sd_common.specs.Answers.{count_answer}

@@ -1,6 +1,8 @@
 -- What is fixed of a service, as plain values, from its name and settings.
 use Rattle.std.specs.Prelude.{◌≡◌, ◌↔◌, ℕ, false, IsTrue, Option, Some, None, Err, length, Bool, List, [], ◌∷◌, Result, Ok}
-use Rattle.iox2sd_values.specs.Prelude.{BlackboardConfig, BlackboardSettings, EventConfig, EventSettings, Field, FieldAnswer, IllegalText, PatternKind, PublishSubscribe, PublishSubscribeConfig, PublishSubscribeSettings, ReadsBlackboard, ReadsEvent, ReadsPattern, ReadsPublishSubscribe, ReadsRequestResponse, RequestResponse, RequestResponseConfig, RequestResponseSettings, Status, blackboard_of, code, duration_of, event_of, no_field, pattern_number, refusal_answer, sha1_text}
+use Rattle.iox2_static.specs.declared.static_config.publish_subscribe.StaticConfig.{StaticConfig as PublishSubscribe}
+use Rattle.iox2_static.specs.declared.static_config.request_response.StaticConfig.{StaticConfig as RequestResponse}
+use Rattle.iox2sd_values.specs.Prelude.{BlackboardConfig, BlackboardSettings, EventConfig, EventSettings, Field, FieldAnswer, IllegalText, PatternKind, PublishSubscribeConfig, PublishSubscribeSettings, ReadsBlackboard, ReadsEvent, ReadsPattern, ReadsPublishSubscribe, ReadsRequestResponse, RequestResponseConfig, RequestResponseSettings, Status, blackboard_of, code, duration_of, event_of, no_field, pattern_number, refusal_answer, sha1_text}
 use Rattle.iox2_static.specs.Description.{Description, Describes}
 use Rattle.iox2_static.specs.MessagingPattern.{kind_of}
 use Rattle.iox2_static.specs.declared.static_config.messaging_pattern.MessagingPattern.{MessagingPattern}

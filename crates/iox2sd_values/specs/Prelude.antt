@@ -5,8 +5,6 @@ pub use Rattle.iox2_config.specs.declared.hash.input.PatternKind.{PatternKind}
 pub use Rattle.iox2_config.specs.declared.hash.service_hash.ServiceHashError.TheVariants.{IllegalText}
 pub use Rattle.iox2_static.specs.Blackboard.{blackboard_of}
 pub use Rattle.iox2_static.specs.Event.{duration_of, event_of}
-pub use Rattle.iox2_static.specs.declared.static_config.publish_subscribe.StaticConfig.{StaticConfig as PublishSubscribe}
-pub use Rattle.iox2_static.specs.declared.static_config.request_response.StaticConfig.{StaticConfig as RequestResponse}
 pub use Rattle.iox2_texts.specs.Name.{IsAllowed, IsName, MakesLegal, MakesName, MakesPublicName, MakesServiceName}
 pub use Rattle.iox2_texts.specs.Path.{EndsPlain, IsPlain, IsRestricted, MakesJoined, is_restricted}
 pub use Rattle.iox2_texts.specs.declared.bounded.SemanticStringError.{SemanticStringError}

@@ -1,6 +1,13 @@
 -- The id of a reply is read in one way. The law of the phrase cites it.
-use Rattle.service_conformance.specs.Prelude.{All-cons, All-head, All-nil, All-tail, AllDigits, HasNo, IsNumeral, OneWay, ap, arith, cons_same, digit_value, digits_is_IsNumeral, digits_value, hexadecimal, nat_tests, refl, sym, ◌∙◌}
-use Rattle.std.proofs.Common.{◌≡◌, ◌≢◌, ℕ, ◌<◌, ◌≤◌, false, List, [], ◌∷◌, ◌++◌, get_or}
+use Rattle.std.proofs.Common.{◌≡◌, ◌≢◌, ℕ, ◌<◌, ◌≤◌, false, List, [], ◌∷◌, ◌++◌, get_or, refl, sym, ◌∙◌, ap, arith}
+use Rattle.std.proofs.lemmas.Bool.Decides.{nat_tests}
+use Rattle.std.proofs.lemmas.Fmt.{digits_is_IsNumeral}
+use Rattle.std.proofs.lemmas.List.Elements.{All-cons, All-head, All-nil, All-tail}
+use Rattle.std.specs.Char.{digit_value}
+use Rattle.std.specs.Str.Parse.{AllDigits, IsNumeral, digits_value}
+use Rattle.iox2_ids.specs.Packing.{hexadecimal}
+use Rattle.line_streams.specs.Numerals.{cons_same}
+use Rattle.line_streams.specs.Spelling.{HasNo, OneWay}
 use Rattle.service_conformance.specs.Seen.{EndsWord, IsIdNumber, printed_id}
 
 digit_from : (c : ℕ) → digit_value c < 16 → 48 ≤ c

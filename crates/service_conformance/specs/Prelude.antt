@@ -20,8 +20,7 @@ pub use Rattle.iox2_dynamic.specs.declared.dynamic_config.answers.DeregisterNode
 pub use Rattle.iox2_dynamic.specs.declared.dynamic_config.port_details.PortDetails.{PortDetails}
 pub use Rattle.iox2_ids.specs.Packing.{hexadecimal}
 pub use Rattle.iox2_ids.specs.PortId.{port_value}
-pub use Rattle.line_streams.specs.Numerals.{cons_same}
-pub use Rattle.line_streams.specs.Spelling.{HasNo, OneWay, Spelling}
+pub use Rattle.line_streams.specs.Spelling.{Spelling}
 pub use Rattle.service_descriptions.specs.Handles.{KeepsHandles, named}
 pub use Rattle.service_descriptions.specs.Lines.{plain_of}
 pub use Rattle.service_descriptions.specs.Replies.{IsSameReply, id_word, text_of}
@@ -29,13 +28,7 @@ pub use Rattle.service_descriptions.specs.Steps.{Run, Serves, State}
 pub use Rattle.service_descriptions.specs.declared.replay.machine.command.Cleanup.TheVariants.{ByPort}
 pub use Rattle.service_descriptions.specs.declared.replay.machine.command.Command.{Command}
 pub use Rattle.service_descriptions.specs.declared.replay.machine.reply.Reply.{Reply}
-pub use Rattle.std.proofs.Common.{ap, arith, refl, sym, ◌∙◌}
-pub use Rattle.std.proofs.lemmas.Bool.Decides.{nat_tests}
-pub use Rattle.std.proofs.lemmas.Fmt.{digits_is_IsNumeral}
-pub use Rattle.std.proofs.lemmas.List.Elements.{All-cons, All-head, All-nil, All-tail}
-pub use Rattle.std.specs.Char.{digit_value}
 pub use Rattle.std.specs.Fmt.{decimal}
 pub use Rattle.std.specs.List.{AllByRecursion, Contains, filter_map, flat_map, list_any}
 pub use Rattle.std.specs.Option.{option_map}
 pub use Rattle.std.specs.Prelude.{All, Bool, List, None, Option, Some, [], codes, drop, false, filter, get_or, if◌then◌else◌, length, map, not, slice_get, take, true, ℕ, ◌&&◌, ◌++◌, ◌+◌, ◌<◌, ◌==◌, ◌^◌, ◌↔◌, ◌∷◌, ◌≡◌, ◌≢◌, ◌≤◌}
-pub use Rattle.std.specs.Str.Parse.{AllDigits, IsNumeral, digits_value}
