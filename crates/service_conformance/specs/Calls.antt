@@ -1,5 +1,6 @@
 -- Calls as they were seen, and what they do.
-use Rattle.service_conformance.specs.Prelude.{Command, Handle, IsService, List, None, Option, Reply, Serves, Service, Some, [], option_map, slice_get, text_of, ℕ, ◌+◌, ◌<◌, ◌↔◌, ◌∷◌, ◌≡◌}
+use Rattle.std.specs.Prelude.{◌+◌, ◌<◌, ◌↔◌, ◌∷◌, ◌≡◌, List, None, Option, Some, [], slice_get, ℕ}
+use Rattle.service_conformance.specs.Prelude.{Command, Handle, IsService, Reply, Serves, Service, option_map, text_of}
 use Rattle.service_descriptions.specs.declared.replay.machine.command.Command.TheVariants as command
 use Rattle.service_descriptions.specs.declared.replay.machine.reply.Reply.TheVariants as reply
 use Rattle.service_conformance.specs.declared.conformance.possible.Part.{Part}

@@ -1,5 +1,6 @@
 -- Entries by rising slot, and handles.
-use Rattle.service_conformance.specs.Prelude.{All, ContainerAddFailure, Entry, Handle, IsFull, IsLocked, List, None, Option, OutOfSpace, RegistryState, ReleaseMode, Some, TakesEntry, drop, false, handle_of, length, lock_after, slice_get, take, true, ℕ, ◌<◌, ◌≡◌, ◌≢◌, ◌≤◌}
+use Rattle.std.specs.Prelude.{◌<◌, ◌≡◌, ◌≢◌, ◌≤◌, All, List, None, Option, Some, drop, false, length, slice_get, take, true, ℕ}
+use Rattle.service_conformance.specs.Prelude.{ContainerAddFailure, Entry, Handle, IsFull, IsLocked, OutOfSpace, RegistryState, ReleaseMode, TakesEntry, handle_of, lock_after}
 
 -- an entry of this slot may be put in the position
 pub record IsFreePosition {T : Type 0} (es : List (Entry T)) (slot position : ℕ) : Type 0 where

@@ -1,5 +1,6 @@
 -- What is given of a service that was in use.
-use Rattle.service_conformance.specs.Prelude.{All, Bool, Entry, IsRegistry, IsService, PortDetails, RegistryState, Role, Service, Side, [], container, false, role_at, role_of, true, ℕ, ◌++◌, ◌<◌, ◌∷◌, ◌≡◌, ◌≢◌}
+use Rattle.std.specs.Prelude.{◌++◌, ◌<◌, ◌∷◌, ◌≡◌, ◌≢◌, All, Bool, [], false, true, ℕ}
+use Rattle.service_conformance.specs.Prelude.{Entry, IsRegistry, IsService, PortDetails, RegistryState, Role, Service, Side, container, role_at, role_of}
 use Rattle.service_conformance.specs.Sides.{ports_at, with_ports_at}
 
 -- the registry is as a new one

@@ -1,5 +1,6 @@
 -- What is judged of a service: calls, and weak listings that start and stop.
-use Rattle.service_conformance.specs.Prelude.{List, None, Option, Some, [], if◌then◌else◌, length, option_map, slice_get, ℕ, ◌++◌, ◌+◌, ◌<◌, ◌==◌, ◌↔◌, ◌∷◌, ◌≡◌}
+use Rattle.std.specs.Prelude.{if◌then◌else◌, ◌++◌, ◌+◌, ◌<◌, ◌==◌, ◌↔◌, ◌∷◌, ◌≡◌, List, None, Option, Some, [], length, slice_get, ℕ}
+use Rattle.service_conformance.specs.Prelude.{option_map}
 use Rattle.service_conformance.specs.declared.conformance.possible.Part.{Part}
 use Rattle.service_conformance.specs.declared.conformance.possible.PossibleReplies.{PossibleReplies}
 use Rattle.service_conformance.specs.declared.conformance.possible.PossibleReplies.TheVariants as replies

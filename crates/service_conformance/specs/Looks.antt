@@ -1,5 +1,6 @@
 -- Weak listings, and services at which they look.
-use Rattle.service_conformance.specs.Prelude.{All, Bool, List, None, Option, PortDetails, RegistryState, Service, Some, [], filter, filter_map, if◌then◌else◌, length, list_any, listed, map, not, port_of, port_value, ℕ, ◌&&◌, ◌==◌, ◌≡◌, ◌≢◌}
+use Rattle.std.specs.Prelude.{if◌then◌else◌, ◌&&◌, ◌==◌, ◌≡◌, ◌≢◌, All, Bool, List, None, Option, Some, [], filter, length, map, not, ℕ}
+use Rattle.service_conformance.specs.Prelude.{PortDetails, RegistryState, Service, filter_map, list_any, listed, port_of, port_value}
 use Rattle.service_conformance.specs.declared.conformance.possible.Part.{Part}
 use Rattle.service_conformance.specs.declared.conformance.look.OpenLook.TheInside as look
 use Rattle.service_conformance.specs.declared.conformance.possible.Part.TheVariants as part

@@ -1,5 +1,6 @@
 -- Calls that can be made before others, wherever they can be made right after them.
-use Rattle.service_conformance.specs.Prelude.{Handle, List, Option, PortDetails, Some, node_of, role_of, ℕ, ◌≡◌}
+use Rattle.std.specs.Prelude.{◌≡◌, List, Option, Some, ℕ}
+use Rattle.service_conformance.specs.Prelude.{Handle, PortDetails, node_of, role_of}
 use Rattle.service_descriptions.specs.declared.replay.machine.command.Command.TheVariants as command
 use Rattle.service_conformance.specs.declared.conformance.mover.Change.{Change}
 use Rattle.service_conformance.specs.declared.conformance.mover.Change.TheVariants as change

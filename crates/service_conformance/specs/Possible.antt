@@ -1,5 +1,6 @@
 -- The replies that a run could give.
-use Rattle.service_conformance.specs.Prelude.{Bool, ByPort, Command, ContainerAddFailure, DeregisterNodeState, Handle, IsLocked, IsSameReply, IsService, None, Option, OutOfSpace, Reply, Service, Some, false, true, ◌≡◌}
+use Rattle.std.specs.Prelude.{◌≡◌, Bool, None, Option, Some, false, true}
+use Rattle.service_conformance.specs.Prelude.{ByPort, Command, ContainerAddFailure, DeregisterNodeState, Handle, IsLocked, IsSameReply, IsService, OutOfSpace, Reply, Service}
 use Rattle.iox2_dynamic.specs.declared.dynamic_config.answers.DeregisterNodeState.TheVariants as nodes
 use Rattle.service_descriptions.specs.declared.replay.machine.command.Command.TheVariants as command
 use Rattle.service_descriptions.specs.declared.replay.machine.reply.Reply.TheVariants as reply

@@ -1,4 +1,4 @@
--- The words of std, and the names of the crates below, that the definitions cite.
+-- Names that the definitions cite, of the crates below and of modules of std beside its prelude.
 pub use Rattle.histories.specs.Histories.{IsExplained}
 pub use Rattle.histories.specs.Laws.{calls_alone}
 pub use Rattle.iox2_config.specs.declared.hash.input.PatternKind.{PatternKind}
@@ -31,4 +31,3 @@ pub use Rattle.service_descriptions.specs.declared.replay.machine.reply.Reply.{R
 pub use Rattle.std.specs.Fmt.{decimal}
 pub use Rattle.std.specs.List.{AllByRecursion, Contains, filter_map, flat_map, list_any}
 pub use Rattle.std.specs.Option.{option_map}
-pub use Rattle.std.specs.Prelude.{All, Bool, List, None, Option, Some, [], codes, drop, false, filter, get_or, if◌then◌else◌, length, map, not, slice_get, take, true, ℕ, ◌&&◌, ◌++◌, ◌+◌, ◌<◌, ◌==◌, ◌^◌, ◌↔◌, ◌∷◌, ◌≡◌, ◌≢◌, ◌≤◌}

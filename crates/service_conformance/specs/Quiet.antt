@@ -1,5 +1,6 @@
 -- Services of which no touch is counted.
-use Rattle.service_conformance.specs.Prelude.{Bool, ContainerState, IsService, PatternKind, PortDetails, Ports, RegistryState, Reply, Service, State, container, false, true, ℕ, ◌≡◌}
+use Rattle.std.specs.Prelude.{◌≡◌, Bool, false, true, ℕ}
+use Rattle.service_conformance.specs.Prelude.{ContainerState, IsService, PatternKind, PortDetails, Ports, RegistryState, Reply, Service, State, container}
 use Rattle.service_descriptions.specs.declared.replay.machine.reply.Reply.TheVariants as reply
 
 -- a registry of which no touch is counted

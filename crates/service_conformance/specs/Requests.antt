@@ -1,5 +1,6 @@
 -- Commands as they were called.
-use Rattle.service_conformance.specs.Prelude.{ByPort, Command, Handle, None, Option, Reply, Serves, Service, [], plain_of, ◌∷◌}
+use Rattle.std.specs.Prelude.{◌∷◌, None, Option, []}
+use Rattle.service_conformance.specs.Prelude.{ByPort, Command, Handle, Reply, Serves, Service, plain_of}
 use Rattle.service_descriptions.specs.declared.replay.machine.command.Command.TheVariants as command
 use Rattle.service_conformance.specs.declared.conformance.request.Request.{Request}
 use Rattle.service_conformance.specs.declared.conformance.request.Request.TheVariants as request

@@ -1,5 +1,6 @@
 -- What the words of a reply tell.
-use Rattle.service_conformance.specs.Prelude.{All, Entry, Handle, IsSameReply, List, None, Option, RegistryState, Reply, Service, Some, codes, decimal, map, text_of, ℕ, ◌++◌, ◌<◌, ◌↔◌, ◌≡◌, ◌≢◌}
+use Rattle.std.specs.Prelude.{◌++◌, ◌<◌, ◌↔◌, ◌≡◌, ◌≢◌, All, List, None, Option, Some, codes, map, ℕ}
+use Rattle.service_conformance.specs.Prelude.{Entry, Handle, IsSameReply, RegistryState, Reply, Service, decimal, text_of}
 use Rattle.service_descriptions.specs.declared.replay.machine.reply.Reply.TheVariants as reply
 use Rattle.service_conformance.specs.declared.conformance.possible.NextHandle.{NextHandle}
 use Rattle.service_conformance.specs.declared.conformance.possible.Part.{Part}
