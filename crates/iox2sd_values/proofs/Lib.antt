@@ -1,3 +1,4 @@
+pub mod Compared
 pub mod Legal
 pub mod Values
 pub mod Verdicts

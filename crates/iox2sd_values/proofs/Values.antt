@@ -11,6 +11,7 @@ use Rattle.iox2_texts.specs.Attribute.{IsListing, has_key, values_of}
 use Rattle.iox2_texts.specs.Pair.{Pair, pair_cmp}
 use Rattle.iox2_texts.proofs.ListingLemmas.{listing_unique}
 use Rattle.iox2sd_values.specs.Attributes.{pair_of}
+use Rattle.iox2sd_values.specs.Laws.{MakesOneSet}
 use Rattle.iox2sd_values.specs.declared.attributes.Attribute.{Attribute}
 
 abbrev value_of : Pair → List ℕ
@@ -53,6 +54,21 @@ rise (x ∷ xs) rises = λ k d low high.
     rw (get_or-map pair_of (x ∷ xs) (k + 1) x d inside, get_or-map pair_of (x ∷ xs) k x d below)
     (rises k x low inside)
 
+-- pairs that were sorted are a listing of them
+listed : (pairs sorted : List Attribute) → IsPermutation pairs sorted
+    → IsSorted (λ a b. pair_cmp (pair_of a) (pair_of b)) sorted
+    → IsListing (map pair_of pairs) (map pair_of sorted)
+listed pairs sorted order rises =
+    (IsPermutation-map pair_of pairs sorted order, rise sorted rises)
+
+-- and the set that they make
+pub one_set : (pairs sorted : List Attribute) → IsPermutation pairs sorted
+    → IsSorted (λ a b. pair_cmp (pair_of a) (pair_of b)) sorted
+    → MakesOneSet pairs (map pair_of sorted)
+one_set pairs sorted order rises =
+    let is = listed pairs sorted order rises in
+    (is, λ other made. the_set (map pair_of pairs) other (map pair_of sorted) made is)
+
 -- sorted copies of pairs, at the front of a list, are a listing of them
 pub sorts : (pairs copies sorted rest : List Attribute) → copies ≡ pairs
     → IsPermutation copies sorted
@@ -63,4 +79,4 @@ sorts pairs copies sorted rest same order rises =
     let as_long : length sorted ≡ length pairs = length_permutation pairs sorted ordered in
     let front : take (length pairs) (sorted ++ rest) ≡ sorted =
     ap (λ n. take n (sorted ++ rest)) (sym as_long) ∙ take-append_seam sorted rest in
-    rw front (IsPermutation-map pair_of pairs sorted ordered, rise sorted rises)
+    rw front (listed pairs sorted ordered rises)

@@ -9,5 +9,6 @@ pub mod Satisfies
 pub mod Settings
 pub mod Texts
 pub mod Causes
+pub mod Laws
 -- Inner facts: the names that these files share.
 pub mod Prelude

@@ -9,6 +9,7 @@ pub mod compatible;
 pub mod descriptions;
 pub mod details;
 pub mod files;
+pub mod laws;
 pub mod layout;
 pub mod names;
 pub mod paths;

@@ -1,0 +1,26 @@
+//! Laws that no single export carries: sets and comparisons of which the definitions speak are one.
+ghost use Rattle.std.specs.Prelude.{map};
+ghost use Rattle.iox2sd_values.specs.Attributes.{pair_of};
+ghost use Rattle.iox2sd_values.specs.Laws.{MakesOneSet, HasOneAnswer};
+ghost use Rattle.iox2sd_values.specs.Satisfies.{SatisfiesPublishSubscribe, SatisfiesEvent};
+ghost use Rattle.iox2sd_values.specs.Satisfies.{SatisfiesRequestResponse, SatisfiesBlackboard};
+
+use super::attributes::Attribute;
+
+/// Pairs, in whatever order and with their repeats, make one set: what holds of each set that they
+/// make holds of one. Sorting them gives it.
+pub fn pairs_make_one_set(pairs: &mut [Attribute<'_>])
+    ensures { MakesOneSet pairs.old (map pair_of pairs.new) }
+{
+    pairs.sort_unstable();
+}
+
+/// Whether a service meets what an opener requires has one answer, whichever configurations with
+/// these plain values are compared: the types of messages change nothing, nor does when a deadline
+/// was set.
+pub fn comparisons_have_one_answer()
+    ensures publish_subscribe { HasOneAnswer SatisfiesPublishSubscribe }
+    ensures event { HasOneAnswer SatisfiesEvent }
+    ensures request_response { HasOneAnswer SatisfiesRequestResponse }
+    ensures blackboard { HasOneAnswer SatisfiesBlackboard }
+{}
