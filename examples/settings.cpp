@@ -7,7 +7,7 @@
 //     6:1: defaults.event.max-listener: this table has no such key, defaults.event.max-listeners may be meant
 //     refused: a value of another type is wanted
 //       2:3: global.creation-timeout: is an integer, and a table of `secs` and `nanos` is wanted
-//       4:1: defaults.event.max-nodes: is below 0
+//       4:1: defaults.event.max-nodes: is not an integer from 0 to 9223372036854775807
 #include <iostream>
 
 #include "iox2sd_config.hpp"

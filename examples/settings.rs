@@ -3,7 +3,7 @@
 // It prints:
 //     2:1: global.prefx: this table has no such key, global.prefix may be meant
 //     2 publishers of 18 samples each, 4 subscribers
-//     refused: 4:1: defaults.publish-subscribe.max-subscribers: is below 0
+//     refused: 4:1: defaults.publish-subscribe.max-subscribers: is not an integer from 0 to 9223372036854775807
 #![forbid(unsafe_code)]
 
 use iox2sd::prelude::*;

@@ -110,7 +110,9 @@ void faults() {
     CHECK(all.size() == 2 && refused.error().system_error == 0 && refused.error().file.empty());
     CHECK(all[0].status == Status::BelowZero && all[0].wanted == SettingKind::Number);
     CHECK(all[0].line == 2 && all[0].column == 1 && all[0].file.empty());
-    CHECK(written(all[0]) == "2:1: defaults.event.max-nodes: is below 0" && all[0] != all[1]);
+    CHECK(written(all[0]) ==
+          "2:1: defaults.event.max-nodes: is not an integer from 0 to 9223372036854775807");
+    CHECK(all[0] != all[1]);
     CHECK(all[1].status == Status::WrongType && all[1].table == ConfigTable::Global);
     CHECK(all[1].found == TomlType::Integer && all[1].wanted == SettingKind::Duration);
     CHECK(all[1].line == 4 && all[1].column == 3);

@@ -51,7 +51,8 @@ class ConfigFiles(TestCase):
         wanted = [
             (None, 2, 1, "defaults.blackboard.max-nodes", "is a float, and an integer is wanted",
              Status.WRONG_TYPE),
-            (None, 3, 3, "defaults.blackboard.max-readers", "is below 0", Status.BELOW_ZERO),
+            (None, 3, 3, "defaults.blackboard.max-readers",
+             "is not an integer from 0 to 9223372036854775807", Status.BELOW_ZERO),
             (None, 5, 1, "global.prefix",
              "is an integer, and a string with the name of a file is wanted", Status.WRONG_TYPE),
         ]

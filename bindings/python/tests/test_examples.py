@@ -68,7 +68,7 @@ OF_FILES = {
     "[global]\nroot-path = '/run/robot'\n"
     "[defaults.publish-subscribe]\nmax-subscribers = 10\nmax-publisher = 3\n": (0, SETTINGS, ""),
     "[defaults.event]\nmax-nodes = -1\nmax-listeners = 1.5\n":
-    (1, "", "FILE:2:1: defaults.event.max-nodes: is below 0\n"
+    (1, "", "FILE:2:1: defaults.event.max-nodes: is not an integer from 0 to 9223372036854775807\n"
      "FILE:3:1: defaults.event.max-listeners: is a float, and an integer is wanted\n"),
 }
 """The status of the program settings.py of files, and what it prints of them."""

@@ -231,10 +231,40 @@ fn no_toml(alloc: Global, text: &str, error: &toml::de::Error) -> Unread
 {
     let bytes = text.as_bytes();
     let start = start_of(error, bytes);
-    match error_behind(alloc, &bytes[..start], error.message()) {
+    let words = match syntax_words(alloc, error, text.get(start..).unwrap_or("")) {
+        Ok(words) => words,
+        Err(error) => return Unread::NoMemory(error),
+    };
+    match error_behind(alloc, &bytes[..start], words.as_str()) {
         Ok(finding) => Unread::NotToml(finding),
         Err(error) => Unread::NoMemory(error),
     }
+}
+
+/// Why a text is no TOML: the words of `toml`, with the key that is written twice, or with more of
+/// what a value may be. The text is that from the error on.
+fn syntax_words(alloc: Global, error: &toml::de::Error, text: &str) -> Result<String, AllocError> {
+    match error.message() {
+        "duplicate key" => format!(in alloc; "duplicate key `{}`", first_key(text)),
+        "invalid value, expected a string, number, boolean, date-time, array or inline table" => {
+            String::from_str(
+                alloc,
+                "invalid value, expected a string in quotes, a number, `true`, `false`, a \
+                 date-time, an array or an inline table",
+            )
+        }
+        words => String::from_str(alloc, words),
+    }
+}
+
+/// What stands before the `=` of the pair, or in the brackets of the header, that a text begins
+/// with.
+fn first_key(text: &str) -> &str {
+    let text = text.trim_start_matches('[');
+    let (key, _) = text
+        .split_once(|c| c == '=' || c == ']')
+        .unwrap_or((text, ""));
+    key.trim_ascii()
 }
 
 /// How many bytes stand before the one at which a text is found to be no TOML.

@@ -5,9 +5,9 @@ ghost use Rattle.iox2_config_file.specs.Read.{fault_view};
 ghost use Rattle.iox2_config_file.specs.Unknown.{unknown_view, proposal_view};
 ghost use Rattle.config_report.specs.Findings.{place_of};
 ghost use Rattle.config_report.specs.Notes.{at_text, fault, fault_position, finding_view};
-ghost use Rattle.config_report.specs.Notes.{has_no_control, in_line, meant_text, note, note_text};
+ghost use Rattle.config_report.specs.Notes.{has_no_control, in_line, is_table, meant_text, note, note_text};
 ghost use Rattle.config_report.specs.Notes.{position_for, proposed_text, severity_text};
-ghost use Rattle.config_report.specs.Notes.{subject_view, table_path, table_text, topic_note};
+ghost use Rattle.config_report.specs.Notes.{subject_view, table_path, topic_note};
 ghost use Rattle.config_report.specs.Notes.{topic_path, topic_position, unknown, unknown_position};
 ghost use Rattle.toml.specs.Parse.{parse_document};
 ghost use Rattle.toml_positions.specs.Written.{path_view};
@@ -311,18 +311,18 @@ impl fmt::Display for TomlKey<'_> {
     }
 }
 
-/// A table, as a header names it.
-#[derive(Clone, Copy)]
-struct Table(Section);
-
-impl fmt::Display for Table {
-    ghost output = { λ table. Some (table_text table.0) };
-
-    fn fmt<W: fmt::Write>(&self, f: &mut fmt::Formatter<W>) -> fmt::Result {
-        match self.0 {
-            Section::Root => f.write_str("the top of the file"),
-            section => write!(f, "[{}]", section.name()),
-        }
+/// Whether a known key is that of a table.
+fn is_table(section: Section, key: &str) -> bool
+    ensures { result ≡ is_table section key.now }
+{
+    match section {
+        Section::Root => matches!(key, "global" | "defaults"),
+        Section::Global => matches!(key, "service" | "node"),
+        Section::Defaults => matches!(
+            key,
+            "publish-subscribe" | "event" | "request-response" | "blackboard"
+        ),
+        _ => false,
     }
 }
 
@@ -342,7 +342,10 @@ impl fmt::Display for Proposed {
         let prefix = section.prefix();
         match likeness {
             Likeness::Spelling | Likeness::Near => write!(f, "{prefix}{key} may be meant"),
-            Likeness::OtherTable => write!(f, "it belongs to {}", Table(section)),
+            Likeness::OtherTable if is_table(section, key) => {
+                write!(f, "[{prefix}{key}] may be meant")
+            }
+            Likeness::OtherTable => write!(f, "it belongs to [{}]", section.name()),
             Likeness::Quoted => write!(f, "{prefix}{key} without the quotes may be meant"),
         }
     }

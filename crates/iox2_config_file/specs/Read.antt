@@ -122,7 +122,7 @@ no_file_name_text ExceedsMaximumLength = codes "it has more than 255 bytes"
 unfoldable pub reason_text : Fault → List ℕ
 reason_text (WrongType found wanted) =
     codes "is " ++ (type_text found ++ (codes ", and " ++ (kind_text wanted ++ codes " is wanted")))
-reason_text OutOfRange = codes "is below 0"
+reason_text OutOfRange = codes "is not an integer from 0 to 9223372036854775807"
 reason_text (NoPath e) = codes "is no path: " ++ no_path_text e
 reason_text (NoFileName e) = codes "is no name of a file: " ++ no_file_name_text e
 reason_text (UnknownVariant wanted) = codes "is not " ++ kind_text wanted

@@ -89,7 +89,7 @@ impl fmt::Display for Fault {
     fn fmt<W: fmt::Write>(&self, f: &mut fmt::Formatter<W>) -> fmt::Result {
         match self {
             Fault::WrongType { found, wanted } => write!(f, "is {found}, and {wanted} is wanted"),
-            Fault::OutOfRange => f.write_str("is below 0"),
+            Fault::OutOfRange => f.write_str("is not an integer from 0 to 9223372036854775807"),
             Fault::NoPath(error) => write!(f, "is no path: {}", no_path(error)),
             Fault::NoFileName(error) => write!(f, "is no name of a file: {}", no_file_name(error)),
             Fault::UnknownVariant(wanted) => write!(f, "is not {wanted}"),

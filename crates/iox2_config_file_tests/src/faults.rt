@@ -43,7 +43,7 @@ const FAULTS: [(&str, &str); 14] = [
     ),
     (
         "[defaults.publish-subscribe]\nmax-nodes = -1",
-        "defaults.publish-subscribe.max-nodes: is below 0",
+        "defaults.publish-subscribe.max-nodes: is not an integer from 0 to 9223372036854775807",
     ),
     (
         "[defaults.publish-subscribe]\nbackpressure-strategy = 'discarddata'",

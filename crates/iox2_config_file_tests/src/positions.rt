@@ -6,11 +6,11 @@ use std::process::Abort;
 use std::test::Fail;
 
 /// A file, and what is reported of it.
-const REPORTED: [(&[u8], &str); 14] = [
+const REPORTED: [(&[u8], &str); 15] = [
     (
         b"# two faults\n[global]\nprefix = 1\n[defaults.event]\n\t\"max-nodes\" = -1\n",
         "3:1: error: global.prefix: is an integer, and a string with the name of a file is wanted\n\
-         5:2: error: defaults.event.max-nodes: is below 0\n",
+         5:2: error: defaults.event.max-nodes: is not an integer from 0 to 9223372036854775807\n",
     ),
     (
         b"[defaults.blackboard]\r\nmax-nodes = 1\r\n\r\n  max-reader = 2\r\n",
@@ -63,7 +63,8 @@ const REPORTED: [(&[u8], &str); 14] = [
         b"a = '\xC3\xA4\xC3'\n\n\n",
         "1:8: error: the file is no UTF-8\n",
     ),
-    (b"a = 1\na = 2\n", "2:1: error: duplicate key\n"),
+    (b"a = 1\na = 2\n", "2:1: error: duplicate key `a`\n"),
+    (b"[ global ]\n\n[ global ]\n", "3:1: error: duplicate key `global`\n"),
 ];
 
 /// What is reported of a file.

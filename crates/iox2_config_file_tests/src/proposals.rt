@@ -64,12 +64,11 @@ const MISSPELT: [(&str, &str); 18] = [
     ),
     (
         "[event]\nmax-nodes = 1\n",
-        "1:2: warning: event: this table has no such key, it belongs to [defaults]",
+        "1:2: warning: event: this table has no such key, [defaults.event] may be meant",
     ),
     (
         "[global.defaults]\n",
-        "1:2: warning: global.defaults: this table has no such key, \
-         it belongs to the top of the file",
+        "1:2: warning: global.defaults: this table has no such key, [defaults] may be meant",
     ),
     (
         "[global]\nmax-nodes = 3\n",
@@ -117,7 +116,7 @@ fn all_that_is_found_comes_in_the_order_of_the_file(rt: HostRuntime) {
     let file = b"zero = 1\n[defaults.event]\nmax-nodes = -1\nmax-node = 1\n[global]\nprefix = 1\n";
     let want = [
         "1:1: warning: zero: this table has no such key",
-        "3:1: error: defaults.event.max-nodes: is below 0",
+        "3:1: error: defaults.event.max-nodes: is not an integer from 0 to 9223372036854775807",
         "4:1: warning: defaults.event.max-node: this table has no such key, \
          defaults.event.max-nodes may be meant",
         "6:1: error: global.prefix: is an integer, and a string with the name of a file is wanted",

@@ -55,8 +55,8 @@ impl Outcome for Answer {
 
 /// How the program is used.
 const HELP: &str = "usage: iox2-check [--strict] [--format text|json] FILE..
-       iox2-check --show FILE
-       iox2-check --compare FILE FILE
+       iox2-check [--strict] --show FILE
+       iox2-check [--strict] [--format text|json] --compare FILE FILE
        iox2-check --default > iceoryx2.toml
        iox2-check --schema > iceoryx2.schema.json
 

@@ -248,7 +248,7 @@ impl fmt::Display for ConfigTextFault {
 /// let refused = Config::from_toml(text).unwrap_err();
 /// assert_eq!(
 ///     refused.to_string(),
-///     "2:1: defaults.event.max-nodes: is below 0\n\
+///     "2:1: defaults.event.max-nodes: is not an integer from 0 to 9223372036854775807\n\
 ///      3:1: defaults.event.max-listeners: is a boolean, and an integer is wanted"
 /// );
 /// assert!(matches!(Config::from_toml("max"), Err(ConfigError::NotToml(_))));

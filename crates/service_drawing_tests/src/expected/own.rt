@@ -96,6 +96,6 @@ pub(crate) const REFUSED: [(&str, &str); 8] = [
 /// Settings that are no TOML, at the third line of the input, and what is reported.
 pub(crate) const NO_TOML: (&str, &str) = (
     "config\n\nglobal = \nend\nevent A\n",
-    "3:10: error: invalid value, expected a string, number, boolean, date-time, array or inline \
-     table\n",
+    "3:10: error: invalid value, expected a string in quotes, a number, `true`, `false`, a \
+     date-time, an array or an inline table\n",
 );
