@@ -29,8 +29,7 @@ put_apart one other slot h none gone same =
     elim (cases_eq i slot) [
       | inl e ↦ ap (bit_at one) e ∙ (none ∙ sym (ap (bit_at other) e ∙ gone))
       | inr ne ↦
-          sym (put_other one slot i h ne)
-          ∙ (ap (λ w. bit_at w i) same ∙ put_other other slot i h ne)
+          sym (put_other _ _ _ h ne) ∙ (ap (λ w. bit_at w i) same ∙ put_other _ _ _ h ne)
     ])
 
 -- the order in which slots go is free
@@ -56,11 +55,9 @@ cleared_put set slot t h k ne =
           let ones : bit_at N t ≡ 1 =
           sym (and_one (bit_at ones64 t) (bit_at N t) (bit_at (bit_and ones64 N) t)
           (bit_at_and ones64 N t) (bit_at-lt N t)
-          (bit_at_clear_other w64 ones64 slot h t k (λ x. ne (sym x))
-          ∙ bit_at_ones 64 t k)) in
+          (bit_at_clear_other w64 ones64 slot h t k (λ x. ne (sym x)) ∙ bit_at_ones 64 t k)) in
           inr (subst (λ x. bit_at N x ≡ 1) (sym e) ones)
-      | inr nope ↦ inl
-          (max_zero (bit_at 0 i) (bit_at P i) (bit_at (bit_or 0 P) i)
+      | inr nope ↦ inl (max_zero (bit_at 0 i) (bit_at P i) (bit_at (bit_or 0 P) i)
           (bit_at_or 0 P i) (bit_at_set_other w64 0 t k i nope ∙ bit_at-zero i))
     ]))
   where

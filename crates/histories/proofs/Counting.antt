@@ -48,8 +48,7 @@ times-remove c xs i d h =
 
 -- what stands at a place stands in the list
 pub times_at : (xs : List ℕ) (i d : ℕ) → i < length xs → 0 < times (get_or xs i d) xs
-times_at xs i d h =
-    omega (arith, times-remove (get_or xs i d) xs i d h, times_one (get_or xs i d))
+times_at xs i d h = omega (arith, times-remove (get_or xs i d) xs i d h, times_one (get_or xs i d))
 
 -- what stands in the list stands at a place
 pub at_times : (c : ℕ) (xs : List ℕ) → 0 < times c xs
@@ -68,7 +67,7 @@ at_times c (x ∷ xs) h =
 pub split_times : (c : ℕ) (xs : List ℕ) → 0 < times c xs
     → (before : List ℕ) × (after : List ℕ) × (xs ≡ before ++ c ∷ after)
 split_times c xs h =
-    let at = at_times c xs h in (
+    let at = at_times _ _ h in (
       take at.0 xs,
       drop (suc at.0) xs,
       subst (λ x. xs ≡ take at.0 xs ++ x ∷ drop (suc at.0) xs) at.2 (split_at xs at.0 0 at.1),
@@ -77,32 +76,29 @@ split_times c xs h =
 -- it is the empty list where no number stands in it
 pub no_times : (xs : List ℕ) → ((c : ℕ) → times c xs ≡ 0) → xs ≡ []
 no_times [] none = refl
-no_times (x ∷ xs) none =
-    absurd (omega (arith, none x, times-cons x x xs, times_one x))
+no_times (x ∷ xs) none = absurd (omega (arith, none x, times-cons x x xs, times_one x))
 
 -- a number that stands in the order is not one that does not
 pub apart : (order : List ℕ) (call c : ℕ) → times call order ≡ 0 → 0 < times c order
     → times c (call ∷ []) ≡ 0
 apart order call c none some =
-    times_other c call (λ e. absurd (omega (arith, subst (λ x. times x order ≡ 0) e none, some)))
+    times_other _ _ (λ e. absurd (omega (arith, subst (λ x. times x order ≡ 0) e none, some)))
 
 -- what is true of all pairs of a list is true of those of its front
 pub all_pairs_front : (P : ℕ → ℕ → Type 0) (xs ys : List ℕ) → AllPairs P (xs ++ ys)
     → AllPairs P xs
-all_pairs_front P xs ys all =
-    grind (arith, get_or-append, length-append)
+all_pairs_front P xs ys all = grind (arith, get_or-append, length-append)
 
 -- and of its back
 pub all_pairs_back : (P : ℕ → ℕ → Type 0) (xs ys : List ℕ) → AllPairs P (xs ++ ys)
     → AllPairs P ys
-all_pairs_back P xs ys all =
-    grind (arith, get_or-append-add, length-append)
+all_pairs_back P xs ys all = grind (arith, get_or-append-add, length-append)
 
 -- and of a number with each behind it
 pub all_pairs_behind : (P : ℕ → ℕ → Type 0) (xs ys : List ℕ) (x y : ℕ)
     → AllPairs P (xs ++ x ∷ ys) → 0 < times y ys → P x y
 all_pairs_behind P xs ys x y all h =
-    let at = at_times y ys h in
+    let at = at_times _ _ h in
     let first : get_or (xs ++ x ∷ ys) (length xs) 0 ≡ x = get_or-append_seam xs x ys 0 in
     let second : get_or (xs ++ x ∷ ys) (length xs + suc at.0) 0 ≡ y =
     get_or-append-add xs (x ∷ ys) (suc at.0) 0 ∙ at.2 in

@@ -6,16 +6,14 @@ use Rattle.histories.proofs.Counting.{times-append, times-cons, times_one, times
 module _ {S : Type 0} (Step : S → ℕ → S → Type 0) where
   pub leads_push : (old mid new : S) (order : List ℕ) (call : ℕ) → Leads Step old order mid
       → Step mid call new → Leads Step old (order ++ call ∷ []) new
-  leads_push old mid new [] call l step =
-      (new, subst (λ s. Step s call new) l step, refl)
+  leads_push old mid new [] call l step = (new, subst (λ s. Step s call new) l step, refl)
   leads_push old mid new (c ∷ order) call l step =
       (l.0, l.1, leads_push l.0 mid new order call l.2 step)
 
   pub leads_split : (old new : S) (before after : List ℕ) → Leads Step old (before ++ after) new
       → (mid : S) × Leads Step old before mid × Leads Step mid after new
   leads_split old new [] after l = (old, refl, l)
-  leads_split old new (c ∷ before) after l =
-      grind (arith, leads_split l.0 new before after l.2)
+  leads_split old new (c ∷ before) after l = grind (arith, leads_split l.0 new before after l.2)
 
   module _ (slots : List (Option ℕ)) where
     -- first some calls, and then others
@@ -69,8 +67,6 @@ module _ {S : Type 0} (Step : S → ℕ → S → Type 0) where
         let here = run.1.0 in
         let h = slot_64 slots slot call few here in
         let mid = run.2.0 in
-        let Goal : Type 0 = (less : List ℕ) × (last : ℕ)
-        × Runs Step slots old fewer less new last × IsLighter Step slots last rest in
         elim (bit_cases fewer slot) [
           | inr some ↦
               let more = runs_lighter mid new (cleared fewer slot) (cleared waiting slot) rest calls
@@ -104,17 +100,16 @@ module _ {S : Type 0} (Step : S → ℕ → S → Type 0) where
         absurd (omega (arith, ap (λ w. bit_at w slot) run.1, waits, gone))
     runs_first old new waiting rest slot call (c ∷ calls) few here waits gone moves run =
         let at = run.0 in
-        let h = slot_64 slots slot call few here in
-        let k = slot_64 slots at c few run.1.0 in
+        let h = slot_64 _ _ _ few here in
+        let k = slot_64 _ at c few run.1.0 in
         elim (cases_eq at slot) [
           | inl e ↦ grind (arith, slot_once)
           | inr ne ↦
               let still : bit_at (cleared waiting at) slot ≡ 1 =
-              cleared_other waiting at slot k h (λ e. ne (sym e)) ∙ waits in
+              cleared_other _ at slot k h (λ e. ne (sym e)) ∙ waits in
               let more = runs_first run.2.0 new (cleared waiting at) rest slot call calls few here
-              still gone
-              (λ i other is.
-              moves i other (is.0, (is.1.0, waits_before waiting at i other few k is.1))) run.2.2 in
+              still gone (λ i other is.
+              moves i other (is.0, (is.1.0, waits_before _ at i other few k is.1))) run.2.2 in
               let moved = moves at c (ne, run.1) old run.2.0 more.0 run.2.1 more.1 in (
                 moved.0,
                 moved.1,
@@ -122,12 +117,12 @@ module _ {S : Type 0} (Step : S → ℕ → S → Type 0) where
                   c ∷ more.2.0,
                   (
                     at,
-                    (run.1.0, cleared_other waiting slot at h k ne ∙ run.1.1),
+                    (run.1.0, cleared_other _ _ at h k ne ∙ run.1.1),
                     (
                       more.0,
                       moved.2,
                       subst (λ w. Runs Step slots more.0 w more.2.0 new rest)
-                          (cleared_swap waiting at slot) more.2.1,
+                          (cleared_swap _ at slot) more.2.1,
                     ),
                   ),
                 ),
@@ -157,12 +152,11 @@ module _ {S : Type 0} (Step : S → ℕ → S → Type 0) where
         → ((one other c : ℕ) → HasSlot slots one c → HasSlot slots other c → one ≡ other)
         → Leaves slots order waiting → Runs Step slots old waiting calls new rest
         → Leaves slots (order ++ calls) rest
-    leaves_run order old new waiting rest [] few apart leaves run =
-        grind (arith, append-nil)
+    leaves_run order old new waiting rest [] few apart leaves run = grind (arith, append-nil)
     leaves_run order old new waiting rest (call ∷ calls) few apart leaves run =
         subst (λ (o : List ℕ). Leaves slots o rest) (append_assoc order (call ∷ []) calls)
         (leaves_run (order ++ call ∷ []) run.2.0 new (cleared waiting run.0) rest calls few apart
-        (leaves_made order waiting run.0 call few apart leaves run.1) run.2.2)
+        (leaves_made _ _ _ _ few apart leaves run.1) run.2.2)
 
     -- calls that all wait can be made in their order
     pub runs_order : (old new : S) (waiting : ℕ) (order : List ℕ) → length slots ≤ 64
@@ -174,10 +168,9 @@ module _ {S : Type 0} (Step : S → ℕ → S → Type 0) where
     runs_order old new waiting [] few apart once all l = (waiting, (l, refl))
     runs_order old new waiting (x ∷ order) few apart once all l =
         let at = all x (omega (arith, times-cons x x order, times_one x)) in
-        let h = slot_64 slots at.0 x few at.1.0 in
+        let h = slot_64 _ _ _ few at.1.0 in
         let more = runs_order l.0 new (cleared waiting at.0) order few apart
-        (λ c. omega (arith, once c, times-cons c x order))
-        (λ c some.
+        (λ c. omega (arith, once c, times-cons c x order)) (λ c some.
         let is = all c (omega (arith, some, times-cons c x order)) in
         let other : x ≢ c = λ e. absurd
         (omega (
@@ -185,16 +178,14 @@ module _ {S : Type 0} (Step : S → ℕ → S → Type 0) where
           some,
           once c,
           times-cons c x order,
-          subst (λ y. times y (x ∷ []) ≡ 1) e
-              (times_one x),
+          subst (λ y. times y (x ∷ []) ≡ 1) e (times_one x),
         )) in (
           is.0,
           (
             is.1.0,
-            cleared_other waiting at.0 is.0 h (slot_64 slots is.0 c few is.1.0)
-                (λ e. other (slot_once slots at.0 x c at.1.0 (subst (λ s. HasSlot slots s c) e
-                is.1.0)))
-                ∙ is.1.1,
+            cleared_other _ _ _ h (slot_64 _ _ _ few is.1.0)
+                (λ e. other (slot_once slots at.0 _ _ at.1.0 (subst (λ s. HasSlot slots s c) e
+                is.1.0))) ∙ is.1.1,
           ),
         )) l.2 in
         (more.0, (at.0, at.1, (l.0, l.1, more.1)))
@@ -238,8 +229,7 @@ module _ {S : Type 0} (Step : S → ℕ → S → Type 0) where
       → length slots ≤ 64 → t < 64 → bit_at rest t ≡ 1
       → Runs Step slots old waiting calls new rest
       → Runs Step slots old (cleared waiting t) calls new (cleared rest t)
-  runs_without slots old new waiting rest t [] few h some run =
-      (run.0, ap (λ w. cleared w t) run.1)
+  runs_without slots old new waiting rest t [] few h some run = (run.0, ap (λ w. cleared w t) run.1)
   runs_without slots old new waiting rest t (call ∷ calls) few h some run =
       grind (
         arith,

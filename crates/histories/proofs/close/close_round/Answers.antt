@@ -5,18 +5,14 @@ use Rattle.histories.proofs.close.close_round.Goals as goal
 
 pub loop-config-init : goal.loop-config-init
 loop-config-init g c = (
-  gathers_no_one (IsDone c.args.slot) _,
-  rw c.in_ok-next.ensures
-      (goes_none (g.M.Machine.Step c.args.machine.now) c.args.slots.now c.args.slot []),
+  gathers_no_one _ _,
+  rw c.in_ok-next.ensures (goes_none _ _ _ _),
 )
 
 pub loop-config-preserved : goal.loop-config-preserved
 loop-config-preserved g c = (
-  gathers_pushed (IsDone c.args.slot) c.loop-config.yielded c.in-Some.config _ _ _
-      c.loop-config.invariant.0 c.in_ok-close_one.ensures.0,
-  goes_pushed (g.M.Machine.Step c.args.machine.now) c.args.slots.now c.args.slot
-      c.loop-config.yielded c.in-Some.config _ _ _ c.loop-config.invariant.1
-      c.in_ok-close_one.ensures.1,
+  gathers_pushed _ _ _ _ _ _ c.loop-config.invariant.0 c.in_ok-close_one.ensures.0,
+  goes_pushed _ _ _ _ _ _ _ _ c.loop-config.invariant.1 c.in_ok-close_one.ensures.1,
 )
 
 pub returns : goal.returns
@@ -32,8 +28,7 @@ returns g c =
     let all : c.loop-config.yielded ≡ layer.items = sym (map-id c.loop-config.yielded) ∙ end.0 in (
       subst (λ (l : List (Config _)). Gathers (FromOne (IsDone c.args.slot) l) c.args.done.now
           c.loop-config.done) all c.loop-config.invariant.0,
-      rw c.into_configs.ensures
-          (subst
+      rw c.into_configs.ensures (subst
           (λ (l : List (Config _)). GoesOn Step c.args.slots.now c.args.slot l []
           c.loop-config.next) all c.loop-config.invariant.1),
     )

@@ -3,13 +3,11 @@ use Rattle.histories.proofs.Gathering.{gathers_no_state, gathers_states}
 use Rattle.histories.proofs.close.make_states.Goals as goal
 
 pub loop-state-init : goal.loop-state-init
-loop-state-init g c =
-    gathers_no_state _ _ c.args.next.now
+loop-state-init g c = gathers_no_state _ _ _
 
 pub loop-state-preserved : goal.loop-state-preserved
 loop-state-preserved g c =
-    gathers_states c.loop-state.yielded c.in-Some.state _ _ _ _ _ c.loop-state.invariant
-    c.in_ok-make_state.ensures
+    gathers_states _ _ _ _ _ _ _ c.loop-state.invariant c.in_ok-make_state.ensures
 
 pub returns : goal.returns
 returns g c =

@@ -3,12 +3,10 @@ use Rattle.histories.proofs.Gathering.{gathers_no_one, gathers_pushed}
 use Rattle.histories.proofs.gather.joined.Goals as goal
 
 pub loop-config-init : goal.loop-config-init
-loop-config-init g c = rw c.of-all.ensures (gathers_no_one IsCopy c.args.configs.items)
+loop-config-init g c = rw c.of-all.ensures (gathers_no_one _ _)
 
 pub loop-config-preserved : goal.loop-config-preserved
-loop-config-preserved g c =
-    gathers_pushed IsCopy c.loop-config.yielded c.in-Some.config _ _ _ c.loop-config.invariant
-    c.in_ok-add.ensures
+loop-config-preserved g c = gathers_pushed _ _ _ _ _ _ c.loop-config.invariant c.in_ok-add.ensures
 
 pub returns : goal.returns
 returns g c =
@@ -22,5 +20,4 @@ returns g c =
     let all : c.loop-config.yielded ≡ others.items = sym (map-id c.loop-config.yielded) ∙ end.0 in
     rw c.into_configs.ensures
     (subst (λ (l : List (Config _)). Gathers (FromOne IsCopy l) c.args.configs.items
-    c.loop-config.all)
-    all c.loop-config.invariant)
+    c.loop-config.all) all c.loop-config.invariant)

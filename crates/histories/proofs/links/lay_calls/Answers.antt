@@ -16,4 +16,4 @@ loop-call-preserved c =
     subst (λ n. IsLaidOut links base (take (at + 1) calls) c.push.new.self.items n) many
     (subst (λ (l : List Link). IsLaidOut links base (take (at + 1) calls) l (length mid + 1))
     (sym c.in_ok-push.ensures.items)
-    (laid_out_more links mid base at calls link c.loop-call-test.true refl c.loop-call.invariant))
+    (laid_out_more _ _ _ at calls link c.loop-call-test.true refl c.loop-call.invariant))

@@ -6,7 +6,7 @@ pub loop-left-init : goal.loop-left-init
 loop-left-init c =
     let links = c.args.links.now in
     let left = c.bounded-left.result in (
-      read_bounded links c.args.base left c.bounded-left.ensures.within c.bounded-left.ensures.above
+      read_bounded _ _ _ c.bounded-left.ensures.within c.bounded-left.ensures.above
           ∙ sym (ap (λ (o : List ℕ). read links left ++ reverse o) c.new-order.ensures.items
           ∙ append-nil (read links left)),
       c.bounded-left.ensures.bound,
@@ -23,7 +23,7 @@ loop-left-preserved c =
     let within : at < length links = omega (arith, back, c.loop-left.invariant.1) in (
       subst (λ (l : List ℕ). read links base ≡ read links next ++ reverse l)
           (sym c.in_ok-push.ensures.items)
-          (read_more links base at next _ order within (get_or_default links at _ _ within)
+          (read_more _ _ at next _ order within (get_or_default links at _ _ within)
           c.bounded-left-in-loop-left.ensures.within c.bounded-left-in-loop-left.ensures.above
           (subst (λ n. read links base ≡ read links n ++ reverse order) back
           c.loop-left.invariant.0)),
@@ -35,7 +35,6 @@ returns c =
     let links = c.args.links.now in
     let order = c.loop-left.order.items in
     let none : c.loop-left.left ≡ 0 = omega (arith, c.loop-left-test.false) in
-    c.reverse.ensures.items
-    ∙ sym (c.loop-left.invariant.0
+    c.reverse.ensures.items ∙ sym (c.loop-left.invariant.0
     ∙ (ap (λ n. read links n ++ reverse order) none
-    ∙ ap (λ (o : List ℕ). o ++ reverse order) (read_zero links)))
+    ∙ ap (λ (o : List ℕ). o ++ reverse order) (read_zero _)))

@@ -14,16 +14,13 @@ loop-config-preserved g c =
     let h : at < length now = omega (arith, c.loop-config-test.true, c.loop-config.auto.configs) in
     let config = get_or now at c.config-item.result in
     let is = get_or_default now at c.config-item.result config h in (
-      done_more
-          (λ x y. IsSettled (g.M.Machine.Step c.args.machine.now) c.args.slots.now x (spot_of y))
-          c.args.configs.now now at config one h is c.in_ok-any.ensures.settled
-          c.loop-config.invariant.0,
+      done_more _ _ _ at config one h is c.in_ok-any.ensures.settled c.loop-config.invariant.0,
       λ none index d.
           elim c.if-branch.branch [
             | then-branch w ↦ absurd (true≢false (sym w.if-branch.true ∙ (sym w.any-is ∙ none)))
             | else-branch w ↦
                 ap (λ l. get_or l index d)
-                (same_set now at config one h is (c.in_ok-any.ensures.same w.if-branch.false))
+                (same_set _ at config one h is (c.in_ok-any.ensures.same w.if-branch.false))
                 ∙ c.loop-config.invariant.1 (sym w.any-is ∙ none) index d
           ],
     )
