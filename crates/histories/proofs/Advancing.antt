@@ -1,7 +1,7 @@
 -- What an event does to a front, and the configurations after the begin of a call.
-use Rattle.histories.proofs.Words.{◌≡◌, ℕ, ◌+◌, ◌<◌, ◌≤◌, List, [], ◌∷◌, ◌++◌, length, get_or, sym, ◌∙◌, ap, subst, arith, inl, inr, Option, suc, refl, Some, None, bit_at, Contains, cases_lt, Config, Link, Event, Begin, End, begins, times, Explains, IsOpen, HasSlot, IsFrontier, IsLighter, IsSound, IsTable, IsWaiting, LeadTo, Leaves, Path, Runs, order_at, order_of, put, HasManyOpen, IsFrontOf, AreOpened, AreSettled, IsOpened, TakesSlot, AreLaidIn, AreTaken, Finishes, FreesSlot, HasMany, IsClosed, IsLeft, spot_of, Advance, Front, AdvancesIn, Agrees, Ends, EndsOpen, IsSameFront}
+use Rattle.histories.proofs.Words.{map, get_or-map, length-map, zero, ◌≡◌, ℕ, ◌+◌, ◌<◌, ◌≤◌, List, [], ◌∷◌, ◌++◌, length, get_or, sym, ◌∙◌, ap, subst, arith, inl, inr, Option, suc, refl, Some, None, bit_at, Contains, cases_lt, Config, Link, Event, Begin, End, begins, times, Explains, IsOpen, HasSlot, IsFrontier, IsLighter, IsSound, IsTable, IsWaiting, LeadTo, Leaves, Path, Runs, order_at, order_of, put, HasManyOpen, IsFrontOf, AreOpened, AreSettled, IsOpened, TakesSlot, AreLaidIn, AreTaken, Finishes, FreesSlot, HasMany, IsClosed, IsLeft, spot_of, Advance, Front, AdvancesIn, Agrees, Ends, EndsOpen, IsSameFront}
 use Rattle.histories.proofs.Bits.{cleared_put, put_other, put_same}
-use Rattle.histories.proofs.Counting.{not_some, split_times, times-append, times-cons, times_one, times_same, times_none, times_other}
+use Rattle.histories.proofs.Counting.{not_some, split_times, times-append, times-cons, times_one, times_same, times_none, times_other, at_times, times_once}
 use Rattle.histories.proofs.Events.{begins_begin, table_begin, taken_cases, taken_other, taken_still, begin_no_end, ends_one, open_begin_now, open_begin_still}
 use Rattle.histories.proofs.Running.{leads_split, leaves_run, runs_in, runs_lighter, runs_order, runs_then}
 use Rattle.histories.proofs.Explaining.{behind_open, explains_begin, explains_front, explains_without}
@@ -46,9 +46,7 @@ module _ {S : Type 0} (Step : S → ℕ → S → Type 0) where
           (
             l.2.0,
             put l.2.1 t,
-            subst (λ s. Runs Step more s k.waiting l.2.0 new (put l.2.1 t)) (sym is.0)
-                (subst (λ w. Runs Step more from.state w l.2.0 new (put l.2.1 t)) (sym is.1)
-                (runs_put from.state new from.waiting l.2.1 l.2.0 l.2.2)),
+            rw is.0 (rw (← is.1) at (runs_put from.state new from.waiting l.2.1 l.2.0 l.2.2)),
             lighter_put l.2.1 rest l.2.3,
           ),
         )
@@ -61,12 +59,7 @@ module _ {S : Type 0} (Step : S → ℕ → S → Type 0) where
         let on = runs_lighter _ _ _ _ _ _ _ _ short l.2.3 run in (
           l.0,
           l.1,
-          (
-            l.2.0 ++ on.0,
-            on.1,
-            runs_then _ _ _ _ _ _ _ _ _ _ l.2.2 on.2,
-            on.3,
-          ),
+          (l.2.0 ++ on.0, on.1, runs_then _ _ _ _ _ _ _ _ _ _ l.2.2 on.2, on.3),
         )
 
     module _ (links : List Link) (es : List Event) (olds : List S)
@@ -125,10 +118,7 @@ module _ {S : Type 0} (Step : S → ℕ → S → Type 0) where
                 let waits : bit_at rest at.0 ≡ 1 =
                 omega (arith, lead.1 at.0 x at.1, counts x, ex.once x, behind) in (
                   at.0,
-                  (
-                    taken_still _ _ _ _ _ _ takes at.1,
-                    put_other _ _ _ takes.within ne ∙ waits,
-                  ),
+                  (taken_still _ _ _ _ _ _ takes at.1, put_other _ _ _ takes.within ne ∙ waits),
                 )
           ] in
           let run = runs_order _ _ _ _ _ _ next.few next.apart
@@ -144,8 +134,7 @@ module _ {S : Type 0} (Step : S → ℕ → S → Type 0) where
             | inl some ↦ grind (arith, split_times, opened_with)
             | inr few_ ↦
                 let none : times c order ≡ 0 = omega (arith, few_) in
-                let lead = f.complete old order new from
-                (explains_without _ _ _ _ _ _ ex none) in (
+                let lead = f.complete old order new from (explains_without _ _ _ _ _ _ ex none) in (
                   put lead.0 t,
                   leaves_put _ _ none lead.1,
                   leads_put _ _ _ _ o lead.2,
@@ -198,7 +187,7 @@ begin_ends events c x ends = absurd (begin_no_end _ _ ends)
 pub slot_ends : (events : List Event) (e : Event) (slots : List (Option ℕ)) (slot c : ℕ)
     → Ends e c → IsTable events slots → HasSlot slots slot c → EndsOpen events e
 slot_ends events e slots slot c ends table has x now =
-    subst (λ y. IsOpen events y) (ends_one _ _ _ ends now) (table.each slot c has)
+    rw (← ends_one _ _ _ ends now) (table.each slot c has)
 
 pub no_slot : (events : List Event) (e : Event) (slots : List (Option ℕ)) (c : ℕ) → Ends e c
     → IsTable events slots → ((slot : ℕ) → HasSlot slots slot c → ⊥) → ¬ (EndsOpen events e)
@@ -239,102 +228,52 @@ many_as A B slots same configs many = (
   λ k has. made_as _ _ _ same _ _ (many.3 k has),
 )
 
--- the calls that have slots
-unfoldable called : List (Option ℕ) → List ℕ
-called [] = []
-called (None ∷ slots) = called slots
-called (Some call ∷ slots) = call ∷ called slots
+-- the number of a call that has a slot
+abbrev number : Option ℕ → ℕ
+number None = 0
+number (Some call) = call
 
-called_all : (slots : List (Option ℕ))
-    → ((slot : ℕ) → slot < length slots → get_or slots slot None ≡ None → ⊥)
-    → length (called slots) ≡ length slots
-unfolding called
-called_all [] taken = refl
-called_all (None ∷ slots) taken = absurd (taken 0 (omega arith) refl)
-called_all (Some call ∷ slots) taken =
-    ap suc (called_all slots (λ slot h none. taken (suc slot) (omega (arith, h)) none))
-
-called_slot : (slots : List (Option ℕ)) (call : ℕ) → 0 < times call (called slots)
-    → (slot : ℕ) × HasSlot slots slot call
-unfolding called
-called_slot [] call h = absurd (omega (arith, h, times_none call))
-called_slot (None ∷ slots) call h = let at = called_slot slots call h in (suc at.0, at.1)
-called_slot (Some one ∷ slots) call h =
-    elim (cases_lt 0 (times call (one ∷ []))) [
-      | inl here ↦ (0, ap (λ n. Some n) (times_same _ _ here))
-      | inr away ↦
-          let at = called_slot slots call (omega (
-            arith,
-            h,
-            away,
-            times-cons call one (called slots),
-          )) in (suc at.0, at.1)
-    ]
-
-pred_of : (one other : ℕ) → suc one ≡ suc other → one ≡ other
-pred_of one other e = omega (arith, e)
-
-called_once : (slots : List (Option ℕ))
-    → ((one other call : ℕ) → HasSlot slots one call → HasSlot slots other call → one ≡ other)
-    → (call : ℕ) → times call (called slots) ≤ 1
-unfolding called
-called_once [] apart call = omega (arith, times_none call)
-called_once (None ∷ slots) apart call =
-    grind (
-      arith,
-      pred_of,
-      called_once slots
-          (λ one other c a b. pred_of one other (apart (suc one) (suc other) c a b)) call,
-    )
-called_once (Some x ∷ slots) apart call =
-    let rest = called_once slots
-    (λ one other c a b. pred_of _ _ (apart (suc one) (suc other) c a b)) call in
-    elim (cases_lt 0 (times call (x ∷ []))) [
-      | inl here ↦
-          let same : x ≡ call = times_same _ _ here in
-          let one : times call (x ∷ []) ≡ 1 =
-          subst (λ y. times call (y ∷ []) ≡ 1) (sym same) (times_one _) in
-          elim (cases_lt 0 (times call (called slots))) [
-            | inl again ↦
-                let at = called_slot _ _ again in
-                let zero_is = apart 0 (suc at.0) call (ap (λ n. Some n) same) at.1 in
-                absurd (omega (arith, zero_is))
-            | inr none ↦ omega (arith, one, none, times-cons call x (called slots))
-          ]
-      | inr away ↦ omega (arith, away, rest, times-cons call x (called slots))
-    ]
+taken_by : (slot : Option ℕ) → (slot ≡ None → ⊥) → slot ≡ Some (number slot)
+taken_by None taken = absurd (taken refl)
+taken_by (Some call) taken = refl
 
 -- where all slots are taken and one call more begins, too many are open
-pub many_open : (events : List Event) (slots : List (Option ℕ)) (c : ℕ) → IsSound events
-    → begins c events ≡ 0 → IsTable events slots → AreTaken slots
-    → HasManyOpen (events ++ Begin c ∷ [])
-many_open events slots c s fresh table taken =
-    let calls : List ℕ = c ∷ called slots in
-    let was_open : (x : ℕ) → 0 < times x (called slots) → IsOpen events x =
-    λ x h. let at = called_slot _ _ h in table.each at.0 x at.1 in (
-      calls,
-      omega (arith, taken.0, called_all slots taken.1),
-      λ x. elim (cases_lt 0 (times x (called slots))) [
-        | inl some ↦
-            let other : times x (c ∷ []) ≡ 0 =
-            times_other _ _ (λ e. absurd
-            (omega (arith, (was_open x some).0, subst (λ y. begins y events ≡ 0) e fresh))) in
-            omega (arith, other, called_once slots table.apart x, times-cons x c (called slots))
-        | inr none ↦ omega (arith, none, times_most x c, times-cons x c (called slots))
-      ],
-      λ x h. elim (cases_lt 0 (times x (called slots))) [
-        | inl some ↦ open_begin_still _ _ _ (was_open x some)
-        | inr none ↦
-            let here : 0 < times x (c ∷ []) = omega (
-              arith,
-              h,
-              none,
-              times-cons x c (called slots),
-            ) in
-            subst (λ y. IsOpen (events ++ Begin c ∷ []) y) (times_same _ _ here)
-            (open_begin_now _ _ s fresh)
-      ],
-    )
+module _ (events : List Event) (slots : List (Option ℕ)) (c : ℕ) (s : IsSound events)
+    (fresh : begins c events ≡ 0) (table : IsTable events slots) (taken : AreTaken slots)
   where
-    times_most : (x c : ℕ) → times x (c ∷ []) ≤ 1
-    times_most x c = grind (arith, cases_lt, times_same, times_one)
+    abbrev calls : List ℕ
+    calls = map number slots
+
+    call_at : (i : ℕ) → i < length calls → HasSlot slots i (get_or calls i 0)
+    call_at i h =
+        taken_by (get_or slots i None) (taken.1 i (omega (arith, h, length-map slots number)))
+        ∙ ap (λ n. Some n) (sym (get_or-map number slots i None))
+
+    open_at : (i : ℕ) → i < length calls → IsOpen events (get_or calls i 0)
+    open_at i h = table.each i (get_or calls i 0) (call_at i h)
+
+    new : (i : ℕ) → i < length calls → c ≡ get_or calls i 0 → ⊥
+    new i h e = omega (arith, (open_at i h).0, subst (λ y. begins y events ≡ 0) e fresh)
+
+    same : (x i j : ℕ) → i < length (c ∷ calls) → j < length (c ∷ calls)
+        → get_or (c ∷ calls) i 0 ≡ x → get_or (c ∷ calls) j 0 ≡ x → i ≡ j
+    same x zero zero h k a b = refl
+    same x zero (suc j) h k a b = absurd (new j (omega (arith, k)) (a ∙ sym b))
+    same x (suc i) zero h k a b = absurd (new i (omega (arith, h)) (b ∙ sym a))
+    same x (suc i) (suc j) h k a b =
+        ap suc (table.apart i j x (rw a at (call_at i (omega (arith, h))))
+        (rw b at (call_at j (omega (arith, k)))))
+
+    open_now : (x i : ℕ) → i < length (c ∷ calls) → get_or (c ∷ calls) i 0 ≡ x
+        → IsOpen (events ++ Begin c ∷ []) x
+    open_now x zero h e =
+        subst (λ y. IsOpen (events ++ Begin c ∷ []) y) e (open_begin_now events c s fresh)
+    open_now x (suc i) h e = open_begin_still events c x (rw e at (open_at i (omega (arith, h))))
+
+    pub many_open : HasManyOpen (events ++ Begin c ∷ [])
+    many_open = (
+      c ∷ calls,
+      omega (arith, taken.0, length-map slots number),
+      λ x. times_once x (c ∷ calls) (same x),
+      λ x h. let at = at_times x (c ∷ calls) h in open_now x at.0 at.1 at.2,
+    )

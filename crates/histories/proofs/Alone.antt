@@ -80,15 +80,7 @@ module _ {S : Type 0} (Step : S → ℕ → S → Type 0) where
       λ c. omega (arith, times-append c front (count ∷ back), times-cons c count back) in
       let empty : back ≡ [] =
       no_times _ (λ c. not_some _ (λ some.
-      let other : times c (count ∷ []) ≡ 0 =
-      times_other _ _ (λ same. absurd
-      (omega (
-        arith,
-        some,
-        counts c,
-        whole.once c,
-        subst (λ x. times x (count ∷ []) ≡ 1) same (times_one count),
-      ))) in
+      let other : times c (count ∷ []) ≡ 0 = grind (arith, times_other, times_one) in
       let begun : 0 < begins c es =
       omega (arith, whole.begun c (omega (arith, some, counts c)), begins_begin c count es, other)
       in
@@ -118,20 +110,18 @@ module _ {S : Type 0} (Step : S → ℕ → S → Type 0) where
   alone_back : (count : ℕ) (old new : S) → Leads Step old (in_order count) new
       → Explains Step (calls_alone count) old (in_order count) new
   unfolding calls_alone in_order
-  alone_back zero old new leads =
-      subst (λ s. Explains Step [] old [] s) (sym leads) (explains_none _ _)
+  alone_back zero old new leads = rw leads (explains_none _ _)
   alone_back (suc count) old new leads =
       let parts = leads_split _ _ _ _ _ leads in
       let last = parts.2 in
       let a = is_alone _ in
       explains_alone _ _ _ _ _ _ a.sound (alone_fresh _ _ a) (alone_back count old parts.0 parts.1)
-      (subst (λ s. Step parts.0 count s) (sym last.2) last.1)
+      (rw (← last.2) at last.1)
 
   pub calls_alone_are_runs : CallsAloneAreRuns Step
   calls_alone_are_runs count old new order = (
     λ ex. alone_there _ _ _ _ ex,
-    λ is. subst (λ (l : List ℕ). Explains Step (calls_alone count) old l new) (sym is.0)
-        (alone_back _ _ _ is.1),
+    λ is. rw is.0 (alone_back _ _ _ is.1),
   )
 
 module _ {S : Type 0} (Step : S → ℕ → S → Type 0) (slots : List (Option ℕ)) (es : List Event)
@@ -159,20 +149,17 @@ module _ {S : Type 0} (Step : S → ℕ → S → Type 0) (slots : List (Option 
       → IsFrontier Step links slots (es ++ Begin c ∷ End c ∷ []) olds (made ∷ [])
   frontier_alone links olds config made all path f =
       let is = f.sound config (0, omega arith, refl) in
-      let after : List Event = es ++ Begin c ∷ End c ∷ [] in
       let order : order_of links made ≡ order_of links config ++ c ∷ [] =
       ap (λ (p : Path). order_at links p) path ∙ order_more _ _ _ in
       record {
-        sound = λ k has. subst (λ (x : Config S). IsFollowed Step links slots after olds x)
-            (sym (only _ _ has)) (record {
-              old = is.old;
-              from = is.from;
-              explains = subst (λ (o : List ℕ). Explains Step after is.old o made.state) (sym order)
-                  (explains_alone _ _ _ _ _ _ _
-                  sound fresh is.explains (all.0 0 made.state (omega arith)));
-              leaves = λ slot call has. absurd (empty slot call has);
-              within = omega (arith, is.within, ap (λ (p : Path). p.base) path);
-            });
+        sound = λ k has. rw (only _ _ has) (record {
+          old = is.old;
+          from = is.from;
+          explains = rw (← order) at (explains_alone _ _ _ _ _ _ _
+              sound fresh is.explains (all.0 0 made.state (omega arith)));
+          leaves = λ slot call has. absurd (empty slot call has);
+          within = omega (arith, is.within, ap (λ (p : Path). p.base) path);
+        });
         complete = λ old order new from ex.
             let r = explained_alone _ _ _ _ _ _ sound fresh (quiet_empty _ _ table empty) ex in
             let lead = f.complete old r.0 r.1 from r.3 in
@@ -180,18 +167,13 @@ module _ {S : Type 0} (Step : S → ℕ → S → Type 0) (slots : List (Option 
             runs_nothing _ _ _ _ _ _ _ empty lead.2.2.2
             ∙ ap (λ (x : Config S). x.state) (only _ _ lead.2.1) in
             let last : new ≡ made.state =
-            only _ _ (all.1 new (subst (λ s. Step s c new) mid r.4)) in (
+            only _ _ (all.1 new (rw (← mid) r.4)) in (
               0,
               λ slot call has. absurd (empty slot call has),
               (
                 made,
                 (0, omega arith, refl),
-                (
-                  [],
-                  made.waiting,
-                  (last, refl),
-                  λ slot call has. absurd (empty slot call has),
-                ),
+                ([], made.waiting, (last, refl), λ slot call has. absurd (empty slot call has)),
               ),
             );
         once = λ i j d less within same. absurd (omega (arith, less, within));
@@ -229,8 +211,7 @@ made_alone {M} {S} Step machine links slots configs config made c empty one is m
     (sym parts.1) (
       frontier_alone _ _ _ _ sound fresh f.table empty _ _ _ _ (all_as _ _ (made.state ∷ [])
           (λ new. agrees c (open_begin_now _ _ sound fresh) config.state new) m.0) m.1
-          (subst (λ (l : List (Config S)). IsFrontier (Step whole) links slots events olds l)
-          parts.0 f),
+          (rw parts.0 at f),
       omega arith,
     )
 
@@ -273,8 +254,7 @@ module _ {S : Type 0} (Step : S → ℕ → S → Type 0) (slots : List (Option 
     state = state;
     calls = call ∷ [];
     runs = (slot, is, (config.state, step, (refl, set)));
-    lighter = subst (λ w. IsLighter Step slots w config.waiting) (sym set)
-        (lighter_idle _ _ _ _ _ few is.0 idle);
+    lighter = rw set (lighter_idle _ _ _ _ _ few is.0 idle);
     made = made;
   }
 
@@ -318,7 +298,7 @@ module _ {S : Type 0} (Step : S → ℕ → S → Type 0) (slots : List (Option 
           known.0,
           known.1,
           known.2.0 ∙ one.2.state,
-          subst (λ w. IsLighter Step slots w config.waiting) (sym known.2.1) one.2.lighter,
+          rw known.2.1 one.2.lighter,
         );
     once = g.once none_same;
   }
@@ -341,17 +321,12 @@ module _ {S : Type 0} (Step : S → ℕ → S → Type 0) (slots : List (Option 
 
   are_settled : AreSettled Step slots (made ∷ []) (settled ∷ [])
   are_settled = record {
-    sound = λ k has. (
-      made,
-      Contains-push [] made,
-      subst (λ (x : Config S). IsSettled Step slots made (spot_of x)) (sym (only _ _ has)) idle,
-    );
+    sound = λ k has. (made, Contains-push [] made, rw (only _ _ has) idle);
     complete = λ k has. (
       settled,
       Contains-push [] settled,
       idle.state ∙ ap (λ (x : Config S). x.state) (sym (only _ _ has)),
-      subst (λ (x : Config S). IsLighter Step slots settled.waiting x.waiting)
-          (sym (only _ _ has)) idle.lighter,
+      rw (only _ _ has) idle.lighter,
     );
     once = one_apart _;
   }
@@ -375,10 +350,7 @@ module _ {S : Type 0} (Step : S → ℕ → S → Type 0) (slots : List (Option 
 
   pub closed_in_place : IsClosed Step slots (config ∷ []) slot (settled ∷ [])
   closed_in_place = record {
-    sound = λ k has. (
-      closing.under_way k has,
-      subst (λ (x : Config S). bit_at x.waiting slot ≡ 0) (sym (only _ _ has)) gone,
-    );
+    sound = λ k has. (closing.under_way k has, rw (only _ _ has) gone);
     complete = λ new rest l over. elim (closing.complete new rest l over) [
       | inl none ↦ absurd (nothing_in _ none.1)
       | inr there ↦ there
@@ -391,10 +363,7 @@ pub closed_already : {S : Type 0} (Step : S → ℕ → S → Type 0) (slots : L
     (slot : ℕ) (configs : List (Config S)) → WaitsInNone slot configs
     → AllPairs (λ a b. ¬ (IsSame a b)) configs → IsClosed Step slots configs slot configs
 closed_already {S} Step slots slot configs none apart = record {
-  sound = λ k has. (
-    (k, has, ([], (refl, refl), path_none _)),
-    subst (λ (x : Config S). bit_at x.waiting slot ≡ 0) has.2 (none has.0 k has.1),
-  );
+  sound = λ k has. ((k, has, ([], (refl, refl), path_none _)), rw (← has.2) (none has.0 k has.1));
   complete = λ new rest l over. l;
   once = apart;
 }

@@ -4,7 +4,7 @@ use Rattle.histories.specs.Gathering.{IsNext}
 use Rattle.histories.proofs.Places.{nothing_in, only}
 use Rattle.histories.proofs.Bits.{bit_cases, cleared_le, cleared_same, ones_le, ones_less, ones_most, slot_64, slot_once, slot_within}
 use Rattle.histories.proofs.Gathering.{gathers_none}
-use Rattle.histories.proofs.Running.{lighter_as, lighter_then, runs_as, runs_fewer, runs_first, runs_lighter, runs_then}
+use Rattle.histories.proofs.Running.{lighter_then, runs_fewer, runs_first, runs_lighter, runs_then}
 
 path_with : ℕ → List ℕ → Path
 path_with base calls = record { base = base; calls = calls }
@@ -38,13 +38,7 @@ module _ {S : Type 0} (Step : S → ℕ → S → Type 0) (slots : List (Option 
       let known = g.complete config found in (
         known.0,
         known.1,
-        (
-          calls,
-          fewer,
-          subst (λ x. Runs Step slots x known.0.waiting calls s fewer) (sym known.2.0)
-              (subst (λ w. Runs Step slots config.state w calls s fewer) (sym known.2.1) run),
-          light,
-        ),
+        (calls, fewer, rw known.2.0 (rw (← known.2.1) at run), light),
       )
 
   -- where calls that change nothing were made, the others lead to the same
@@ -54,16 +48,10 @@ module _ {S : Type 0} (Step : S → ℕ → S → Type 0) (slots : List (Option 
   leads_settled configs settled new rest few a l =
       let config = l.0 in
       let one = a.complete config l.1 in
-      let more = runs_lighter _ _ _ _ _ _ _ _
-      few one.3 l.2.2 in (
+      let more = runs_lighter _ _ _ _ _ _ _ _ few one.3 l.2.2 in (
         one.0,
         one.1,
-        (
-          more.0,
-          more.1,
-          subst (λ s. Runs Step slots s one.0.waiting more.0 new more.1) (sym one.2) more.2,
-          lighter_then _ _ _ _ _ more.3 l.2.3,
-        ),
+        (more.0, more.1, rw one.2 more.2, lighter_then _ _ _ _ _ more.3 l.2.3),
       )
 
   -- more calls are made
@@ -85,10 +73,7 @@ module _ {S : Type 0} (Step : S → ℕ → S → Type 0) (slots : List (Option 
   pub made_settled : (configs : List (Config S)) (config : Config S) (one : Spot S)
       → IsSettled Step slots config one → IsMadeFrom Step slots configs (spot_of config)
       → IsMadeFrom Step slots configs one
-  made_settled configs config one is m =
-      made_then _ config _ _
-      (subst (λ s. Runs Step slots config.state config.waiting is.calls s one.waiting)
-      (sym is.state) is.runs) is.made m
+  made_settled configs config one is m = made_then _ config _ _ (rw is.state is.runs) is.made m
 
   pub closing_begin : (configs : List (Config S)) (slot : ℕ)
       → IsClosing Step slots configs slot [] configs (length slots + 1)
@@ -144,8 +129,7 @@ module _ {S : Type 0} (Step : S → ℕ → S → Type 0) (slots : List (Option 
     ];
     kept = g.kept;
     complete = λ k calls last fewer rest has w over run light. leads calls last fewer rest over
-        (subst (λ (x : Config S). Runs Step slots x.state x.waiting calls last fewer)
-        (only _ _ has) run) light;
+        (rw (← only _ _ has) run) light;
     once = g.once;
   }
 
@@ -210,11 +194,7 @@ module _ {S : Type 0} (Step : S → ℕ → S → Type 0) (slots : List (Option 
         | inl n ↦ inl n
         | inr p ↦ inr (p.0, Contains-append_left layer (from ∷ []) p.0 p.1, p.2)
       ]
-      | inr q ↦ inr (
-        from,
-        Contains-push layer from,
-        subst (λ (x : Config S). IsUnderWay Step slots slot x (spot_of k)) (only _ _ q.1) q.2,
-      )
+      | inr q ↦ inr (from, Contains-push layer from, rw (← only _ _ q.1) q.2)
     ];
     kept = λ k has. g.kept k (f.kept k has);
     complete = λ k calls last fewer rest has waits over run light.
@@ -223,8 +203,7 @@ module _ {S : Type 0} (Step : S → ℕ → S → Type 0) (slots : List (Option 
               let l = f.complete k calls last fewer rest m waits over run light in
               (l.0, g.kept l.0 l.1, l.2)
           | inr e ↦
-              g.complete k calls last fewer rest
-              (subst (λ (x : Config S). Contains (from ∷ []) x) e (Contains-push [] from))
+              g.complete k calls last fewer rest (rw (← e) (Contains-push [] from))
               waits over run light
         ];
     once = λ a. g.once (f.once a);
@@ -275,16 +254,8 @@ module _ {S : Type 0} (Step : S → ℕ → S → Type 0) (slots : List (Option 
           let at = found.2.1.0 in
           let h = slot_64 _ at found.2.1.2.0 few found.2.1.2.1.0 in
           let less : ones (cleared from.waiting at) (length slots) < ones from.waiting (length
-          slots) =
-          ones_less _ _ _ at
-          (λ i within. cleared_le _ at i h (omega (arith, within, few))) found.2.1.1
-          (cleared_same _ at h) found.2.1.2.1.1 in
-          omega (
-            arith,
-            cl.short from found.1,
-            less,
-            ap (λ w. ones w (length slots)) found.2.1.2.3,
-          )
+          slots) = grind (arith, ones_less, cleared_le, cleared_same) in
+          omega (arith, cl.short from found.1, less, ap (λ w. ones w (length slots)) found.2.1.2.3)
     ];
     once = f.once cl.once;
   }
@@ -359,23 +330,26 @@ module _ {S : Type 0} (A B : S → ℕ → S → Type 0) (slots : List (Option �
     (same : HaveSameSteps A B slots) where
   as_run : (old new : S) (waiting rest : ℕ) (calls : List ℕ)
       → Runs A slots old waiting calls new rest → Runs B slots old waiting calls new rest
-  as_run = runs_as _ _ _ (λ slot call has old next. (same slot call has old next).0)
+  as_run old new waiting rest [] run = run
+  as_run old new waiting rest (call ∷ calls) run =
+      let step = (same run.0 call run.1.0 old run.2.0).0 run.2.1 in
+      let more = as_run run.2.0 new (cleared waiting run.0) rest calls run.2.2 in
+      (run.0, run.1, (run.2.0, step, more))
 
   as_light : (fewer waiting : ℕ) → IsLighter A slots fewer waiting
       → IsLighter B slots fewer waiting
-  as_light = lighter_as _ _ _ (λ slot call has old next. (same slot call has old next).1)
+  as_light fewer waiting l slot call has =
+      elim (l slot call has) [
+        | inl e ↦ inl e
+        | inr idle ↦ inr (idle.0, λ old new b. idle.1 old new ((same slot call has old new).1 b))
+      ]
 
   pub leads_as : (configs : List (Config S)) (new : S) (rest : ℕ)
       → LeadTo A slots configs new rest → LeadTo B slots configs new rest
   leads_as configs new rest l = (
     l.0,
     l.1,
-    (
-      l.2.0,
-      l.2.1,
-      as_run _ _ _ _ _ l.2.2,
-      as_light _ _ l.2.3,
-    ),
+    (l.2.0, l.2.1, as_run _ _ _ _ _ l.2.2, as_light _ _ l.2.3),
   )
 
   pub made_as : (configs : List (Config S)) (spot : Spot S) → IsMadeFrom A slots configs spot

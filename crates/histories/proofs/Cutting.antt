@@ -39,7 +39,7 @@ cut_order es fs (x ∷ order) quiet begun all =
             r.1,
             ap (λ (l : List ℕ). x ∷ l) r.2,
             λ c h. elim (cases_lt 0 (times c (x ∷ []))) [
-              | inl here ↦ subst (λ y. 0 < begins y es) (times_same _ _ here) some
+              | inl here ↦ rw (← times_same _ _ here) some
               | inr not ↦ r.3 c (omega (arith, h, not, times-cons c x r.0))
             ],
             r.4,
@@ -90,10 +90,8 @@ module _ {S : Type 0} (Step : S → ℕ → S → Type 0) where
       let back = parts.1 in
       let counts : (c : ℕ) → times c order ≡ times c front + times c back =
       λ c. ap (times c) parts.2 ∙ times-append c front back in
-      let pairs : AllPairs P (front ++ back) =
-      subst (λ (l : List ℕ). AllPairs P l) parts.2 ex.real_time in
-      let leads = leads_split Step old new front back
-      (subst (λ (l : List ℕ). Leads Step old l new) parts.2 ex.leads) in (
+      let pairs : AllPairs P (front ++ back) = rw (← parts.2) ex.real_time in
+      let leads = leads_split Step old new front back (rw (← parts.2) ex.leads) in (
         leads.0,
         front,
         back,
@@ -117,7 +115,7 @@ module _ {S : Type 0} (Step : S → ℕ → S → Type 0) where
 
   leads_join : (old mid new : S) (before after : List ℕ) → Leads Step old before mid
       → Leads Step mid after new → Leads Step old (before ++ after) new
-  leads_join old mid new [] after f g = subst (λ s. Leads Step s after new) f g
+  leads_join old mid new [] after f g = rw (← f) g
   leads_join old mid new (c ∷ before) after f g =
       (f.0, f.1, leads_join f.0 mid new before after f.2 g)
 
@@ -167,33 +165,24 @@ module _ {S : Type 0} (Step : S → ℕ → S → Type 0) where
       → IsSound (es ++ rest)
       → IsExplained Step (es ++ rest) olds
       ↔ IsExplained Step rest (map (λ config. config.state) configs)
-  split_anew links slots es olds configs sound quiet empty f rest after whole =
-      let state_of : Config S → S = λ config. config.state in
-      let states : List S = map state_of configs in (
-        λ x.
-            let s = explains_split _ _ _ _ _ sound after whole quiet x.4 in
-            let lead = f.complete x.0 s.1 s.0 x.3 s.3 in
-            let config = lead.2.0 in
-            let same : s.0 ≡ config.state =
-            runs_nothing _ _ _ _ _ _ empty
-            lead.2.2.2 in (
-              s.0,
-              s.2,
-              x.2,
-              subst (λ m. Contains states m) (sym same) (contains_map_of _ _ _ lead.2.1),
-              s.4,
-            ),
-        λ x.
-            let from = contains_of_map _ _ _ x.3 in
-            let is = f.sound from.0 from.1 in (
-              is.old,
-              order_of links from.0 ++ x.1,
-              x.2,
-              is.from,
-              explains_join _ _ _ _ _ _ _ sound whole is.explains
-                  (subst (λ m. Explains Step rest m x.1 x.2) (sym from.2) x.4),
-            ),
-      )
+  split_anew links slots es olds configs sound quiet empty f rest after whole = (
+    λ x.
+        let s = explains_split _ _ _ _ _ sound after whole quiet x.4 in
+        let lead = f.complete x.0 s.1 s.0 x.3 s.3 in
+        let config = lead.2.0 in
+        let same : s.0 ≡ config.state =
+        runs_nothing _ _ _ _ _ _ empty
+        lead.2.2.2 in (s.0, s.2, x.2, rw same (contains_map_of _ _ _ lead.2.1), s.4),
+    λ x.
+        let from = contains_of_map _ _ _ x.3 in
+        let is = f.sound from.0 from.1 in (
+          is.old,
+          order_of links from.0 ++ x.1,
+          x.2,
+          is.from,
+          explains_join _ _ _ _ _ _ _ sound whole is.explains (rw from.2 x.4),
+        ),
+  )
 
   -- a front with new orders of no calls
   pub fresh_anew : (links : List Link) (slots : List (Option ℕ)) (configs unlinked : List (Config
@@ -211,8 +200,7 @@ module _ {S : Type 0} (Step : S → ℕ → S → Type 0) where
         few = few;
       }) (λ k has.
       let from = each_from IsUnlinked configs unlinked k u has in (
-        subst (λ s. Contains (map state_of configs) s) (sym from.2.0)
-            (contains_map_of state_of configs from.0 from.1),
+        rw from.2.0 (contains_map_of state_of configs from.0 from.1),
         from.2.2,
       )) (λ old has.
       let from = contains_of_map state_of configs old has in

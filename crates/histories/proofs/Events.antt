@@ -74,8 +74,7 @@ begins_stands c (Begin b ∷ es) h =
     elim (eqb_tells b c) [
       | inl t ↦ (0, ap (λ n. Some (Begin n)) t.1)
       | inr f ↦
-          let fewer : 0 < cond false 1 0 + begins c es =
-          subst (λ t. 0 < cond t 1 0 + begins c es) f.0 h in
+          let fewer : 0 < cond false 1 0 + begins c es = rw f.0 at h in
           let r = begins_stands c es (omega (arith, fewer)) in (suc r.0, r.1)
     ]
 begins_stands c (End b ∷ es) h = let r = begins_stands c es h in (suc r.0, r.1)
@@ -126,12 +125,7 @@ stands_cases (y ∷ es) e (suc k) x at = grind (arith, stands_cases es e k x at)
 -- a call that has begun did so before, or with the last event
 pub begins_cases : (es : List Event) (e : Event) (c : ℕ) → 0 < begins c (es ++ e ∷ [])
     → (0 < begins c es) ⊎ (e ≡ Begin c)
-begins_cases es e c h =
-    let r = begins_stands c (es ++ e ∷ []) h in
-    elim (stands_cases es e r.0 (Begin c) r.1) [
-      | inl before ↦ inl (stands_begins c es r.0 before)
-      | inr last ↦ inr last.1
-    ]
+begins_cases es e c h = grind (arith, begins_stands, stands_cases, stands_begins)
 
 pub stands_within : (es : List Event) (k : ℕ) (x : Event) → StandsAt es k x → k < length es
 stands_within [] k x at = absurd (cc)
@@ -152,8 +146,8 @@ ended_still es e c h = (h.0, ends_left es (e ∷ []) h.0 _ h.1)
 pub ended_now : (es : List Event) (e : Event) (c : ℕ) → Ends e c → HasEnded (es ++ e ∷ []) c
 ended_now es e c ends =
     elim ends [
-      | inl is ↦ (length es, inl (subst (λ (x : Event). StandsAt (es ++ e ∷ []) (length es) x) is (stands_last es _)))
-      | inr is ↦ (length es, inr (subst (λ (x : Event). StandsAt (es ++ e ∷ []) (length es) x) is (stands_last es _)))
+      | inl is ↦ (length es, inl (rw (← is) (stands_last es _)))
+      | inr is ↦ (length es, inr (rw (← is) (stands_last es _)))
     ]
 
 pub ended_cases : (es : List Event) (e : Event) (c : ℕ) → HasEnded (es ++ e ∷ []) c
@@ -235,7 +229,7 @@ open_end_before es e c x ends o = (
 
 pub open_end_other : (es : List Event) (e : Event) (c x : ℕ) → Ends e c
     → IsOpen (es ++ e ∷ []) x → x ≢ c
-open_end_other es e c x ends o same = o.1 (ended_now _ _ _ (subst (λ y. Ends e y) (sym same) ends))
+open_end_other es e c x ends o same = o.1 (ended_now _ _ _ (rw same ends))
 
 -- a history stays one
 pub sound_begin : (es : List Event) (c : ℕ) → IsSound es → begins c es ≡ 0
@@ -258,7 +252,7 @@ sound_end es e c ends s some = record {
         | inl before ↦ omega (arith, begins_ends x c es e ends, s.begun x before)
         | inr now ↦
             let same : c ≡ x = ends_one _ _ _ ends now in
-            omega (arith, begins_ends x c es e ends, subst (λ y. 0 < begins y es) same some)
+            omega (arith, begins_ends x c es e ends, rw same at some)
       ];
 }
 
@@ -294,8 +288,7 @@ pub table_begin : (es : List Event) (slots new : List (Option ℕ)) (c t : ℕ) 
 table_begin es slots new c t s fresh table takes = record {
   each = λ slot call has.
       elim (taken_cases _ _ _ _ _ _ takes has) [
-        | inl now ↦ subst (λ x. IsOpen (es ++ Begin c ∷ []) x) (sym now.1)
-            (open_begin_now _ _ s fresh)
+        | inl now ↦ rw now.1 (open_begin_now _ _ s fresh)
         | inr before ↦ open_begin_still _ _ _ (table.each slot call before.1)
       ];
   all = λ call is. grind (arith, open_begin_cases, taken_still);
@@ -309,13 +302,12 @@ table_end es slots new e c t ends table here frees = record {
   each = λ slot call has.
       let before = freed_before _ _ _ _ _ frees has in
       open_end_still _ _ _ _ ends (table.each slot call before.1)
-      (λ same. before.0 (table.apart slot t call before.1 (subst (λ x. HasSlot slots t x) (sym
-      same) here)));
+      (λ same. before.0 (table.apart slot t call before.1 (rw same here)));
   all = λ call is.
       let at = table.all call (open_end_before _ _ _ _ ends is) in (
         at.0,
         freed_still _ _ _ _ _ frees (λ same. open_end_other _ _ _ _ ends is
-            (slot_once slots t _ _ (subst (λ s. HasSlot slots s call) same at.1) here)) at.1,
+            (slot_once slots t _ _ (rw (← same) at.1) here)) at.1,
       );
   apart = λ one other call a b. grind (arith, freed_before);
   few = omega (arith, frees.few, table.few);

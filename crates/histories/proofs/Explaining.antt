@@ -45,8 +45,7 @@ module _ {S : Type 0} (Step : S → ℕ → S → Type 0) where
       let more = explains_made _ _ _ _ _ _ _ _ _ table ex leaves run.1 run.2.1 in
       let all = explains_run es slots old run.2.0 new (order ++ call ∷ []) (cleared waiting run.0)
       calls rest table more.0 more.1 run.2.2 in
-      subst (λ (o : List ℕ). Explains Step es old o new × Leaves slots o rest)
-      (append_assoc order (call ∷ []) calls) all
+      rw (← append_assoc order (call ∷ []) calls) all
 
   -- an order in which no call begins with the last event explains those before it
   explains_less : (es : List Event) (e : Event) (old new : S) (order : List ℕ)
@@ -54,10 +53,7 @@ module _ {S : Type 0} (Step : S → ℕ → S → Type 0) where
       → Explains Step es old order new
   explains_less es e old new order none ex = record {
     once = ex.once;
-    begun = λ c some. elim (begins_cases _ _ _ (ex.begun c some)) [
-      | inl before ↦ before
-      | inr is ↦ absurd (omega (arith, some, none c is))
-    ];
+    begun = grind (arith, begins_cases);
     answered = λ c a. ex.answered c (answered_left _ _ _ a);
     real_time = λ i j d less within over. ex.real_time i j d less within (over_left _ _ _ _ over);
     leads = ex.leads;
@@ -68,15 +64,13 @@ module _ {S : Type 0} (Step : S → ℕ → S → Type 0) where
       → Explains Step (es ++ Begin call ∷ []) old order new → times call order ≡ 0
       → Explains Step es old order new
   explains_without es old new order call ex none =
-      explains_less _ _ _ _ _
-      (λ c is. let same : call ≡ c = cc in subst (λ x. times x order ≡ 0) same none) ex
+      explains_less _ _ _ _ _ (λ c is. let same : call ≡ c = cc in rw (← same) none) ex
 
   -- an order that explains the history with the end explains that without
   pub explains_open : (es : List Event) (e : Event) (old new : S) (order : List ℕ) (call : ℕ)
       → Ends e call → Explains Step (es ++ e ∷ []) old order new → Explains Step es old order new
   explains_open es e old new order call ends ex =
-      explains_less _ _ _ _ _
-      (λ c is. absurd (begin_no_end _ _ (subst (λ x. Ends x call) is ends))) ex
+      explains_less _ _ _ _ _ (λ c is. absurd (begin_no_end _ _ (rw is at ends))) ex
 
   -- what stands behind a call that begins now has not ended
   pub behind_open : (es : List Event) (old new : S) (before after : List ℕ) (call c : ℕ)
@@ -104,8 +98,7 @@ module _ {S : Type 0} (Step : S → ℕ → S → Type 0) where
             let made : 0 < times c order = ex.answered c (answered_left _ _ _ a) in
             let begun : 0 < begins c es = s.begun c (answered_ended _ _ a) in
             let other : times c (call ∷ []) ≡ 0 =
-            times_other _ _
-            (λ e. absurd (omega (arith, begun, subst (λ x. begins x es ≡ 0) e fresh))) in
+            times_other _ _ (λ e. absurd (omega (arith, begun, rw e at fresh))) in
             elim (cases_lt 0 (times c before)) [
               | inl some ↦ some
               | inr none ↦
@@ -146,8 +139,7 @@ module _ {S : Type 0} (Step : S → ℕ → S → Type 0) where
       → begins call es ≡ 0 → Explains Step es old order new
       → Explains Step (es ++ Begin call ∷ []) old order new
   explains_begin es old new order call fresh ex =
-      explains_more _ _ _ _ _
-      (λ c is. let same : call ≡ c = cc in subst (λ x. begins x es ≡ 0) same fresh)
+      explains_more _ _ _ _ _ (λ c is. let same : call ≡ c = cc in rw (← same) fresh)
       (λ c is. absurd (cc)) ex
 
   -- a call ends, and has been made if it was answered
@@ -155,7 +147,6 @@ module _ {S : Type 0} (Step : S → ℕ → S → Type 0) where
       → Ends e call → (e ≡ End call → 0 < times call order) → Explains Step es old order new
       → Explains Step (es ++ e ∷ []) old order new
   explains_end es e old new order call ends made ex =
-      explains_more _ _ _ _ _ (λ c is. absurd (begin_no_end _ _ (subst (λ x. Ends x call) is ends)))
-      (λ c is.
+      explains_more _ _ _ _ _ (λ c is. absurd (begin_no_end _ _ (rw is at ends))) (λ c is.
       let same : c ≡ call = ends_one _ _ _ (inl is) ends in
-      subst (λ x. 0 < times x order) (sym same) (made (subst (λ x. e ≡ End x) same is))) ex
+      rw same (made (rw same at is))) ex

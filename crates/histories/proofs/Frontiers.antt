@@ -36,8 +36,8 @@ module _ {S : Type 0} (Step : S → ℕ → S → Type 0) where
       _ _ _ table is.explains is.leaves made.2.1 in record {
         old = is.old;
         from = is.from;
-        explains = subst (λ (m : List ℕ). Explains Step es is.old m k.state) (sym order) more.0;
-        leaves = subst (λ (m : List ℕ). Leaves slots m k.waiting) (sym order) more.1;
+        explains = rw order more.0;
+        leaves = rw order more.1;
         within = omega (arith, is.within, ap (λ (p : Path). p.base) made.2.2);
       }
 
@@ -139,9 +139,7 @@ module _ {S : Type 0} (Step : S → ℕ → S → Type 0) where
                 ap (λ (p : Path). order_at links p) drop.3 in record {
                   old = is.old;
                   from = is.from;
-                  explains = subst
-                      (λ (m : List ℕ). Explains Step (es ++ Crash c ∷ []) is.old m k.state)
-                      (sym order) (subst
+                  explains = rw order (subst
                       (λ x. Explains Step (es ++ Crash c ∷ []) is.old (order_of links from) x)
                       (sym drop.1) (explains_end _ _ _ _ _ _ _
                       (inr refl) (λ is_end. absurd (cc)) is.explains));
@@ -169,12 +167,7 @@ module _ {S : Type 0} (Step : S → ℕ → S → Type 0) where
                       (g.complete new (cleared rest t) (
                         from,
                         l.1,
-                        (
-                          l.2.0,
-                          fewer,
-                          l.2.2,
-                          lighter_without _ _ _ _ _ few h none l.2.3,
-                        ),
+                        (l.2.0, fewer, l.2.2, lighter_without _ _ _ _ _ few h none l.2.3),
                       ) (cleared_same _ _ h))
                   | inr some ↦
                       let there : bit_at from.waiting t ≡ 1 = grind (
@@ -244,7 +237,7 @@ module _ {S : Type 0} (Step : S → ℕ → S → Type 0) where
       let none : order ≡ [] =
       no_times _ (λ c. not_some _
       (λ some. absurd (omega (arith, ex.begun c some, begins_none c)))) in
-      (none, subst (λ (o : List ℕ). Leads Step old o new) none ex.leads)
+      (none, rw none at ex.leads)
 
   -- configurations of orders of no calls, where no call is open
   pub frontier_fresh : (links : List Link) (slots : List (Option ℕ)) (olds : List S)
@@ -259,8 +252,7 @@ module _ {S : Type 0} (Step : S → ℕ → S → Type 0) where
         ap (λ (p : Path). order_at links p) is.1 ∙ order_none _ in record {
           old = k.state;
           from = is.0;
-          explains = subst (λ (m : List ℕ). Explains Step [] k.state m k.state) (sym order)
-              (explains_none _);
+          explains = rw order (explains_none _);
           leaves = λ slot call here.
               absurd (omega (arith, (table.each slot call here).0, begins_none call));
           within = omega (arith, ap (λ (p : Path). p.base) is.1);

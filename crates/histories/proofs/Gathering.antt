@@ -61,7 +61,7 @@ module _ {S : Type 0} where
   gathers_new configs config is = record {
     sound = λ k has. elim (Contains-push_cases configs config k has) [
       | inl m ↦ inl m
-      | inr e ↦ inr (subst (λ (x : Config S). IsCopy config (spot_of x)) e (refl, refl, refl))
+      | inr e ↦ inr (rw (← e) (refl, refl, refl))
     ];
     kept = λ k has. Contains-append_left configs (config ∷ []) k has;
     complete = λ k copy. (config, Contains-push configs config, (sym copy.0, sym copy.1));
@@ -85,12 +85,7 @@ module _ {S : Type 0} where
         | inl m ↦ inl (m, r.1, r.2)
         | inr e ↦ inr ((0, omega arith, e), r.1, r.2)
       ]) (λ k p. (Contains-append_left states (state ∷ []) k.state p.0, p.1, p.2))
-      (λ k q. (
-        subst (λ x. Contains (states ++ state ∷ []) x) (sym (only _ _ q.0))
-            (Contains-push states state),
-        q.1,
-        q.2,
-      )) f g
+      (λ k q. (rw (only _ _ q.0) (Contains-push states state), q.1, q.2)) f g
 
   pub gathers_no_state : (waiting : ℕ) (made : Path) (old : List (Config S))
       → Gathers (IsWith [] waiting made) old old
@@ -142,7 +137,7 @@ module _ {S : Type 0} where
     gathers_slot from slot other old mid new f g =
         gathers_then _ _ _ _ _ _
         (λ k r. elim (cases_order r.0 other) [
-          | inl e ↦ inr (subst (λ i. IsNextOther Step slots from slot i k) e r.2)
+          | inl e ↦ inr (rw (← e) r.2)
           | inr (inl less) ↦ inl (r.0, less, r.2)
           | inr (inr more) ↦ absurd (omega (arith, r.1))
         ]) (λ k p. (p.0, omega (arith, p.1), p.2)) (λ k q. (other, omega arith, q)) f g
@@ -164,7 +159,7 @@ module _ {S : Type 0} where
     gathers_last from slot old mid new within f g =
         gathers_then _ _ _ _ _ _
         (λ k r. elim (cases_order r.0 slot) [
-          | inl e ↦ inr (subst (λ i. IsNextAt Step slots from i k) e r.2)
+          | inl e ↦ inr (rw (← e) r.2)
           | inr (inl less) ↦ inl (r.0, r.1, ((λ e. absurd (omega (arith, less, e))), r.2))
           | inr (inr more) ↦ inl (r.0, r.1, ((λ e. absurd (omega (arith, more, e))), r.2))
         ]) (λ k p. (p.0, p.1, p.2.1)) (λ k q. (slot, within, q)) f g
@@ -177,7 +172,7 @@ module _ {S : Type 0} where
       gathers_then _ _ _ _ _ _
       (λ k r. elim (Contains-push_cases layer from r.0 r.1) [
         | inl m ↦ inl (r.0, m, r.2)
-        | inr e ↦ inr (subst (λ (x : Config S). Fact x k) (sym e) r.2)
+        | inr e ↦ inr (rw e r.2)
       ]) (λ k p. (p.0, Contains-append_left layer (from ∷ []) p.0 p.1, p.2))
       (λ k q. (from, Contains-push layer from, q)) f g
 
@@ -189,7 +184,7 @@ module _ {S : Type 0} where
   gathers_one Fact layer at from old mid new h is f g =
       let one_more : take (at + 1) layer ≡ take at layer ++ from ∷ [] =
       take_more layer at from h ∙ ap (λ (x : Config S). take at layer ++ x ∷ []) (sym is) in
-      subst (λ l. Gathers (FromOne Fact l) old new) (sym one_more) (gathers_pushed _ _ _ _ _ _ f g)
+      rw one_more (gathers_pushed _ _ _ _ _ _ f g)
 
   -- of none, nothing is found
   pub gathers_no_one : (Fact : Config S → Spot S → Type 0) (old : List (Config S))
@@ -205,8 +200,7 @@ module _ {S : Type 0} where
   gathers_first states at from config old mid new h is same waits made f g =
       let one_more : take (at + 1) states ≡ take at states ++ from ∷ [] =
       take_more states at from h ∙ ap (λ x. take at states ++ x ∷ []) (sym is) in
-      subst (λ l. Gathers (IsFirst l) old new) (sym one_more) (gathers_states _ _ _ _ _ _ _ f
-      (gathers_with config _ _ _ _ _ same waits made g))
+      rw one_more (gathers_states _ _ _ _ _ _ _ f (gathers_with config _ _ _ _ _ same waits made g))
 
   -- of those that are found by copies of others
   pub gathers_through : (Fact : Spot S → Type 0) (others old new : List (Config S))
@@ -384,12 +378,7 @@ module _ {S : Type 0} where
                 | inr (inl before_) ↦
                     let chained : chain_at configs d index ≡ chain_at configs d at =
                     ap chain_of same.1 ∙ sym (f.here at d one) in
-                    absurd (omega (
-                      arith,
-                      from,
-                      is,
-                      (c.1 d).kept index at before_ below chained,
-                    ))
+                    absurd (omega (arith, from, is, (c.1 d).kept index at before_ below chained))
                 | inr (inr behind) ↦ grind arith
               ];
         },
@@ -407,8 +396,7 @@ module _ {S : Type 0} where
         | inr past ↦
             let at : from + (index - from) ≡ index = omega (arith, past) in
             subst (λ i. ¬ (IsSame (get_or configs i d) config)) at
-            (subst (λ (k : Config S). ¬ (IsSame k config))
-            (get_or-drop from configs (index - from) d) (rest (index - from) d
+            (rw (← get_or-drop from configs (index - from) d) (rest (index - from) d
             (omega (arith, length-drop from configs, below, past))))
       ]
 

@@ -36,20 +36,11 @@ same_set {X} now at item one h is same =
 -- from each a new one has come, and each has a new one
 pub each_from : {X : Type 0} (R : X → X → Type 0) (olds news : List X) (y : X) → AreEach R olds news
     → Contains news y → (x : X) × Contains olds x × R x y
-each_from R olds news y e has = (
-  get_or olds has.0 y,
-  Contains-get_or olds has.0 y (omega (arith, has.1, e.0)),
-  subst (λ z. R (get_or olds has.0 y) z) has.2 (e.1 has.0 y has.1),
-)
+each_from R olds news y e has = grind (arith, Contains-get_or)
 
 pub each_to : {X : Type 0} (R : X → X → Type 0) (olds news : List X) (x : X) → AreEach R olds news
     → Contains olds x → (y : X) × Contains news y × R x y
-each_to R olds news x e has =
-    let within : has.0 < length news = omega (arith, has.1, e.0) in (
-      get_or news has.0 x,
-      Contains-get_or news has.0 x within,
-      subst (λ z. R z (get_or news has.0 x)) has.2 (e.1 has.0 x within),
-    )
+each_to R olds news x e has = grind (arith, Contains-get_or)
 
 -- what was changed in place is all there is
 pub put_back : {X : Type 0} (new old : List X) (len : ℕ) → length new ≡ length old
@@ -96,11 +87,7 @@ unfolding orders
 orders_length known [] = omega arith
 orders_length known (x ∷ xs) =
     let one : List ℕ = get_or known x.before [] ++ x.call ∷ [] in
-    omega (
-      arith,
-      orders_length (known ++ one ∷ []) xs,
-      length-append known (one ∷ []),
-    )
+    omega (arith, orders_length (known ++ one ∷ []) xs, length-append known (one ∷ []))
 
 -- those that are known stay
 orders_keep : (known : List (List ℕ)) (xs : List Link) (n : ℕ) → n < length known
@@ -160,10 +147,7 @@ read_step links at left link h is same none =
     let front : List Link = take at links in
     let rest : List Link = drop (at + 1) links in
     let long : length front ≡ at = length-take-le at links (omega arith) in
-    let whole : (front ++ link ∷ []) ++ rest ≡ links =
-    ap (λ (l : List Link). l ++ rest)
-    (ap (λ (x : Link). front ++ x ∷ []) is ∙ sym (take_more links at link h))
-    ∙ take-append-drop (at + 1) links in
+    let whole : (front ++ link ∷ []) ++ rest ≡ links = grind (arith, take_more, take-append-drop) in
     let here : read links (at + 1) ≡ read (front ++ link ∷ []) (at + 1) =
     ap (λ (l : List Link). read l (at + 1)) (sym whole) ∙ read_keep _ _ _
     (omega (arith, long, length-append front (link ∷ []))) in
@@ -280,17 +264,7 @@ module _ {S : Type 0} (Step : S → ℕ → S → Type 0) where
         let is = one.2 in (
           lead.0,
           lead.1,
-          (
-            k,
-            one.1,
-            (
-              run.0,
-              run.1,
-              subst (λ s. Runs Step slots s k.waiting run.0 new run.1) (sym is.0)
-                  (subst (λ w. Runs Step slots config.state w run.0 new run.1) (sym is.1) run.2),
-              run.3,
-            ),
-          ),
+          (k, one.1, (run.0, run.1, rw is.0 (rw (← is.1) at run.2), run.3)),
         );
     once = λ i j d less within same. grind arith;
     table = f.table;

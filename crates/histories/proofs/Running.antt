@@ -6,7 +6,7 @@ use Rattle.histories.proofs.Counting.{times-append, times-cons, times_one, times
 module _ {S : Type 0} (Step : S → ℕ → S → Type 0) where
   pub leads_push : (old mid new : S) (order : List ℕ) (call : ℕ) → Leads Step old order mid
       → Step mid call new → Leads Step old (order ++ call ∷ []) new
-  leads_push old mid new [] call l step = (new, subst (λ s. Step s call new) l step, refl)
+  leads_push old mid new [] call l step = (new, rw (← l) step, refl)
   leads_push old mid new (c ∷ order) call l step =
       (l.0, l.1, leads_push l.0 mid new order call l.2 step)
 
@@ -79,7 +79,13 @@ module _ {S : Type 0} (Step : S → ℕ → S → Type 0) where
           | inl none ↦
               elim (l slot call here) [
                 | inl same ↦ absurd (omega (arith, same, none, run.1.1))
-                | inr idle ↦ grind (arith, lighter_without, runs_lighter old new fewer (cleared waiting slot) rest calls few (lighter_without fewer waiting slot few h none l) (subst (λ s. Runs Step slots s (cleared waiting slot) calls new rest) (idle.1 old mid run.2.1) run.2.2))
+                | inr idle ↦ grind (
+                  arith,
+                  lighter_without,
+                  runs_lighter old new fewer (cleared waiting slot) rest calls few
+                      (lighter_without fewer waiting slot few h none l)
+                      (rw (idle.1 old mid run.2.1) at run.2.2),
+                )
               ]
         ]
 
@@ -118,12 +124,7 @@ module _ {S : Type 0} (Step : S → ℕ → S → Type 0) where
                   (
                     at,
                     (run.1.0, cleared_other _ _ at h k ne ∙ run.1.1),
-                    (
-                      more.0,
-                      moved.2,
-                      subst (λ w. Runs Step slots more.0 w more.2.0 new rest)
-                          (cleared_swap _ at slot) more.2.1,
-                    ),
+                    (more.0, moved.2, rw (← cleared_swap _ at slot) more.2.1),
                   ),
                 ),
               )
@@ -154,7 +155,7 @@ module _ {S : Type 0} (Step : S → ℕ → S → Type 0) where
         → Leaves slots (order ++ calls) rest
     leaves_run order old new waiting rest [] few apart leaves run = grind (arith, append-nil)
     leaves_run order old new waiting rest (call ∷ calls) few apart leaves run =
-        subst (λ (o : List ℕ). Leaves slots o rest) (append_assoc order (call ∷ []) calls)
+        rw (← append_assoc order (call ∷ []) calls)
         (leaves_run (order ++ call ∷ []) run.2.0 new (cleared waiting run.0) rest calls few apart
         (leaves_made _ _ _ _ few apart leaves run.1) run.2.2)
 
@@ -172,14 +173,7 @@ module _ {S : Type 0} (Step : S → ℕ → S → Type 0) where
         let more = runs_order l.0 new (cleared waiting at.0) order few apart
         (λ c. omega (arith, once c, times-cons c x order)) (λ c some.
         let is = all c (omega (arith, some, times-cons c x order)) in
-        let other : x ≢ c = λ e. absurd
-        (omega (
-          arith,
-          some,
-          once c,
-          times-cons c x order,
-          subst (λ y. times y (x ∷ []) ≡ 1) e (times_one x),
-        )) in (
+        let other : x ≢ c = grind (arith, times-cons, times_one) in (
           is.0,
           (
             is.1.0,
@@ -241,22 +235,3 @@ module _ {S : Type 0} (Step : S → ℕ → S → Type 0) where
         cleared_swap,
         runs_without slots run.2.0 new (cleared waiting run.0) rest t calls few h some run.2.2,
       )
-
--- as another relation has the steps
-module _ {S : Type 0} (A B : S → ℕ → S → Type 0) (slots : List (Option ℕ))
-    (makes : (slot call : ℕ) → HasSlot slots slot call → (old new : S) → A old call new → B old
-    call new)
-  where
-    pub runs_as : (old new : S) (waiting rest : ℕ) (calls : List ℕ)
-        → Runs A slots old waiting calls new rest → Runs B slots old waiting calls new rest
-    runs_as old new waiting rest [] run = run
-    runs_as old new waiting rest (call ∷ calls) run =
-        grind (arith, runs_as run.2.0 new (cleared waiting run.0) rest calls run.2.2)
-
-    pub lighter_as : (fewer waiting : ℕ) → IsLighter B slots fewer waiting
-        → IsLighter A slots fewer waiting
-    lighter_as fewer waiting l slot call has =
-        elim (l slot call has) [
-          | inl same ↦ inl same
-          | inr idle ↦ inr (idle.0, λ old new step. idle.1 old new (makes slot call has old new step))
-        ]

@@ -100,8 +100,8 @@ next_of es (Crash c) may b is = absurd (cc)
 
 pub ends_of : (es : List Event) (e : Event) → MayFollow es e → EndsOpen es e
 ends_of es (Begin c) may b ends = absurd (begin_no_end _ _ ends)
-ends_of es (End c) may b ends = subst (λ x. IsOpen es x) (ends_one _ _ _ (inl refl) ends) may
-ends_of es (Crash c) may b ends = subst (λ x. IsOpen es x) (ends_one _ _ _ (inr refl) ends) may
+ends_of es (End c) may b ends = rw (← ends_one _ _ _ (inl refl) ends) may
+ends_of es (Crash c) may b ends = rw (← ends_one _ _ _ (inr refl) ends) may
 
 -- the events up to one more
 pub one_more : (es : List Event) (i : ℕ) (d : Event) → i < length es
@@ -135,8 +135,7 @@ history_take es history (suc i) h =
 
 pub history_sound : (es : List Event) → IsHistory es → IsSound es × AreNumbered es
 history_sound es history =
-    subst (λ (l : List Event). IsSound l × AreNumbered l) (take_all (length es) es (omega arith))
-    (history_take _ history _ (omega arith))
+    rw (← take_all (length es) es (omega arith)) (history_take _ history _ (omega arith))
 
 module _ {S : Type 0} (Step : S → ℕ → S → Type 0) where
   -- what explains the history with one event more, explains it without, in part
@@ -151,8 +150,7 @@ module _ {S : Type 0} (Step : S → ℕ → S → Type 0) where
       elim (cases_lt 0 (times call x.1)) [
         | inl some ↦
             let parts = split_times _ _ some in
-            let ex = subst (λ (o : List ℕ). Explains Step (es ++ Begin call ∷ []) x.0 o x.2) parts.2
-            x.4 in
+            let ex = rw parts.2 at x.4 in
             let leads = leads_split _ _ _ _ _ ex.leads in (
               x.0,
               parts.0,
@@ -167,24 +165,21 @@ module _ {S : Type 0} (Step : S → ℕ → S → Type 0) where
   pub explained_take : (es : List Event) (olds : List S) (i more : ℕ) → IsHistory es
       → i + more ≤ length es → IsExplained Step (take (i + more) es) olds
       → IsExplained Step (take i es) olds
-  explained_take es olds i zero history h x =
-      subst (λ n. IsExplained Step (take n es) olds) (add-zero i) x
+  explained_take es olds i zero history h x = rw (← add-zero i) x
   explained_take es olds i (suc more) history h x =
       let at = i + more in
       let within : at < length es = omega arith in
       let before = history_take _ history at (omega arith) in
       explained_take es olds i more history (omega arith) (explained_before _ _ _ before.0
       (next_fresh _ _ before.1 (next_of _ _ (may_more _ at history within)))
-      (subst (λ (l : List Event). IsExplained Step l olds) (one_more _ at (Begin 0) within)
-      (subst (λ n. IsExplained Step (take n es) olds) (plus_suc _ _) x)))
+      (rw (← one_more _ at (Begin 0) within) (rw (plus_suc _ _) at x)))
 
   -- where no order explains the events up to a place, none explains all
   pub refused_whole : (es : List Event) (olds : List S) (i : ℕ) → i ≤ length es
       → ¬ (IsExplained Step (take i es) olds) → IsHistory es → ¬ (IsExplained Step es olds)
   refused_whole es olds i h none history x =
       none (explained_take _ _ _ _ history (omega arith)
-      (subst (λ (l : List Event). IsExplained Step l olds)
-      (sym (take_all (i + (length es - i)) es (omega arith))) x))
+      (rw (← (take_all (i + (length es - i)) es (omega arith))) at x))
 
   -- a configuration is left exactly where an order explains the history
   pub frontier_explained : (links : List Link) (slots : List (Option ℕ)) (es : List Event)
@@ -275,16 +270,14 @@ module _ {M S : Type 0} (StepOf : M → S → ℕ → S → Type 0) (machine : M
     shown advance.Done a = grind (arith, whole, history_more, may_of)
     shown advance.Refused a =
         let refused : ¬ (IsExplained Step (take (at + 1) events) olds) =
-        subst (λ (l : List Event). ¬ (IsExplained Step l olds)) (sym whole)
-        (frontier_refused _ _ _ _ _
-        _ a.0 a.1) in (
+        rw whole (frontier_refused _ _ _ _ _ _ a.0 a.1) in (
           h,
           frontier_explained _ _ _ _ _ _ j.front_of j.some,
           refused,
           refused_whole _ _ _ _ (omega (arith, h)) refused,
         )
     shown advance.ManyConfigs a = grind (arith, whole)
-    shown advance.ManyOpen a = (h, subst (λ (l : List Event). HasManyOpen l) (sym whole) a)
+    shown advance.ManyOpen a = (h, rw whole a)
     shown advance.NoEvent a = (e, slice_get-get_or events at d h, λ may. a (ends_of _ _ may))
 
     pub judged : (result : Advance) → IsAdvance StepOf machine old e new result → Shows result
@@ -297,7 +290,7 @@ module _ {S : Type 0} (Step : S → ℕ → S → Type 0) where
       → IsVerdict Step olds events (verdict.Refused other) → ⊥
   not_before olds events index other history less a b =
       a.2 (explained_take _ _ _ _ _ history (omega (arith, less, b.0))
-      (subst (λ n. IsExplained Step (take n events) olds) (back index other less) b.1))
+      (rw (back index other less) at b.1))
     where
       back : (index other : ℕ) → index < other → other ≡ index + 1 + (other - (index + 1))
       back index other less = omega (arith, less)

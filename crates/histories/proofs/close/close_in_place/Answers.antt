@@ -19,9 +19,8 @@ returns g c apart =
     subst (λ (x : Config g.row.M-State.Denot). IsSettled Step slots x (spot_of settled))
     (ap (λ (l : List (Config g.row.M-State.Denot)). get_or l 0 c.index-configs-0-2.result) parts.1)
     c.in_ok-settle.ensures.settled in
-    subst (λ l. IsClosed Step slots l c.args.slot (slice_set (slice_set configs 0 made) 0 settled))
-    (sym parts.0)
-    (subst (λ l. IsClosed Step slots (config ∷ []) c.args.slot (slice_set l 0 settled))
+    rw (← parts.0) at (subst (λ l. IsClosed Step slots (config ∷ []) c.args.slot
+    (slice_set l 0 settled))
     (sym parts.1) (closed_in_place _ _ c.requires.few _ _ c.requires.has _ _ _ first idle))
 
 pub returns-then-waits_in_none : goal.returns-then-waits_in_none

@@ -22,9 +22,5 @@ pub returns : goal.returns
 returns g c whole =
     let states = c.args.states.now in
     let all : length states ≤ c.loop-from.from-index = search rules in
-    let Step = g.M.Machine.Step whole in
-    rw c.into_configs.ensures
-    (subst (λ l. IsFrontier Step c.new-links.result.items l [] states c.loop-from.configs)
-    (sym c.new-slots.ensures.items) (frontier_first _ _ _ _
-    (subst (λ l. Gathers (IsFirst l) [] c.loop-from.configs)
-    (take_all c.loop-from.from-index states all) c.loop-from.invariant)))
+    rw c.into_configs.ensures (rw c.new-slots.ensures.items (frontier_first _ _ _ _
+    (rw (take_all c.loop-from.from-index states all) at c.loop-from.invariant)))

@@ -3,10 +3,7 @@ use Rattle.histories.proofs.Places.{grows_none, grows_then, laid_before, laid_gr
 use Rattle.histories.proofs.links.lay_all.Goals as goal
 
 pub loop-config-init : goal.loop-config-init
-loop-config-init g c = (
-  done_none _ _,
-  grows_none _,
-)
+loop-config-init g c = (done_none _ _, grows_none _)
 
 pub loop-config-preserved : goal.loop-config-preserved
 loop-config-preserved g c =

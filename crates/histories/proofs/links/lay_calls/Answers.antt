@@ -5,7 +5,6 @@ use Rattle.histories.proofs.links.lay_calls.Goals as goal
 pub loop-call-preserved : goal.loop-call-preserved
 loop-call-preserved c =
     let links = c.args.links.now.items in
-    let base = c.args.base in
     let calls = c.args.calls.now in
     let at = c.loop-call.call-index in
     let mid = c.loop-call.links.items in
@@ -13,7 +12,5 @@ loop-call-preserved c =
     let now : c.len-last.result ≡ length c.push.new.self.items = search rules in
     let many : length mid + 1 ≡ c.len-last.result =
     omega (arith, now, ap length c.in_ok-push.ensures.items, length-append mid (link ∷ [])) in
-    subst (λ n. IsLaidOut links base (take (at + 1) calls) c.push.new.self.items n) many
-    (subst (λ (l : List Link). IsLaidOut links base (take (at + 1) calls) l (length mid + 1))
-    (sym c.in_ok-push.ensures.items)
+    rw (← many) (rw (← c.in_ok-push.ensures.items) at
     (laid_out_more _ _ _ at calls link c.loop-call-test.true refl c.loop-call.invariant))

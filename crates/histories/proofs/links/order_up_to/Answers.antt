@@ -15,18 +15,15 @@ loop-left-init c =
 pub loop-left-preserved : goal.loop-left-preserved
 loop-left-preserved c =
     let links = c.args.links.now in
-    let base = c.args.base in
     let at = c.loop-left.left - 1 in
     let next = c.bounded-left-in-loop-left.result in
     let order = c.loop-left.order.items in
     let back : c.loop-left.left ≡ at + 1 = omega (arith, c.loop-left-test.true) in
     let within : at < length links = omega (arith, back, c.loop-left.invariant.1) in (
-      subst (λ (l : List ℕ). read links base ≡ read links next ++ reverse l)
-          (sym c.in_ok-push.ensures.items)
-          (read_more _ _ at next _ order within (get_or_default links at _ _ within)
+      rw c.in_ok-push.ensures.items (read_more _ _ at next _ order within
+          (get_or_default links at _ _ within)
           c.bounded-left-in-loop-left.ensures.within c.bounded-left-in-loop-left.ensures.above
-          (subst (λ n. read links base ≡ read links n ++ reverse order) back
-          c.loop-left.invariant.0)),
+          (rw back at c.loop-left.invariant.0)),
       omega (arith, c.bounded-left-in-loop-left.ensures.bound, within),
     )
 

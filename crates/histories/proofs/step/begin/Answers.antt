@@ -11,12 +11,10 @@ returns g c =
     IfOk-weaker c.lay.result _ _ (λ r lies whole events olds before after sound fresh f.
     let S = g.row.M-State.Denot in
     let Made = g.M.Machine.Step c.args.machine.now in
-    let Step = g.M.Machine.Step whole in
     let call = c.args.call in
     let front = c.args.front.now in
     let slots = front.slots.items in
     let configs = front.configs.items in
-    let links = front.links.items in
     let more = c.take_slot.new.slots.items in
     let slot = c.in-Some.slot in
     let opened : List (Config S) = c.open_all-is_new.new.configs in
@@ -27,14 +25,11 @@ returns g c =
     rw c.deref_mut.ensures.value at c.open_all-is_new.ensures.opened in
     let back = put_back _ _ _ o.0 front.configs.ok.0 in
     let all : AreSettled Made more opened settled =
-    subst (λ (l : List (Config S)). AreSettled Made more l settled) back
-    ((rw c.deref.ensures.value at c.in_ok-settle_all.ensures) (λ is.
-    subst (λ (l : List (Config S)). AllPairs (λ a b. ¬ (IsSame a b)) l) (sym back)
-    (opened_apart _ _ _ takes.within o
+    rw (← back) ((rw c.deref.ensures.value at c.in_ok-settle_all.ensures) (λ is.
+    rw (← back) at (opened_apart _ _ _ takes.within o
     ((rw c.deref_mut.ensures.value at c.open_all-is_new.ensures.new) is) f.once))) in
-    laid_out _ _ _ _ _ _ c.lay.new.front _ (subst
-    (λ (s : Vec (Option ℕ)). IsFrontier Step links s.items (events ++ Begin call ∷ []) olds settled)
-    (sym lies.0) (frontier_begin _ _ _ _ _ takes f.table.few _ _ _ _ _ sound (fresh call refl) f o _
+    laid_out _ _ _ _ _ _ c.lay.new.front _ (rw lies.0
+    (frontier_begin _ _ _ _ _ takes f.table.few _ _ _ _ _ sound (fresh call refl) f o _
     (settled_as _ _ _ (agrees_slots _ _ _ _ next after) _ _ all)))
     lies.1 (begin_ends _ _)) c.lay.ensures
 

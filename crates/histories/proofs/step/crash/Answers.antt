@@ -46,6 +46,5 @@ returns-in-None g c whole events olds before after sound fresh f =
 pub close-requires-clause-taken : goal.close-requires-clause-taken
 close-requires-clause-taken g c = (
   c.args.call,
-  subst (λ l. HasSlot l c.in-Some.slot c.args.call) (sym c.deref-3.ensures.value)
-      (rw c.deref.ensures.value at c.in-Some.ensures.some).1,
+  rw c.deref-3.ensures.value (rw c.deref.ensures.value at c.in-Some.ensures.some).1,
 )

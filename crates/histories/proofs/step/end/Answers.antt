@@ -24,8 +24,7 @@ close-requires-clause-taken g c =
     let same : IsSameFront c.args.front.now c.end_in_place.new.front =
     rw c.in_default-2.is at c.in_ok-done.ensures in (
       c.args.call,
-      subst (λ l. HasSlot l c.in-Some.slot c.args.call) (sym (c.deref-2.ensures.value ∙ same.0))
-          (rw c.deref.ensures.value at c.in-Some.ensures.some).1,
+      rw (c.deref-2.ensures.value ∙ same.0) (rw c.deref.ensures.value at c.in-Some.ensures.some).1,
     )
 
 pub returns-in-Some-3 : goal.returns-in-Some-3
@@ -36,8 +35,7 @@ returns-in-Some-3 g c =
     let front = c.end_in_place.new.front in
     let same : IsSameFront old front = rw c.in_default-2.is at c.in_ok-done.ensures in
     let here : HasSlot front.slots.items c.in-Some.slot c.args.call =
-    subst (λ l. HasSlot l c.in-Some.slot c.args.call) (sym same.0)
-    (rw c.deref.ensures.value at c.in-Some.ensures.some).1 in
+    rw same.0 (rw c.deref.ensures.value at c.in-Some.ensures.some).1 in
     let made : IsClosed Made front.slots.items front.configs.items c.in-Some.slot
     c.in-Some-3.closed.items =
     rw c.in-Some-3.is at (rw c.deref-2.ensures.value at (rw c.replace-configs.ensures.value at

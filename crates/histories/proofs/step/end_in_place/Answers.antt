@@ -16,8 +16,7 @@ returns g c =
       closed,
       is,
       (
-        subst (λ (s : Vec (Option ℕ)). FreesSlot slots c.args.slot s.items) (sym laid.0)
-            c.free.ensures,
+        rw laid.0 c.free.ensures,
         inr (subst (λ (l : List (Config g.row.M-State.Denot)). AreLaidIn front.links.items l
             c.lay.new.front c.in_ok-done.done) (put_back _ _ _
             (rw c.deref_mut.ensures.value at c.close_in_place.auto.configs)
