@@ -20,12 +20,11 @@ pub first_explains : {S : Type 0} (Step : S → ℕ → S → Type 0) (front : F
     (olds : List S) (order : List ℕ) → IsFrontOf Step front es olds
     → 0 < length front.configs.items → IsFirstOrder front order → IsOrder Step es olds order
 first_explains {S} Step front es olds order f some is =
-    let d : Config S = first_of front.configs.items some in
+    let d : Config S = first_of _ some in
     let k = get_or front.configs.items 0 d in
     let followed = f.sound k (0, some, get_or_default front.configs.items 0 k d some) in (
       followed.old,
       k.state,
       followed.from,
-      subst (λ (o : List ℕ). Explains Step es followed.old o k.state) (sym (is d))
-          followed.explains,
+      rw (is d) followed.explains,
     )
