@@ -160,8 +160,7 @@ module _ {S : Type 0} (Step : S → ℕ → S → Type 0) (events : List Event) 
   advanced front advance.NoEvent f left ends = absurd left
 
   -- the calls that were made went into the links
-  pub laid_out : (links : List Link) (configs : List (Config S)) (new : Front S)
-      (result : Advance)
+  pub laid_out : (links : List Link) (configs : List (Config S)) (new : Front S) (result : Advance)
       → IsFrontier Step links new.slots.items (events ++ event ∷ []) olds configs
       → AreLaidIn links configs new result → EndsOpen events event
       → AdvancesIn Step events olds event new result

@@ -201,8 +201,7 @@ pub made_alone : {M S : Type 0} (Step : M → S → ℕ → S → Type 0) (machi
     → Agrees (Step machine) (Step whole) (events ++ Begin c ∷ []) → IsSound events
     → begins c events ≡ 0 → IsFrontier (Step whole) links slots events olds configs
     → IsFrontier (Step whole) links slots (events ++ Begin c ∷ End c ∷ []) olds
-    (slice_set configs 0 made)
-    × (0 < length (slice_set configs 0 made))
+    (slice_set configs 0 made) × (0 < length (slice_set configs 0 made))
 made_alone {M} {S} Step machine links slots configs config made c empty one is m whole events olds
     agrees sound fresh f =
     let parts = one_of_one _ _ _ one is in
@@ -269,8 +268,7 @@ module _ {S : Type 0} (Step : S → ℕ → S → Type 0) (slots : List (Option 
 
   -- each was settled, and none has become the same as another
   pub settled_apart : (configs settled : List (Config S))
-      → AreSettledEach Step slots configs settled
-      → AreSame configs settled
+      → AreSettledEach Step slots configs settled → AreSame configs settled
       → AllPairs (λ a b. ¬ (IsSame a b)) configs → AreSettled Step slots configs settled
   settled_apart configs settled each same apart = record {
     sound = λ one has. each_from Settles configs settled one each has;

@@ -1,6 +1,7 @@
 -- Sets of slots.
 use Rattle.histories.proofs.Words.{◌≡◌, ◌≢◌, ℕ, zero, suc, ◌<◌, ◌≤◌, ◌⊎◌, List, length, min, max, bit_and, bit_or, ◌*◌, ◌^◌, ◌%◌, ◌-◌, refl, sym, ◌∙◌, ap, subst, arith, inl, inr, Option, bit_at, bit_not, w64, cases_eq, cases_lt, get_or_past, bit_at-lt, bit_at_above, bit_at-zero, bit_at_and, bit_at_clear_other, bit_at_clear_same, bit_at_ones, bit_at_or, bit_at_set_other, bit_at_set_same, same_from_bits, and_assoc, and_comm, HasSlot}
 use Rattle.histories.specs.Frontier.{cleared, put}
+use Rattle.histories.proofs.Places.{less_of}
 use Rattle.histories.specs.Gathering.{ones}
 
 pub cleared_same : (set slot : ℕ) → slot < 64 → bit_at (cleared set slot) slot ≡ 0
@@ -133,13 +134,10 @@ ones_less set more (suc n) slot le h none some =
     elim (cases_eq slot n) [
       | inl e ↦ grind (arith, ones_le)
       | inr ne ↦
-          let below : slot < n = below_of slot n h ne in
+          let below : slot < n = less_of slot n (omega (arith, h)) ne in
           omega (
             arith,
             le n (omega arith),
             ones_less set more n slot (λ i k. le i (omega arith)) below none some,
           )
     ]
-  where
-    below_of : (slot n : ℕ) → slot < suc n → slot ≢ n → slot < n
-    below_of slot n h ne = grind (arith, cases_lt)

@@ -292,10 +292,8 @@ module _ {S : Type 0} (Step : S → ℕ → S → Type 0) (slots : List (Option 
   pub closing_layer : (configs done layer more next : List (Config S)) (slot call left : ℕ)
       → length slots ≤ 64 → HasSlot slots slot call
       → IsClosing Step slots configs slot done layer (left + 1)
-      → Gathers (FromOne (IsDone slot) layer) done more
-      → IsNextLayer Step slots slot layer next
-      → IsClosing Step slots configs slot more next left
-      × AllPairs (λ a b. ¬ (IsSame a b)) next
+      → Gathers (FromOne (IsDone slot) layer) done more → IsNextLayer Step slots slot layer next
+      → IsClosing Step slots configs slot more next left × AllPairs (λ a b. ¬ (IsSame a b)) next
   closing_layer configs done layer more next slot call left few here cl f n =
       search (arith, closing_settled, closing_more)
 
@@ -336,8 +334,7 @@ module _ {S : Type 0} (A B : S → ℕ → S → Type 0) (slots : List (Option �
       let more = as_run run.2.0 new (cleared waiting run.0) rest calls run.2.2 in
       (run.0, run.1, (run.2.0, step, more))
 
-  as_light : (fewer waiting : ℕ) → IsLighter A slots fewer waiting
-      → IsLighter B slots fewer waiting
+  as_light : (fewer waiting : ℕ) → IsLighter A slots fewer waiting → IsLighter B slots fewer waiting
   as_light fewer waiting l slot call has =
       elim (l slot call has) [
         | inl e ↦ inl e

@@ -70,7 +70,7 @@ pub times_once : (c : ℕ) (xs : List ℕ)
 times_once c [] one = omega (arith, times_none c)
 times_once c (x ∷ xs) one =
     let rest : times c xs ≤ 1 = times_once c xs (λ i j h k a b.
-    pred_of i j (one (suc i) (suc j) (omega (arith, h)) (omega (arith, k)) a b)) in
+    omega (arith, one (suc i) (suc j) (omega (arith, h)) (omega (arith, k)) a b)) in
     elim (eqb_tells x c) [
       | inr f ↦ omega (arith, rest, times-cons c x xs, times_other c x f.1)
       | inl t ↦ elim (cases_lt 0 (times c xs)) [
@@ -82,9 +82,6 @@ times_once c (x ∷ xs) one =
             omega (arith, none, times-cons c x xs, here)
       ]
     ]
-  where
-    pred_of : (i j : ℕ) → suc i ≡ suc j → i ≡ j
-    pred_of i j e = omega (arith, e)
 
 -- a list around a number that stands in it
 pub split_times : (c : ℕ) (xs : List ℕ) → 0 < times c xs
@@ -107,13 +104,11 @@ pub apart : (order : List ℕ) (call c : ℕ) → times call order ≡ 0 → 0 <
 apart order call c none some = times_other _ _ (λ e. absurd (omega (arith, rw e at none, some)))
 
 -- what is true of all pairs of a list is true of those of its front
-pub all_pairs_front : (P : ℕ → ℕ → Type 0) (xs ys : List ℕ) → AllPairs P (xs ++ ys)
-    → AllPairs P xs
+pub all_pairs_front : (P : ℕ → ℕ → Type 0) (xs ys : List ℕ) → AllPairs P (xs ++ ys) → AllPairs P xs
 all_pairs_front P xs ys all = grind (arith, get_or-append, length-append)
 
 -- and of its back
-pub all_pairs_back : (P : ℕ → ℕ → Type 0) (xs ys : List ℕ) → AllPairs P (xs ++ ys)
-    → AllPairs P ys
+pub all_pairs_back : (P : ℕ → ℕ → Type 0) (xs ys : List ℕ) → AllPairs P (xs ++ ys) → AllPairs P ys
 all_pairs_back P xs ys all = grind (arith, get_or-append-add, length-append)
 
 -- and of a number with each behind it

@@ -3,7 +3,7 @@ use Rattle.histories.proofs.Words.{◌≡◌, ℕ, suc, ◌+◌, ◌<◌, List, 
 use Rattle.histories.proofs.Counting.{times-cons, times_at, times_none, times_same, all_pairs_behind, times-append, all_pairs_back, all_pairs_front, all_pairs_join}
 use Rattle.histories.proofs.Places.{contains_map_of, contains_of_map, each_from, each_to}
 use Rattle.histories.proofs.Events.{ends_within, stands_within, begins-append, begins_stands, ends_either, ends_left, stands_begins, stands_either, stands_right, answered_ended, begins_none, answered_left, answered_right, over_left, over_right}
-use Rattle.histories.proofs.Running.{leads_split}
+use Rattle.histories.proofs.Running.{leads_join, leads_split}
 use Rattle.histories.proofs.Frontiers.{frontier_fresh}
 pub use Rattle.histories.proofs.Events.{begins-append}
 
@@ -113,12 +113,6 @@ module _ {S : Type 0} (Step : S → ℕ → S → Type 0) where
         },
       )
 
-  leads_join : (old mid new : S) (before after : List ℕ) → Leads Step old before mid
-      → Leads Step mid after new → Leads Step old (before ++ after) new
-  leads_join old mid new [] after f g = rw (← f) g
-  leads_join old mid new (c ∷ before) after f g =
-      (f.0, f.1, leads_join f.0 mid new before after f.2 g)
-
   -- an order of the first part and one of the rest are one of the whole
   pub explains_join : (es fs : List Event) (old mid new : S) (front back : List ℕ) → IsSound es
       → IsSound (es ++ fs) → Explains Step es old front mid
@@ -147,7 +141,7 @@ module _ {S : Type 0} (Step : S → ℕ → S → Type 0) where
               whole.once b,
               begins-append b es fs,
             )));
-        leads = leads_join old mid new front back x.leads y.leads;
+        leads = leads_join Step _ _ _ front back x.leads y.leads;
       }
 
   -- where no call has a slot, none that waits is made
@@ -162,8 +156,7 @@ module _ {S : Type 0} (Step : S → ℕ → S → Type 0) where
       (configs : List (Config S)) → IsSound es → IsQuiet es
       → ((slot call : ℕ) → HasSlot slots slot call → ⊥)
       → IsFrontier Step links slots es olds configs → (rest : List Event) → IsSound rest
-      → IsSound (es ++ rest)
-      → IsExplained Step (es ++ rest) olds
+      → IsSound (es ++ rest) → IsExplained Step (es ++ rest) olds
       ↔ IsExplained Step rest (map (λ config. config.state) configs)
   split_anew links slots es olds configs sound quiet empty f rest after whole = (
     λ x.
@@ -186,8 +179,7 @@ module _ {S : Type 0} (Step : S → ℕ → S → Type 0) where
 
   -- a front with new orders of no calls
   pub fresh_anew : (links : List Link) (slots : List (Option ℕ)) (configs unlinked : List (Config
-      S))
-      → length slots ≤ 64 → ((slot call : ℕ) → HasSlot slots slot call → ⊥)
+      S)) → length slots ≤ 64 → ((slot call : ℕ) → HasSlot slots slot call → ⊥)
       → AllPairs (λ a b. ¬ (IsSame a b)) configs → AreEach IsUnlinked configs unlinked
       → IsFrontier Step links slots [] (map (λ config. config.state) configs) unlinked
   fresh_anew links slots configs unlinked few empty once u =

@@ -4,8 +4,7 @@ use Rattle.histories.proofs.Bits.{slot_once}
 use Rattle.histories.specs.Histories.{begins, times}
 use Rattle.histories.proofs.Counting.{times_one, times_other}
 
-pub begins-append : (c : ℕ) (es fs : List Event)
-    → begins c (es ++ fs) ≡ begins c es + begins c fs
+pub begins-append : (c : ℕ) (es fs : List Event) → begins c (es ++ fs) ≡ begins c es + begins c fs
 unfolding begins
 begins-append c [] fs = omega arith
 begins-append c (Begin b ∷ es) fs = grind (arith, begins-append c es fs)
@@ -55,8 +54,7 @@ stands_either [] fs k x at = inr (k, omega arith, at)
 stands_either (y ∷ es) fs zero x at = inl at
 stands_either (y ∷ es) fs (suc k) x at = grind (arith, stands_either es fs k x at)
 
-pub stands_begins : (c : ℕ) (es : List Event) (k : ℕ) → StandsAt es k (Begin c)
-    → 0 < begins c es
+pub stands_begins : (c : ℕ) (es : List Event) (k : ℕ) → StandsAt es k (Begin c) → 0 < begins c es
 unfolding begins
 stands_begins c [] k at = absurd (cc)
 stands_begins c (Begin b ∷ es) zero at = let same : b ≡ c = cc in rw (eq-eqb b c same) (omega arith)
@@ -66,8 +64,7 @@ stands_begins c (Begin b ∷ es) (suc k) at = omega (arith, stands_begins c es k
 stands_begins c (End b ∷ es) (suc k) at = stands_begins c es k at
 stands_begins c (Crash b ∷ es) (suc k) at = stands_begins c es k at
 
-pub begins_stands : (c : ℕ) (es : List Event) → 0 < begins c es
-    → (k : ℕ) × StandsAt es k (Begin c)
+pub begins_stands : (c : ℕ) (es : List Event) → 0 < begins c es → (k : ℕ) × StandsAt es k (Begin c)
 unfolding begins
 begins_stands c [] h = absurd (omega (arith, h))
 begins_stands c (Begin b ∷ es) h =
@@ -139,8 +136,7 @@ ends_cases es e k c at = grind (arith, stands_cases)
 pub ends_within : (es : List Event) (k c : ℕ) → EndsAt es k c → k < length es
 ends_within es k c at = grind (arith, stands_within)
 
-pub ended_still : (es : List Event) (e : Event) (c : ℕ) → HasEnded es c
-    → HasEnded (es ++ e ∷ []) c
+pub ended_still : (es : List Event) (e : Event) (c : ℕ) → HasEnded es c → HasEnded (es ++ e ∷ []) c
 ended_still es e c h = (h.0, ends_left es (e ∷ []) h.0 _ h.1)
 
 pub ended_now : (es : List Event) (e : Event) (c : ℕ) → Ends e c → HasEnded (es ++ e ∷ []) c

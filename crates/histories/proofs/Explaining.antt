@@ -20,19 +20,6 @@ module _ {S : Type 0} (Step : S → ℕ → S → Type 0) where
         leads = leads_push _ _ _ _ _ _ ex.leads step;
       }
 
-  -- a call that waits is made after an order
-  pub explains_made : (es : List Event) (slots : List (Option ℕ)) (old mid new : S)
-      (order : List ℕ) (waiting slot call : ℕ)
-      → IsTable es slots → Explains Step es old order mid → Leaves slots order waiting
-      → IsWaiting slots waiting slot call → Step mid call new
-      → Explains Step es old (order ++ call ∷ []) new
-      × Leaves slots (order ++ call ∷ []) (cleared waiting slot)
-  explains_made es slots old mid new order waiting slot call table ex leaves is step = (
-    explains_pushed _ _ _ _ _ _ (table.each slot call is.0)
-        (omega (arith, leaves slot call is.0, is.1)) ex step,
-    leaves_made Step _ _ _ _ _ table.few table.apart leaves is,
-  )
-
   -- calls that wait are made after an order
   pub explains_run : (es : List Event) (slots : List (Option ℕ)) (old mid new : S)
       (order : List ℕ) (waiting : ℕ) (calls : List ℕ) (rest : ℕ)
@@ -42,10 +29,11 @@ module _ {S : Type 0} (Step : S → ℕ → S → Type 0) where
   explains_run es slots old mid new order waiting [] rest table ex leaves run =
       grind (arith, append-nil)
   explains_run es slots old mid new order waiting (call ∷ calls) rest table ex leaves run =
-      let more = explains_made _ _ _ _ _ _ _ _ _ table ex leaves run.1 run.2.1 in
-      let all = explains_run es slots old run.2.0 new (order ++ call ∷ []) (cleared waiting run.0)
-      calls rest table more.0 more.1 run.2.2 in
-      rw (← append_assoc order (call ∷ []) calls) all
+      let made = explains_pushed es old mid run.2.0 order call (table.each run.0 call run.1.0)
+      (omega (arith, leaves run.0 call run.1.0, run.1.1)) ex run.2.1 in
+      rw (← append_assoc order (call ∷ []) calls)
+      (explains_run es slots old run.2.0 new (order ++ call ∷ []) (cleared waiting run.0) calls rest
+      table made (leaves_made Step _ _ _ _ _ table.few table.apart leaves run.1) run.2.2)
 
   -- an order in which no call begins with the last event explains those before it
   explains_less : (es : List Event) (e : Event) (old new : S) (order : List ℕ)

@@ -10,8 +10,7 @@ use Rattle.histories.proofs.Places.{nothing_in, order_more, order_none}
 
 module _ {S : Type 0} (Step : S → ℕ → S → Type 0) where
   -- each configuration is that of an order
-  abbrev pub AreSound : List Link → List (Option ℕ) → List Event → List S → List (Config S)
-      → Type 0
+  abbrev pub AreSound : List Link → List (Option ℕ) → List Event → List S → List (Config S) → Type 0
   AreSound links slots es olds configs =
       (config : Config S) → Contains configs config → IsFollowed Step links slots es olds config
 

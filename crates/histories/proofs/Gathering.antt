@@ -55,8 +55,7 @@ module _ {S : Type 0} where
       gathers_there _ _ _ is.1 (λ k copy. (is.2.0 ∙ sym copy.0, is.2.1 ∙ sym copy.1))
 
   -- one that is not there yet
-  pub gathers_new : (configs : List (Config S)) (config : Config S)
-      → IsKnown configs config false
+  pub gathers_new : (configs : List (Config S)) (config : Config S) → IsKnown configs config false
       → Gathers (IsCopy config) configs (configs ++ config ∷ [])
   gathers_new configs config is = record {
     sound = λ k has. elim (Contains-push_cases configs config k has) [
@@ -93,8 +92,7 @@ module _ {S : Type 0} where
 
   -- the one state that a call leaves
   pub gathers_state : (from next : Config S) (slot call : ℕ) (state : S)
-      (mid new : List (Config S)) → next.state ≡ state
-      → next.waiting ≡ cleared from.waiting slot
+      (mid new : List (Config S)) → next.state ≡ state → next.waiting ≡ cleared from.waiting slot
       → path_of next ≡ path_more (path_of from) (call ∷ []) → Gathers (IsCopy next) mid new
       → Gathers (IsNextIn from slot call (state ∷ [])) mid new
   gathers_state from next slot call state mid new same waits made g =
@@ -112,8 +110,7 @@ module _ {S : Type 0} where
     -- all states that a call leaves
     pub gathers_call : (from : Config S) (slot call : ℕ) (states : List S)
         (old new : List (Config S)) → IsWaiting slots from.waiting slot call
-        → AreAll (Step from.state call) states
-        → Gathers (IsNextIn from slot call states) old new
+        → AreAll (Step from.state call) states → Gathers (IsNextIn from slot call states) old new
         → Gathers (IsNextAt Step slots from slot) old new
     gathers_call from slot call states old new waits all g =
         grind (arith, gathers_as, All-contains, slot_once)
@@ -154,8 +151,7 @@ module _ {S : Type 0} where
     -- and that one
     pub gathers_last : (from : Config S) (slot : ℕ) (old mid new : List (Config S))
         → slot < length slots → Gathers (IsNextBeside Step slots from slot (length slots)) old mid
-        → Gathers (IsNextAt Step slots from slot) mid new
-        → Gathers (IsNext Step slots from) old new
+        → Gathers (IsNextAt Step slots from slot) mid new → Gathers (IsNext Step slots from) old new
     gathers_last from slot old mid new within f g =
         gathers_then _ _ _ _ _ _
         (λ k r. elim (cases_order r.0 slot) [
@@ -259,8 +255,7 @@ linked_as one other heads before same l = record {
 -- one place more
 pub linked_more : (chain : ℕ → ℕ) (heads before : List ℕ) (number : ℕ)
     → number ≡ chain (length before) → number < length heads → AreLinked chain heads before
-    → AreLinked chain (set heads number (length before + 1))
-    (before ++ get_or heads number 0 ∷ [])
+    → AreLinked chain (set heads number (length before + 1)) (before ++ get_or heads number 0 ∷ [])
 linked_more chain heads before number is within l =
     let last = length before in
     let head = get_or heads number 0 in
@@ -387,8 +382,7 @@ module _ {S : Type 0} where
 
   -- the first ones are others, and so are the rest
   pub all_other : (configs : List (Config S)) (config : Config S) (from : ℕ)
-      → AreOther configs 0 from config
-      → All (λ known. ¬ (IsSame known config)) (drop from configs)
+      → AreOther configs 0 from config → All (λ known. ¬ (IsSame known config)) (drop from configs)
       → All (λ known. ¬ (IsSame known config)) configs
   all_other configs config from first rest index d below =
       elim (cases_lt index from) [

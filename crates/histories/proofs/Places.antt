@@ -62,8 +62,7 @@ contains_map_of f xs x has =
     (has.0, omega (arith, has.1, length-map xs f), get_or-map f xs has.0 x ∙ ap f has.2)
 
 contains_map_at : {X Y : Type 0} (f : X → Y) (xs : List X) (y : Y) (i : ℕ)
-    → i < length (map f xs) → get_or (map f xs) i y ≡ y
-    → (x : X) × Contains xs x × (f x ≡ y)
+    → i < length (map f xs) → get_or (map f xs) i y ≡ y → (x : X) × Contains xs x × (f x ≡ y)
 contains_map_at f [] y i h is = absurd (omega (arith, h))
 contains_map_at f (x ∷ xs) y zero h is = (x, (0, omega arith, refl), is)
 contains_map_at f (x ∷ xs) y (suc i) h is =
@@ -128,8 +127,7 @@ read_past links base h =
     get_or_past (orders ([] ∷ []) links) base [] (omega (arith, h, orders_length ([] ∷ []) links))
 
 left_short : (front : List Link) (at left : ℕ) (link : Link) → length front ≡ at
-    → (link.before ≤ at → left ≡ link.before) → (at < link.before → left ≡ 0)
-    → left ≤ length front
+    → (link.before ≤ at → left ≡ link.before) → (at < link.before → left ≡ 0) → left ≤ length front
 left_short front at left link long same none = grind (arith, cases_lt)
 
 -- the number, or 0 where more links are asked for than there are
@@ -141,8 +139,7 @@ read_bounded links base left same none = grind (arith, cases_lt, read_past, read
 -- one call more is read
 pub read_step : (links : List Link) (at left : ℕ) (link : Link) → at < length links
     → link ≡ get_or links at link → (link.before ≤ at → left ≡ link.before)
-    → (at < link.before → left ≡ 0)
-    → read links (at + 1) ≡ read links left ++ link.call ∷ []
+    → (at < link.before → left ≡ 0) → read links (at + 1) ≡ read links left ++ link.call ∷ []
 read_step links at left link h is same none =
     let front : List Link = take at links in
     let rest : List Link = drop (at + 1) links in
@@ -178,8 +175,7 @@ pub read_grows : (links more : List Link) (n : ℕ) → Grows links more → n �
     → read more n ≡ read links n
 read_grows links more n g h = ap (λ (l : List Link). read l n) g.1 ∙ read_keep _ _ _ h
 
-pub grows_then : (links mid more : List Link) → Grows links mid → Grows mid more
-    → Grows links more
+pub grows_then : (links mid more : List Link) → Grows links mid → Grows mid more → Grows links more
 grows_then links mid more f g = grind (arith, append_assoc)
 
 pub grows_none : (links : List Link) → Grows links links

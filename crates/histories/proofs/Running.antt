@@ -4,11 +4,15 @@ use Rattle.histories.proofs.Bits.{bit_cases, cleared_le, cleared_other, cleared_
 use Rattle.histories.proofs.Counting.{times-append, times-cons, times_one, times_other}
 
 module _ {S : Type 0} (Step : S → ℕ → S → Type 0) where
+  pub leads_join : (old mid new : S) (before after : List ℕ) → Leads Step old before mid
+      → Leads Step mid after new → Leads Step old (before ++ after) new
+  leads_join old mid new [] after f g = rw (← f) g
+  leads_join old mid new (c ∷ before) after f g =
+      (f.0, f.1, leads_join f.0 mid new before after f.2 g)
+
   pub leads_push : (old mid new : S) (order : List ℕ) (call : ℕ) → Leads Step old order mid
       → Step mid call new → Leads Step old (order ++ call ∷ []) new
-  leads_push old mid new [] call l step = (new, rw (← l) step, refl)
-  leads_push old mid new (c ∷ order) call l step =
-      (l.0, l.1, leads_push l.0 mid new order call l.2 step)
+  leads_push old mid new order call l step = leads_join _ _ _ order (call ∷ []) l (new, step, refl)
 
   pub leads_split : (old new : S) (before after : List ℕ) → Leads Step old (before ++ after) new
       → (mid : S) × Leads Step old before mid × Leads Step mid after new
@@ -99,8 +103,7 @@ module _ {S : Type 0} (Step : S → ℕ → S → Type 0) where
         → length slots ≤ 64 → HasSlot slots slot call → bit_at waiting slot ≡ 1
         → bit_at rest slot ≡ 0
         → ((at other : ℕ) → IsBeside slots waiting slot at other → MovesBefore Step call other)
-        → Runs Step slots old waiting calls new rest
-        → (mid : S) × Step old call mid
+        → Runs Step slots old waiting calls new rest → (mid : S) × Step old call mid
         × ((others : List ℕ) × Runs Step slots mid (cleared waiting slot) others new rest)
     runs_first old new waiting rest slot call [] few here waits gone moves run =
         absurd (omega (arith, ap (λ w. bit_at w slot) run.1, waits, gone))
@@ -164,8 +167,7 @@ module _ {S : Type 0} (Step : S → ℕ → S → Type 0) where
         → ((one other c : ℕ) → HasSlot slots one c → HasSlot slots other c → one ≡ other)
         → ((c : ℕ) → times c order ≤ 1)
         → ((c : ℕ) → 0 < times c order → (slot : ℕ) × IsWaiting slots waiting slot c)
-        → Leads Step old order new
-        → (rest : ℕ) × Runs Step slots old waiting order new rest
+        → Leads Step old order new → (rest : ℕ) × Runs Step slots old waiting order new rest
     runs_order old new waiting [] few apart once all l = (waiting, (l, refl))
     runs_order old new waiting (x ∷ order) few apart once all l =
         let at = all x (omega (arith, times-cons x x order, times_one x)) in
@@ -188,8 +190,7 @@ module _ {S : Type 0} (Step : S → ℕ → S → Type 0) where
   pub runs_in : (slots other : List (Option ℕ)) (old new : S) (waiting rest : ℕ) (calls : List ℕ)
       (t : ℕ) (change : ℕ → ℕ)
       → ((w s : ℕ) → s ≢ t → s < 64 → cleared (change w) s ≡ change (cleared w s))
-      → ((w s : ℕ) → s ≢ t → s < 64 → bit_at (change w) s ≡ bit_at w s)
-      → length slots ≤ 64
+      → ((w s : ℕ) → s ≢ t → s < 64 → bit_at (change w) s ≡ bit_at w s) → length slots ≤ 64
       → ((s c : ℕ) → HasSlot slots s c → bit_at waiting s ≡ 1 → (s ≢ t) × HasSlot other s c)
       → Runs Step slots old waiting calls new rest
       → Runs Step other old (change waiting) calls new (change rest)
@@ -220,8 +221,7 @@ module _ {S : Type 0} (Step : S → ℕ → S → Type 0) where
 
   -- a call that waits in the end need not wait for the others to be made
   pub runs_without : (slots : List (Option ℕ)) (old new : S) (waiting rest t : ℕ) (calls : List ℕ)
-      → length slots ≤ 64 → t < 64 → bit_at rest t ≡ 1
-      → Runs Step slots old waiting calls new rest
+      → length slots ≤ 64 → t < 64 → bit_at rest t ≡ 1 → Runs Step slots old waiting calls new rest
       → Runs Step slots old (cleared waiting t) calls new (cleared rest t)
   runs_without slots old new waiting rest t [] few h some run = (run.0, ap (λ w. cleared w t) run.1)
   runs_without slots old new waiting rest t (call ∷ calls) few h some run =

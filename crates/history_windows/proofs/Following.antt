@@ -37,9 +37,7 @@ stands_take (x ∷ es) (suc k) (suc p) e at =
 
 -- the first events of a history are one
 pub history_front : (es : List Event) (k : ℕ) → IsHistory es → IsHistory (take k es)
-history_front es k history index event at =
-    let there = stands_take es k index event at in
-    rw (take-take index k es (omega (arith, there.1))) (history index event there.0)
+history_front es k history index event at = grind (arith, stands_take, take-take)
 
 module _ {S : Type 0} (Step : S → ℕ → S → Type 0) (olds : List S) (es : List Event) (k : ℕ) where
   -- where an order explains the first events, none of them is refused
@@ -82,10 +80,7 @@ follows_cut {S} Step olds cut.Never es count old new is f same = rw same f
 pub follows_whole : {S : Type 0} (Step : S → ℕ → S → Type 0) (olds : List S) (c : Cut)
     (es : List Event) (w : Window S) → FollowsTo Step olds c es w → c ≡ cut.Never
     → IsFrontOf Step w.front es olds
-follows_whole Step olds c es w f never =
-    let is = f.whole never in
-    rw (← is.1) (rw (← (f.goes.is.split ∙ ap
-    (λ (l : List Event). l ++ f.goes.is.inside) is.0)) at f.goes.is.front)
+follows_whole Step olds c es w f never = grind arith
 
 module _ {M S : Type 0} (StepOf : M → S → ℕ → S → Type 0) (machine : M) (olds : List S)
     (es : List Event) (at : ℕ) (history : IsHistory es) (c : Cut) (w : Window S)

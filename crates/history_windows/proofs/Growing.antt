@@ -123,8 +123,7 @@ module _ {S : Type 0} (Step : S → ℕ → S → Type 0) (olds : List S) where
       open_more : (c : ℕ) → IsOpen (g.is.inside ++ more) c → IsOpen (es ++ more) c
       open_more c is = rw split_more (open_whole _ _ _ g.first sound_more is)
 
-      abbrev pub goes_more : (new : Front S)
-          → IsFrontOf Step new (g.is.inside ++ more) g.is.states
+      abbrev pub goes_more : (new : Front S) → IsFrontOf Step new (g.is.inside ++ more) g.is.states
           × (0 < length new.configs.items)
           → GoesTo Step olds (es ++ more) (record { begin = w.begin; front = new })
       goes_more new f = record {

@@ -29,12 +29,7 @@ sound_back es fs gs f g whole = record {
 
 -- no call is open after two parts after each of which none is
 pub quiet_both : (es fs : List Event) → IsQuiet es → IsQuiet fs → IsQuiet (es ++ fs)
-quiet_both es fs p q c begun =
-    elim (cases_lt 0 (begins c es)) [
-      | inl some ↦ ended_left _ _ _ (p c some)
-      | inr none ↦
-          ended_right _ _ _ (q c (omega (arith, begun, none, begins-append c es fs)))
-    ]
+quiet_both es fs p q c begun = grind (arith, cases_lt, ended_left, ended_right, begins-append)
 
 -- a call that is open after both is open after the first, or begins in the second
 pub open_parts : (es fs : List Event) (c : ℕ) → IsOpen (es ++ fs) c
@@ -47,13 +42,7 @@ open_parts es fs c is =
 
 -- a call that is open has begun in the second part, where none is open after the first
 pub open_inside : (es fs : List Event) (c : ℕ) → IsQuiet es → IsOpen (es ++ fs) c → IsOpen fs c
-open_inside es fs c quiet is =
-    let late : 0 < begins c fs =
-    elim (cases_lt 0 (begins c es)) [
-      | inl some ↦ absurd (is.1 (ended_left _ _ _ (quiet c some)))
-      | inr none ↦ omega (arith, is.0, none, begins-append c es fs)
-    ] in
-    (late, λ ended. is.1 (ended_right _ _ _ ended))
+open_inside es fs c quiet is = grind (arith, cases_lt, ended_left, begins-append, ended_right)
 
 -- a call that is open in the second part is open in the whole
 pub open_whole : (es fs : List Event) (c : ℕ) → IsSound es → IsSound (es ++ fs) → IsOpen fs c

@@ -85,66 +85,27 @@ module _ (kept : ℕ → Bool) where
       → begins c (events_of kept es) ≡ begins c es
   unfolding begins
   begins_of c [] t = refl
-  begins_of c (Begin b ∷ es) t =
-      let rest = events_of kept es in
-      let more : begins c rest ≡ begins c es = begins_of c es t in
-      cond_both (kept b) (Begin b ∷ rest) rest
-      (λ (l : List Event). begins c l ≡ cond (eqb b c) 1 0 + begins c es)
-      (λ _. ap (λ n. cond (eqb b c) 1 0 + n) more)
-      (λ f. rw (other_call b c f t) (omega (arith, more)))
-  begins_of c (End b ∷ es) t =
-      let rest = events_of kept es in
-      let more : begins c rest ≡ begins c es = begins_of c es t in
-      cond_both (kept b) (End b ∷ rest) rest (λ (l : List Event). begins c l ≡ begins c es)
-      (λ _. more) (λ _. more)
-  begins_of c (Crash b ∷ es) t =
-      let rest = events_of kept es in
-      let more : begins c rest ≡ begins c es = begins_of c es t in
-      cond_both (kept b) (Crash b ∷ rest) rest (λ (l : List Event). begins c l ≡ begins c es)
-      (λ _. more) (λ _. more)
+  begins_of c (Begin b ∷ es) t = grind (arith, cond_both, other_call, begins_of c es t)
+  begins_of c (End b ∷ es) t = grind (arith, cond_both, begins_of c es t)
+  begins_of c (Crash b ∷ es) t = grind (arith, cond_both, begins_of c es t)
 
   pub begins_fewer : (c : ℕ) (es : List Event) → begins c (events_of kept es) ≤ begins c es
   unfolding begins
   begins_fewer c [] = omega arith
-  begins_fewer c (Begin b ∷ es) =
-      let rest = events_of kept es in
-      let more : begins c rest ≤ begins c es = begins_fewer c es in
-      cond_both (kept b) (Begin b ∷ rest) rest
-      (λ (l : List Event). begins c l ≤ cond (eqb b c) 1 0 + begins c es)
-      (λ _. omega (arith, more)) (λ _. omega (arith, more))
-  begins_fewer c (End b ∷ es) =
-      let rest = events_of kept es in
-      let more : begins c rest ≤ begins c es = begins_fewer c es in
-      cond_both (kept b) (End b ∷ rest) rest (λ (l : List Event). begins c l ≤ begins c es)
-      (λ _. more) (λ _. more)
-  begins_fewer c (Crash b ∷ es) =
-      let rest = events_of kept es in
-      let more : begins c rest ≤ begins c es = begins_fewer c es in
-      cond_both (kept b) (Crash b ∷ rest) rest (λ (l : List Event). begins c l ≤ begins c es)
-      (λ _. more) (λ _. more)
+  begins_fewer c (Begin b ∷ es) = grind (arith, cond_both, begins_fewer c es)
+  begins_fewer c (End b ∷ es) = grind (arith, cond_both, begins_fewer c es)
+  begins_fewer c (Crash b ∷ es) = grind (arith, cond_both, begins_fewer c es)
 
   -- how often a call stands in an order
-  times_of : (c : ℕ) (order : List ℕ) → kept c ≡ true
-      → times c (filter kept order) ≡ times c order
+  times_of : (c : ℕ) (order : List ℕ) → kept c ≡ true → times c (filter kept order) ≡ times c order
   unfolding times
   times_of c [] t = refl
-  times_of c (x ∷ xs) t =
-      let rest = filter kept xs in
-      let more : times c rest ≡ times c xs = times_of c xs t in
-      cond_both (kept x) (x ∷ rest) rest
-      (λ (l : List ℕ). times c l ≡ cond (eqb x c) 1 0 + times c xs)
-      (λ _. ap (λ n. cond (eqb x c) 1 0 + n) more)
-      (λ f. rw (other_call x c f t) (omega (arith, more)))
+  times_of c (x ∷ xs) t = grind (arith, cond_both, other_call, times_of c xs t)
 
   times_fewer : (c : ℕ) (order : List ℕ) → times c (filter kept order) ≤ times c order
   unfolding times
   times_fewer c [] = omega arith
-  times_fewer c (x ∷ xs) =
-      let rest = filter kept xs in
-      let more : times c rest ≤ times c xs = times_fewer c xs in
-      cond_both (kept x) (x ∷ rest) rest
-      (λ (l : List ℕ). times c l ≤ cond (eqb x c) 1 0 + times c xs)
-      (λ _. omega (arith, more)) (λ _. omega (arith, more))
+  times_fewer c (x ∷ xs) = grind (arith, cond_both, times_fewer c xs)
 
   times_kept : (c : ℕ) (order : List ℕ) → 0 < times c (filter kept order) → kept c ≡ true
   times_kept c [] h = absurd (omega (arith, h, times_none c))
@@ -161,10 +122,7 @@ module _ (kept : ℕ → Bool) where
     leads_of : (old new : S) (order : List ℕ) → Leads Step old order new
         → Leads Step old (filter kept order) new
     leads_of old new [] l = l
-    leads_of old new (x ∷ xs) l =
-        cond_both (kept x) (x ∷ filter kept xs) (filter kept xs)
-        (λ (o : List ℕ). Leads Step old o new) (λ _. (l.0, l.1, leads_of l.0 new xs l.2))
-        (λ f. rw (← idle x f old l.0 l.1) (leads_of l.0 new xs l.2))
+    leads_of old new (x ∷ xs) l = grind (arith, cond_both, leads_of l.0 new xs l.2)
 
     pub explains_of : (es : List Event) (old new : S) (order : List ℕ)
         → Explains Step es old order new

@@ -6,10 +6,7 @@ pub order_first : {S : Type 0} (front : Front S) (k : Config S) (known order : L
     → 0 < length front.configs.items → k ≡ get_or front.configs.items 0 k
     → known ≡ read front.links.items k.base → order ≡ known ++ k.made.items
     → IsFirstOrder front order
-order_first {S} front k known order some is reads all d =
-    all ∙ (ap (λ (o : List ℕ). o ++ k.made.items) reads
-    ∙ ap (λ (x : Config S). order_of front.links.items x)
-    (is ∙ get_or_default front.configs.items 0 k d some))
+order_first {S} front k known order some is reads all d = grind (arith, get_or_default)
 
 first_of : {X : Type 0} (xs : List X) → 0 < length xs → X
 first_of [] some = absurd (omega arith)

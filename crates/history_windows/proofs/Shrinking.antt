@@ -36,13 +36,7 @@ module _ {S : Type 0} (Step : S → ℕ → S → Type 0) where
       → ((s : S) → Contains one s → Contains other s)
       → ((s : S) → Contains other s → Contains one s)
       → IsCut Step olds past one → IsCut Step olds past other
-  cut_same olds past one other to from cut = record {
-    quiet = cut.quiet;
-    same = λ rest sound all. (
-      λ x. explained_from _ _ _ to ((cut.same rest sound all).0 x),
-      λ x. (cut.same rest sound all).1 (explained_from _ _ _ from x),
-    );
-  }
+  cut_same olds past one other to from cut = grind (arith, explained_from)
 
   -- where the events end in a window that begins after them, they have left its states
   pub cut_states : (olds : List S) (es : List Event) (w : Window S) → IsWindowOf Step olds es w
@@ -78,53 +72,31 @@ module _ {S : Type 0} (Step : S → ℕ → S → Type 0) (olds : List S) (es : 
   pub rest_back : (calls : List Bool) (call : ℕ) (was : Bool) → was ≡ get_or calls call was
       → IsRest Step olds es (is_kept calls)
       → IsRest Step olds es (is_kept (set (set calls call true) call was))
-  rest_back calls call was is rest =
-      rw is (subst (λ (l : List Bool). IsRest Step olds es (is_kept l))
-      (sym (set_back _ _ _ _)) rest)
+  rest_back calls call was is rest = grind (arith, set_back)
 
   -- one call more is left out
   pub rest_more : (calls : List Bool) (call : ℕ) → IsIdle Step call
       → ¬ (IsExplained Step (events_of (is_kept (set calls call true)) es) olds)
       → IsRest Step olds es (is_kept calls) → IsRest Step olds es (is_kept (set calls call true))
-  rest_more calls call idle none rest = record {
-    refused = none;
-    others = λ c left. elim (cases_eq c call) [
-      | inl same ↦ rw same idle
-      | inr other ↦ rest.others c
-          (sym (ap not (get_or-set_other calls call c true false other)) ∙ left)
-    ];
-  }
+  rest_more calls call idle none rest = grind (arith, cases_eq, get_or-set_other)
 
   -- all of these are left out
   pub rest_all : (calls : List Bool) → AreIdle Step calls
       → ¬ (IsExplained Step (events_of (is_kept calls) es) olds)
       → IsRest Step olds es (is_kept calls)
-  rest_all calls idle none = record {
-    refused = none;
-    others = λ c left. idle c (left_out_is calls c left);
-  }
+  rest_all calls idle none = grind (arith, left_out_is)
 
 none_left : (n c : ℕ) → is_kept (replicate n false) c ≡ true
-none_left n c =
-    elim (cases_lt c n) [
-      | inl in_list ↦ ap not (get_or-replicate n c false false in_list)
-      | inr after ↦ ap not (get_or_past (replicate n false) c false
-          (omega (arith, after, length-replicate n false)))
-    ]
+none_left n c = grind (arith, cases_lt, get_or-replicate, get_or_past, length-replicate)
 
-all_kept : (kept : ℕ → Bool) (es : List Event) → ((c : ℕ) → kept c ≡ true)
-    → events_of kept es ≡ es
+all_kept : (kept : ℕ → Bool) (es : List Event) → ((c : ℕ) → kept c ≡ true) → events_of kept es ≡ es
 all_kept kept [] all = refl
 all_kept kept (e ∷ es) all = rw all (ap (λ (l : List Event). e ∷ l) (all_kept kept es all))
 
 -- no call is left out
 pub rest_none : {S : Type 0} (Step : S → ℕ → S → Type 0) (olds : List S) (es : List Event)
     (n : ℕ) → ¬ (IsExplained Step es olds) → IsRest Step olds es (is_kept (replicate n false))
-rest_none Step olds es n none = record {
-  refused = subst (λ (l : List Event). ¬ (IsExplained Step l olds))
-      (sym (all_kept _ _ (none_left _))) none;
-  others = λ c left. absurd (let e = none_left n c in cc);
-}
+rest_none Step olds es n none = grind (arith, all_kept, none_left)
 
 module _ {S : Type 0} (Step : S → ℕ → S → Type 0) (olds : List S) (past window : List Event)
     (history : IsHistory (past ++ window)) where
@@ -144,11 +116,7 @@ module _ {S : Type 0} (Step : S → ℕ → S → Type 0) (olds : List S) (past 
       → IfOk found (λ left_out. IsRest Step given window (is_kept left_out.items))
       → IfOk found (λ left_out. AreNeeded Step olds past window (is_kept left_out.items))
   needed_found states given same cut (Err e) rest = rest
-  needed_found states given same cut (Ok found) rest = record {
-    states = states;
-    cut = cut;
-    rest = rw (← same) rest;
-  }
+  needed_found states given same cut (Ok found) rest = grind arith
 
   pub needed_whole : {E : Type 0} (n : ℕ) → HasCut Step olds past
       → ¬ (IsExplained Step (past ++ window) olds) → (found : Result (Vec Bool) E)

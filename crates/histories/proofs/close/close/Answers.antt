@@ -19,12 +19,7 @@ returns g c =
     _ _ (omega (arith, c.loop-left-test.false)) c.loop-left.invariant.0)
 
 pub returns-then-len-gt-MAX_CONFIGS : goal.returns-then-len-gt-MAX_CONFIGS
-returns-then-len-gt-MAX_CONFIGS g c = (
-  c.loop-left.layer.items,
-  search rules,
-  c.loop-left.invariant.1,
-  c.loop-left.invariant.0.under_way,
-)
+returns-then-len-gt-MAX_CONFIGS g c = grind arith
 
 pub returns-then-len-gt-MAX_CONFIGS-2 : goal.returns-then-len-gt-MAX_CONFIGS-2
 returns-then-len-gt-MAX_CONFIGS-2 g c = (

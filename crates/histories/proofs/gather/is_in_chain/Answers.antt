@@ -18,8 +18,7 @@ loop-left-smaller g c =
     (λ same. cc (c.is_same.ensures.1 same, c.if-is_same.false)) c.requires c.loop-left.invariant).1
 
 pub returns-clause-no : goal.returns-clause-no
-returns-clause-no g c is index d from below =
-    c.loop-left.invariant.others index d (omega (arith, c.loop-left-test.false)) below
+returns-clause-no g c is index d from below = grind arith
 
 pub returns-then-is_same-clause-yes : goal.returns-then-is_same-clause-yes
 returns-then-is_same-clause-yes g c is = (

@@ -21,11 +21,4 @@ loop-config-preserved g c =
     )
 
 pub returns : goal.returns
-returns g c =
-    let before = c.loop-config.invariant.0 in (
-      c.loop-config.invariant.1,
-      (
-        before.many,
-        λ index d h. before.done index d (omega (arith, h, before.many, c.loop-config-test.false)),
-      ),
-    )
+returns g c = grind arith

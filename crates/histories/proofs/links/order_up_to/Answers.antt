@@ -3,14 +3,7 @@ use Rattle.histories.proofs.Places.{read_bounded, read_more, read_zero}
 use Rattle.histories.proofs.links.order_up_to.Goals as goal
 
 pub loop-left-init : goal.loop-left-init
-loop-left-init c =
-    let links = c.args.links.now in
-    let left = c.bounded-left.result in (
-      read_bounded _ _ _ c.bounded-left.ensures.within c.bounded-left.ensures.above
-          ∙ sym (ap (λ (o : List ℕ). read links left ++ reverse o) c.new-order.ensures.items
-          ∙ append-nil (read links left)),
-      c.bounded-left.ensures.bound,
-    )
+loop-left-init c = grind (arith, read_bounded, append-nil)
 
 pub loop-left-preserved : goal.loop-left-preserved
 loop-left-preserved c =

@@ -19,8 +19,6 @@ loop-config-preserved g c =
           elim c.if-branch.branch [
             | then-branch w ↦ absurd (true≢false (sym w.if-branch.true ∙ (sym w.any-is ∙ none)))
             | else-branch w ↦
-                ap (λ l. get_or l index d)
-                (same_set _ at config one h is (c.in_ok-any.ensures.same w.if-branch.false))
-                ∙ c.loop-config.invariant.1 (sym w.any-is ∙ none) index d
+                grind (arith, same_set)
           ],
     )
