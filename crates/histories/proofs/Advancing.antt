@@ -1,7 +1,7 @@
 -- What an event does to a front, and the configurations after the begin of a call.
-use Rattle.histories.proofs.Words.{map, get_or-map, length-map, zero, ◌≡◌, ℕ, ◌+◌, ◌<◌, ◌≤◌, List, [], ◌∷◌, ◌++◌, length, get_or, sym, ◌∙◌, ap, subst, arith, inl, inr, Option, suc, refl, Some, None, bit_at, Contains, cases_lt, Config, Link, Event, Begin, End, begins, times, Explains, IsOpen, HasSlot, IsFrontier, IsLighter, IsSound, IsTable, IsWaiting, LeadTo, Leaves, Path, Runs, order_at, order_of, put, HasManyOpen, IsFrontOf, AreOpened, AreSettled, IsOpened, TakesSlot, AreLaidIn, AreTaken, Finishes, FreesSlot, HasMany, IsClosed, IsLeft, spot_of, Advance, Front, AdvancesIn, Agrees, Ends, EndsOpen, IsSameFront}
+use Rattle.histories.proofs.Words.{map, get_or-map, length-map, zero, ◌≡◌, ℕ, ◌+◌, ◌<◌, ◌≤◌, List, [], ◌∷◌, ◌++◌, length, get_or, sym, ◌∙◌, ap, subst, arith, inl, inr, Option, suc, refl, Some, None, bit_at, Contains, cases_lt, Config, Link, Event, Begin, End, begins, times, Explains, IsOpen, HasSlot, IsFrontier, IsLighter, IsSound, IsTable, IsWaiting, LeadTo, Leaves, Path, Runs, order_at, order_of, put, HasManyOpen, IsFrontOf, AreOpened, AreSettled, IsOpened, TakesSlot, AreLaidIn, AreTaken, Finishes, FreesSlot, HasMany, IsClosed, IsLeft, Advance, Front, AdvancesIn, Agrees, Ends, EndsOpen, IsSameFront}
 use Rattle.histories.proofs.Bits.{cleared_put, put_other, put_same}
-use Rattle.histories.proofs.Counting.{not_some, split_times, times-append, times-cons, times_one, times_same, times_none, times_other, at_times, times_once}
+use Rattle.histories.proofs.Counting.{not_some, split_times, times-append, times-cons, times_one, times_same, at_times, times_once}
 use Rattle.histories.proofs.Events.{begins_begin, table_begin, taken_cases, taken_other, taken_still, begin_no_end, ends_one, open_begin_now, open_begin_still}
 use Rattle.histories.proofs.Running.{leads_split, leaves_run, runs_in, runs_lighter, runs_order, runs_then}
 use Rattle.histories.proofs.Explaining.{behind_open, explains_begin, explains_front, explains_without}

@@ -1,6 +1,6 @@
 -- Calls that are made at once: those that change nothing, and those that come first or overlap
 -- nothing.
-use Rattle.histories.proofs.Words.{◌≡◌, ◌↔◌, slice_set, true, ℕ, zero, suc, ◌+◌, ◌<◌, List, [], ◌∷◌, ◌++◌, length, get_or, Option, refl, sym, ◌∙◌, ap, subst, arith, inl, inr, append_assoc, cases_lt, Event, Begin, End, Config, Link, AreAll, begins, times, Explains, Leads, HasSlot, IsFollowed, IsFrontier, IsSound, IsTable, Path, order_at, order_of, path_more, path_of, Agrees, IsQuiet, IsMadeIn, CallsAloneAreRuns, ◌≤◌, AllPairs, Contains, Contains-get_or, All-contains, Contains-push, IsIdle, IsLighter, IsSame, IsWaiting, Runs, cleared, AreOpened, AreSame, AreSettled, AreSettledEach, FromOne, Gathers, IsCopy, IsSettled, Spot, WaitsInNone, spot_of, IsClosed, IsClosing, IsDone, IsMadeFirst, IsNextAt, bit_at}
+use Rattle.histories.proofs.Words.{◌≡◌, ◌↔◌, slice_set, true, ℕ, zero, suc, ◌+◌, ◌<◌, List, [], ◌∷◌, ◌++◌, length, get_or, Option, refl, sym, ◌∙◌, ap, subst, arith, inl, inr, append_assoc, cases_lt, Event, Begin, End, Config, Link, AreAll, begins, times, Explains, Leads, HasSlot, IsFrontier, IsSound, IsTable, Path, order_at, order_of, path_more, path_of, Agrees, IsQuiet, IsMadeIn, CallsAloneAreRuns, ◌≤◌, AllPairs, Contains-push, IsIdle, IsSame, IsWaiting, cleared, AreOpened, AreSame, AreSettled, AreSettledEach, FromOne, Gathers, IsCopy, IsSettled, Spot, WaitsInNone, spot_of, IsClosed, IsClosing, IsMadeFirst, IsNextAt, bit_at}
 use Rattle.histories.proofs.Places.{order_more, only, each_from, each_to, nothing_in}
 use Rattle.histories.specs.Laws.{calls_alone, in_order}
 use Rattle.histories.proofs.Counting.{no_times, not_some, split_times, times-append, times-cons, times_one, times_other, times_same}

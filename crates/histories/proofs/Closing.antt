@@ -1,5 +1,5 @@
 -- A call that ends is made.
-use Rattle.histories.proofs.Words.{◌≡◌, ◌↔◌, ℕ, ◌+◌, ◌<◌, ◌≤◌, List, [], ◌∷◌, ◌++◌, length, refl, sym, ◌∙◌, ap, subst, arith, inl, inr, append-nil, append_assoc, Option, AllPairs, cases_eq, bit_at, Contains, Contains-append_left, Contains-push, Contains-push_cases, Config, HasSlot, IsLighter, IsSame, LeadTo, MovesBefore, Path, Runs, cleared, path_more, path_of, AreSettled, ComesFirst, FromOne, Gathers, GoesOn, IsClosed, IsClosing, IsCopy, IsDone, IsMadeFrom, IsNextAt, IsNextLayer, IsSettled, IsUnderWay, MovesFirst, Spot, ones, spot_of}
+use Rattle.histories.proofs.Words.{◌≡◌, ◌↔◌, ℕ, ◌+◌, ◌<◌, ◌≤◌, List, [], ◌∷◌, ◌++◌, length, refl, sym, ◌∙◌, ap, arith, inl, inr, append-nil, append_assoc, Option, AllPairs, cases_eq, bit_at, Contains-append_left, Contains-push, Contains-push_cases, Config, HasSlot, IsLighter, IsSame, LeadTo, Path, Runs, cleared, path_more, path_of, AreSettled, ComesFirst, FromOne, Gathers, GoesOn, IsClosed, IsClosing, IsCopy, IsDone, IsMadeFrom, IsNextAt, IsNextLayer, IsSettled, MovesFirst, Spot, ones, spot_of}
 use Rattle.histories.specs.Gathering.{IsNext}
 use Rattle.histories.proofs.Places.{nothing_in, only}
 use Rattle.histories.proofs.Bits.{bit_cases, cleared_le, cleared_same, ones_le, ones_less, ones_most, slot_64, slot_once, slot_within}
@@ -232,13 +232,11 @@ module _ {S : Type 0} (Step : S → ℕ → S → Type 0) (slots : List (Option 
     under_way = λ k has.
         elim (g.sound k has) [
           | inl none ↦ absurd (nothing_in _ none)
-          | inr found ↦
-              made_next _ found.0 _ found.2.1 (cl.under_way found.0 found.1)
+          | inr found ↦ made_next _ found.0 _ found.2.1 (cl.under_way found.0 found.1)
         ];
     complete = λ new rest l over.
         elim (cl.complete new rest l over) [
-          | inl before ↦
-              inl (leads_kept _ _ _ _ _ f before)
+          | inl before ↦ inl (leads_kept _ _ _ _ _ f before)
           | inr m ↦
               elim (bit_cases _ _) [
                 | inr waits ↦ inr (g.complete m.0 m.2.0 new m.2.1 rest m.1 waits

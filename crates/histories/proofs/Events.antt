@@ -1,5 +1,5 @@
 -- One event more.
-use Rattle.histories.proofs.Words.{eq-eqb, Some, false, ◌≡◌, ◌≢◌, ℕ, zero, suc, ◌+◌, ◌<◌, ◌⊎◌, List, [], ◌∷◌, ◌++◌, length, cond, refl, sym, ap, subst, arith, inl, inr, ◌∙◌, Option, cases_eq, eqb_tells, FreesSlot, TakesSlot, Event, Begin, End, Crash, EndsAt, HasEnded, IsAnswered, IsOpen, IsOver, StandsAt, Ends, IsSound, HasSlot, IsTable}
+use Rattle.histories.proofs.Words.{eq-eqb, Some, false, ◌≡◌, ◌≢◌, ℕ, zero, suc, ◌+◌, ◌<◌, ◌⊎◌, List, [], ◌∷◌, ◌++◌, length, cond, refl, ap, arith, inl, inr, ◌∙◌, Option, cases_eq, eqb_tells, FreesSlot, TakesSlot, Event, Begin, End, Crash, EndsAt, HasEnded, IsAnswered, IsOpen, IsOver, StandsAt, Ends, IsSound, HasSlot, IsTable}
 use Rattle.histories.proofs.Bits.{slot_once}
 use Rattle.histories.specs.Histories.{begins, times}
 use Rattle.histories.proofs.Counting.{times_one, times_other}

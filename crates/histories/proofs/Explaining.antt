@@ -1,7 +1,7 @@
 -- What explains a history, and one event more.
-use Rattle.histories.proofs.Words.{◌≡◌, ℕ, ◌+◌, ◌<◌, List, [], ◌∷◌, ◌++◌, get_or, sym, subst, arith, inl, inr, Option, append-nil, append_assoc, cases_lt, all_pairs_push, Event, Begin, End, begins, times, Explains, HasEnded, IsOpen, IsOver, Leads, Ends, IsSound, IsTable, IsWaiting, Leaves, Runs, cleared}
+use Rattle.histories.proofs.Words.{◌≡◌, ℕ, ◌+◌, ◌<◌, List, [], ◌∷◌, ◌++◌, get_or, arith, inl, inr, Option, append-nil, append_assoc, cases_lt, all_pairs_push, Event, Begin, End, begins, times, Explains, HasEnded, IsOpen, IsOver, Leads, Ends, IsSound, IsTable, Leaves, Runs, cleared}
 use Rattle.histories.proofs.Counting.{all_pairs_behind, all_pairs_front, apart, times-append, times-cons, times_at, times_one, times_other, times_same}
-use Rattle.histories.proofs.Events.{answered_cases, answered_ended, answered_left, begin_no_end, begins-append, begins_begin, begins_cases, begins_ends, ends_one, over_cases, over_ended, over_now, over_left}
+use Rattle.histories.proofs.Events.{answered_cases, answered_ended, answered_left, begin_no_end, begins-append, begins_begin, begins_cases, ends_one, over_cases, over_ended, over_now, over_left}
 use Rattle.histories.proofs.Running.{leads_push, leaves_made}
 
 module _ {S : Type 0} (Step : S → ℕ → S → Type 0) where

@@ -1,5 +1,5 @@
 -- Configurations that are gathered, and put into chains.
-use Rattle.histories.proofs.Words.{◌≡◌, Option, ℕ, zero, suc, ◌+◌, ◌<◌, ◌⊎◌, List, [], ◌∷◌, ◌++◌, length, take, get_or, refl, sym, ◌∙◌, ap, subst, arith, inl, inr, true, false, ◌≢◌, ◌-◌, ◌≤◌, Bool, All, drop, set, replicate, bit_at, Contains, cases_order, cases_eq, cases_lt, take_more, get_or-drop, get_or-replicate, get_or-set_other, get_or-set_same, get_or_default, get_or_past, length-drop, length-replicate, length_push, All-contains, Contains-append_left, Contains-push, Contains-push_cases, all_pairs_push, Config, AreAll, IsSame, IsWaiting, Path, cleared, no_path, path_more, path_of, FromOne, Gathers, IsCopy, IsDone, IsDropped, IsFirst, IsKnown, IsMadeIn, IsNextAt, IsNextBeside, IsNextIn, IsNextOther, IsAt, IsWith, Spot, spot_of, AreChained, AreLinked, AreOther, chain_at, chain_of, get_or-append, get_or-append_seam}
+use Rattle.histories.proofs.Words.{◌≡◌, Option, ℕ, ◌+◌, ◌<◌, ◌⊎◌, List, [], ◌∷◌, ◌++◌, length, take, get_or, refl, sym, ◌∙◌, ap, subst, arith, inl, inr, true, false, ◌≢◌, ◌-◌, ◌≤◌, Bool, All, drop, set, replicate, bit_at, Contains, cases_order, cases_eq, cases_lt, take_more, get_or-drop, get_or-replicate, get_or-set_other, get_or-set_same, get_or_default, get_or_past, length-drop, length-replicate, length_push, All-contains, Contains-append_left, Contains-push, Contains-push_cases, all_pairs_push, Config, AreAll, IsSame, IsWaiting, Path, cleared, no_path, path_more, path_of, FromOne, Gathers, IsCopy, IsDone, IsDropped, IsFirst, IsKnown, IsMadeIn, IsNextAt, IsNextBeside, IsNextIn, IsNextOther, IsAt, IsWith, Spot, spot_of, AreChained, AreLinked, AreOther, chain_at, chain_of, get_or-append, get_or-append_seam}
 use Rattle.histories.specs.Gathering.{IsNext}
 use Rattle.histories.proofs.Bits.{slot_once}
 use Rattle.histories.proofs.Places.{less_of, nothing_in, only}

@@ -1,5 +1,5 @@
 -- Lists that are changed place by place, and orders that are read from links.
-use Rattle.histories.proofs.Words.{zero, suc, [], ◌∷◌, ◌≡◌, ◌≢◌, ℕ, ◌+◌, ◌<◌, ◌≤◌, List, ◌++◌, take, drop, append-nil, take_all, length, get_or, set, refl, sym, ◌∙◌, ap, subst, arith, inl, inr, Contains, map, get_or-map, cases_eq, cases_lt, Contains-get_or, Contains-push_cases, AreEach, drop_all, get_or-set_other, get_or-set_same, get_or_default, length-set, set-get_or, length-map, Option, take-append-drop, reverse, length-append, append_assoc, get_or-append, get_or-append_seam, get_or_past, length-take-le, reverse-append, take_more, Config, Link, Event, IsFollowed, IsFrontier, Path, Runs, no_path, order_at, path_more, AreLaid, Grows, IsLaid, IsLaidOut}
+use Rattle.histories.proofs.Words.{zero, suc, [], ◌∷◌, ◌≡◌, ◌≢◌, ℕ, ◌+◌, ◌<◌, ◌≤◌, List, ◌++◌, take, drop, append-nil, take_all, length, get_or, set, refl, sym, ◌∙◌, ap, arith, Contains, map, get_or-map, cases_eq, cases_lt, Contains-get_or, AreEach, drop_all, get_or-set_other, get_or-set_same, get_or_default, length-set, set-get_or, length-map, Option, take-append-drop, reverse, length-append, append_assoc, get_or-append, get_or-append_seam, get_or_past, length-take-le, reverse-append, take_more, Config, Link, Event, IsFollowed, IsFrontier, Path, no_path, order_at, path_more, AreLaid, Grows, IsLaid, IsLaidOut}
 use Rattle.histories.specs.Frontier.{orders, read}
 
 -- up to a place each value is related to the one that was there, and from there on it is that one

@@ -1,5 +1,5 @@
 -- What is found of a whole history.
-use Rattle.histories.proofs.Words.{◌≡◌, ◌⊎◌, ℕ, zero, suc, ◌+◌, ◌-◌, ◌<◌, ◌≤◌, List, [], ◌∷◌, ◌++◌, length, take, get_or, refl, sym, ◌∙◌, ap, subst, arith, inl, inr, Option, add-zero, take_all, cases_lt, cases_order, take-append_seam, take_more, take-append-le, slice_get-get_or, Event, Begin, End, Crash, Advance, Front, Config, Link, begins, times, Explains, IsExplained, IsHistory, IsOpen, MayFollow, StandsAt, AdvancesIn, Agrees, Ends, EndsOpen, IsAdvance, IsVerdict, HasManyOpen, HasManyOrders, IsFrontOf, IsFrontier, IsSound, order_of, VerdictsExclude}
+use Rattle.histories.proofs.Words.{◌≡◌, ℕ, zero, suc, ◌+◌, ◌-◌, ◌<◌, ◌≤◌, List, [], ◌∷◌, ◌++◌, length, take, get_or, refl, sym, ◌∙◌, subst, arith, inl, inr, Option, add-zero, take_all, cases_lt, cases_order, take-append_seam, take_more, take-append-le, slice_get-get_or, Event, Begin, End, Crash, Advance, Front, Config, Link, begins, times, IsExplained, IsHistory, MayFollow, AdvancesIn, Agrees, Ends, EndsOpen, IsAdvance, IsVerdict, IsFrontOf, IsFrontier, IsSound, order_of, VerdictsExclude}
 use Rattle.histories.specs.declared.front.Advance.TheVariants as advance
 use Rattle.histories.specs.declared.whole.Verdict.TheVariants as verdict
 use Rattle.histories.specs.Histories.{begun, IsNext}
@@ -179,7 +179,7 @@ module _ {S : Type 0} (Step : S → ℕ → S → Type 0) where
       → ¬ (IsExplained Step (take i es) olds) → IsHistory es → ¬ (IsExplained Step es olds)
   refused_whole es olds i h none history x =
       none (explained_take _ _ _ _ history (omega arith)
-      (rw (← (take_all (i + (length es - i)) es (omega arith))) at x))
+      (rw (← take_all (i + (length es - i)) es (omega arith)) at x))
 
   -- a configuration is left exactly where an order explains the history
   pub frontier_explained : (links : List Link) (slots : List (Option ℕ)) (es : List Event)

@@ -1,5 +1,5 @@
 -- Windows that go on event by event.
-use Rattle.history_windows.proofs.Words.{◌≡◌, ℕ, zero, suc, ◌+◌, ◌-◌, ◌<◌, ◌≤◌, List, [], ◌∷◌, ◌++◌, length, take, get_or, refl, sym, ◌∙◌, ap, subst, arith, append_assoc, take_all, true, Some, length-take-le, take-take, take-append_seam, slice_get-get_or, Event, Begin, End, Advance, Front, IsAdvance, IsMadeAlone, IsSameFront, IsExplained, IsHistory, MayFollow, StandsAt, IsFrontOf, Cut, Window, GoesTo, IsMadeNext, CutsAt, IsStop}
+use Rattle.history_windows.proofs.Words.{◌≡◌, ℕ, zero, suc, ◌+◌, ◌-◌, ◌<◌, ◌≤◌, List, [], ◌∷◌, ◌++◌, length, take, get_or, refl, sym, ◌∙◌, ap, arith, append_assoc, take_all, true, Some, length-take-le, take-take, take-append_seam, slice_get-get_or, Event, Begin, End, Advance, Front, IsAdvance, IsSameFront, IsExplained, IsHistory, StandsAt, IsFrontOf, Cut, Window, GoesTo, IsMadeNext, CutsAt, IsStop}
 use Rattle.histories.specs.declared.front.Advance.TheVariants as advance
 use Rattle.histories.proofs.Events.{stands_within}
 use Rattle.histories.proofs.Verdicts.{explained_take, one_more}
@@ -47,7 +47,7 @@ module _ {S : Type 0} (Step : S → ℕ → S → Type 0) (olds : List S) (es : 
       let front = take k es in
       let within : at < length front = s.within in
       s.at.1 (explained_take _ _ _ _ _ (history_front _ _ history) (omega arith)
-      (rw (← (take_all (at + 1 + (length front - (at + 1))) front (omega arith))) at x))
+      (rw (← take_all (at + 1 + (length front - (at + 1))) front (omega arith)) at x))
 
 pub history_past : (past window : List Event) → IsHistory (past ++ window) → IsHistory past
 history_past past window history = rw (← take-append_seam past window) (history_front _ _ history)

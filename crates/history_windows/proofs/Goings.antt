@@ -1,5 +1,5 @@
 -- Fronts that go on while replies are still to come.
-use Rattle.history_windows.proofs.Words.{◌≡◌, ℕ, ◌+◌, ◌<◌, ◌≤◌, List, [], ◌∷◌, ◌++◌, Bool, true, false, length, take, drop, get_or, sym, ◌∙◌, ap, subst, arith, inl, inr, append_assoc, take_all, take-append-drop, take-append-add, Event, Begin, End, Front, IsAdvance, IsSameFront, BeginsAnew, IsHistory, IsOpen, begins, HasSlot, Window, AgreesOn, GoesOnTo, IsFrontAfter, IsMadeNext, Precedes}
+use Rattle.history_windows.proofs.Words.{◌≡◌, ℕ, ◌+◌, ◌<◌, ◌≤◌, List, [], ◌++◌, Bool, true, false, length, take, drop, get_or, sym, ◌∙◌, ap, arith, inl, inr, append_assoc, take_all, take-append-drop, take-append-add, Event, Begin, End, Front, IsAdvance, IsSameFront, BeginsAnew, IsHistory, IsOpen, begins, HasSlot, Window, AgreesOn, GoesOnTo, IsFrontAfter, IsMadeNext, Precedes}
 use Rattle.histories.specs.declared.front.Advance.TheVariants as advance
 use Rattle.histories.proofs.Cutting.{begins-append}
 use Rattle.histories.proofs.Events.{begins_none}

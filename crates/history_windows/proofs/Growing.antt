@@ -1,11 +1,11 @@
 -- Windows that grow by events.
-use Rattle.history_windows.proofs.Words.{◌≡◌, ◌⊎◌, ◌↔◌, ℕ, ◌+◌, ◌<◌, List, [], ◌∷◌, ◌++◌, length, take, get_or, refl, sym, ◌∙◌, ap, subst, arith, inl, inr, append_assoc, append-nil, true, slice_get-get_or, Event, Begin, End, Crash, Advance, Front, AdvancesIn, BeginsAnew, IsAdvance, IsMadeAlone, IsQuiet, IsSameFront, begins, IsExplained, IsHistory, IsOpen, StandsAt, HasManyOpen, IsFrontOf, IsSound, Stop, Window, AgreesOn, GoesTo, IsWellFormed, BeginsWindow, IsStop, IsStopAt, LeadsTooFar}
+use Rattle.history_windows.proofs.Words.{◌≡◌, ◌↔◌, ℕ, ◌+◌, ◌<◌, List, [], ◌∷◌, ◌++◌, length, take, refl, sym, ◌∙◌, ap, arith, inl, inr, append_assoc, append-nil, true, Event, Begin, End, Crash, Advance, Front, AdvancesIn, BeginsAnew, IsAdvance, IsMadeAlone, IsSameFront, begins, IsExplained, IsHistory, IsOpen, StandsAt, IsFrontOf, IsSound, Stop, Window, AgreesOn, GoesTo, IsWellFormed, BeginsWindow, IsStop, IsStopAt}
 use Rattle.histories.specs.declared.front.Advance.TheVariants as advance
 use Rattle.histories.proofs.Advancing.{front_same}
 use Rattle.histories.proofs.Events.{begins_none, sound_none}
 use Rattle.histories.proofs.Explaining.{explains_begin, explains_end}
 use Rattle.histories.proofs.Cutting.{begins-append}
-use Rattle.histories.proofs.Verdicts.{frontier_explained, frontier_refused, frontier_some, history_sound, numbered_none, one_more}
+use Rattle.histories.proofs.Verdicts.{frontier_explained, frontier_refused, frontier_some, history_sound, numbered_none}
 use Rattle.history_windows.specs.declared.window.Stop.TheVariants as stop
 use Rattle.history_windows.proofs.Joins.{open_parts, open_whole, quiet_both, sound_back}
 use Rattle.history_windows.proofs.Trying.{formed_front, formed_history, formed_inside, formed_next, sound_formed}
@@ -154,7 +154,7 @@ module _ {S : Type 0} (Step : S → ℕ → S → Type 0) (olds : List S) where
     pub goes_explained : IsExplained Step es olds
     goes_explained =
         rw (← append-nil es) ((explained_more _ history_now).1
-        (rw (← (append-nil g.is.inside)) at explained_inside))
+        (rw (← append-nil g.is.inside) at explained_inside))
 
     -- where the machine makes the calls as the history has it, it does so in the window
     pub agrees_inside : (Made : S → ℕ → S → Type 0) (more : List Event)
@@ -162,7 +162,7 @@ module _ {S : Type 0} (Step : S → ℕ → S → Type 0) (olds : List S) where
     agrees_inside Made more agrees c is =
         agrees c (elim is [
           | inl now ↦ inl (rw (← append-nil es) (open_more _ history_now _
-              (rw (← (append-nil g.is.inside)) at now)))
+              (rw (← append-nil g.is.inside) at now)))
           | inr then ↦ inr then
         ])
 

@@ -50,8 +50,7 @@ pub open_whole : (es fs : List Event) (c : ℕ) → IsSound es → IsSound (es +
 open_whole es fs c first whole is = (
   omega (arith, is.0, begins-append c es fs),
   λ ended. elim (ended_either _ _ _ ended) [
-    | inl x ↦
-        absurd (omega (arith, first.begun c x, is.0, whole.once c, begins-append c es fs))
+    | inl x ↦ absurd (omega (arith, first.begun c x, is.0, whole.once c, begins-append c es fs))
     | inr x ↦ is.1 x
   ],
 )

@@ -1,5 +1,5 @@
 -- Histories and orders of which calls are left out.
-use Rattle.history_windows.proofs.Words.{◌≡◌, ℕ, zero, suc, ◌+◌, ◌<◌, ◌≤◌, Bool, true, false, cond, eqb, List, [], ◌∷◌, take, refl, ap, subst, arith, inl, inr, filter, cond_both, eqb_tells, AllPairs-filter, Event, Begin, End, Crash, Explains, HasEnded, IsAnswered, IsExplained, IsOver, Leads, StandsAt, IsRest, LeavesOutIdle, call_of, events_of}
+use Rattle.history_windows.proofs.Words.{◌≡◌, ℕ, zero, suc, ◌<◌, ◌≤◌, Bool, true, false, eqb, List, [], ◌∷◌, take, refl, ap, arith, inl, inr, filter, cond_both, eqb_tells, AllPairs-filter, Event, Begin, End, Crash, Explains, HasEnded, IsAnswered, IsExplained, IsOver, Leads, StandsAt, IsRest, LeavesOutIdle, call_of, events_of}
 use Rattle.histories.specs.Histories.{begins, times}
 use Rattle.histories.proofs.Counting.{times-cons, times_none, times_other}
 

@@ -1,5 +1,5 @@
 -- The order of a configuration that is followed.
-use Rattle.history_windows.proofs.Words.{◌≡◌, ℕ, ◌<◌, ◌++◌, List, [], ◌∷◌, ◌∙◌, ap, arith, get_or, length, subst, sym, get_or_default, Event, Config, Front, IsFrontOf, order_of, read, Explains, IsFirstOrder, IsOrder}
+use Rattle.history_windows.proofs.Words.{◌≡◌, ℕ, ◌<◌, ◌++◌, List, [], ◌∷◌, arith, get_or, length, get_or_default, Event, Config, Front, IsFrontOf, read, IsFirstOrder, IsOrder}
 
 -- the calls of the links, and those that were made since
 pub order_first : {S : Type 0} (front : Front S) (k : Config S) (known order : List ℕ)

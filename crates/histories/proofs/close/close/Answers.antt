@@ -1,4 +1,4 @@
-use Rattle.histories.proofs.Words.{rules, ◌≡◌, ◌+◌, ◌-◌, [], arith}
+use Rattle.histories.proofs.Words.{rules, ◌≡◌, ◌+◌, ◌-◌, arith}
 use Rattle.histories.proofs.Closing.{closing_begin, closing_end, closing_layer}
 use Rattle.histories.proofs.close.close.Goals as goal
 

@@ -1,4 +1,4 @@
-use Rattle.histories.proofs.Words.{rules, [], ◌≡◌, List, subst, sym, ◌∙◌, map-id, YieldsList-from_vec, YieldsList-end, Config, FromOne, Gathers, GoesOn, IsDone}
+use Rattle.histories.proofs.Words.{◌≡◌, sym, ◌∙◌, map-id, YieldsList-from_vec, YieldsList-end}
 use Rattle.histories.proofs.Closing.{goes_none, goes_pushed}
 use Rattle.histories.proofs.Gathering.{gathers_no_one, gathers_pushed}
 use Rattle.histories.proofs.close.close_round.Goals as goal

@@ -1,4 +1,4 @@
-use Rattle.histories.proofs.Words.{rules, ◌≡◌, ◌∙◌, subst, sym, map-id, YieldsList-from_vec, YieldsList-end, Gathers, IsNextIn}
+use Rattle.histories.proofs.Words.{◌≡◌, ◌∙◌, sym, map-id, YieldsList-from_vec, YieldsList-end}
 use Rattle.histories.proofs.Gathering.{gathers_no_state, gathers_states}
 use Rattle.histories.proofs.close.make_states.Goals as goal
 

@@ -1,4 +1,4 @@
-use Rattle.histories.proofs.Words.{rules, ◌<◌, ◌≤◌, All, length, subst, sym, take_all, All-more, IsSame}
+use Rattle.histories.proofs.Words.{rules, ◌<◌, ◌≤◌, length, sym, take_all, All-more, IsSame}
 use Rattle.histories.proofs.gather.is_among.Goals as goal
 
 pub returns-then-is_same : goal.returns-then-is_same

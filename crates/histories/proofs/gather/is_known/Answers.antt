@@ -1,4 +1,4 @@
-use Rattle.histories.proofs.Words.{◌-◌, List, arith, drop, length, length-drop, subst, take_all, Config, IsKnown}
+use Rattle.histories.proofs.Words.{arith, length-drop, take_all}
 use Rattle.histories.proofs.Gathering.{known_rest}
 use Rattle.histories.proofs.gather.is_known.Goals as goal
 

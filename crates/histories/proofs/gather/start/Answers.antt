@@ -1,4 +1,4 @@
-use Rattle.histories.proofs.Words.{rules, ◌≤◌, [], length, refl, subst, sym, take_all, IsFrontier, no_path, Gathers, IsFirst}
+use Rattle.histories.proofs.Words.{rules, ◌≤◌, length, refl, take_all}
 use Rattle.histories.proofs.Closing.{path_is}
 use Rattle.histories.proofs.Frontiers.{frontier_first}
 use Rattle.histories.proofs.Gathering.{gathers_first, gathers_no_state}

@@ -1,4 +1,4 @@
-use Rattle.histories.proofs.Words.{[], List, subst, sym, Config, AreSettled, AreSettledEach, FromOne, Gathers, IsCopy}
+use Rattle.histories.proofs.Words.{List, Config, AreSettledEach}
 use Rattle.histories.proofs.Places.{put_back}
 use Rattle.histories.proofs.Alone.{settled_apart, settled_once}
 use Rattle.histories.proofs.settle.settle_all.Goals as goal

@@ -1,4 +1,4 @@
-use Rattle.histories.proofs.Words.{rules, ◌<◌, ◌∙◌, ap, arith, get_or, length, refl, sym, true≢false, get_or_default, IsSettled, spot_of}
+use Rattle.histories.proofs.Words.{rules, ◌<◌, ◌∙◌, arith, get_or, length, refl, sym, true≢false, get_or_default}
 use Rattle.histories.proofs.Places.{done_more, same_set}
 use Rattle.histories.proofs.settle.settle_each.Goals.{then-branch, else-branch}
 use Rattle.histories.proofs.settle.settle_each.Goals as goal
@@ -18,7 +18,6 @@ loop-config-preserved g c =
       λ none index d.
           elim c.if-branch.branch [
             | then-branch w ↦ absurd (true≢false (sym w.if-branch.true ∙ (sym w.any-is ∙ none)))
-            | else-branch w ↦
-                grind (arith, same_set)
+            | else-branch w ↦ grind (arith, same_set)
           ],
     )

@@ -1,4 +1,4 @@
-use Rattle.histories.proofs.Words.{rules, inl, subst, sym, IfOk, Event, IsAdvance}
+use Rattle.histories.proofs.Words.{rules, inl}
 use Rattle.histories.proofs.Frontiers.{front_many}
 use Rattle.histories.proofs.step.advance.Goals as goal
 

@@ -1,4 +1,4 @@
-use Rattle.histories.proofs.Words.{AllPairs, Option, ℕ, ◌∷◌, ◌++◌, [], List, refl, subst, sym, Vec, IfOk-weaker, Begin, Config, IsFrontier, IsSame, AreOpened, AreSettled, AreTaken, TakesSlot}
+use Rattle.histories.proofs.Words.{List, refl, IfOk-weaker, Config, AreOpened, AreSettled, AreTaken, TakesSlot}
 use Rattle.histories.proofs.Advancing.{agrees_slots, begin_ends, laid_out, many_open, frontier_begin}
 use Rattle.histories.proofs.Closing.{settled_as}
 use Rattle.histories.proofs.Places.{put_back}

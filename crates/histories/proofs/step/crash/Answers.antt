@@ -1,4 +1,4 @@
-use Rattle.histories.proofs.Words.{inl, inr, refl, subst, sym, IfOk-weaker, Crash, HasSlot, FromOne, Gathers, HasMany, IsClosed, IsDropped}
+use Rattle.histories.proofs.Words.{inl, inr, refl, IfOk-weaker, HasSlot, FromOne, Gathers, HasMany, IsClosed, IsDropped}
 use Rattle.histories.proofs.Advancing.{agrees_slots, finished, many_as, no_slot, slot_ends}
 use Rattle.histories.proofs.Closing.{closed_as}
 use Rattle.histories.proofs.Frontiers.{frontier_crash, many_orders}

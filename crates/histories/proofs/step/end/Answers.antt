@@ -1,4 +1,4 @@
-use Rattle.histories.proofs.Words.{◌∙◌, inl, refl, subst, sym, IfOk-weaker, End, IsSameFront, HasSlot, HasMany, IsClosed}
+use Rattle.histories.proofs.Words.{◌∙◌, inl, refl, IfOk-weaker, IsSameFront, HasSlot, HasMany, IsClosed}
 use Rattle.histories.proofs.Advancing.{agrees_slots, call_ended, front_same, many_as, no_slot}
 use Rattle.histories.proofs.Frontiers.{many_orders}
 use Rattle.histories.proofs.step.end.Goals as goal

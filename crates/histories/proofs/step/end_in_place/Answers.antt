@@ -1,4 +1,4 @@
-use Rattle.histories.proofs.Words.{List, Option, ℕ, inr, subst, sym, AllPairs, Vec, Config, IsSame, AreLaidIn, FreesSlot, IsClosed}
+use Rattle.histories.proofs.Words.{List, inr, subst, AllPairs, Config, IsSame, AreLaidIn, IsClosed}
 use Rattle.histories.proofs.Places.{put_back}
 use Rattle.histories.proofs.step.end_in_place.Goals as goal
 

@@ -1,4 +1,4 @@
-use Rattle.history_windows.proofs.Words.{◌++◌, List, ap, append-nil, arith, length, subst, sym, Event, IsFrontAfter}
+use Rattle.history_windows.proofs.Words.{ap, append-nil, arith, length}
 use Rattle.history_windows.proofs.Goings.{end_upto, one_done, two_done}
 use Rattle.history_windows.proofs.follow.go_on.Goals as goal
 

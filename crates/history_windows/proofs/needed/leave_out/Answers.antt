@@ -1,4 +1,4 @@
-use Rattle.history_windows.proofs.Words.{Bool, List, sym, ◌∙◌, ap, subst, Event, IsExplained, IsWellFormed, events_of, is_kept}
+use Rattle.history_windows.proofs.Words.{Bool, List, ◌∙◌, ap, events_of, is_kept}
 use Rattle.history_windows.proofs.Shrinking.{rest_back, rest_more}
 use Rattle.history_windows.proofs.Trying.{formed_rest}
 use Rattle.history_windows.proofs.needed.leave_out.Goals as goal

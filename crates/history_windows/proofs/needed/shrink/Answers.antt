@@ -1,4 +1,4 @@
-use Rattle.history_windows.proofs.Words.{Bool, List, sym, ◌∙◌, subst, Event, IsExplained, IsRest, IsWellFormed, is_kept, IfOk-weaker}
+use Rattle.history_windows.proofs.Words.{◌∙◌, is_kept, IfOk-weaker}
 use Rattle.history_windows.proofs.Shrinking.{rest_all}
 use Rattle.history_windows.proofs.Trying.{formed_rest}
 use Rattle.history_windows.proofs.needed.shrink.Goals as goal
