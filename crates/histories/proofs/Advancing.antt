@@ -1,7 +1,7 @@
 -- What an event does to a front, and the configurations after the begin of a call.
-use Rattle.histories.proofs.Words.{◌≡◌, ℕ, ◌+◌, ◌<◌, ◌≤◌, List, [], ◌∷◌, ◌++◌, length, get_or, sym, ◌∙◌, ap, subst, arith, inl, inr, Option, suc, refl, Some, None, bit_at, Contains, cases_lt, Config, Link, Event, Begin, End, begins, times, Explains, IsOpen, HasSlot, IsFrontier, IsLighter, IsSound, IsTable, IsWaiting, LeadTo, Leaves, Path, Runs, order_at, order_of, put, HasManyOpen, IsFrontOf, AreOpened, AreSettled, IsOpened, TakesSlot, AreLaidIn, AreTaken, Finishes, FreesSlot, HasMany, IsClosed, IsLeft, spot_of, Advance, Front, AdvancesIn, Agrees, Ends, EndsOpen, IsSameFront}
+use Rattle.histories.proofs.Words.{map, get_or-map, length-map, zero, ◌≡◌, ℕ, ◌+◌, ◌<◌, ◌≤◌, List, [], ◌∷◌, ◌++◌, length, get_or, sym, ◌∙◌, ap, subst, arith, inl, inr, Option, suc, refl, Some, None, bit_at, Contains, cases_lt, Config, Link, Event, Begin, End, begins, times, Explains, IsOpen, HasSlot, IsFrontier, IsLighter, IsSound, IsTable, IsWaiting, LeadTo, Leaves, Path, Runs, order_at, order_of, put, HasManyOpen, IsFrontOf, AreOpened, AreSettled, IsOpened, TakesSlot, AreLaidIn, AreTaken, Finishes, FreesSlot, HasMany, IsClosed, IsLeft, Advance, Front, AdvancesIn, Agrees, Ends, EndsOpen, IsSameFront}
 use Rattle.histories.proofs.Bits.{cleared_put, put_other, put_same}
-use Rattle.histories.proofs.Counting.{not_some, split_times, times-append, times-cons, times_one, times_same, times_none, times_other}
+use Rattle.histories.proofs.Counting.{not_some, split_times, times-append, times-cons, times_one, times_same, at_times, times_once}
 use Rattle.histories.proofs.Events.{begins_begin, table_begin, taken_cases, taken_other, taken_still, begin_no_end, ends_one, open_begin_now, open_begin_still}
 use Rattle.histories.proofs.Running.{leads_split, leaves_run, runs_in, runs_lighter, runs_order, runs_then}
 use Rattle.histories.proofs.Explaining.{behind_open, explains_begin, explains_front, explains_without}
@@ -15,8 +15,7 @@ module _ {S : Type 0} (Step : S → ℕ → S → Type 0) where
       (few : length slots ≤ 64) where
     lighter_put : (fewer rest : ℕ) → IsLighter Step slots fewer rest
         → IsLighter Step more (put fewer t) (put rest t)
-    lighter_put fewer rest l slot call has =
-        grind (arith, taken_cases, bit_at, put_same, put_other)
+    lighter_put fewer rest l slot call has = grind (arith, taken_cases, bit_at, put_same, put_other)
 
     leaves_put : (order : List ℕ) (rest : ℕ) → times c order ≡ 0 → Leaves slots order rest
         → Leaves more order (put rest t)
@@ -27,15 +26,12 @@ module _ {S : Type 0} (Step : S → ℕ → S → Type 0) where
         → Runs Step slots old waiting calls new rest
         → Runs Step more old (put waiting t) calls new (put rest t)
     runs_put old new waiting rest calls run =
-        runs_in Step slots more old new waiting rest calls t (λ w. put w t)
-        (λ w s ne h. cleared_put w s t h takes.within ne)
-        (λ w s ne h. put_other w t s takes.within ne) few
+        runs_in _ _ _ _ _ _ _ _ _ _ (λ w s ne h. cleared_put _ _ _ h takes.within ne)
+        (λ w s ne h. put_other _ _ _ takes.within ne) few
         (λ s call has some. (
-          taken_other slots more c t s call takes has,
-          taken_still slots more c
-              t s call takes has,
-        ))
-        run
+          taken_other _ _ _ _ _ _ takes has,
+          taken_still _ _ _ _ _ _ takes has,
+        )) run
 
     -- the same leads on where one call more waits
     leads_put : (configs opened : List (Config S)) (new : S) (rest : ℕ) → AreOpened t configs opened
@@ -50,9 +46,7 @@ module _ {S : Type 0} (Step : S → ℕ → S → Type 0) where
           (
             l.2.0,
             put l.2.1 t,
-            subst (λ s. Runs Step more s k.waiting l.2.0 new (put l.2.1 t)) (sym is.0)
-                (subst (λ w. Runs Step more from.state w l.2.0 new (put l.2.1 t)) (sym is.1)
-                (runs_put from.state new from.waiting l.2.1 l.2.0 l.2.2)),
+            rw is.0 (rw (← is.1) at (runs_put from.state new from.waiting l.2.1 l.2.0 l.2.2)),
             lighter_put l.2.1 rest l.2.3,
           ),
         )
@@ -62,33 +56,28 @@ module _ {S : Type 0} (Step : S → ℕ → S → Type 0) where
         → length more ≤ 64 → LeadTo Step more opened mid rest
         → Runs Step more mid rest calls new last → LeadTo Step more opened new last
     leads_on opened mid new rest last calls short l run =
-        let on = runs_lighter Step more mid new l.2.1 rest last calls short l.2.3 run in (
+        let on = runs_lighter _ _ _ _ _ _ _ _ short l.2.3 run in (
           l.0,
           l.1,
-          (
-            l.2.0 ++ on.0,
-            on.1,
-            runs_then Step more l.0.state mid new l.0.waiting l.2.1 on.1 l.2.0 on.0 l.2.2 on.2,
-            on.3,
-          ),
+          (l.2.0 ++ on.0, on.1, runs_then _ _ _ _ _ _ _ _ _ _ l.2.2 on.2, on.3),
         )
 
     module _ (links : List Link) (es : List Event) (olds : List S)
         (configs opened : List (Config S)) (s : IsSound es) (fresh : begins c es ≡ 0)
         (f : IsFrontier Step links slots es olds configs) (o : AreOpened t configs opened) where
       opened_table : IsTable (es ++ Begin c ∷ []) more
-      opened_table = table_begin es slots more c t s fresh f.table takes
+      opened_table = table_begin _ _ _ _ _ s fresh f.table takes
 
       opened_sound : AreSound Step links more (es ++ Begin c ∷ []) olds opened
       opened_sound k has =
-          let at = each_from (IsOpened t) configs opened k o has in
+          let at = each_from (IsOpened t) _ _ _ o has in
           let from = at.0 in
           let one = at.2 in
           let is = f.sound from at.1 in
           let order : order_of links k ≡ order_of links from =
           ap (λ (p : Path). order_at links p) one.2 in
           let none : times c (order_of links from) ≡ 0 =
-          not_some (times c (order_of links from))
+          not_some _
           (λ some. absurd (omega (arith, is.explains.begun c some, fresh))) in record {
             old = is.old;
             from = is.from;
@@ -104,10 +93,10 @@ module _ {S : Type 0} (Step : S → ℕ → S → Type 0) where
       opened_with old new front back from ex =
           let order = front ++ c ∷ back in
           let next = opened_table in
-          let parts = leads_split Step old new front (c ∷ back) ex.leads in
+          let parts = leads_split _ _ _ _ _ ex.leads in
           let mid = parts.0 in
           let lead = f.complete old front mid from
-          (explains_front Step es old mid new front back c s fresh ex parts.1) in
+          (explains_front _ _ _ _ _ _ _ _ s fresh ex parts.1) in
           let rest = lead.0 in
           let counts : (x : ℕ) → times x order ≡ times x front + times x (c ∷ []) + times x back =
           λ x. omega (arith, times-append x front (c ∷ back), times-cons x c back) in
@@ -124,25 +113,19 @@ module _ {S : Type 0} (Step : S → ℕ → S → Type 0) where
                   begins_begin x c es,
                   away,
                 ) in
-                let at = f.table.all x
-                (begun, behind_open Step es old new front back c x ex behind) in
-                let ne = taken_other slots more c t at.0 x takes at.1 in
+                let at = f.table.all x (begun, behind_open _ _ _ _ _ _ _ _ ex behind) in
+                let ne = taken_other _ _ _ _ _ _ takes at.1 in
                 let waits : bit_at rest at.0 ≡ 1 =
                 omega (arith, lead.1 at.0 x at.1, counts x, ex.once x, behind) in (
                   at.0,
-                  (
-                    taken_still slots more c t at.0 x takes at.1,
-                    put_other rest t at.0 takes.within ne ∙ waits,
-                  ),
+                  (taken_still _ _ _ _ _ _ takes at.1, put_other _ _ _ takes.within ne ∙ waits),
                 )
           ] in
-          let run = runs_order Step more mid new (put rest t) (c ∷ back) next.few next.apart
+          let run = runs_order _ _ _ _ _ _ next.few next.apart
           (λ x. omega (arith, counts x, ex.once x, times-cons x c back)) all parts.2 in (
             run.0,
-            leaves_run Step more front mid new (put rest t) run.0 (c ∷ back) next.few next.apart
-                (leaves_put front rest none lead.1) run.1,
-            leads_on opened mid new (put rest t) run.0 (c ∷ back) next.few
-                (leads_put configs opened mid rest o lead.2) run.1,
+            leaves_run _ _ _ _ _ _ run.0 _ next.few next.apart (leaves_put _ _ none lead.1) run.1,
+            leads_on _ _ _ _ run.0 (c ∷ back) next.few (leads_put _ _ _ _ o lead.2) run.1,
           )
 
       opened_complete : AreComplete Step more (es ++ Begin c ∷ []) olds opened
@@ -151,11 +134,10 @@ module _ {S : Type 0} (Step : S → ℕ → S → Type 0) where
             | inl some ↦ grind (arith, split_times, opened_with)
             | inr few_ ↦
                 let none : times c order ≡ 0 = omega (arith, few_) in
-                let lead = f.complete old order new from
-                (explains_without Step es old new order c ex none) in (
+                let lead = f.complete old order new from (explains_without _ _ _ _ _ _ ex none) in (
                   put lead.0 t,
-                  leaves_put order lead.0 none lead.1,
-                  leads_put configs opened new lead.0 o lead.2,
+                  leaves_put _ _ none lead.1,
+                  leads_put _ _ _ _ o lead.2,
                 )
           ]
 
@@ -178,13 +160,11 @@ module _ {S : Type 0} (Step : S → ℕ → S → Type 0) (events : List Event) 
   advanced front advance.NoEvent f left ends = absurd left
 
   -- the calls that were made went into the links
-  pub laid_out : (links : List Link) (configs : List (Config S)) (new : Front S)
-      (result : Advance)
+  pub laid_out : (links : List Link) (configs : List (Config S)) (new : Front S) (result : Advance)
       → IsFrontier Step links new.slots.items (events ++ event ∷ []) olds configs
       → AreLaidIn links configs new result → EndsOpen events event
       → AdvancesIn Step events olds event new result
-  laid_out links configs new result f laid ends =
-      search (arith, advanced, frontier_laid)
+  laid_out links configs new result f laid ends = search (arith, advanced, frontier_laid)
 
   -- the slot of a call that is over was made free
   pub finished : (old new : Front S) (slot : ℕ) (configs : List (Config S)) (result : Advance)
@@ -196,22 +176,21 @@ module _ {S : Type 0} (Step : S → ℕ → S → Type 0) (events : List Event) 
       let there = f new.slots.items is.0 in
       elim is.1 [
         | inl many ↦ grind (arith, front_many)
-        | inr laid ↦ laid_out old.links.items configs new result there laid ends
+        | inr laid ↦ laid_out _ _ new _ there laid ends
       ]
 
 pub begin_ends : (events : List Event) (c : ℕ) → EndsOpen events (Begin c)
-begin_ends events c x ends = absurd (begin_no_end c x ends)
+begin_ends events c x ends = absurd (begin_no_end _ _ ends)
 
 -- the call that ends has a slot
 pub slot_ends : (events : List Event) (e : Event) (slots : List (Option ℕ)) (slot c : ℕ)
     → Ends e c → IsTable events slots → HasSlot slots slot c → EndsOpen events e
 slot_ends events e slots slot c ends table has x now =
-    subst (λ y. IsOpen events y) (ends_one e c x ends now) (table.each slot c has)
+    rw (← ends_one _ _ _ ends now) (table.each slot c has)
 
 pub no_slot : (events : List Event) (e : Event) (slots : List (Option ℕ)) (c : ℕ) → Ends e c
     → IsTable events slots → ((slot : ℕ) → HasSlot slots slot c → ⊥) → ¬ (EndsOpen events e)
-no_slot events e slots c ends table none is =
-    let at = table.all c (is c ends) in none at.0 at.1
+no_slot events e slots c ends table none is = let at = table.all c (is c ends) in none at.0 at.1
 
 -- the machine makes the calls that have slots as the history has it
 pub agrees_slots : {S : Type 0} (Made Step : S → ℕ → S → Type 0) (events : List Event)
@@ -228,21 +207,15 @@ pub call_ended : {S : Type 0} (Made Step : S → ℕ → S → Type 0) (events :
     → IsFrontOf Step front events olds → Finishes front slot closed new result
     → AdvancesIn Step events olds (End call) new result
 call_ended Made Step events olds front new slot call closed result agrees here is f =
-    let slots = front.slots.items in
-    finished Step events olds (End call) front new slot closed result
-    (λ more frees.
-    frontier_end Step slots more slot frees f.table.few front.links.items events olds
-    front.configs.items closed call here f
-    (closed_as Made Step slots (agrees_slots Made Step events slots f.table agrees)
-    front.configs.items closed slot is))
-    (slot_ends events (End call) slots slot call (inl refl) f.table here)
+    finished _ _ _ _ front new _ _ _ (λ more frees. frontier_end _ _ _ _ frees f.table.few _ _ _
+    _ _ _ here f (closed_as _ _ _ (agrees_slots _ _ _ _ f.table agrees) _ _ _ is))
+    (slot_ends _ _ _ _ _ (inl refl) f.table here)
 
 -- the same slots, configurations and links
 pub front_same : {S : Type 0} (Step : S → ℕ → S → Type 0) (events : List Event) (olds : List S)
     (old new : Front S) → IsSameFront old new → IsFrontOf Step old events olds
     → IsFrontOf Step new events olds
-front_same {S} Step events olds old new is front =
-    grind arith
+front_same {S} Step events olds old new is front = grind arith
 
 pub many_as : {S : Type 0} (A B : S → ℕ → S → Type 0) (slots : List (Option ℕ))
     → HaveSameSteps A B slots → (configs : List (Config S)) → HasMany A slots configs
@@ -251,108 +224,55 @@ many_as A B slots same configs many = (
   many.0,
   many.1,
   many.2,
-  λ k has. made_as A B slots same configs (spot_of k) (many.3 k has),
+  λ k has. made_as _ _ _ same _ _ (many.3 k has),
 )
 
--- the calls that have slots
-unfoldable called : List (Option ℕ) → List ℕ
-called [] = []
-called (None ∷ slots) = called slots
-called (Some call ∷ slots) = call ∷ called slots
+-- the number of a call that has a slot
+abbrev number : Option ℕ → ℕ
+number None = 0
+number (Some call) = call
 
-called_all : (slots : List (Option ℕ))
-    → ((slot : ℕ) → slot < length slots → get_or slots slot None ≡ None → ⊥)
-    → length (called slots) ≡ length slots
-unfolding called
-called_all [] taken = refl
-called_all (None ∷ slots) taken = absurd (taken 0 (omega arith) refl)
-called_all (Some call ∷ slots) taken =
-    ap suc (called_all slots (λ slot h none. taken (suc slot) (omega (arith, h)) none))
-
-called_slot : (slots : List (Option ℕ)) (call : ℕ) → 0 < times call (called slots)
-    → (slot : ℕ) × HasSlot slots slot call
-unfolding called
-called_slot [] call h = absurd (omega (arith, h, times_none call))
-called_slot (None ∷ slots) call h = let at = called_slot slots call h in (suc at.0, at.1)
-called_slot (Some one ∷ slots) call h =
-    elim (cases_lt 0 (times call (one ∷ []))) [
-      | inl here ↦ (0, ap (λ n. Some n) (times_same call one here))
-      | inr away ↦
-          let at = called_slot slots call (omega (
-            arith,
-            h,
-            away,
-            times-cons call one (called
-                slots),
-          ))
-          in (suc at.0, at.1)
-    ]
-
-pred_of : (one other : ℕ) → suc one ≡ suc other → one ≡ other
-pred_of one other e = omega (arith, e)
-
-called_once : (slots : List (Option ℕ))
-    → ((one other call : ℕ) → HasSlot slots one call → HasSlot slots other call → one ≡ other)
-    → (call : ℕ) → times call (called slots) ≤ 1
-unfolding called
-called_once [] apart call = omega (arith, times_none call)
-called_once (None ∷ slots) apart call =
-    grind (
-      arith,
-      pred_of,
-      called_once slots
-          (λ one other c a b. pred_of one other (apart (suc one) (suc other) c a b)) call,
-    )
-called_once (Some x ∷ slots) apart call =
-    let rest = called_once slots
-    (λ one other c a b. pred_of one other (apart (suc one) (suc other) c a b)) call in
-    elim (cases_lt 0 (times call (x ∷ []))) [
-      | inl here ↦
-          let same : x ≡ call = times_same call x here in
-          let one : times call (x ∷ []) ≡ 1 =
-          subst (λ y. times call (y ∷ []) ≡ 1) (sym same) (times_one call) in
-          elim (cases_lt 0 (times call (called slots))) [
-            | inl again ↦
-                let at = called_slot slots call again in
-                let zero_is = apart 0 (suc at.0) call (ap (λ n. Some n) same) at.1 in
-                absurd (omega (arith, zero_is))
-            | inr none ↦ omega (arith, one, none, times-cons call x (called slots))
-          ]
-      | inr away ↦ omega (arith, away, rest, times-cons call x (called slots))
-    ]
+taken_by : (slot : Option ℕ) → (slot ≡ None → ⊥) → slot ≡ Some (number slot)
+taken_by None taken = absurd (taken refl)
+taken_by (Some call) taken = refl
 
 -- where all slots are taken and one call more begins, too many are open
-pub many_open : (events : List Event) (slots : List (Option ℕ)) (c : ℕ) → IsSound events
-    → begins c events ≡ 0 → IsTable events slots → AreTaken slots
-    → HasManyOpen (events ++ Begin c ∷ [])
-many_open events slots c s fresh table taken =
-    let calls : List ℕ = c ∷ called slots in
-    let was_open : (x : ℕ) → 0 < times x (called slots) → IsOpen events x =
-    λ x h. let at = called_slot slots x h in table.each at.0 x at.1 in (
-      calls,
-      omega (arith, taken.0, called_all slots taken.1),
-      λ x. elim (cases_lt 0 (times x (called slots))) [
-        | inl some ↦
-            let other : times x (c ∷ []) ≡ 0 =
-            times_other x c (λ e. absurd
-            (omega (arith, (was_open x some).0, subst (λ y. begins y events ≡ 0) e fresh))) in
-            omega (arith, other, called_once slots table.apart x, times-cons x c (called slots))
-        | inr none ↦ omega (arith, none, times_most x c, times-cons x c (called slots))
-      ],
-      λ x h. elim (cases_lt 0 (times x (called slots))) [
-        | inl some ↦ open_begin_still events c x (was_open x some)
-        | inr none ↦
-            let here : 0 < times x (c ∷ []) = omega (
-              arith,
-              h,
-              none,
-              times-cons x c (called
-                  slots),
-            ) in
-            subst (λ y. IsOpen (events ++ Begin c ∷ []) y) (times_same x c here)
-            (open_begin_now events c s fresh)
-      ],
-    )
+module _ (events : List Event) (slots : List (Option ℕ)) (c : ℕ) (s : IsSound events)
+    (fresh : begins c events ≡ 0) (table : IsTable events slots) (taken : AreTaken slots)
   where
-    times_most : (x c : ℕ) → times x (c ∷ []) ≤ 1
-    times_most x c = grind (arith, cases_lt, times_same, times_one)
+    abbrev calls : List ℕ
+    calls = map number slots
+
+    call_at : (i : ℕ) → i < length calls → HasSlot slots i (get_or calls i 0)
+    call_at i h =
+        taken_by (get_or slots i None) (taken.1 i (omega (arith, h, length-map slots number)))
+        ∙ ap (λ n. Some n) (sym (get_or-map number slots i None))
+
+    open_at : (i : ℕ) → i < length calls → IsOpen events (get_or calls i 0)
+    open_at i h = table.each i (get_or calls i 0) (call_at i h)
+
+    new : (i : ℕ) → i < length calls → c ≡ get_or calls i 0 → ⊥
+    new i h e = omega (arith, (open_at i h).0, subst (λ y. begins y events ≡ 0) e fresh)
+
+    same : (x i j : ℕ) → i < length (c ∷ calls) → j < length (c ∷ calls)
+        → get_or (c ∷ calls) i 0 ≡ x → get_or (c ∷ calls) j 0 ≡ x → i ≡ j
+    same x zero zero h k a b = refl
+    same x zero (suc j) h k a b = absurd (new j (omega (arith, k)) (a ∙ sym b))
+    same x (suc i) zero h k a b = absurd (new i (omega (arith, h)) (b ∙ sym a))
+    same x (suc i) (suc j) h k a b =
+        ap suc (table.apart i j x (rw a at (call_at i (omega (arith, h))))
+        (rw b at (call_at j (omega (arith, k)))))
+
+    open_now : (x i : ℕ) → i < length (c ∷ calls) → get_or (c ∷ calls) i 0 ≡ x
+        → IsOpen (events ++ Begin c ∷ []) x
+    open_now x zero h e =
+        subst (λ y. IsOpen (events ++ Begin c ∷ []) y) e (open_begin_now events c s fresh)
+    open_now x (suc i) h e = open_begin_still events c x (rw e at (open_at i (omega (arith, h))))
+
+    pub many_open : HasManyOpen (events ++ Begin c ∷ [])
+    many_open = (
+      c ∷ calls,
+      omega (arith, taken.0, length-map slots number),
+      λ x. times_once x (c ∷ calls) (same x),
+      λ x h. let at = at_times x (c ∷ calls) h in open_now x at.0 at.1 at.2,
+    )

@@ -1,6 +1,6 @@
 -- Calls that are made at once: those that change nothing, and those that come first or overlap
 -- nothing.
-use Rattle.histories.proofs.Words.{◌≡◌, ◌↔◌, slice_set, true, ℕ, zero, suc, ◌+◌, ◌<◌, List, [], ◌∷◌, ◌++◌, length, get_or, Option, refl, sym, ◌∙◌, ap, subst, arith, inl, inr, append_assoc, cases_lt, Event, Begin, End, Config, Link, AreAll, begins, times, Explains, Leads, HasSlot, IsFollowed, IsFrontier, IsSound, IsTable, Path, order_at, order_of, path_more, path_of, Agrees, IsQuiet, IsMadeIn, CallsAloneAreRuns, ◌≤◌, AllPairs, Contains, Contains-get_or, All-contains, Contains-push, IsIdle, IsLighter, IsSame, IsWaiting, Runs, cleared, AreOpened, AreSame, AreSettled, AreSettledEach, FromOne, Gathers, IsCopy, IsSettled, Spot, WaitsInNone, spot_of, IsClosed, IsClosing, IsDone, IsMadeFirst, IsNextAt, bit_at}
+use Rattle.histories.proofs.Words.{◌≡◌, ◌↔◌, slice_set, true, ℕ, zero, suc, ◌+◌, ◌<◌, List, [], ◌∷◌, ◌++◌, length, get_or, Option, refl, sym, ◌∙◌, ap, subst, arith, inl, inr, append_assoc, cases_lt, Event, Begin, End, Config, Link, AreAll, begins, times, Explains, Leads, HasSlot, IsFrontier, IsSound, IsTable, Path, order_at, order_of, path_more, path_of, Agrees, IsQuiet, IsMadeIn, CallsAloneAreRuns, ◌≤◌, AllPairs, Contains-push, IsIdle, IsSame, IsWaiting, cleared, AreOpened, AreSame, AreSettled, AreSettledEach, FromOne, Gathers, IsCopy, IsSettled, Spot, WaitsInNone, spot_of, IsClosed, IsClosing, IsMadeFirst, IsNextAt, bit_at}
 use Rattle.histories.proofs.Places.{order_more, only, each_from, each_to, nothing_in}
 use Rattle.histories.specs.Laws.{calls_alone, in_order}
 use Rattle.histories.proofs.Counting.{no_times, not_some, split_times, times-append, times-cons, times_one, times_other, times_same}
@@ -24,18 +24,17 @@ record IsAlone (es : List Event) (count : ℕ) : Type 0 where
   ended : IsQuiet es
 
 alone_fresh : (es : List Event) (count : ℕ) → IsAlone es count → begins count es ≡ 0
-alone_fresh es count a =
-    not_some (begins count es) (λ some. absurd (omega (arith, a.below count some)))
+alone_fresh es count a = not_some _ (λ some. absurd (omega (arith, a.below count some)))
 
 alone_more : (es : List Event) (count : ℕ) → IsAlone es count
     → IsAlone (es ++ Begin count ∷ End count ∷ []) (suc count)
 alone_more es count a =
     rw (two_more es (Begin count) (End count))
     (let mid : List Event = es ++ Begin count ∷ [] in
-    let fresh = alone_fresh es count a in
-    let here : 0 < begins count mid = (open_begin_now es count a.sound fresh).0 in
+    let fresh = alone_fresh _ _ a in
+    let here : 0 < begins count mid = (open_begin_now _ _ a.sound fresh).0 in
     let counts : (c : ℕ) → begins c (mid ++ End count ∷ []) ≡ begins c es + times c (count ∷ []) =
-    λ c. begins_ends c count mid (End count) (inl refl) ∙ begins_begin c count es in record {
+    λ c. begins_ends _ _ _ _ (inl refl) ∙ begins_begin _ _ _ in record {
       sound = grind (arith, sound_end, sound_begin);
       below = λ c some. grind (arith, cases_lt, times_same);
       ended = λ c some. grind (arith, cases_lt, ended_still, times_same, ended_now);
@@ -43,9 +42,8 @@ alone_more es count a =
 
 is_alone : (count : ℕ) → IsAlone (calls_alone count) count
 unfolding calls_alone
-is_alone zero =
-    grind (arith, sound_none, begins_none)
-is_alone (suc count) = alone_more (calls_alone count) count (is_alone count)
+is_alone zero = grind (arith, sound_none, begins_none)
+is_alone (suc count) = alone_more _ _ (is_alone count)
 
 module _ {S : Type 0} (Step : S → ℕ → S → Type 0) where
   -- a call that is made alone after an order
@@ -54,13 +52,13 @@ module _ {S : Type 0} (Step : S → ℕ → S → Type 0) where
       → Explains Step (es ++ Begin count ∷ End count ∷ []) old (order ++ count ∷ []) new
   explains_alone es count old mid new order sound fresh ex step =
       rw (two_more es (Begin count) (End count))
-      (let es_mid : List Event = es ++ Begin count ∷ [] in
+      (
       let none : times count order ≡ 0 =
-      not_some (times count order) (λ some. absurd (omega (arith, fresh, ex.begun count some))) in
-      explains_end Step es_mid (End count) old new (order ++ count ∷ []) count (inl refl)
+      not_some _ (λ some. absurd (omega (arith, fresh, ex.begun count some))) in
+      explains_end _ _ _ _ _ _ _ (inl refl)
       (λ is. omega (arith, times-append count order (count ∷ []), times_one count))
-      (explains_pushed Step es_mid old mid new order count (open_begin_now es count sound fresh)
-      none (explains_begin Step es old mid order count fresh ex) step))
+      (explains_pushed _ _ _ _ _ _ _ (open_begin_now _ _ sound fresh)
+      none (explains_begin _ _ _ _ _ _ fresh ex) step))
 
   -- and an order of the whole has it last
   explained_alone : (es : List Event) (count : ℕ) (old new : S) (order : List ℕ) → IsSound es
@@ -71,9 +69,9 @@ module _ {S : Type 0} (Step : S → ℕ → S → Type 0) where
   explained_alone es count old new order sound fresh quiet whole_ex =
       let ex = rw (two_more es (Begin count) (End count)) at whole_ex in
       let es_mid : List Event = es ++ Begin count ∷ [] in
-      let open_ex = explains_open Step es_mid (End count) old new order count (inl refl) ex in
-      let made : 0 < times count order = ex.answered count (answered_now es_mid count) in
-      let parts = split_times count order made in
+      let open_ex = explains_open _ _ _ _ _ _ _ (inl refl) ex in
+      let made : 0 < times count order = ex.answered count (answered_now _ _) in
+      let parts = split_times _ _ made in
       let front = parts.0 in
       let back = parts.1 in
       let whole = subst (λ (l : List ℕ). Explains Step es_mid old l new) parts.2 open_ex in
@@ -81,26 +79,18 @@ module _ {S : Type 0} (Step : S → ℕ → S → Type 0) where
       → times c (front ++ count ∷ back) ≡ times c front + times c (count ∷ []) + times c back =
       λ c. omega (arith, times-append c front (count ∷ back), times-cons c count back) in
       let empty : back ≡ [] =
-      no_times back (λ c. not_some (times c back) (λ some.
-      let other : times c (count ∷ []) ≡ 0 =
-      times_other c count (λ same. absurd
-      (omega (
-        arith,
-        some,
-        counts c,
-        whole.once c,
-        subst (λ x. times x (count ∷ []) ≡ 1) same (times_one count),
-      ))) in
+      no_times _ (λ c. not_some _ (λ some.
+      let other : times c (count ∷ []) ≡ 0 = grind (arith, times_other, times_one) in
       let begun : 0 < begins c es =
       omega (arith, whole.begun c (omega (arith, some, counts c)), begins_begin c count es, other)
       in
-      behind_open Step es old new front back count c whole some (quiet c begun))) in
-      let leads = leads_split Step old new front (count ∷ back) whole.leads in
+      behind_open _ _ _ _ _ _ _ _ whole some (quiet c begun))) in
+      let leads = leads_split _ _ _ _ _ whole.leads in
       let last = subst (λ (l : List ℕ). Leads Step leads.0 (count ∷ l) new) empty leads.2 in (
         front,
         leads.0,
         parts.2 ∙ ap (λ (l : List ℕ). front ++ count ∷ l) empty,
-        explains_front Step es old leads.0 new front back count sound fresh whole leads.1,
+        explains_front _ _ _ _ _ _ _ _ sound fresh whole leads.1,
         subst (λ s. Step leads.0 count s) (sym last.2) last.1,
       )
 
@@ -108,35 +98,30 @@ module _ {S : Type 0} (Step : S → ℕ → S → Type 0) where
       → Explains Step (calls_alone count) old order new
       → (order ≡ in_order count) × Leads Step old (in_order count) new
   unfolding calls_alone in_order
-  alone_there zero old new order ex =
-      let is = no_calls Step old new order ex in (is.0, is.1)
+  alone_there zero old new order ex = let is = no_calls _ _ _ _ ex in (is.0, is.1)
   alone_there (suc count) old new order ex =
-      let a = is_alone count in
-      let r = explained_alone (calls_alone count) count old new order a.sound
-      (alone_fresh (calls_alone count) count a) a.ended ex in
+      let a = is_alone _ in
+      let r = explained_alone _ _ _ _ _ a.sound (alone_fresh _ _ a) a.ended ex in
       let before = alone_there count old r.1 r.0 r.3 in (
         r.2 ∙ ap (λ (l : List ℕ). l ++ count ∷ []) before.0,
-        leads_push Step old r.1 new (in_order count) count before.1 r.4,
+        leads_push _ _ _ _ _ _ before.1 r.4,
       )
 
   alone_back : (count : ℕ) (old new : S) → Leads Step old (in_order count) new
       → Explains Step (calls_alone count) old (in_order count) new
   unfolding calls_alone in_order
-  alone_back zero old new leads =
-      subst (λ s. Explains Step [] old [] s) (sym leads) (explains_none Step old)
+  alone_back zero old new leads = rw leads (explains_none _ _)
   alone_back (suc count) old new leads =
-      let parts = leads_split Step old new (in_order count) (count ∷ []) leads in
+      let parts = leads_split _ _ _ _ _ leads in
       let last = parts.2 in
-      let a = is_alone count in
-      explains_alone (calls_alone count) count old parts.0 new (in_order count) a.sound
-      (alone_fresh (calls_alone count) count a) (alone_back count old parts.0 parts.1)
-      (subst (λ s. Step parts.0 count s) (sym last.2) last.1)
+      let a = is_alone _ in
+      explains_alone _ _ _ _ _ _ a.sound (alone_fresh _ _ a) (alone_back count old parts.0 parts.1)
+      (rw (← last.2) at last.1)
 
   pub calls_alone_are_runs : CallsAloneAreRuns Step
   calls_alone_are_runs count old new order = (
-    λ ex. alone_there count old new order ex,
-    λ is. subst (λ (l : List ℕ). Explains Step (calls_alone count) old l new) (sym is.0)
-        (alone_back count old new is.1),
+    λ ex. alone_there _ _ _ _ ex,
+    λ is. rw is.0 (alone_back _ _ _ is.1),
   )
 
 module _ {S : Type 0} (Step : S → ℕ → S → Type 0) (slots : List (Option ℕ)) (es : List Event)
@@ -147,11 +132,10 @@ module _ {S : Type 0} (Step : S → ℕ → S → Type 0) (slots : List (Option 
   table_alone = record {
     each = λ slot call has. absurd (empty slot call has);
     all = λ call is.
-        let mid : List Event = es ++ Begin c ∷ [] in
         let now = rw (two_more es (Begin c) (End c)) at is in
-        elim (open_begin_cases es c call (open_end_before mid (End c) c call (inl refl) now)) [
+        elim (open_begin_cases _ _ _ (open_end_before _ _ _ _ (inl refl) now)) [
           | inl before ↦ table.all call before
-          | inr same ↦ absurd (open_end_other mid (End c) c call (inl refl) now (sym same))
+          | inr same ↦ absurd (open_end_other _ _ _ _ (inl refl) now (sym same))
         ];
     apart = table.apart;
     few = table.few;
@@ -165,43 +149,31 @@ module _ {S : Type 0} (Step : S → ℕ → S → Type 0) (slots : List (Option 
       → IsFrontier Step links slots (es ++ Begin c ∷ End c ∷ []) olds (made ∷ [])
   frontier_alone links olds config made all path f =
       let is = f.sound config (0, omega arith, refl) in
-      let after : List Event = es ++ Begin c ∷ End c ∷ [] in
       let order : order_of links made ≡ order_of links config ++ c ∷ [] =
-      ap (λ (p : Path). order_at links p) path ∙ order_more links (path_of config) (c ∷ []) in
+      ap (λ (p : Path). order_at links p) path ∙ order_more _ _ _ in
       record {
-        sound = λ k has.
-            subst (λ (x : Config S). IsFollowed Step links slots after olds x)
-            (sym (only made k has)) (record {
-              old = is.old;
-              from = is.from;
-              explains = subst (λ (o : List ℕ). Explains Step after is.old o made.state)
-                  (sym order)
-                  (explains_alone Step es c is.old config.state made.state (order_of links config)
-                  sound fresh is.explains (all.0 0 made.state (omega arith)));
-              leaves = λ slot call has. absurd (empty slot call has);
-              within = omega (arith, is.within, ap (λ (p : Path). p.base) path);
-            });
+        sound = λ k has. rw (only _ _ has) (record {
+          old = is.old;
+          from = is.from;
+          explains = rw (← order) at (explains_alone _ _ _ _ _ _ _
+              sound fresh is.explains (all.0 0 made.state (omega arith)));
+          leaves = λ slot call has. absurd (empty slot call has);
+          within = omega (arith, is.within, ap (λ (p : Path). p.base) path);
+        });
         complete = λ old order new from ex.
-            let r = explained_alone Step es c old new order sound fresh
-            (quiet_empty es slots table empty) ex in
+            let r = explained_alone _ _ _ _ _ _ sound fresh (quiet_empty _ _ table empty) ex in
             let lead = f.complete old r.0 r.1 from r.3 in
-            let k = lead.2.0 in
             let mid : r.1 ≡ config.state =
-            runs_nothing Step slots k.state r.1 k.waiting lead.2.2.1 lead.2.2.0 empty lead.2.2.2
-            ∙ ap (λ (x : Config S). x.state) (only config k lead.2.1) in
+            runs_nothing _ _ _ _ _ _ _ empty lead.2.2.2
+            ∙ ap (λ (x : Config S). x.state) (only _ _ lead.2.1) in
             let last : new ≡ made.state =
-            only made.state new (all.1 new (subst (λ s. Step s c new) mid r.4)) in (
+            only _ _ (all.1 new (rw (← mid) r.4)) in (
               0,
               λ slot call has. absurd (empty slot call has),
               (
                 made,
                 (0, omega arith, refl),
-                (
-                  [],
-                  made.waiting,
-                  (last, refl),
-                  λ slot call has. absurd (empty slot call has),
-                ),
+                ([], made.waiting, (last, refl), λ slot call has. absurd (empty slot call has)),
               ),
             );
         once = λ i j d less within same. absurd (omega (arith, less, within));
@@ -229,19 +201,16 @@ pub made_alone : {M S : Type 0} (Step : M → S → ℕ → S → Type 0) (machi
     → Agrees (Step machine) (Step whole) (events ++ Begin c ∷ []) → IsSound events
     → begins c events ≡ 0 → IsFrontier (Step whole) links slots events olds configs
     → IsFrontier (Step whole) links slots (events ++ Begin c ∷ End c ∷ []) olds
-    (slice_set configs 0 made)
-    × (0 < length (slice_set configs 0 made))
+    (slice_set configs 0 made) × (0 < length (slice_set configs 0 made))
 made_alone {M} {S} Step machine links slots configs config made c empty one is m whole events olds
     agrees sound fresh f =
-    let parts = one_of_one configs config made one is in
+    let parts = one_of_one _ _ _ one is in
     subst (λ (l : List (Config S)).
     IsFrontier (Step whole) links slots (events ++ Begin c ∷ End c ∷ []) olds l × (0 < length l))
     (sym parts.1) (
-      frontier_alone (Step whole) slots events c sound fresh f.table empty links olds config made
-          (all_as (Step machine config.state c) (Step whole config.state c) (made.state ∷ [])
-          (λ new. agrees c (open_begin_now events c sound fresh) config.state new) m.0) m.1
-          (subst (λ (l : List (Config S)). IsFrontier (Step whole) links slots events olds l)
-          parts.0 f),
+      frontier_alone _ _ _ _ sound fresh f.table empty _ _ _ _ (all_as _ _ (made.state ∷ [])
+          (λ new. agrees c (open_begin_now _ _ sound fresh) config.state new) m.0) m.1
+          (rw parts.0 at f),
       omega arith,
     )
 
@@ -249,8 +218,7 @@ made_alone {M} {S} Step machine links slots configs config made c empty one is m
 pub made_none : {S : Type 0} (configs : List (Config S)) (config made : Config S)
     → length configs ≡ 1 → config ≡ get_or configs 0 config → made ≡ config
     → slice_set configs 0 made ≡ configs
-made_none {S} configs config made one is same =
-    grind (arith, one_of_one)
+made_none {S} configs config made one is same = grind (arith, one_of_one)
 
 module _ {S : Type 0} (Step : S → ℕ → S → Type 0) (slots : List (Option ℕ)) where
   -- nothing was made
@@ -260,8 +228,8 @@ module _ {S : Type 0} (Step : S → ℕ → S → Type 0) (slots : List (Option 
     state = is.0;
     calls = [];
     runs = (refl, is.1);
-    lighter = lighter_is Step slots copy.waiting config.waiting is.1;
-    made = is.2 ∙ path_none (path_of config);
+    lighter = lighter_is _ _ _ _ is.1;
+    made = is.2 ∙ path_none _;
   }
 
   -- one call more
@@ -272,7 +240,7 @@ module _ {S : Type 0} (Step : S → ℕ → S → Type 0) (slots : List (Option 
     state = b.state ∙ a.state;
     calls = a.calls ++ b.calls;
     runs = grind (arith, runs_then);
-    lighter = lighter_then Step slots one.waiting mid.waiting config.waiting b.lighter a.lighter;
+    lighter = lighter_then _ _ _ _ _ b.lighter a.lighter;
     made = b.made ∙ (ap (λ (p : Path). path_more p b.calls) a.made
         ∙ path_then (path_of config) a.calls b.calls);
   }
@@ -285,8 +253,7 @@ module _ {S : Type 0} (Step : S → ℕ → S → Type 0) (slots : List (Option 
     state = state;
     calls = call ∷ [];
     runs = (slot, is, (config.state, step, (refl, set)));
-    lighter = subst (λ w. IsLighter Step slots w config.waiting) (sym set)
-        (lighter_idle Step slots config.waiting slot call few is.0 idle);
+    lighter = rw set (lighter_idle _ _ _ _ _ few is.0 idle);
     made = made;
   }
 
@@ -301,8 +268,7 @@ module _ {S : Type 0} (Step : S → ℕ → S → Type 0) (slots : List (Option 
 
   -- each was settled, and none has become the same as another
   pub settled_apart : (configs settled : List (Config S))
-      → AreSettledEach Step slots configs settled
-      → AreSame configs settled
+      → AreSettledEach Step slots configs settled → AreSame configs settled
       → AllPairs (λ a b. ¬ (IsSame a b)) configs → AreSettled Step slots configs settled
   settled_apart configs settled each same apart = record {
     sound = λ one has. each_from Settles configs settled one each has;
@@ -330,7 +296,7 @@ module _ {S : Type 0} (Step : S → ℕ → S → Type 0) (slots : List (Option 
           known.0,
           known.1,
           known.2.0 ∙ one.2.state,
-          subst (λ w. IsLighter Step slots w config.waiting) (sym known.2.1) one.2.lighter,
+          rw known.2.1 one.2.lighter,
         );
     once = g.once none_same;
   }
@@ -349,25 +315,18 @@ module _ {S : Type 0} (Step : S → ℕ → S → Type 0) (slots : List (Option 
   one_apart k = λ i j d less h. absurd (omega (arith, less, h))
 
   gone : bit_at settled.waiting slot ≡ 0
-  gone =
-      grind (arith, slot_64, bit_at, cleared_same, runs_fewer)
+  gone = grind (arith, slot_64, bit_at, cleared_same, runs_fewer)
 
   are_settled : AreSettled Step slots (made ∷ []) (settled ∷ [])
   are_settled = record {
-    sound = λ k has. (
-      made,
-      Contains-push [] made,
-      subst (λ (x : Config S). IsSettled Step slots made (spot_of x))
-          (sym (only settled k has)) idle,
-    );
+    sound = λ k has. (made, Contains-push [] made, rw (only _ _ has) idle);
     complete = λ k has. (
       settled,
       Contains-push [] settled,
-      idle.state ∙ ap (λ (x : Config S). x.state) (sym (only made k has)),
-      subst (λ (x : Config S). IsLighter Step slots settled.waiting x.waiting)
-          (sym (only made k has)) idle.lighter,
+      idle.state ∙ ap (λ (x : Config S). x.state) (sym (only _ _ has)),
+      rw (only _ _ has) idle.lighter,
     );
-    once = one_apart settled;
+    once = one_apart _;
   }
 
   gathered : Gathers (IsNextAt Step slots config slot) [] (made ∷ [])
@@ -378,30 +337,23 @@ module _ {S : Type 0} (Step : S → ℕ → S → Type 0) (slots : List (Option 
 
   closing : IsClosing Step slots (config ∷ []) slot [] (settled ∷ []) (length slots)
   closing =
-      closing_settled Step slots (config ∷ []) [] (made ∷ []) (settled ∷ []) slot (length slots) few
-      are_settled
-      (closing_more Step slots (config ∷ []) [] (config ∷ []) [] (made ∷ []) slot call
-      (length slots) few here (closing_begin Step slots (config ∷ []) slot)
-      (gathers_none (FromOne (IsDone slot) (config ∷ [])) [] (λ k found. absurd
+      closing_settled _ _ _ _ _ _ _ _ few are_settled (closing_more _ _ _ _ _ _ _ _ _
+      _ few here (closing_begin _ _ _ _) (gathers_none _ _ (λ k found. absurd
       (omega (
         arith,
         first.0,
         found.2.0,
         ap (λ (x : Config S). bit_at x.waiting slot) (only config found.0 found.1),
-      ))))
-      (goes_by Step slots slot call config [] (made ∷ []) few here first.0 first.1 gathered))
+      )))) (goes_by _ _ _ _ config _ _ few here first.0 first.1 gathered))
 
   pub closed_in_place : IsClosed Step slots (config ∷ []) slot (settled ∷ [])
   closed_in_place = record {
-    sound = λ k has. (
-      closing.under_way k has,
-      subst (λ (x : Config S). bit_at x.waiting slot ≡ 0) (sym (only settled k has)) gone,
-    );
+    sound = λ k has. (closing.under_way k has, rw (only _ _ has) gone);
     complete = λ new rest l over. elim (closing.complete new rest l over) [
-      | inl none ↦ absurd (nothing_in none.0 none.1)
+      | inl none ↦ absurd (nothing_in _ none.1)
       | inr there ↦ there
     ];
-    once = one_apart settled;
+    once = one_apart _;
   }
 
 -- the call in the slot waits in none
@@ -409,10 +361,7 @@ pub closed_already : {S : Type 0} (Step : S → ℕ → S → Type 0) (slots : L
     (slot : ℕ) (configs : List (Config S)) → WaitsInNone slot configs
     → AllPairs (λ a b. ¬ (IsSame a b)) configs → IsClosed Step slots configs slot configs
 closed_already {S} Step slots slot configs none apart = record {
-  sound = λ k has. (
-    (k, has, ([], (refl, refl), path_none (path_of k))),
-    subst (λ (x : Config S). bit_at x.waiting slot ≡ 0) has.2 (none has.0 k has.1),
-  );
+  sound = λ k has. ((k, has, ([], (refl, refl), path_none _)), rw (← has.2) (none has.0 k has.1));
   complete = λ new rest l over. l;
   once = apart;
 }

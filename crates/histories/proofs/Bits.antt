@@ -1,6 +1,7 @@
 -- Sets of slots.
-use Rattle.histories.proofs.Words.{◌≡◌, ◌≢◌, ℕ, zero, suc, ◌<◌, ◌≤◌, ◌⊎◌, List, length, min, max, bit_and, bit_or, ◌*◌, ◌^◌, ◌%◌, ◌-◌, refl, sym, ◌∙◌, ap, subst, arith, inl, inr, Option, bit_at, bit_not, w64, cases_eq, cases_lt, get_or_past, bit_at-lt, bit_at-zero, bit_at_and, bit_at_clear_other, bit_at_clear_same, bit_at_ones, bit_at_or, bit_at_set_other, bit_at_set_same, same_from_bits, and_assoc, and_comm, HasSlot}
+use Rattle.histories.proofs.Words.{◌≡◌, ◌≢◌, ℕ, zero, suc, ◌<◌, ◌≤◌, ◌⊎◌, List, length, ◌*◌, ◌^◌, ◌%◌, ◌-◌, refl, sym, ◌∙◌, ap, arith, inl, inr, Option, bit_at, bit_not, w64, cases_eq, cases_lt, get_or_past, bit_at-lt, bit_at_above, bit_at_and, bit_at_clear_other, bit_at_clear_same, bit_at_set_other, bit_at_set_same, same_from_bits, and_assoc, and_comm, HasSlot}
 use Rattle.histories.specs.Frontier.{cleared, put}
+use Rattle.histories.proofs.Places.{less_of}
 use Rattle.histories.specs.Gathering.{ones}
 
 pub cleared_same : (set slot : ℕ) → slot < 64 → bit_at (cleared set slot) slot ≡ 0
@@ -28,9 +29,7 @@ put_apart one other slot h none gone same =
     same_from_bits one other (λ i.
     elim (cases_eq i slot) [
       | inl e ↦ ap (bit_at one) e ∙ (none ∙ sym (ap (bit_at other) e ∙ gone))
-      | inr ne ↦
-          sym (put_other one slot i h ne)
-          ∙ (ap (λ w. bit_at w i) same ∙ put_other other slot i h ne)
+      | inr ne ↦ sym (put_other _ _ _ h ne) ∙ (ap (λ w. bit_at w i) same ∙ put_other _ _ _ h ne)
     ])
 
 -- the order in which slots go is free
@@ -39,44 +38,38 @@ pub cleared_swap : (set one other : ℕ)
 unfolding cleared
 cleared_swap set one other = grind (arith, and_assoc, and_comm)
 
+cleared_past : (set slot i : ℕ) → 64 ≤ i → bit_at (cleared set slot) i ≡ 0
+unfolding cleared
+cleared_past set slot i h =
+    let mask = bit_not w64 (1 * 2 ^ slot % 2 ^ 64) in
+    omega (arith, bit_at_and set mask i, bit_at_above mask 64 i (less (1 * 2 ^ slot % 2 ^ 64)) h)
+  where
+    less : (n : ℕ) → 2 ^ 64 - 1 - n < 2 ^ 64
+    less n = omega arith
+
 -- and so is that in which one slot goes and another comes
 pub cleared_put : (set slot t : ℕ) → slot < 64 → t < 64 → slot ≢ t
     → cleared (put set t) slot ≡ put (cleared set slot) t
-unfolding cleared put
 cleared_put set slot t h k ne =
-    let N = bit_not w64 (1 * 2 ^ slot % 2 ^ 64) in
-    let P = 1 * 2 ^ t % 2 ^ 64 in
-    same_from_bits (bit_and (bit_or set P) N) (bit_or (bit_and set N) P)
-    (λ i. bits_of (bit_at (bit_and (bit_or set P) N) i) (bit_at (bit_or (bit_and set N) P) i)
-    (bit_at set i) (bit_at P i) (bit_at N i) (bit_at (bit_or set P) i) (bit_at (bit_and set N) i)
-    (bit_at_and (bit_or set P) N i) (bit_at_or (bit_and set N) P i) (bit_at_or set P i)
-    (bit_at_and set N i) (bit_at-lt set i) (bit_at-lt P i)
-    (elim (cases_eq i t) [
-      | inl e ↦
-          let ones : bit_at N t ≡ 1 =
-          sym (and_one (bit_at ones64 t) (bit_at N t) (bit_at (bit_and ones64 N) t)
-          (bit_at_and ones64 N t) (bit_at-lt N t)
-          (bit_at_clear_other w64 ones64 slot h t k (λ x. ne (sym x))
-          ∙ bit_at_ones 64 t k)) in
-          inr (subst (λ x. bit_at N x ≡ 1) (sym e) ones)
-      | inr nope ↦ inl
-          (max_zero (bit_at 0 i) (bit_at P i) (bit_at (bit_or 0 P) i)
-          (bit_at_or 0 P i) (bit_at_set_other w64 0 t k i nope ∙ bit_at-zero i))
-    ]))
-  where
-    ones64 : ℕ
-    ones64 = 2 ^ 64 - 1
-
-    bits_of : (x y a p n o m : ℕ) → x ≡ min o n → y ≡ max m p → o ≡ max a p → m ≡ min a n
-        → a < 2 → p < 2 → (p ≡ 0) ⊎ (n ≡ 1) → x ≡ y
-    bits_of x y a p n o m e f g h small low (inl none) = omega arith
-    bits_of x y a p n o m e f g h small low (inr one) = omega arith
-
-    and_one : (a n m : ℕ) → m ≡ min a n → n < 2 → m ≡ 1 → 1 ≡ n
-    and_one a n m e small one = omega arith
-
-    max_zero : (z p m : ℕ) → m ≡ max z p → m ≡ 0 → p ≡ 0
-    max_zero z p m e none = omega arith
+    same_from_bits _ _ (λ i.
+    elim (cases_lt i 64) [
+      | inl few ↦ elim (cases_eq i slot) [
+        | inl e ↦ rw e (cleared_same (put set t) slot h
+            ∙ sym (put_other (cleared set slot) t slot k ne ∙ cleared_same set slot h))
+        | inr other ↦
+            cleared_other (put set t) slot i h few other
+            ∙ elim (cases_eq i t) [
+              | inl same ↦ rw same (put_same set t k ∙ sym (put_same (cleared set slot) t k))
+              | inr not ↦
+                  put_other set t i k not ∙ sym (put_other (cleared set slot) t i k not
+                  ∙ cleared_other set slot i h few other)
+            ]
+      ]
+      | inr past ↦
+          cleared_past (put set t) slot i past
+          ∙ sym (put_other (cleared set slot) t i k (λ e. absurd (omega (arith, e, past, k)))
+          ∙ cleared_past set slot i past)
+    ])
 
 -- a slot is in the set or not
 pub bit_cases : (set slot : ℕ) → (bit_at set slot ≡ 0) ⊎ (bit_at set slot ≡ 1)
@@ -140,13 +133,10 @@ ones_less set more (suc n) slot le h none some =
     elim (cases_eq slot n) [
       | inl e ↦ grind (arith, ones_le)
       | inr ne ↦
-          let below : slot < n = below_of slot n h ne in
+          let below : slot < n = less_of slot n (omega (arith, h)) ne in
           omega (
             arith,
             le n (omega arith),
             ones_less set more n slot (λ i k. le i (omega arith)) below none some,
           )
     ]
-  where
-    below_of : (slot n : ℕ) → slot < suc n → slot ≢ n → slot < n
-    below_of slot n h ne = grind (arith, cases_lt)

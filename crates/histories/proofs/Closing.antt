@@ -1,10 +1,10 @@
 -- A call that ends is made.
-use Rattle.histories.proofs.Words.{◌≡◌, ◌↔◌, ℕ, ◌+◌, ◌<◌, ◌≤◌, List, [], ◌∷◌, ◌++◌, length, refl, sym, ◌∙◌, ap, subst, arith, inl, inr, append-nil, append_assoc, Option, AllPairs, cases_eq, bit_at, Contains, Contains-append_left, Contains-push, Contains-push_cases, Config, HasSlot, IsLighter, IsSame, LeadTo, MovesBefore, Path, Runs, cleared, path_more, path_of, AreSettled, ComesFirst, FromOne, Gathers, GoesOn, IsClosed, IsClosing, IsCopy, IsDone, IsMadeFrom, IsNextAt, IsNextLayer, IsSettled, IsUnderWay, MovesFirst, Spot, ones, spot_of}
+use Rattle.histories.proofs.Words.{◌≡◌, ◌↔◌, ℕ, ◌+◌, ◌<◌, ◌≤◌, List, [], ◌∷◌, ◌++◌, length, refl, sym, ◌∙◌, ap, arith, inl, inr, append-nil, append_assoc, Option, AllPairs, cases_eq, bit_at, Contains-append_left, Contains-push, Contains-push_cases, Config, HasSlot, IsLighter, IsSame, LeadTo, Path, Runs, cleared, path_more, path_of, AreSettled, ComesFirst, FromOne, Gathers, GoesOn, IsClosed, IsClosing, IsCopy, IsDone, IsMadeFrom, IsNextAt, IsNextLayer, IsSettled, MovesFirst, Spot, ones, spot_of}
 use Rattle.histories.specs.Gathering.{IsNext}
 use Rattle.histories.proofs.Places.{nothing_in, only}
 use Rattle.histories.proofs.Bits.{bit_cases, cleared_le, cleared_same, ones_le, ones_less, ones_most, slot_64, slot_once, slot_within}
 use Rattle.histories.proofs.Gathering.{gathers_none}
-use Rattle.histories.proofs.Running.{lighter_as, lighter_then, runs_as, runs_fewer, runs_first, runs_lighter, runs_then}
+use Rattle.histories.proofs.Running.{lighter_then, runs_fewer, runs_first, runs_lighter, runs_then}
 
 path_with : ℕ → List ℕ → Path
 path_with base calls = record { base = base; calls = calls }
@@ -38,13 +38,7 @@ module _ {S : Type 0} (Step : S → ℕ → S → Type 0) (slots : List (Option 
       let known = g.complete config found in (
         known.0,
         known.1,
-        (
-          calls,
-          fewer,
-          subst (λ x. Runs Step slots x known.0.waiting calls s fewer) (sym known.2.0)
-              (subst (λ w. Runs Step slots config.state w calls s fewer) (sym known.2.1) run),
-          light,
-        ),
+        (calls, fewer, rw known.2.0 (rw (← known.2.1) at run), light),
       )
 
   -- where calls that change nothing were made, the others lead to the same
@@ -54,16 +48,10 @@ module _ {S : Type 0} (Step : S → ℕ → S → Type 0) (slots : List (Option 
   leads_settled configs settled new rest few a l =
       let config = l.0 in
       let one = a.complete config l.1 in
-      let more = runs_lighter Step slots config.state new one.0.waiting config.waiting l.2.1 l.2.0
-      few one.3 l.2.2 in (
+      let more = runs_lighter _ _ _ _ _ _ _ _ few one.3 l.2.2 in (
         one.0,
         one.1,
-        (
-          more.0,
-          more.1,
-          subst (λ s. Runs Step slots s one.0.waiting more.0 new more.1) (sym one.2) more.2,
-          lighter_then Step slots more.1 l.2.1 rest more.3 l.2.3,
-        ),
+        (more.0, more.1, rw one.2 more.2, lighter_then _ _ _ _ _ more.3 l.2.3),
       )
 
   -- more calls are made
@@ -76,10 +64,8 @@ module _ {S : Type 0} (Step : S → ℕ → S → Type 0) (slots : List (Option 
     m.1,
     (
       m.2.0 ++ calls,
-      runs_then Step slots m.0.state config.state one.state m.0.waiting config.waiting one.waiting
-          m.2.0 calls m.2.1 run,
-      made
-          ∙ (ap (λ (p : Path). path_more p calls) m.2.2 ∙ path_then (path_of m.0) m.2.0 calls),
+      runs_then _ _ _ _ _ _ _ _ _ _ m.2.1 run,
+      made ∙ (ap (λ (p : Path). path_more p calls) m.2.2 ∙ path_then (path_of m.0) m.2.0 calls),
     ),
   )
 
@@ -87,16 +73,13 @@ module _ {S : Type 0} (Step : S → ℕ → S → Type 0) (slots : List (Option 
   pub made_settled : (configs : List (Config S)) (config : Config S) (one : Spot S)
       → IsSettled Step slots config one → IsMadeFrom Step slots configs (spot_of config)
       → IsMadeFrom Step slots configs one
-  made_settled configs config one is m =
-      made_then configs config one is.calls
-      (subst (λ s. Runs Step slots config.state config.waiting is.calls s one.waiting)
-      (sym is.state) is.runs) is.made m
+  made_settled configs config one is m = made_then _ config _ _ (rw is.state is.runs) is.made m
 
   pub closing_begin : (configs : List (Config S)) (slot : ℕ)
       → IsClosing Step slots configs slot [] configs (length slots + 1)
   closing_begin configs slot = record {
-    sound = λ k has. absurd (nothing_in k has);
-    under_way = λ k has. (k, has, ([], (refl, refl), path_none (path_of k)));
+    sound = λ k has. absurd (nothing_in _ has);
+    under_way = λ k has. (k, has, ([], (refl, refl), path_none _));
     complete = λ new rest l over. inr l;
     short = λ k has. omega (arith, ones_most k.waiting (length slots));
     once = λ i j d less h. absurd (omega arith);
@@ -104,14 +87,12 @@ module _ {S : Type 0} (Step : S → ℕ → S → Type 0) (slots : List (Option 
 
   made_done : (configs : List (Config S)) (config : Config S) (copy : Spot S) → IsCopy config copy
       → IsMadeFrom Step slots configs (spot_of config) → IsMadeFrom Step slots configs copy
-  made_done configs config copy is m =
-      made_then configs config copy [] (is.0, is.1) (is.2 ∙ path_none (path_of config)) m
+  made_done configs config copy is m = made_then _ config _ _ (is.0, is.1) (is.2 ∙ path_none _) m
 
   made_next : (configs : List (Config S)) (config : Config S) (next : Spot S)
       → IsNext Step slots config next → IsMadeFrom Step slots configs (spot_of config)
       → IsMadeFrom Step slots configs next
-  made_next configs config next is m =
-      search (arith, made_then)
+  made_next configs config next is m = search (arith, made_then)
 
   -- the configuration in which the call in the slot was made and left this state
   abbrev spot_after : Config S → ℕ → ℕ → S → Spot S
@@ -130,9 +111,8 @@ module _ {S : Type 0} (Step : S → ℕ → S → Type 0) (slots : List (Option 
   leads_next old new slot config [] last fewer rest g waits over run light =
       absurd (omega (arith, ap (λ w. bit_at w slot) run.1, waits, over))
   leads_next old new slot config (c ∷ calls) last fewer rest g waits over run light =
-      leads_found (IsNext Step slots config) old new (spot_after config run.0 c run.2.0) calls last
-      fewer rest g
-      (run.0, slot_within slots run.0 c run.1.0, (c, run.1, run.2.1, refl, refl)) run.2.2 light
+      leads_found _ _ _ _ _ _ _ _ g
+      (run.0, slot_within _ _ _ run.1.0, (c, run.1, run.2.1, refl, refl)) run.2.2 light
 
   -- from one configuration, in which the call in the slot waits
   goes_one : (slot : ℕ) (config : Config S) (Found : Spot S → Type 0) (old new : List (Config S))
@@ -148,10 +128,8 @@ module _ {S : Type 0} (Step : S → ℕ → S → Type 0) (slots : List (Option 
       | inr p ↦ inr (config, Contains-push [] config, (waits, next (spot_of k) p))
     ];
     kept = g.kept;
-    complete = λ k calls last fewer rest has w over run light.
-        leads calls last fewer rest over
-        (subst (λ (x : Config S). Runs Step slots x.state x.waiting calls last fewer)
-        (only config k has) run) light;
+    complete = λ k calls last fewer rest has w over run light. leads calls last fewer rest over
+        (rw (← only _ _ has) run) light;
     once = g.once;
   }
 
@@ -160,9 +138,8 @@ module _ {S : Type 0} (Step : S → ℕ → S → Type 0) (slots : List (Option 
       → bit_at config.waiting slot ≡ 1 → Gathers (IsNext Step slots config) old new
       → GoesOn Step slots slot (config ∷ []) old new
   goes_all slot config old new waits g =
-      goes_one slot config (IsNext Step slots config) old new waits (λ spot found. found)
-      (λ calls last fewer rest over run light.
-      leads_next old new slot config calls last fewer rest g waits over run light) g
+      goes_one _ _ _ _ _ waits (λ spot found. found) (λ calls last fewer rest over run light.
+      leads_next _ _ _ config _ _ _ _ g waits over run light) g
 
   -- the call in the slot goes before all that is made, where it comes first
   runs_before : (config : Config S) (slot call : ℕ) (new : S) (fewer : ℕ) (calls : List ℕ)
@@ -184,13 +161,10 @@ module _ {S : Type 0} (Step : S → ℕ → S → Type 0) (slots : List (Option 
       → ComesFirst Step slots config slot → Gathers (IsNextAt Step slots config slot) old new
       → GoesOn Step slots slot (config ∷ []) old new
   goes_by slot call config old new few here waits comes g =
-      goes_one slot config (IsNextAt Step slots config slot) old new waits
-      (λ spot found. (slot, slot_within slots slot call here, found))
+      goes_one _ _ _ _ _ waits (λ spot found. (slot, slot_within _ _ _ here, found))
       (λ calls last fewer rest over run light.
-      let first = runs_before config slot call last fewer calls few here waits comes over run in
-      leads_found (IsNextAt Step slots config slot) old new
-      (spot_after config slot call first.0) first.2.0 last fewer rest g
-      (call, (here, waits), first.1, refl, refl) first.2.1 light) g
+      let first = runs_before config _ _ _ _ _ few here waits comes over run in
+      leads_found _ _ _ _ _ _ _ _ g (call, (here, waits), first.1, refl, refl) first.2.1 light) g
 
   pub goes_first : (slot : ℕ) (config : Config S) (old new : List (Config S))
       → length slots ≤ 64 → bit_at config.waiting slot ≡ 1
@@ -198,7 +172,7 @@ module _ {S : Type 0} (Step : S → ℕ → S → Type 0) (slots : List (Option 
       → Gathers (IsNextAt Step slots config slot) old new
       → GoesOn Step slots slot (config ∷ []) old new
   goes_first slot config old new few waits moves g =
-      goes_by slot moves.0 config old new few moves.1 waits (inl moves) g
+      goes_by _ _ _ _ _ few moves.1 waits (inl moves) g
 
   -- where the call does not wait
   pub goes_not : (slot : ℕ) (config : Config S) (old : List (Config S))
@@ -220,12 +194,7 @@ module _ {S : Type 0} (Step : S → ℕ → S → Type 0) (slots : List (Option 
         | inl n ↦ inl n
         | inr p ↦ inr (p.0, Contains-append_left layer (from ∷ []) p.0 p.1, p.2)
       ]
-      | inr q ↦ inr (
-        from,
-        Contains-push layer from,
-        subst (λ (x : Config S). IsUnderWay Step slots slot x (spot_of k))
-            (only from q.0 q.1) q.2,
-      )
+      | inr q ↦ inr (from, Contains-push layer from, rw (← only _ _ q.1) q.2)
     ];
     kept = λ k has. g.kept k (f.kept k has);
     complete = λ k calls last fewer rest has waits over run light.
@@ -234,8 +203,7 @@ module _ {S : Type 0} (Step : S → ℕ → S → Type 0) (slots : List (Option 
               let l = f.complete k calls last fewer rest m waits over run light in
               (l.0, g.kept l.0 l.1, l.2)
           | inr e ↦
-              g.complete k calls last fewer rest
-              (subst (λ (x : Config S). Contains (from ∷ []) x) e (Contains-push [] from))
+              g.complete k calls last fewer rest (rw (← e) (Contains-push [] from))
               waits over run light
         ];
     once = λ a. g.once (f.once a);
@@ -257,47 +225,35 @@ module _ {S : Type 0} (Step : S → ℕ → S → Type 0) (slots : List (Option 
         elim (f.sound k has) [
           | inl before ↦ cl.sound k before
           | inr found ↦ (
-            made_done configs found.0 (spot_of k) found.2.1 (cl.under_way found.0 found.1),
+            made_done _ found.0 _ found.2.1 (cl.under_way found.0 found.1),
             ap (λ w. bit_at w slot) found.2.1.1 ∙ found.2.0,
           )
         ];
     under_way = λ k has.
         elim (g.sound k has) [
-          | inl none ↦ absurd (nothing_in k none)
-          | inr found ↦
-              made_next configs found.0 (spot_of k) found.2.1 (cl.under_way found.0 found.1)
+          | inl none ↦ absurd (nothing_in _ none)
+          | inr found ↦ made_next _ found.0 _ found.2.1 (cl.under_way found.0 found.1)
         ];
     complete = λ new rest l over.
         elim (cl.complete new rest l over) [
-          | inl before ↦
-              inl (leads_kept (FromOne (IsDone slot) layer) done more new rest f before)
+          | inl before ↦ inl (leads_kept _ _ _ _ _ f before)
           | inr m ↦
-              elim (bit_cases m.0.waiting slot) [
-                | inr waits ↦ inr
-                    (g.complete m.0 m.2.0 new m.2.1 rest m.1 waits
-                    (lighter_gone m.2.1 rest slot call here m.2.3 over) m.2.2 m.2.3)
-                | inl gone ↦ inl
-                    (leads_found (FromOne (IsDone slot) layer) done more (spot_of m.0) m.2.0 new
-                    m.2.1 rest f (m.0, m.1, (gone, (refl, refl, refl))) m.2.2 m.2.3)
+              elim (bit_cases _ _) [
+                | inr waits ↦ inr (g.complete m.0 m.2.0 new m.2.1 rest m.1 waits
+                    (lighter_gone _ _ _ _ here m.2.3 over) m.2.2 m.2.3)
+                | inl gone ↦ inl (leads_found _ _ _ _ _ _
+                    _ _ f (m.0, m.1, (gone, (refl, refl, refl))) m.2.2 m.2.3)
               ]
         ];
     short = λ k has. elim (g.sound k has) [
-      | inl none ↦ absurd (nothing_in k none)
+      | inl none ↦ absurd (nothing_in _ none)
       | inr found ↦
           let from = found.0 in
           let at = found.2.1.0 in
-          let h = slot_64 slots at found.2.1.2.0 few found.2.1.2.1.0 in
+          let h = slot_64 _ at found.2.1.2.0 few found.2.1.2.1.0 in
           let less : ones (cleared from.waiting at) (length slots) < ones from.waiting (length
-          slots) =
-          ones_less (cleared from.waiting at) from.waiting (length slots) at
-          (λ i within. cleared_le from.waiting at i h (omega (arith, within, few))) found.2.1.1
-          (cleared_same from.waiting at h) found.2.1.2.1.1 in
-          omega (
-            arith,
-            cl.short from found.1,
-            less,
-            ap (λ w. ones w (length slots)) found.2.1.2.3,
-          )
+          slots) = grind (arith, ones_less, cleared_le, cleared_same) in
+          omega (arith, cl.short from found.1, less, ap (λ w. ones w (length slots)) found.2.1.2.3)
     ];
     once = f.once cl.once;
   }
@@ -311,11 +267,11 @@ module _ {S : Type 0} (Step : S → ℕ → S → Type 0) (slots : List (Option 
     sound = cl.sound;
     under_way = λ k has.
         let is = a.sound k has in
-        made_settled configs is.0 (spot_of k) is.2 (cl.under_way is.0 is.1);
+        made_settled _ _ _ is.2 (cl.under_way is.0 is.1);
     complete = λ new rest l over.
         elim (cl.complete new rest l over) [
           | inl there ↦ inl there
-          | inr m ↦ inr (leads_settled layer settled new rest few a m)
+          | inr m ↦ inr (leads_settled _ _ _ _ few a m)
         ];
     short = λ k has.
         let is = a.sound k has in
@@ -334,10 +290,8 @@ module _ {S : Type 0} (Step : S → ℕ → S → Type 0) (slots : List (Option 
   pub closing_layer : (configs done layer more next : List (Config S)) (slot call left : ℕ)
       → length slots ≤ 64 → HasSlot slots slot call
       → IsClosing Step slots configs slot done layer (left + 1)
-      → Gathers (FromOne (IsDone slot) layer) done more
-      → IsNextLayer Step slots slot layer next
-      → IsClosing Step slots configs slot more next left
-      × AllPairs (λ a b. ¬ (IsSame a b)) next
+      → Gathers (FromOne (IsDone slot) layer) done more → IsNextLayer Step slots slot layer next
+      → IsClosing Step slots configs slot more next left × AllPairs (λ a b. ¬ (IsSame a b)) next
   closing_layer configs done layer more next slot call left few here cl f n =
       search (arith, closing_settled, closing_more)
 
@@ -372,29 +326,30 @@ module _ {S : Type 0} (A B : S → ℕ → S → Type 0) (slots : List (Option �
     (same : HaveSameSteps A B slots) where
   as_run : (old new : S) (waiting rest : ℕ) (calls : List ℕ)
       → Runs A slots old waiting calls new rest → Runs B slots old waiting calls new rest
-  as_run = runs_as A B slots (λ slot call has old next. (same slot call has old next).0)
+  as_run old new waiting rest [] run = run
+  as_run old new waiting rest (call ∷ calls) run =
+      let step = (same run.0 call run.1.0 old run.2.0).0 run.2.1 in
+      let more = as_run run.2.0 new (cleared waiting run.0) rest calls run.2.2 in
+      (run.0, run.1, (run.2.0, step, more))
 
-  as_light : (fewer waiting : ℕ) → IsLighter A slots fewer waiting
-      → IsLighter B slots fewer waiting
-  as_light = lighter_as B A slots (λ slot call has old next. (same slot call has old next).1)
+  as_light : (fewer waiting : ℕ) → IsLighter A slots fewer waiting → IsLighter B slots fewer waiting
+  as_light fewer waiting l slot call has =
+      elim (l slot call has) [
+        | inl e ↦ inl e
+        | inr idle ↦ inr (idle.0, λ old new b. idle.1 old new ((same slot call has old new).1 b))
+      ]
 
   pub leads_as : (configs : List (Config S)) (new : S) (rest : ℕ)
       → LeadTo A slots configs new rest → LeadTo B slots configs new rest
   leads_as configs new rest l = (
     l.0,
     l.1,
-    (
-      l.2.0,
-      l.2.1,
-      as_run l.0.state new l.0.waiting l.2.1 l.2.0 l.2.2,
-      as_light l.2.1 rest l.2.3,
-    ),
+    (l.2.0, l.2.1, as_run _ _ _ _ _ l.2.2, as_light _ _ l.2.3),
   )
 
   pub made_as : (configs : List (Config S)) (spot : Spot S) → IsMadeFrom A slots configs spot
       → IsMadeFrom B slots configs spot
-  made_as configs spot m =
-      search (arith, as_run)
+  made_as configs spot m = search (arith, as_run)
 
   pub settled_as : (configs settled : List (Config S)) → AreSettled A slots configs settled
       → AreSettled B slots configs settled
@@ -407,14 +362,14 @@ module _ {S : Type 0} (A B : S → ℕ → S → Type 0) (slots : List (Option �
           record {
             state = s.state;
             calls = s.calls;
-            runs = as_run is.0.state is.0.state is.0.waiting k.waiting s.calls s.runs;
-            lighter = as_light k.waiting is.0.waiting s.lighter;
+            runs = as_run _ _ _ _ _ s.runs;
+            lighter = as_light _ _ s.lighter;
             made = s.made;
           },
         );
     complete = λ config has.
         let one = a.complete config has in
-        (one.0, one.1, one.2, as_light one.0.waiting config.waiting one.3);
+        (one.0, one.1, one.2, as_light _ _ one.3);
     once = a.once;
   }
 
@@ -423,11 +378,9 @@ pub closed_as : {S : Type 0} (A B : S → ℕ → S → Type 0) (slots : List (O
     → IsClosed A slots configs slot done → IsClosed B slots configs slot done
 closed_as A B slots same configs done slot cl = record {
   sound = λ k has.
-      let is = cl.sound k has in (made_as A B slots same configs (spot_of k) is.0, is.1);
-  complete = λ new rest l over.
-      leads_as A B slots same done new rest
-      (cl.complete new rest
-      (leads_as B A slots (λ at call has old new. let e = same at call has old new in (e.1, e.0))
-      configs new rest l) over);
+      let is = cl.sound k has in (made_as _ _ _ same _ _ is.0, is.1);
+  complete = λ new rest l over. leads_as _ _ _ same _ _ _ (cl.complete new rest
+      (leads_as _ _ _ (λ at call has old new. let e = same at call has old new in (e.1, e.0))
+      _ _ _ l) over);
   once = cl.once;
 }

@@ -1,5 +1,5 @@
 -- How often a number stands in a list, and what is true of all pairs of a list.
-use Rattle.histories.proofs.Words.{length-append, sym, ◌-◌, ◌≡◌, ◌≢◌, ℕ, zero, suc, ◌+◌, ◌<◌, List, [], ◌∷◌, ◌++◌, length, take, drop, get_or, refl, ◌∙◌, ap, subst, arith, inl, inr, eq-eqb, remove, split_at, eqb_tells, AllPairs, get_or-append, get_or-append_seam, cases_lt, get_or-append-add}
+use Rattle.histories.proofs.Words.{◌≤◌, length-append, ◌-◌, ◌≡◌, ◌≢◌, ℕ, zero, suc, ◌+◌, ◌<◌, List, [], ◌∷◌, ◌++◌, length, take, drop, get_or, refl, ◌∙◌, ap, arith, inl, inr, eq-eqb, remove, split_at, eqb_tells, AllPairs, get_or-append, get_or-append_seam, cases_lt, get_or-append-add}
 use Rattle.histories.specs.Histories.{times}
 
 -- a number of which none is more than zero
@@ -48,8 +48,7 @@ times-remove c xs i d h =
 
 -- what stands at a place stands in the list
 pub times_at : (xs : List ℕ) (i d : ℕ) → i < length xs → 0 < times (get_or xs i d) xs
-times_at xs i d h =
-    omega (arith, times-remove (get_or xs i d) xs i d h, times_one (get_or xs i d))
+times_at xs i d h = omega (arith, times-remove (get_or xs i d) xs i d h, times_one (get_or xs i d))
 
 -- what stands in the list stands at a place
 pub at_times : (c : ℕ) (xs : List ℕ) → 0 < times c xs
@@ -64,51 +63,63 @@ at_times c (x ∷ xs) h =
           (suc more.0, omega (arith, more.1), more.2)
     ]
 
+-- a number stands in the list once where it stands at one place alone
+pub times_once : (c : ℕ) (xs : List ℕ)
+    → ((i j : ℕ) → i < length xs → j < length xs → get_or xs i 0 ≡ c → get_or xs j 0 ≡ c → i ≡ j)
+    → times c xs ≤ 1
+times_once c [] one = omega (arith, times_none c)
+times_once c (x ∷ xs) one =
+    let rest : times c xs ≤ 1 = times_once c xs (λ i j h k a b.
+    omega (arith, one (suc i) (suc j) (omega (arith, h)) (omega (arith, k)) a b)) in
+    elim (eqb_tells x c) [
+      | inr f ↦ omega (arith, rest, times-cons c x xs, times_other c x f.1)
+      | inl t ↦ elim (cases_lt 0 (times c xs)) [
+        | inl again ↦
+            let at = at_times c xs again in
+            absurd (omega (arith, one 0 (suc at.0) (omega arith) (omega (arith, at.1)) t.1 at.2))
+        | inr none ↦
+            let here : times c (x ∷ []) ≡ 1 = rw t.1 (times_one c) in
+            omega (arith, none, times-cons c x xs, here)
+      ]
+    ]
+
 -- a list around a number that stands in it
 pub split_times : (c : ℕ) (xs : List ℕ) → 0 < times c xs
     → (before : List ℕ) × (after : List ℕ) × (xs ≡ before ++ c ∷ after)
 split_times c xs h =
-    let at = at_times c xs h in (
+    let at = at_times _ _ h in (
       take at.0 xs,
       drop (suc at.0) xs,
-      subst (λ x. xs ≡ take at.0 xs ++ x ∷ drop (suc at.0) xs) at.2 (split_at xs at.0 0 at.1),
+      rw at.2 at (split_at xs at.0 0 at.1),
     )
 
 -- it is the empty list where no number stands in it
 pub no_times : (xs : List ℕ) → ((c : ℕ) → times c xs ≡ 0) → xs ≡ []
 no_times [] none = refl
-no_times (x ∷ xs) none =
-    absurd (omega (arith, none x, times-cons x x xs, times_one x))
+no_times (x ∷ xs) none = absurd (omega (arith, none x, times-cons x x xs, times_one x))
 
 -- a number that stands in the order is not one that does not
 pub apart : (order : List ℕ) (call c : ℕ) → times call order ≡ 0 → 0 < times c order
     → times c (call ∷ []) ≡ 0
-apart order call c none some =
-    times_other c call (λ e. absurd (omega (arith, subst (λ x. times x order ≡ 0) e none, some)))
+apart order call c none some = times_other _ _ (λ e. absurd (omega (arith, rw e at none, some)))
 
 -- what is true of all pairs of a list is true of those of its front
-pub all_pairs_front : (P : ℕ → ℕ → Type 0) (xs ys : List ℕ) → AllPairs P (xs ++ ys)
-    → AllPairs P xs
-all_pairs_front P xs ys all =
-    grind (arith, get_or-append, length-append)
+pub all_pairs_front : (P : ℕ → ℕ → Type 0) (xs ys : List ℕ) → AllPairs P (xs ++ ys) → AllPairs P xs
+all_pairs_front P xs ys all = grind (arith, get_or-append, length-append)
 
 -- and of its back
-pub all_pairs_back : (P : ℕ → ℕ → Type 0) (xs ys : List ℕ) → AllPairs P (xs ++ ys)
-    → AllPairs P ys
-all_pairs_back P xs ys all =
-    grind (arith, get_or-append-add, length-append)
+pub all_pairs_back : (P : ℕ → ℕ → Type 0) (xs ys : List ℕ) → AllPairs P (xs ++ ys) → AllPairs P ys
+all_pairs_back P xs ys all = grind (arith, get_or-append-add, length-append)
 
 -- and of a number with each behind it
 pub all_pairs_behind : (P : ℕ → ℕ → Type 0) (xs ys : List ℕ) (x y : ℕ)
     → AllPairs P (xs ++ x ∷ ys) → 0 < times y ys → P x y
 all_pairs_behind P xs ys x y all h =
-    let at = at_times y ys h in
+    let at = at_times _ _ h in
     let first : get_or (xs ++ x ∷ ys) (length xs) 0 ≡ x = get_or-append_seam xs x ys 0 in
     let second : get_or (xs ++ x ∷ ys) (length xs + suc at.0) 0 ≡ y =
     get_or-append-add xs (x ∷ ys) (suc at.0) 0 ∙ at.2 in
-    subst (λ b. P x b) second
-    (subst (λ a. P a (get_or (xs ++ x ∷ ys) (length xs + suc at.0) 0)) first
-    (all (length xs) (length xs + suc at.0) 0 (omega arith)
+    rw (← second) (rw first at (all (length xs) (length xs + suc at.0) 0 (omega arith)
     (omega (arith, at.1, length-append xs (x ∷ ys)))))
 
 -- what is true of all pairs of two lists, and across them, is true of those of both
@@ -123,15 +134,13 @@ all_pairs_join P xs ys a b across = λ i j d less within.
           let second : get_or (xs ++ ys) j d ≡ get_or ys k d =
           ap (λ n. get_or (xs ++ ys) n d) there ∙ get_or-append-add xs ys k d in
           let inside : k < length ys = omega (arith, there, within, length-append xs ys) in
-          subst (λ y. P (get_or (xs ++ ys) i d) y) (sym second)
-          (elim (cases_lt i (length xs)) [
+          rw second (elim (cases_lt i (length xs)) [
             | inl before ↦ grind (arith, get_or-append, times_at)
             | inr behind ↦
                 let m = i - length xs in
                 let here : i ≡ length xs + m = omega (arith, behind) in
                 let first : get_or (xs ++ ys) i d ≡ get_or ys m d =
                 ap (λ n. get_or (xs ++ ys) n d) here ∙ get_or-append-add xs ys m d in
-                subst (λ x. P x (get_or ys k d)) (sym first)
-                (b m k d (omega (arith, here, there, less)) inside)
+                rw (← first) at (b m k d (omega (arith, here, there, less)) inside)
           ])
     ]

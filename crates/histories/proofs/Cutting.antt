@@ -1,9 +1,9 @@
 -- Histories that are cut where no call is open.
-use Rattle.histories.proofs.Words.{◌≡◌, ℕ, suc, ◌+◌, ◌<◌, List, [], ◌∷◌, ◌++◌, refl, sym, ap, subst, arith, inl, inr, ◌↔◌, Option, zero, ◌≤◌, ◌⊎◌, length, get_or, ◌∙◌, AllPairs, map, cases_lt, cases_eq, Event, Begin, End, Crash, begins, times, IsOver, EndsAt, Explains, HasEnded, IsExplained, Leads, IsSound, HasSlot, IsFrontier, IsSame, IsTable, Runs, no_path, order_of, path_of, IsQuiet, Contains, Config, Link, AreEach, IsUnlinked}
+use Rattle.histories.proofs.Words.{◌≡◌, ℕ, suc, ◌+◌, ◌<◌, List, [], ◌∷◌, ◌++◌, refl, sym, ap, arith, inl, inr, ◌↔◌, Option, zero, ◌≤◌, ◌⊎◌, length, get_or, ◌∙◌, AllPairs, map, cases_lt, cases_eq, Event, Begin, End, Crash, begins, times, IsOver, EndsAt, Explains, HasEnded, IsExplained, IsSound, HasSlot, IsFrontier, IsSame, IsTable, Runs, order_of, IsQuiet, Config, Link, AreEach, IsUnlinked}
 use Rattle.histories.proofs.Counting.{times-cons, times_at, times_none, times_same, all_pairs_behind, times-append, all_pairs_back, all_pairs_front, all_pairs_join}
 use Rattle.histories.proofs.Places.{contains_map_of, contains_of_map, each_from, each_to}
 use Rattle.histories.proofs.Events.{ends_within, stands_within, begins-append, begins_stands, ends_either, ends_left, stands_begins, stands_either, stands_right, answered_ended, begins_none, answered_left, answered_right, over_left, over_right}
-use Rattle.histories.proofs.Running.{leads_split}
+use Rattle.histories.proofs.Running.{leads_join, leads_split}
 use Rattle.histories.proofs.Frontiers.{frontier_fresh}
 pub use Rattle.histories.proofs.Events.{begins-append}
 
@@ -12,8 +12,8 @@ over_across : (es fs : List Event) (c d : ℕ) → IsQuiet es → 0 < begins c e
     → IsOver (es ++ fs) c d
 over_across es fs c d quiet first second =
     let a = quiet c first in
-    let b = begins_stands d fs second in
-    let r = stands_right es fs b.0 (Begin d) b.1 in (
+    let b = begins_stands _ _ second in
+    let r = stands_right _ fs _ _ b.1 in (
       a.0,
       r.0,
       omega (arith, ends_within es a.0 c a.1, r.1),
@@ -39,7 +39,7 @@ cut_order es fs (x ∷ order) quiet begun all =
             r.1,
             ap (λ (l : List ℕ). x ∷ l) r.2,
             λ c h. elim (cases_lt 0 (times c (x ∷ []))) [
-              | inl here ↦ subst (λ y. 0 < begins y es) (times_same c x here) some
+              | inl here ↦ rw (← times_same _ _ here) some
               | inr not ↦ r.3 c (omega (arith, h, not, times-cons c x r.0))
             ],
             r.4,
@@ -59,7 +59,7 @@ cut_order es fs (x ∷ order) quiet begun all =
                 omega (arith, none, begun x (times_at (x ∷ order) 0 0 (omega arith))) in
                 absurd
                 (all_pairs_behind (λ first second. ¬ (IsOver (es ++ fs) second first)) [] order x c
-                all behind (over_across es fs c x quiet early late))
+                all behind (over_across _ _ _ _ quiet early late))
           ]
         ],
       )
@@ -90,10 +90,8 @@ module _ {S : Type 0} (Step : S → ℕ → S → Type 0) where
       let back = parts.1 in
       let counts : (c : ℕ) → times c order ≡ times c front + times c back =
       λ c. ap (times c) parts.2 ∙ times-append c front back in
-      let pairs : AllPairs P (front ++ back) =
-      subst (λ (l : List ℕ). AllPairs P l) parts.2 ex.real_time in
-      let leads = leads_split Step old new front back
-      (subst (λ (l : List ℕ). Leads Step old l new) parts.2 ex.leads) in (
+      let pairs : AllPairs P (front ++ back) = rw (← parts.2) ex.real_time in
+      let leads = leads_split Step old new front back (rw (← parts.2) ex.leads) in (
         leads.0,
         front,
         back,
@@ -101,8 +99,7 @@ module _ {S : Type 0} (Step : S → ℕ → S → Type 0) where
           once = λ c. omega (arith, counts c, ex.once c);
           begun = parts.3;
           answered = λ c a. grind (arith, cases_lt, answered_left, answered_ended, begins-append);
-          real_time = λ i j d less within over.
-              all_pairs_front P front back pairs i j d less within
+          real_time = λ i j d less within over. all_pairs_front P front back pairs i j d less within
               (over_left es fs (get_or front j d) (get_or front i d) over);
           leads = leads.1;
         },
@@ -110,18 +107,11 @@ module _ {S : Type 0} (Step : S → ℕ → S → Type 0) where
           once = λ c. omega (arith, counts c, ex.once c);
           begun = parts.4;
           answered = λ c a. grind (arith, cases_lt, answered_right, answered_ended, begins-append);
-          real_time = λ i j d less within over.
-              all_pairs_back P front back pairs i j d less within
+          real_time = λ i j d less within over. all_pairs_back P front back pairs i j d less within
               (over_right es fs (get_or back j d) (get_or back i d) over);
           leads = leads.2;
         },
       )
-
-  leads_join : (old mid new : S) (before after : List ℕ) → Leads Step old before mid
-      → Leads Step mid after new → Leads Step old (before ++ after) new
-  leads_join old mid new [] after f g = subst (λ s. Leads Step s after new) f g
-  leads_join old mid new (c ∷ before) after f g =
-      (f.0, f.1, leads_join f.0 mid new before after f.2 g)
 
   -- an order of the first part and one of the rest are one of the whole
   pub explains_join : (es fs : List Event) (old mid new : S) (front back : List ℕ) → IsSound es
@@ -134,12 +124,10 @@ module _ {S : Type 0} (Step : S → ℕ → S → Type 0) where
         begun = λ c h. grind (arith, cases_lt, begins-append);
         answered = λ c a. grind (arith, stands_either);
         real_time = all_pairs_join (λ before after. ¬ (IsOver (es ++ fs) after before)) front back
-            (λ i j d less within over.
-            x.real_time i j d less within
+            (λ i j d less within over. x.real_time i j d less within
             (over_in_left es fs (get_or front j d) (get_or front i d) whole
             (x.begun (get_or front i d) (times_at front i d (omega arith))) over))
-            (λ i j d less within over.
-            y.real_time i j d less within
+            (λ i j d less within over. y.real_time i j d less within
             (over_in_right es fs (get_or back j d) (get_or back i d) first whole
             (y.begun (get_or back j d) (times_at back j d within))
             (y.begun (get_or back i d) (times_at back i d (omega arith))) over))
@@ -153,7 +141,7 @@ module _ {S : Type 0} (Step : S → ℕ → S → Type 0) where
               whole.once b,
               begins-append b es fs,
             )));
-        leads = leads_join old mid new front back x.leads y.leads;
+        leads = leads_join Step _ _ _ front back x.leads y.leads;
       }
 
   -- where no call has a slot, none that waits is made
@@ -168,43 +156,30 @@ module _ {S : Type 0} (Step : S → ℕ → S → Type 0) where
       (configs : List (Config S)) → IsSound es → IsQuiet es
       → ((slot call : ℕ) → HasSlot slots slot call → ⊥)
       → IsFrontier Step links slots es olds configs → (rest : List Event) → IsSound rest
-      → IsSound (es ++ rest)
-      → IsExplained Step (es ++ rest) olds
+      → IsSound (es ++ rest) → IsExplained Step (es ++ rest) olds
       ↔ IsExplained Step rest (map (λ config. config.state) configs)
-  split_anew links slots es olds configs sound quiet empty f rest after whole =
-      let state_of : Config S → S = λ config. config.state in
-      let states : List S = map state_of configs in (
-        λ x.
-            let s = explains_split es rest x.0 x.2 x.1 sound after whole quiet x.4 in
-            let lead = f.complete x.0 s.1 s.0 x.3 s.3 in
-            let config = lead.2.0 in
-            let same : s.0 ≡ config.state =
-            runs_nothing slots config.state s.0 config.waiting lead.2.2.1 lead.2.2.0 empty
-            lead.2.2.2 in (
-              s.0,
-              s.2,
-              x.2,
-              subst (λ m. Contains states m) (sym same)
-                  (contains_map_of state_of configs config lead.2.1),
-              s.4,
-            ),
-        λ x.
-            let from = contains_of_map state_of configs x.0 x.3 in
-            let is = f.sound from.0 from.1 in (
-              is.old,
-              order_of links from.0 ++ x.1,
-              x.2,
-              is.from,
-              explains_join es rest is.old from.0.state x.2 (order_of links from.0) x.1 sound whole
-                  is.explains
-                  (subst (λ m. Explains Step rest m x.1 x.2) (sym from.2) x.4),
-            ),
-      )
+  split_anew links slots es olds configs sound quiet empty f rest after whole = (
+    λ x.
+        let s = explains_split _ _ _ _ _ sound after whole quiet x.4 in
+        let lead = f.complete x.0 s.1 s.0 x.3 s.3 in
+        let config = lead.2.0 in
+        let same : s.0 ≡ config.state =
+        runs_nothing _ _ _ _ _ _ empty
+        lead.2.2.2 in (s.0, s.2, x.2, rw same (contains_map_of _ _ _ lead.2.1), s.4),
+    λ x.
+        let from = contains_of_map _ _ _ x.3 in
+        let is = f.sound from.0 from.1 in (
+          is.old,
+          order_of links from.0 ++ x.1,
+          x.2,
+          is.from,
+          explains_join _ _ _ _ _ _ _ sound whole is.explains (rw from.2 x.4),
+        ),
+  )
 
   -- a front with new orders of no calls
   pub fresh_anew : (links : List Link) (slots : List (Option ℕ)) (configs unlinked : List (Config
-      S))
-      → length slots ≤ 64 → ((slot call : ℕ) → HasSlot slots slot call → ⊥)
+      S)) → length slots ≤ 64 → ((slot call : ℕ) → HasSlot slots slot call → ⊥)
       → AllPairs (λ a b. ¬ (IsSame a b)) configs → AreEach IsUnlinked configs unlinked
       → IsFrontier Step links slots [] (map (λ config. config.state) configs) unlinked
   fresh_anew links slots configs unlinked few empty once u =
@@ -215,18 +190,14 @@ module _ {S : Type 0} (Step : S → ℕ → S → Type 0) where
         all = λ call is. absurd (omega (arith, is.0, begins_none call));
         apart = λ one other call a b. absurd (empty one call a);
         few = few;
-      })
-      (λ k has.
+      }) (λ k has.
       let from = each_from IsUnlinked configs unlinked k u has in (
-        subst (λ s. Contains (map state_of configs) s) (sym from.2.0)
-            (contains_map_of state_of configs from.0 from.1),
+        rw from.2.0 (contains_map_of state_of configs from.0 from.1),
         from.2.2,
-      ))
-      (λ old has.
+      )) (λ old has.
       let from = contains_of_map state_of configs old has in
       let one = each_to IsUnlinked configs unlinked from.0 u from.1 in
-      (one.0, one.1, one.2.0 ∙ from.2))
-      (λ i j d less within same.
+      (one.0, one.1, one.2.0 ∙ from.2)) (λ i j d less within same.
       let first = u.1 i d (omega (arith, less, within)) in
       let second = u.1 j d within in
       once i j d less (omega (arith, within, u.0))
@@ -257,7 +228,7 @@ ended_or_not (e ∷ es) c =
 pub quiet_empty : (es : List Event) (slots : List (Option ℕ)) → IsTable es slots
     → ((slot call : ℕ) → HasSlot slots slot call → ⊥) → IsQuiet es
 quiet_empty es slots table empty call begun =
-    elim (ended_or_not es call) [
+    elim (ended_or_not _ _) [
       | inl h ↦ h
       | inr none ↦ grind arith
     ]

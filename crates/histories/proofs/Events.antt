@@ -1,15 +1,13 @@
 -- One event more.
-use Rattle.histories.proofs.Words.{eq-eqb, Some, false, ◌≡◌, ◌≢◌, ℕ, zero, suc, ◌+◌, ◌<◌, ◌⊎◌, List, [], ◌∷◌, ◌++◌, length, cond, refl, sym, ap, subst, arith, inl, inr, ◌∙◌, Option, cases_eq, eqb_tells, FreesSlot, TakesSlot, Event, Begin, End, Crash, EndsAt, HasEnded, IsAnswered, IsOpen, IsOver, StandsAt, Ends, IsSound, HasSlot, IsTable}
+use Rattle.histories.proofs.Words.{eq-eqb, Some, false, ◌≡◌, ◌≢◌, ℕ, zero, suc, ◌+◌, ◌<◌, ◌⊎◌, List, [], ◌∷◌, ◌++◌, length, cond, refl, ap, arith, inl, inr, ◌∙◌, Option, cases_eq, eqb_tells, FreesSlot, TakesSlot, Event, Begin, End, Crash, EndsAt, HasEnded, IsAnswered, IsOpen, IsOver, StandsAt, Ends, IsSound, HasSlot, IsTable}
 use Rattle.histories.proofs.Bits.{slot_once}
 use Rattle.histories.specs.Histories.{begins, times}
 use Rattle.histories.proofs.Counting.{times_one, times_other}
 
-pub begins-append : (c : ℕ) (es fs : List Event)
-    → begins c (es ++ fs) ≡ begins c es + begins c fs
+pub begins-append : (c : ℕ) (es fs : List Event) → begins c (es ++ fs) ≡ begins c es + begins c fs
 unfolding begins
 begins-append c [] fs = omega arith
-begins-append c (Begin b ∷ es) fs =
-    grind (arith, begins-append c es fs)
+begins-append c (Begin b ∷ es) fs = grind (arith, begins-append c es fs)
 begins-append c (End b ∷ es) fs = begins-append c es fs
 begins-append c (Crash b ∷ es) fs = begins-append c es fs
 
@@ -33,7 +31,7 @@ begin_no_end c d ends = grind arith
 pub begins_ends : (c d : ℕ) (es : List Event) (e : Event) → Ends e d
     → begins c (es ++ e ∷ []) ≡ begins c es
 unfolding begins
-begins_ends c d es (Begin b) ends = absurd (begin_no_end b d ends)
+begins_ends c d es (Begin b) ends = absurd (begin_no_end _ _ ends)
 begins_ends c d es (End b) ends = omega (arith, begins-append c es (End b ∷ []))
 begins_ends c d es (Crash b) ends = omega (arith, begins-append c es (Crash b ∷ []))
 
@@ -54,31 +52,26 @@ pub stands_either : (es fs : List Event) (k : ℕ) (x : Event) → StandsAt (es 
     → StandsAt es k x ⊎ ((j : ℕ) × (k ≡ length es + j) × StandsAt fs j x)
 stands_either [] fs k x at = inr (k, omega arith, at)
 stands_either (y ∷ es) fs zero x at = inl at
-stands_either (y ∷ es) fs (suc k) x at =
-    grind (arith, stands_either es fs k x at)
+stands_either (y ∷ es) fs (suc k) x at = grind (arith, stands_either es fs k x at)
 
-pub stands_begins : (c : ℕ) (es : List Event) (k : ℕ) → StandsAt es k (Begin c)
-    → 0 < begins c es
+pub stands_begins : (c : ℕ) (es : List Event) (k : ℕ) → StandsAt es k (Begin c) → 0 < begins c es
 unfolding begins
 stands_begins c [] k at = absurd (cc)
-stands_begins c (Begin b ∷ es) zero at =
-    let same : b ≡ c = cc in rw (eq-eqb b c same) (omega arith)
+stands_begins c (Begin b ∷ es) zero at = let same : b ≡ c = cc in rw (eq-eqb b c same) (omega arith)
 stands_begins c (End b ∷ es) zero at = absurd (cc)
 stands_begins c (Crash b ∷ es) zero at = absurd (cc)
 stands_begins c (Begin b ∷ es) (suc k) at = omega (arith, stands_begins c es k at)
 stands_begins c (End b ∷ es) (suc k) at = stands_begins c es k at
 stands_begins c (Crash b ∷ es) (suc k) at = stands_begins c es k at
 
-pub begins_stands : (c : ℕ) (es : List Event) → 0 < begins c es
-    → (k : ℕ) × StandsAt es k (Begin c)
+pub begins_stands : (c : ℕ) (es : List Event) → 0 < begins c es → (k : ℕ) × StandsAt es k (Begin c)
 unfolding begins
 begins_stands c [] h = absurd (omega (arith, h))
 begins_stands c (Begin b ∷ es) h =
     elim (eqb_tells b c) [
       | inl t ↦ (0, ap (λ n. Some (Begin n)) t.1)
       | inr f ↦
-          let fewer : 0 < cond false 1 0 + begins c es =
-          subst (λ t. 0 < cond t 1 0 + begins c es) f.0 h in
+          let fewer : 0 < cond false 1 0 + begins c es = rw f.0 at h in
           let r = begins_stands c es (omega (arith, fewer)) in (suc r.0, r.1)
     ]
 begins_stands c (End b ∷ es) h = let r = begins_stands c es h in (suc r.0, r.1)
@@ -91,8 +84,8 @@ pub ends_right : (es fs : List Event) (k c : ℕ) → EndsAt fs k c
     → (index : ℕ) × (index ≡ length es + k) × EndsAt (es ++ fs) index c
 ends_right es fs k c at =
     elim at [
-      | inl x ↦ let r = stands_right es fs k (End c) x in (r.0, r.1, inl r.2)
-      | inr x ↦ let r = stands_right es fs k (Crash c) x in (r.0, r.1, inr r.2)
+      | inl x ↦ let r = stands_right _ _ _ _ x in (r.0, r.1, inl r.2)
+      | inr x ↦ let r = stands_right _ _ _ _ x in (r.0, r.1, inr r.2)
     ]
 
 pub ends_either : (es fs : List Event) (k c : ℕ) → EndsAt (es ++ fs) k c
@@ -100,20 +93,19 @@ pub ends_either : (es fs : List Event) (k c : ℕ) → EndsAt (es ++ fs) k c
 ends_either es fs k c at = grind (arith, stands_either)
 
 pub over_left : (es fs : List Event) (c d : ℕ) → IsOver es c d → IsOver (es ++ fs) c d
-over_left es fs c d o =
-    (o.0, o.1, o.2, ends_left es fs o.0 c o.3, stands_left es fs o.1 (Begin d) o.4)
+over_left es fs c d o = (o.0, o.1, o.2, ends_left es fs o.0 _ o.3, stands_left es fs o.1 _ o.4)
 
 pub over_right : (es fs : List Event) (c d : ℕ) → IsOver fs c d → IsOver (es ++ fs) c d
 over_right es fs c d o =
     let e = ends_right es fs o.0 c o.3 in
-    let b = stands_right es fs o.1 (Begin d) o.4 in
+    let b = stands_right _ fs _ _ o.4 in
     (e.0, b.0, omega (arith, o.2, e.1, b.1), e.2, b.2)
 
 pub answered_left : (es fs : List Event) (c : ℕ) → IsAnswered es c → IsAnswered (es ++ fs) c
-answered_left es fs c a = (a.0, stands_left es fs a.0 (End c) a.1)
+answered_left es fs c a = (a.0, stands_left es fs a.0 _ a.1)
 
 pub answered_right : (es fs : List Event) (c : ℕ) → IsAnswered fs c → IsAnswered (es ++ fs) c
-answered_right es fs c a = let r = stands_right es fs a.0 (End c) a.1 in (r.0, r.2)
+answered_right es fs c a = let r = stands_right es fs a.0 _ a.1 in (r.0, r.2)
 
 pub stands_last : (es : List Event) (e : Event) → StandsAt (es ++ e ∷ []) (length es) e
 stands_last [] e = refl
@@ -125,18 +117,12 @@ pub stands_cases : (es : List Event) (e : Event) (k : ℕ) (x : Event) → Stand
 stands_cases [] e zero x at = inr (refl, cc)
 stands_cases [] e (suc k) x at = absurd (cc)
 stands_cases (y ∷ es) e zero x at = inl at
-stands_cases (y ∷ es) e (suc k) x at =
-    grind (arith, stands_cases es e k x at)
+stands_cases (y ∷ es) e (suc k) x at = grind (arith, stands_cases es e k x at)
 
 -- a call that has begun did so before, or with the last event
 pub begins_cases : (es : List Event) (e : Event) (c : ℕ) → 0 < begins c (es ++ e ∷ [])
     → (0 < begins c es) ⊎ (e ≡ Begin c)
-begins_cases es e c h =
-    let r = begins_stands c (es ++ e ∷ []) h in
-    elim (stands_cases es e r.0 (Begin c) r.1) [
-      | inl before ↦ inl (stands_begins c es r.0 before)
-      | inr last ↦ inr last.1
-    ]
+begins_cases es e c h = grind (arith, begins_stands, stands_cases, stands_begins)
 
 pub stands_within : (es : List Event) (k : ℕ) (x : Event) → StandsAt es k x → k < length es
 stands_within [] k x at = absurd (cc)
@@ -150,15 +136,14 @@ ends_cases es e k c at = grind (arith, stands_cases)
 pub ends_within : (es : List Event) (k c : ℕ) → EndsAt es k c → k < length es
 ends_within es k c at = grind (arith, stands_within)
 
-pub ended_still : (es : List Event) (e : Event) (c : ℕ) → HasEnded es c
-    → HasEnded (es ++ e ∷ []) c
-ended_still es e c h = (h.0, ends_left es (e ∷ []) h.0 c h.1)
+pub ended_still : (es : List Event) (e : Event) (c : ℕ) → HasEnded es c → HasEnded (es ++ e ∷ []) c
+ended_still es e c h = (h.0, ends_left es (e ∷ []) h.0 _ h.1)
 
 pub ended_now : (es : List Event) (e : Event) (c : ℕ) → Ends e c → HasEnded (es ++ e ∷ []) c
 ended_now es e c ends =
     elim ends [
-      | inl is ↦ (length es, inl (subst (λ (x : Event). StandsAt (es ++ e ∷ []) (length es) x) is (stands_last es e)))
-      | inr is ↦ (length es, inr (subst (λ (x : Event). StandsAt (es ++ e ∷ []) (length es) x) is (stands_last es e)))
+      | inl is ↦ (length es, inl (rw (← is) (stands_last es _)))
+      | inr is ↦ (length es, inr (rw (← is) (stands_last es _)))
     ]
 
 pub ended_cases : (es : List Event) (e : Event) (c : ℕ) → HasEnded (es ++ e ∷ []) c
@@ -173,7 +158,7 @@ pub answered_ended : (es : List Event) (c : ℕ) → IsAnswered es c → HasEnde
 answered_ended es c a = (a.0, inl a.1)
 
 pub answered_now : (es : List Event) (c : ℕ) → IsAnswered (es ++ End c ∷ []) c
-answered_now es c = (length es, stands_last es (End c))
+answered_now es c = (length es, stands_last es _)
 
 pub answered_cases : (es : List Event) (e : Event) (c : ℕ) → IsAnswered (es ++ e ∷ []) c
     → IsAnswered es c ⊎ (e ≡ End c)
@@ -181,8 +166,7 @@ answered_cases es e c a = grind (arith, stands_cases)
 
 -- a call that is over before the begin of the last event
 pub over_now : (es : List Event) (c d : ℕ) → HasEnded es c → IsOver (es ++ Begin d ∷ []) c d
-over_now es c d a =
-    search (arith, ends_within, ends_left, stands_last)
+over_now es c d a = search (arith, ends_within, ends_left, stands_last)
 
 pub over_cases : (es : List Event) (e : Event) (c d : ℕ) → IsOver (es ++ e ∷ []) c d
     → IsOver es c d ⊎ (e ≡ Begin d)
@@ -195,9 +179,9 @@ over_ended es c d o = (o.0, o.3)
 pub open_begin_still : (es : List Event) (c x : ℕ) → IsOpen es x → IsOpen (es ++ Begin c ∷ []) x
 open_begin_still es c x o = (
   omega (arith, o.0, begins_begin x c es),
-  λ h. elim (ended_cases es (Begin c) x h) [
+  λ h. elim (ended_cases _ _ _ h) [
     | inl before ↦ o.1 before
-    | inr ends ↦ begin_no_end c x ends
+    | inr ends ↦ begin_no_end _ _ ends
   ],
 )
 
@@ -205,9 +189,9 @@ pub open_begin_now : (es : List Event) (c : ℕ) → IsSound es → begins c es 
     → IsOpen (es ++ Begin c ∷ []) c
 open_begin_now es c s fresh = (
   omega (arith, begins_begin c c es, times_one c),
-  λ h. elim (ended_cases es (Begin c) c h) [
+  λ h. elim (ended_cases _ _ _ h) [
     | inl before ↦ absurd (omega (arith, fresh, s.begun c before))
-    | inr ends ↦ begin_no_end c c ends
+    | inr ends ↦ begin_no_end _ _ ends
   ],
 )
 
@@ -218,7 +202,7 @@ open_begin_cases es c x o =
       | inl e ↦ inr e
       | inr ne ↦ inl (
         omega (arith, o.0, begins_begin x c es, times_other x c ne),
-        λ h. o.1 (ended_still es (Begin c) x h),
+        λ h. o.1 (ended_still _ _ _ h),
       )
     ]
 
@@ -226,9 +210,9 @@ pub open_end_still : (es : List Event) (e : Event) (c x : ℕ) → Ends e c → 
     → IsOpen (es ++ e ∷ []) x
 open_end_still es e c x ends o ne = (
   omega (arith, o.0, begins_ends x c es e ends),
-  λ h. elim (ended_cases es e x h) [
+  λ h. elim (ended_cases _ _ _ h) [
     | inl before ↦ o.1 before
-    | inr now ↦ ne (ends_one e x c now ends)
+    | inr now ↦ ne (ends_one _ _ _ now ends)
   ],
 )
 
@@ -236,13 +220,12 @@ pub open_end_before : (es : List Event) (e : Event) (c x : ℕ) → Ends e c
     → IsOpen (es ++ e ∷ []) x → IsOpen es x
 open_end_before es e c x ends o = (
   omega (arith, o.0, begins_ends x c es e ends),
-  λ h. o.1 (ended_still es e x h),
+  λ h. o.1 (ended_still _ _ _ h),
 )
 
 pub open_end_other : (es : List Event) (e : Event) (c x : ℕ) → Ends e c
     → IsOpen (es ++ e ∷ []) x → x ≢ c
-open_end_other es e c x ends o same =
-    o.1 (ended_now es e x (subst (λ y. Ends e y) (sym same) ends))
+open_end_other es e c x ends o same = o.1 (ended_now _ _ _ (rw same ends))
 
 -- a history stays one
 pub sound_begin : (es : List Event) (c : ℕ) → IsSound es → begins c es ≡ 0
@@ -250,9 +233,9 @@ pub sound_begin : (es : List Event) (c : ℕ) → IsSound es → begins c es ≡
 sound_begin es c s none = record {
   once = λ x. grind (arith, cases_eq, begins_begin, times_one, times_other);
   begun = λ x a.
-      elim (ended_cases es (Begin c) x a) [
+      elim (ended_cases _ _ _ a) [
         | inl before ↦ omega (arith, begins_begin x c es, s.begun x before)
-        | inr ends ↦ absurd (begin_no_end c x ends)
+        | inr ends ↦ absurd (begin_no_end _ _ ends)
       ];
 }
 
@@ -261,11 +244,11 @@ pub sound_end : (es : List Event) (e : Event) (c : ℕ) → Ends e c → IsSound
 sound_end es e c ends s some = record {
   once = λ x. omega (arith, begins_ends x c es e ends, s.once x);
   begun = λ x a.
-      elim (ended_cases es e x a) [
+      elim (ended_cases _ _ _ a) [
         | inl before ↦ omega (arith, begins_ends x c es e ends, s.begun x before)
         | inr now ↦
-            let same : c ≡ x = ends_one e c x ends now in
-            omega (arith, begins_ends x c es e ends, subst (λ y. 0 < begins y es) same some)
+            let same : c ≡ x = ends_one _ _ _ ends now in
+            omega (arith, begins_ends x c es e ends, rw same at some)
       ];
 }
 
@@ -300,10 +283,9 @@ pub table_begin : (es : List Event) (slots new : List (Option ℕ)) (c t : ℕ) 
     → IsTable (es ++ Begin c ∷ []) new
 table_begin es slots new c t s fresh table takes = record {
   each = λ slot call has.
-      elim (taken_cases slots new c t slot call takes has) [
-        | inl now ↦ subst (λ x. IsOpen (es ++ Begin c ∷ []) x) (sym now.1)
-            (open_begin_now es c s fresh)
-        | inr before ↦ open_begin_still es c call (table.each slot call before.1)
+      elim (taken_cases _ _ _ _ _ _ takes has) [
+        | inl now ↦ rw now.1 (open_begin_now _ _ s fresh)
+        | inr before ↦ open_begin_still _ _ _ (table.each slot call before.1)
       ];
   all = λ call is. grind (arith, open_begin_cases, taken_still);
   apart = λ one other call a b. grind (arith, taken_cases);
@@ -314,16 +296,14 @@ pub table_end : (es : List Event) (slots new : List (Option ℕ)) (e : Event) (c
     → IsTable es slots → HasSlot slots t c → FreesSlot slots t new → IsTable (es ++ e ∷ []) new
 table_end es slots new e c t ends table here frees = record {
   each = λ slot call has.
-      let before = freed_before slots new t slot call frees has in
-      open_end_still es e c call ends (table.each slot call before.1)
-      (λ same. before.0 (table.apart slot t call before.1 (subst (λ x. HasSlot slots t x) (sym
-      same) here)));
+      let before = freed_before _ _ _ _ _ frees has in
+      open_end_still _ _ _ _ ends (table.each slot call before.1)
+      (λ same. before.0 (table.apart slot t call before.1 (rw same here)));
   all = λ call is.
-      let at = table.all call (open_end_before es e c call ends is) in (
+      let at = table.all call (open_end_before _ _ _ _ ends is) in (
         at.0,
-        freed_still slots new t at.0 call frees
-            (λ same. open_end_other es e c call ends is
-            (slot_once slots t call c (subst (λ s. HasSlot slots s call) same at.1) here)) at.1,
+        freed_still _ _ _ _ _ frees (λ same. open_end_other _ _ _ _ ends is
+            (slot_once slots t _ _ (rw (← same) at.1) here)) at.1,
       );
   apart = λ one other call a b. grind (arith, freed_before);
   few = omega (arith, frees.few, table.few);

@@ -1,7 +1,7 @@
 -- What explains a history, and one event more.
-use Rattle.histories.proofs.Words.{◌≡◌, ℕ, ◌+◌, ◌<◌, List, [], ◌∷◌, ◌++◌, get_or, sym, subst, arith, inl, inr, Option, append-nil, append_assoc, cases_lt, all_pairs_push, Event, Begin, End, begins, times, Explains, HasEnded, IsOpen, IsOver, Leads, Ends, IsSound, IsTable, IsWaiting, Leaves, Runs, cleared}
+use Rattle.histories.proofs.Words.{◌≡◌, ℕ, ◌+◌, ◌<◌, List, [], ◌∷◌, ◌++◌, get_or, arith, inl, inr, Option, append-nil, append_assoc, cases_lt, all_pairs_push, Event, Begin, End, begins, times, Explains, HasEnded, IsOpen, IsOver, Leads, Ends, IsSound, IsTable, Leaves, Runs, cleared}
 use Rattle.histories.proofs.Counting.{all_pairs_behind, all_pairs_front, apart, times-append, times-cons, times_at, times_one, times_other, times_same}
-use Rattle.histories.proofs.Events.{answered_cases, answered_ended, answered_left, begin_no_end, begins-append, begins_begin, begins_cases, begins_ends, ends_one, over_cases, over_ended, over_now, over_left}
+use Rattle.histories.proofs.Events.{answered_cases, answered_ended, answered_left, begin_no_end, begins-append, begins_begin, begins_cases, ends_one, over_cases, over_ended, over_now, over_left}
 use Rattle.histories.proofs.Running.{leads_push, leaves_made}
 
 module _ {S : Type 0} (Step : S → ℕ → S → Type 0) where
@@ -11,27 +11,14 @@ module _ {S : Type 0} (Step : S → ℕ → S → Type 0) where
       → Step mid call new → Explains Step es old (order ++ call ∷ []) new
   explains_pushed es old mid new order call o fresh ex step =
       let counts : (c : ℕ) → times c (order ++ call ∷ []) ≡ times c order + times c (call ∷ []) =
-      λ c. times-append c order (call ∷ []) in record {
+      λ c. times-append _ _ _ in record {
         once = λ c. grind (arith, cases_lt, times_same, times_one);
         begun = λ c some. grind (arith, cases_lt, times_same);
         answered = λ c a. omega (arith, ex.answered c a, counts c);
         real_time = all_pairs_push (λ first second. ¬ (IsOver es second first)) order call
-            ex.real_time (λ k d within over. o.1 (over_ended es call (get_or order k d) over));
-        leads = leads_push Step old mid new order call ex.leads step;
+            ex.real_time (λ k d within over. o.1 (over_ended _ _ _ over));
+        leads = leads_push _ _ _ _ _ _ ex.leads step;
       }
-
-  -- a call that waits is made after an order
-  pub explains_made : (es : List Event) (slots : List (Option ℕ)) (old mid new : S)
-      (order : List ℕ) (waiting slot call : ℕ)
-      → IsTable es slots → Explains Step es old order mid → Leaves slots order waiting
-      → IsWaiting slots waiting slot call → Step mid call new
-      → Explains Step es old (order ++ call ∷ []) new
-      × Leaves slots (order ++ call ∷ []) (cleared waiting slot)
-  explains_made es slots old mid new order waiting slot call table ex leaves is step = (
-    explains_pushed es old mid new order call (table.each slot call is.0)
-        (omega (arith, leaves slot call is.0, is.1)) ex step,
-    leaves_made Step slots order waiting slot call table.few table.apart leaves is,
-  )
 
   -- calls that wait are made after an order
   pub explains_run : (es : List Event) (slots : List (Option ℕ)) (old mid new : S)
@@ -42,13 +29,11 @@ module _ {S : Type 0} (Step : S → ℕ → S → Type 0) where
   explains_run es slots old mid new order waiting [] rest table ex leaves run =
       grind (arith, append-nil)
   explains_run es slots old mid new order waiting (call ∷ calls) rest table ex leaves run =
-      let more = explains_made es slots old mid run.2.0 order waiting run.0 call table ex leaves
-      run.1
-      run.2.1 in
-      let all = explains_run es slots old run.2.0 new (order ++ call ∷ []) (cleared waiting run.0)
-      calls rest table more.0 more.1 run.2.2 in
-      subst (λ (o : List ℕ). Explains Step es old o new × Leaves slots o rest)
-      (append_assoc order (call ∷ []) calls) all
+      let made = explains_pushed es old mid run.2.0 order call (table.each run.0 call run.1.0)
+      (omega (arith, leaves run.0 call run.1.0, run.1.1)) ex run.2.1 in
+      rw (← append_assoc order (call ∷ []) calls)
+      (explains_run es slots old run.2.0 new (order ++ call ∷ []) (cleared waiting run.0) calls rest
+      table made (leaves_made Step _ _ _ _ _ table.few table.apart leaves run.1) run.2.2)
 
   -- an order in which no call begins with the last event explains those before it
   explains_less : (es : List Event) (e : Event) (old new : S) (order : List ℕ)
@@ -56,14 +41,9 @@ module _ {S : Type 0} (Step : S → ℕ → S → Type 0) where
       → Explains Step es old order new
   explains_less es e old new order none ex = record {
     once = ex.once;
-    begun = λ c some. elim (begins_cases es e c (ex.begun c some)) [
-      | inl before ↦ before
-      | inr is ↦ absurd (omega (arith, some, none c is))
-    ];
-    answered = λ c a. ex.answered c (answered_left es (e ∷ []) c a);
-    real_time = λ i j d less within over.
-        ex.real_time i j d less within
-        (over_left es (e ∷ []) (get_or order j d) (get_or order i d) over);
+    begun = grind (arith, begins_cases);
+    answered = λ c a. ex.answered c (answered_left _ _ _ a);
+    real_time = λ i j d less within over. ex.real_time i j d less within (over_left _ _ _ _ over);
     leads = ex.leads;
   }
 
@@ -72,15 +52,13 @@ module _ {S : Type 0} (Step : S → ℕ → S → Type 0) where
       → Explains Step (es ++ Begin call ∷ []) old order new → times call order ≡ 0
       → Explains Step es old order new
   explains_without es old new order call ex none =
-      explains_less es (Begin call) old new order
-      (λ c is. let same : call ≡ c = cc in subst (λ x. times x order ≡ 0) same none) ex
+      explains_less _ _ _ _ _ (λ c is. let same : call ≡ c = cc in rw (← same) none) ex
 
   -- an order that explains the history with the end explains that without
   pub explains_open : (es : List Event) (e : Event) (old new : S) (order : List ℕ) (call : ℕ)
       → Ends e call → Explains Step (es ++ e ∷ []) old order new → Explains Step es old order new
   explains_open es e old new order call ends ex =
-      explains_less es e old new order
-      (λ c is. absurd (begin_no_end c call (subst (λ x. Ends x call) is ends))) ex
+      explains_less _ _ _ _ _ (λ c is. absurd (begin_no_end _ _ (rw is at ends))) ex
 
   -- what stands behind a call that begins now has not ended
   pub behind_open : (es : List Event) (old new : S) (before after : List ℕ) (call c : ℕ)
@@ -88,7 +66,7 @@ module _ {S : Type 0} (Step : S → ℕ → S → Type 0) where
       → 0 < times c after → HasEnded es c → ⊥
   behind_open es old new before after call c ex some ended =
       all_pairs_behind (λ first second. ¬ (IsOver (es ++ Begin call ∷ []) second first)) before
-      after call c ex.real_time some (over_now es c call ended)
+      _ _ _ ex.real_time some (over_now _ _ _ ended)
 
   -- CUT. A call that begins now and is made: what was answered stands before it, and explains what
   -- was before.
@@ -98,30 +76,26 @@ module _ {S : Type 0} (Step : S → ℕ → S → Type 0) where
       → Leads Step old before mid → Explains Step es old before mid
   explains_front es old mid new before after call s fresh ex leads =
       let order = before ++ call ∷ after in
-      let counts : (c : ℕ)
-      → times c order ≡ times c before + times c (call ∷ []) + times c after =
+      let counts : (c : ℕ) → times c order ≡ times c before + times c (call ∷ []) + times c after =
       λ c. omega (arith, times-append c before (call ∷ after), times-cons c call after) in
       let absent : times call before ≡ 0 =
       omega (arith, counts call, ex.once call, times_one call) in record {
         once = λ c. omega (arith, counts c, ex.once c);
         begun = λ c some. grind (arith, begins_begin, apart);
         answered = λ c a.
-            let made : 0 < times c order = ex.answered c (answered_left es (Begin call ∷ []) c a) in
-            let begun : 0 < begins c es = s.begun c (answered_ended es c a) in
+            let made : 0 < times c order = ex.answered c (answered_left _ _ _ a) in
+            let begun : 0 < begins c es = s.begun c (answered_ended _ _ a) in
             let other : times c (call ∷ []) ≡ 0 =
-            times_other c call
-            (λ e. absurd (omega (arith, begun, subst (λ x. begins x es ≡ 0) e fresh))) in
+            times_other _ _ (λ e. absurd (omega (arith, begun, rw e at fresh))) in
             elim (cases_lt 0 (times c before)) [
               | inl some ↦ some
               | inr none ↦
-                  absurd
-                  (behind_open es old new before after call c ex
-                  (omega (arith, made, counts c, other, none)) (answered_ended es c a))
+                  absurd (behind_open _ _ _ _ _ _ _ ex
+                  (omega (arith, made, counts c, other, none)) (answered_ended _ _ a))
             ];
         real_time = λ i j d less within over.
             all_pairs_front (λ first second. ¬ (IsOver (es ++ Begin call ∷ []) second first))
-            before (call ∷ after) ex.real_time i j d less within
-            (over_left es (Begin call ∷ []) (get_or before j d) (get_or before i d) over);
+            _ _ ex.real_time i j d less within (over_left _ _ _ _ over);
         leads = leads;
       }
 
@@ -132,12 +106,12 @@ module _ {S : Type 0} (Step : S → ℕ → S → Type 0) where
   explains_more es e old new order fresh made ex = record {
     once = ex.once;
     begun = λ c some. omega (arith, ex.begun c some, begins-append c es (e ∷ []));
-    answered = λ c a. elim (answered_cases es e c a) [
+    answered = λ c a. elim (answered_cases _ _ _ a) [
       | inl before ↦ ex.answered c before
       | inr is ↦ made c is
     ];
     real_time = λ i j d less within over.
-        elim (over_cases es e (get_or order j d) (get_or order i d) over) [
+        elim (over_cases _ _ _ _ over) [
           | inl before ↦ ex.real_time i j d less within before
           | inr is ↦ absurd (omega (
             arith,
@@ -153,8 +127,7 @@ module _ {S : Type 0} (Step : S → ℕ → S → Type 0) where
       → begins call es ≡ 0 → Explains Step es old order new
       → Explains Step (es ++ Begin call ∷ []) old order new
   explains_begin es old new order call fresh ex =
-      explains_more es (Begin call) old new order
-      (λ c is. let same : call ≡ c = cc in subst (λ x. begins x es ≡ 0) same fresh)
+      explains_more _ _ _ _ _ (λ c is. let same : call ≡ c = cc in rw (← same) fresh)
       (λ c is. absurd (cc)) ex
 
   -- a call ends, and has been made if it was answered
@@ -162,8 +135,6 @@ module _ {S : Type 0} (Step : S → ℕ → S → Type 0) where
       → Ends e call → (e ≡ End call → 0 < times call order) → Explains Step es old order new
       → Explains Step (es ++ e ∷ []) old order new
   explains_end es e old new order call ends made ex =
-      explains_more es e old new order
-      (λ c is. absurd (begin_no_end c call (subst (λ x. Ends x call) is ends)))
-      (λ c is.
-      let same : c ≡ call = ends_one e c call (inl is) ends in
-      subst (λ x. 0 < times x order) (sym same) (made (subst (λ x. e ≡ End x) same is))) ex
+      explains_more _ _ _ _ _ (λ c is. absurd (begin_no_end _ _ (rw is at ends))) (λ c is.
+      let same : c ≡ call = ends_one _ _ _ (inl is) ends in
+      rw same (made (rw same at is))) ex

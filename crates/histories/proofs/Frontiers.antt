@@ -1,5 +1,5 @@
 -- The configurations after one event more.
-use Rattle.histories.proofs.Words.{◌≡◌, ◌≢◌, ℕ, ◌<◌, ◌≤◌, List, [], ◌∷◌, ◌++◌, length, refl, sym, ◌∙◌, ap, subst, arith, inl, inr, Option, AllPairs, bit_at, Contains, Config, Link, Event, End, Crash, times, Explains, Leads, Ends, HasManyOrders, HasSlot, IsFollowed, IsFrontier, IsLighter, IsSame, IsTable, LeadTo, Leaves, Path, cleared, no_path, order_at, order_of, path_of, AreSettled, FreesSlot, FromOne, Gathers, HasMany, IsClosed, IsDropped, IsFirst, IsMadeFrom, Spot, spot_of}
+use Rattle.histories.proofs.Words.{◌≡◌, ◌≢◌, ℕ, ◌<◌, ◌≤◌, List, [], ◌∷◌, ◌++◌, length, refl, sym, ◌∙◌, ap, subst, arith, inl, inr, Option, AllPairs, bit_at, Contains, Config, Link, Event, End, Crash, times, Explains, Ends, HasManyOrders, HasSlot, IsFollowed, IsFrontier, IsLighter, IsSame, IsTable, LeadTo, Leaves, Path, cleared, no_path, order_at, order_of, path_of, AreSettled, FreesSlot, FromOne, Gathers, HasMany, IsClosed, IsDropped, IsFirst, IsMadeFrom, Spot, spot_of}
 use Rattle.histories.proofs.Bits.{bit_cases, cleared_other, cleared_same, slot_64, slot_within}
 use Rattle.histories.proofs.Counting.{not_some, times_none, no_times}
 use Rattle.histories.proofs.Events.{answered_now, begins_none, freed_before, table_end}
@@ -10,17 +10,14 @@ use Rattle.histories.proofs.Places.{nothing_in, order_more, order_none}
 
 module _ {S : Type 0} (Step : S → ℕ → S → Type 0) where
   -- each configuration is that of an order
-  abbrev pub AreSound : List Link → List (Option ℕ) → List Event → List S → List (Config S)
-      → Type 0
+  abbrev pub AreSound : List Link → List (Option ℕ) → List Event → List S → List (Config S) → Type 0
   AreSound links slots es olds configs =
-      (config : Config S) → Contains configs config
-      → IsFollowed Step links slots es olds config
+      (config : Config S) → Contains configs config → IsFollowed Step links slots es olds config
 
   -- each order is that of a configuration
   abbrev pub AreComplete : List (Option ℕ) → List Event → List S → List (Config S) → Type 0
   AreComplete slots es olds configs =
-      (old : S) (order : List ℕ) (new : S) → Contains olds old
-      → Explains Step es old order new
+      (old : S) (order : List ℕ) (new : S) → Contains olds old → Explains Step es old order new
       → (rest : ℕ) × Leaves slots order rest × LeadTo Step slots configs new rest
 
   -- where waiting calls were made, the order explains the history still
@@ -33,13 +30,13 @@ module _ {S : Type 0} (Step : S → ℕ → S → Type 0) where
       let from = made.0 in
       let calls = made.2.0 in
       let order : order_of links k ≡ order_of links from ++ calls =
-      ap (λ (p : Path). order_at links p) made.2.2 ∙ order_more links (path_of from) calls in
-      let more = explains_run Step es slots is.old from.state k.state (order_of links from)
-      from.waiting calls k.waiting table is.explains is.leaves made.2.1 in record {
+      ap (λ (p : Path). order_at links p) made.2.2 ∙ order_more _ _ _ in
+      let more = explains_run _ _ _ _ _ _ _
+      _ _ _ table is.explains is.leaves made.2.1 in record {
         old = is.old;
         from = is.from;
-        explains = subst (λ (m : List ℕ). Explains Step es is.old m k.state) (sym order) more.0;
-        leaves = subst (λ (m : List ℕ). Leaves slots m k.waiting) (sym order) more.1;
+        explains = rw order more.0;
+        leaves = rw order more.1;
         within = omega (arith, is.within, ap (λ (p : Path). p.base) made.2.2);
       }
 
@@ -51,14 +48,13 @@ module _ {S : Type 0} (Step : S → ℕ → S → Type 0) where
   frontier_settled links slots es olds configs settled table sound complete a = record {
     sound = λ k has.
         let is = a.sound k has in
-        followed_made links slots es olds configs k table sound
-        (made_settled Step slots configs is.0 (spot_of k) is.2
-        (is.0, is.1, ([], (refl, refl), path_none (path_of is.0))));
+        followed_made _ _ _ _ _ _ table sound (made_settled _ _ _ _ _ is.2
+        (is.0, is.1, ([], (refl, refl), path_none _)));
     complete = λ old order new from ex.
         let lead = complete old order new from ex in (
           lead.0,
           lead.1,
-          leads_settled Step slots configs settled new lead.0 table.few a lead.2,
+          leads_settled _ _ _ _ _ _ table.few a lead.2,
         );
     once = a.once;
     table = table;
@@ -68,12 +64,11 @@ module _ {S : Type 0} (Step : S → ℕ → S → Type 0) where
       (few : length slots ≤ 64) where
     leaves_freed : (order : List ℕ) (rest : ℕ) → Leaves slots order rest → Leaves more order rest
     leaves_freed order rest leaves slot call has =
-        leaves slot call (freed_before slots more t slot call frees has).1
+        leaves slot call (freed_before _ _ _ _ _ frees has).1
 
     lighter_freed : (fewer rest : ℕ) → IsLighter Step slots fewer rest
         → IsLighter Step more fewer rest
-    lighter_freed fewer rest l slot call has =
-        l slot call (freed_before slots more t slot call frees has).1
+    lighter_freed fewer rest l slot call has = l slot call (freed_before _ _ _ _ _ frees has).1
 
     -- the same leads on without the slot
     leads_freed : (configs : List (Config S)) (new : S) (rest : ℕ)
@@ -86,13 +81,12 @@ module _ {S : Type 0} (Step : S → ℕ → S → Type 0) where
           (
             l.2.0,
             l.2.1,
-            runs_in Step slots more k.state new k.waiting l.2.1 l.2.0 t (λ w. w)
-                (λ w s ne h. refl) (λ w s ne h. refl) few
+            runs_in _ _ _ _ _ _ _ _ _ _ (λ w s ne h. refl) (λ w s ne h. refl) few
                 (λ s call has some.
                 let ne : s ≢ t = λ e. absurd
                 (omega (arith, some, gone k l.1, ap (λ x. bit_at k.waiting x) e)) in
                 (ne, frees.others s ne ∙ has)) l.2.2,
-            lighter_freed l.2.1 rest l.2.3,
+            lighter_freed _ _ l.2.3,
           ),
         )
 
@@ -117,18 +111,18 @@ module _ {S : Type 0} (Step : S → ℕ → S → Type 0) where
         -- a call that was answered is made
         pub frontier_end : IsFrontier Step links more (es ++ End c ∷ []) olds done
         frontier_end = record {
-          sound = done_sound (End c) (inl refl);
+          sound = done_sound _ (inl refl);
           complete = λ old order new from ex.
               let lead = f.complete old order new from
-              (explains_open Step es (End c) old new order c (inl refl) ex) in
-              let made : 0 < times c order = ex.answered c (answered_now es c) in (
+              (explains_open _ _ _ _ _ _ _ (inl refl) ex) in
+              let made : 0 < times c order = ex.answered c (answered_now _ _) in (
                 lead.0,
-                leaves_freed order lead.0 lead.1,
-                leads_freed done new lead.0 (λ k has. (g.sound k has).1)
+                leaves_freed _ _ lead.1,
+                leads_freed _ _ _ (λ k has. (g.sound k has).1)
                     (g.complete new lead.0 lead.2 (omega (arith, made, lead.1 t c here))),
               );
           once = g.once;
-          table = table_end es slots more (End c) c t (inl refl) f.table here frees;
+          table = table_end _ _ _ _ _ _ (inl refl) f.table here frees;
         }
 
         module _ (all : List (Config S)) (d : Gathers (FromOne (IsDropped t) configs) done all)
@@ -144,13 +138,9 @@ module _ {S : Type 0} (Step : S → ℕ → S → Type 0) where
                 ap (λ (p : Path). order_at links p) drop.3 in record {
                   old = is.old;
                   from = is.from;
-                  explains = subst
-                      (λ (m : List ℕ). Explains Step (es ++ Crash c ∷ []) is.old m k.state)
-                      (sym order)
-                      (subst
+                  explains = rw order (subst
                       (λ x. Explains Step (es ++ Crash c ∷ []) is.old (order_of links from) x)
-                      (sym drop.1)
-                      (explains_end Step es (Crash c) is.old from.state (order_of links from) c
+                      (sym drop.1) (explains_end _ _ _ _ _ _ _
                       (inr refl) (λ is_end. absurd (cc)) is.explains));
                   leaves = λ slot call has. grind (arith, freed_before, cleared_other, slot_64);
                   within = omega (arith, is.within, ap (λ (p : Path). p.base) drop.3);
@@ -167,70 +157,54 @@ module _ {S : Type 0} (Step : S → ℕ → S → Type 0) where
             crash_leads : (new : S) (rest : ℕ) → bit_at rest t ≡ 1
                 → LeadTo Step slots configs new rest → LeadTo Step slots all new (cleared rest t)
             crash_leads new rest waits l =
-                let h = slot_64 slots t c few here in
+                let h = slot_64 _ _ _ few here in
                 let from = l.0 in
                 let fewer = l.2.1 in
-                elim (bit_cases fewer t) [
+                elim (bit_cases _ _) [
                   | inl none ↦
-                      leads_kept Step slots (FromOne (IsDropped t) configs) done all new
-                      (cleared rest t) d
+                      leads_kept _ _ _ _ _ _ _ d
                       (g.complete new (cleared rest t) (
                         from,
                         l.1,
-                        (
-                          l.2.0,
-                          fewer,
-                          l.2.2,
-                          lighter_without Step slots fewer rest t few h none l.2.3,
-                        ),
-                      )
-                      (cleared_same rest t h))
+                        (l.2.0, fewer, l.2.2, lighter_without _ _ _ _ _ few h none l.2.3),
+                      ) (cleared_same _ _ h))
                   | inr some ↦
                       let there : bit_at from.waiting t ≡ 1 = grind (
                         arith,
                         bit_cases,
                         runs_fewer Step slots from.state new from.waiting fewer t l.2.0 few h l.2.2,
                       ) in
-                      let spot : Spot S = record {
-                        state = from.state;
-                        waiting = cleared from.waiting t;
-                        made = path_of from;
-                      } in
-                      leads_found Step slots (FromOne (IsDropped t) configs) done all spot l.2.0
-                      new (cleared fewer t) (cleared rest t) d
-                      (from, l.1, (there, refl, refl, refl))
-                      (runs_without Step slots from.state new from.waiting fewer t l.2.0 few h some
-                      l.2.2)
-                      (lighter_cleared Step slots fewer rest t few h l.2.3)
+                      leads_found _ _ _ _ _ _ _ _ _ _ d (from, l.1, (there, refl, refl, refl))
+                      (runs_without _ _ _ _ _ _ _ _ few h some l.2.2)
+                      (lighter_cleared _ _ _ _ _ few h l.2.3)
                 ]
 
             -- a call whose caller crashed is made, or never
             pub frontier_crash : IsFrontier Step links more (es ++ Crash c ∷ []) olds all
             frontier_crash = record {
               sound = λ k has. elim (d.sound k has) [
-                | inl closed ↦ done_sound (Crash c) (inr refl) k closed
-                | inr found ↦ dropped_sound k found
+                | inl closed ↦ done_sound _ (inr refl) k closed
+                | inr found ↦ dropped_sound _ found
               ];
               complete = λ old order new from ex.
                   let lead = f.complete old order new from
-                  (explains_open Step es (Crash c) old new order c (inr refl) ex) in
+                  (explains_open _ _ _ _ _ _ _ (inr refl) ex) in
                   elim (bit_cases lead.0 t) [
                     | inl none ↦ (
                       lead.0,
-                      leaves_freed order lead.0 lead.1,
-                      leads_freed all new lead.0 crash_gone
+                      leaves_freed _ _ lead.1,
+                      leads_freed _ _ _ crash_gone
                           (leads_kept Step slots (FromOne (IsDropped t) configs) done all new lead.0
                           d (g.complete new lead.0 lead.2 none)),
                     )
                     | inr some ↦ (
                       cleared lead.0 t,
                       λ slot call has. grind (arith, freed_before, cleared_other, slot_64),
-                      leads_freed all new (cleared lead.0 t) crash_gone
-                          (crash_leads new lead.0 some lead.2),
+                      leads_freed _ _ _ crash_gone (crash_leads new lead.0 some lead.2),
                     )
                   ];
               once = d.once g.once;
-              table = table_end es slots more (Crash c) c t (inr refl) f.table here frees;
+              table = table_end _ _ _ _ _ _ (inr refl) f.table here frees;
             }
 
   pub many_orders : (links : List Link) (slots : List (Option ℕ)) (es : List Event)
@@ -243,7 +217,7 @@ module _ {S : Type 0} (Step : S → ℕ → S → Type 0) where
     many.1,
     many.2,
     f.table,
-    λ k has. followed_made links slots es olds configs k f.table f.sound (many.3 k has),
+    λ k has. followed_made _ _ _ _ _ _ f.table f.sound (many.3 k has),
   )
 
   pub front_many : (links : List Link) (slots : List (Option ℕ)) (es : List Event)
@@ -260,9 +234,9 @@ module _ {S : Type 0} (Step : S → ℕ → S → Type 0) where
       → (order ≡ []) × (new ≡ old)
   no_calls old new order ex =
       let none : order ≡ [] =
-      no_times order (λ c. not_some (times c order)
+      no_times _ (λ c. not_some _
       (λ some. absurd (omega (arith, ex.begun c some, begins_none c)))) in
-      (none, subst (λ (o : List ℕ). Leads Step old o new) none ex.leads)
+      (none, rw none at ex.leads)
 
   -- configurations of orders of no calls, where no call is open
   pub frontier_fresh : (links : List Link) (slots : List (Option ℕ)) (olds : List S)
@@ -274,21 +248,19 @@ module _ {S : Type 0} (Step : S → ℕ → S → Type 0) where
     sound = λ k has.
         let is = from k has in
         let order : order_of links k ≡ [] =
-        ap (λ (p : Path). order_at links p) is.1 ∙ order_none links in record {
+        ap (λ (p : Path). order_at links p) is.1 ∙ order_none _ in record {
           old = k.state;
           from = is.0;
-          explains = subst (λ (m : List ℕ). Explains Step [] k.state m k.state) (sym order)
-              (explains_none k.state);
+          explains = rw order (explains_none _);
           leaves = λ slot call here.
               absurd (omega (arith, (table.each slot call here).0, begins_none call));
           within = omega (arith, ap (λ (p : Path). p.base) is.1);
         };
     complete = λ old order new has ex.
-        let is = no_calls old new order ex in
+        let is = no_calls _ _ _ ex in
         let k = all old has in (
           0,
-          λ slot call here.
-              absurd (omega (arith, (table.each slot call here).0, begins_none call)),
+          λ slot call here. absurd (omega (arith, (table.each slot call here).0, begins_none call)),
           (
             k.0,
             k.1,
@@ -312,12 +284,10 @@ module _ {S : Type 0} (Step : S → ℕ → S → Type 0) where
   pub frontier_first : (links : List Link) (olds : List S) (configs : List (Config S))
       → Gathers (IsFirst olds) [] configs → IsFrontier Step links [] [] olds configs
   frontier_first links olds configs g =
-      frontier_fresh links [] olds configs table_none
+      frontier_fresh _ _ _ _ table_none
       (λ k has. elim (g.sound k has) [
-        | inl none ↦ absurd (nothing_in k none)
+        | inl none ↦ absurd (nothing_in _ none)
         | inr found ↦ (found.0, found.2)
-      ])
-      (λ old has.
+      ]) (λ old has.
       let spot : Spot S = record { state = old; waiting = 0; made = no_path } in
-      let k = g.complete spot (has, refl, refl) in (k.0, k.1, k.2.0))
-      (g.once none_same)
+      let k = g.complete spot (has, refl, refl) in (k.0, k.1, k.2.0)) (g.once none_same)

@@ -1,5 +1,5 @@
 -- Configurations that are gathered, and put into chains.
-use Rattle.histories.proofs.Words.{◌≡◌, Option, ℕ, zero, suc, ◌+◌, ◌<◌, ◌⊎◌, List, [], ◌∷◌, ◌++◌, length, take, get_or, refl, sym, ◌∙◌, ap, subst, arith, inl, inr, true, false, ◌≢◌, ◌-◌, ◌≤◌, Bool, All, drop, set, replicate, bit_at, Contains, cases_order, cases_eq, cases_lt, take_more, get_or-drop, get_or-replicate, get_or-set_other, get_or-set_same, get_or_default, get_or_past, length-drop, length-replicate, length_push, All-contains, Contains-append_left, Contains-push, Contains-push_cases, all_pairs_push, Config, AreAll, IsSame, IsWaiting, Path, cleared, no_path, path_more, path_of, FromOne, Gathers, IsCopy, IsDone, IsDropped, IsFirst, IsKnown, IsMadeIn, IsNextAt, IsNextBeside, IsNextIn, IsNextOther, IsAt, IsWith, Spot, spot_of, AreChained, AreLinked, AreOther, chain_at, chain_of, get_or-append, get_or-append_seam}
+use Rattle.histories.proofs.Words.{◌≡◌, Option, ℕ, ◌+◌, ◌<◌, ◌⊎◌, List, [], ◌∷◌, ◌++◌, length, take, get_or, refl, sym, ◌∙◌, ap, subst, arith, inl, inr, true, false, ◌≢◌, ◌-◌, ◌≤◌, Bool, All, drop, set, replicate, bit_at, Contains, cases_order, cases_eq, cases_lt, take_more, get_or-drop, get_or-replicate, get_or-set_other, get_or-set_same, get_or_default, get_or_past, length-drop, length-replicate, length_push, All-contains, Contains-append_left, Contains-push, Contains-push_cases, all_pairs_push, Config, AreAll, IsSame, IsWaiting, Path, cleared, no_path, path_more, path_of, FromOne, Gathers, IsCopy, IsDone, IsDropped, IsFirst, IsKnown, IsMadeIn, IsNextAt, IsNextBeside, IsNextIn, IsNextOther, IsAt, IsWith, Spot, spot_of, AreChained, AreLinked, AreOther, chain_at, chain_of, get_or-append, get_or-append_seam}
 use Rattle.histories.specs.Gathering.{IsNext}
 use Rattle.histories.proofs.Bits.{slot_once}
 use Rattle.histories.proofs.Places.{less_of, nothing_in, only}
@@ -52,17 +52,15 @@ module _ {S : Type 0} where
   pub gathers_known : (configs : List (Config S)) (config : Config S)
       → IsKnown configs config true → Gathers (IsCopy config) configs configs
   gathers_known configs config is =
-      gathers_there (IsCopy config) is.0 configs is.1
-      (λ k copy. (is.2.0 ∙ sym copy.0, is.2.1 ∙ sym copy.1))
+      gathers_there _ _ _ is.1 (λ k copy. (is.2.0 ∙ sym copy.0, is.2.1 ∙ sym copy.1))
 
   -- one that is not there yet
-  pub gathers_new : (configs : List (Config S)) (config : Config S)
-      → IsKnown configs config false
+  pub gathers_new : (configs : List (Config S)) (config : Config S) → IsKnown configs config false
       → Gathers (IsCopy config) configs (configs ++ config ∷ [])
   gathers_new configs config is = record {
     sound = λ k has. elim (Contains-push_cases configs config k has) [
       | inl m ↦ inl m
-      | inr e ↦ inr (subst (λ (x : Config S). IsCopy config (spot_of x)) e (refl, refl, refl))
+      | inr e ↦ inr (rw (← e) (refl, refl, refl))
     ];
     kept = λ k has. Contains-append_left configs (config ∷ []) k has;
     complete = λ k copy. (config, Contains-push configs config, (sym copy.0, sym copy.1));
@@ -74,42 +72,31 @@ module _ {S : Type 0} where
       (mid new : List (Config S)) → next.state ≡ state → next.waiting ≡ waiting
       → path_of next ≡ made → Gathers (IsCopy next) mid new
       → Gathers (IsWith (state ∷ []) waiting made) mid new
-  gathers_with next state waiting made mid new same waits path g =
-      grind (arith, gathers_as, only)
+  gathers_with next state waiting made mid new same waits path g = grind (arith, gathers_as, only)
 
   pub gathers_states : (states : List S) (state : S) (waiting : ℕ) (made : Path)
       (old mid new : List (Config S)) → Gathers (IsWith states waiting made) old mid
       → Gathers (IsWith (state ∷ []) waiting made) mid new
       → Gathers (IsWith (states ++ state ∷ []) waiting made) old new
   gathers_states states state waiting made old mid new f g =
-      gathers_then (IsWith states waiting made) (IsWith (state ∷ []) waiting made)
-      (IsWith (states ++ state ∷ []) waiting made) old mid new
+      gathers_then _ _ _ _ _ _
       (λ k r. elim (Contains-push_cases states state k.state r.0) [
         | inl m ↦ inl (m, r.1, r.2)
         | inr e ↦ inr ((0, omega arith, e), r.1, r.2)
-      ])
-      (λ k p. (Contains-append_left states (state ∷ []) k.state p.0, p.1, p.2))
-      (λ k q. (
-        subst (λ x. Contains (states ++ state ∷ []) x) (sym (only state k.state q.0))
-            (Contains-push states state),
-        q.1,
-        q.2,
-      )) f g
+      ]) (λ k p. (Contains-append_left states (state ∷ []) k.state p.0, p.1, p.2))
+      (λ k q. (rw (only _ _ q.0) (Contains-push states state), q.1, q.2)) f g
 
   pub gathers_no_state : (waiting : ℕ) (made : Path) (old : List (Config S))
       → Gathers (IsWith [] waiting made) old old
-  gathers_no_state waiting made old =
-      gathers_none (IsWith [] waiting made) old (λ k f. nothing_in k.state f.0)
+  gathers_no_state waiting made old = gathers_none _ _ (λ k f. nothing_in _ f.0)
 
   -- the one state that a call leaves
   pub gathers_state : (from next : Config S) (slot call : ℕ) (state : S)
-      (mid new : List (Config S)) → next.state ≡ state
-      → next.waiting ≡ cleared from.waiting slot
+      (mid new : List (Config S)) → next.state ≡ state → next.waiting ≡ cleared from.waiting slot
       → path_of next ≡ path_more (path_of from) (call ∷ []) → Gathers (IsCopy next) mid new
       → Gathers (IsNextIn from slot call (state ∷ [])) mid new
   gathers_state from next slot call state mid new same waits made g =
-      gathers_with next state (cleared from.waiting slot) (path_more (path_of from) (call ∷ []))
-      mid new same waits made g
+      gathers_with next _ _ _ _ _ same waits made g
 
   -- there is the same already
   pub gathers_had : (from : Config S) (slot call : ℕ) (state : S) (old : List (Config S))
@@ -117,15 +104,13 @@ module _ {S : Type 0} where
       × (known.waiting ≡ cleared from.waiting slot)
       → Gathers (IsNextIn from slot call (state ∷ [])) old old
   gathers_had from slot call state old is =
-      gathers_there (IsNextIn from slot call (state ∷ [])) is.0 old is.1
-      (λ k r. (is.2 ∙ sym (only state k.state r.0), is.3 ∙ sym r.1))
+      gathers_there _ _ _ is.1 (λ k r. (is.2 ∙ sym (only _ _ r.0), is.3 ∙ sym r.1))
 
   module _ (Step : S → ℕ → S → Type 0) (slots : List (Option ℕ)) where
     -- all states that a call leaves
     pub gathers_call : (from : Config S) (slot call : ℕ) (states : List S)
         (old new : List (Config S)) → IsWaiting slots from.waiting slot call
-        → AreAll (Step from.state call) states
-        → Gathers (IsNextIn from slot call states) old new
+        → AreAll (Step from.state call) states → Gathers (IsNextIn from slot call states) old new
         → Gathers (IsNextAt Step slots from slot) old new
     gathers_call from slot call states old new waits all g =
         grind (arith, gathers_as, All-contains, slot_once)
@@ -137,8 +122,8 @@ module _ {S : Type 0} where
         → next.waiting ≡ cleared made.waiting slot → path_of next ≡ path_of made
         → Gathers (IsCopy next) old new → Gathers (IsNextAt Step slots from slot) old new
     gathers_made from next made slot call old new waits is state set path g =
-        gathers_call from slot call (made.state ∷ []) old new waits is.0
-        (gathers_state from next slot call made.state old new state
+        gathers_call from _ _ (made.state ∷ []) _ _ waits is.0
+        (gathers_state from next _ _ _ _ _ state
         (set ∙ ap (λ w. cleared w slot) is.2) (path ∙ is.1) g)
 
     -- one slot more, but for one
@@ -147,20 +132,16 @@ module _ {S : Type 0} where
         → Gathers (IsNextOther Step slots from slot other) mid new
         → Gathers (IsNextBeside Step slots from slot (other + 1)) old new
     gathers_slot from slot other old mid new f g =
-        gathers_then (IsNextBeside Step slots from slot other)
-        (IsNextOther Step slots from slot other)
-        (IsNextBeside Step slots from slot (other + 1)) old mid new
+        gathers_then _ _ _ _ _ _
         (λ k r. elim (cases_order r.0 other) [
-          | inl e ↦ inr (subst (λ i. IsNextOther Step slots from slot i k) e r.2)
+          | inl e ↦ inr (rw (← e) r.2)
           | inr (inl less) ↦ inl (r.0, less, r.2)
           | inr (inr more) ↦ absurd (omega (arith, r.1))
-        ])
-        (λ k p. (p.0, omega (arith, p.1), p.2)) (λ k q. (other, omega arith, q)) f g
+        ]) (λ k p. (p.0, omega (arith, p.1), p.2)) (λ k q. (other, omega arith, q)) f g
 
     pub gathers_no_slot : (from : Config S) (slot : ℕ) (old : List (Config S))
         → Gathers (IsNextBeside Step slots from slot 0) old old
-    gathers_no_slot from slot old =
-        gathers_none (IsNextBeside Step slots from slot 0) old (λ k f. absurd (omega (arith, f.1)))
+    gathers_no_slot from slot old = gathers_none _ _ (λ k f. absurd (omega (arith, f.1)))
 
     pub gathers_other : (from : Config S) (slot other : ℕ) (old new : List (Config S))
         → (other ≡ slot → ⊥) → Gathers (IsNextAt Step slots from other) old new
@@ -170,29 +151,25 @@ module _ {S : Type 0} where
     -- and that one
     pub gathers_last : (from : Config S) (slot : ℕ) (old mid new : List (Config S))
         → slot < length slots → Gathers (IsNextBeside Step slots from slot (length slots)) old mid
-        → Gathers (IsNextAt Step slots from slot) mid new
-        → Gathers (IsNext Step slots from) old new
+        → Gathers (IsNextAt Step slots from slot) mid new → Gathers (IsNext Step slots from) old new
     gathers_last from slot old mid new within f g =
-        gathers_then (IsNextBeside Step slots from slot (length slots))
-        (IsNextAt Step slots from slot) (IsNext Step slots from) old mid new
+        gathers_then _ _ _ _ _ _
         (λ k r. elim (cases_order r.0 slot) [
-          | inl e ↦ inr (subst (λ i. IsNextAt Step slots from i k) e r.2)
+          | inl e ↦ inr (rw (← e) r.2)
           | inr (inl less) ↦ inl (r.0, r.1, ((λ e. absurd (omega (arith, less, e))), r.2))
           | inr (inr more) ↦ inl (r.0, r.1, ((λ e. absurd (omega (arith, more, e))), r.2))
-        ])
-        (λ k p. (p.0, p.1, p.2.1)) (λ k q. (slot, within, q)) f g
+        ]) (λ k p. (p.0, p.1, p.2.1)) (λ k q. (slot, within, q)) f g
 
   -- one configuration more of those from which others are found
   pub gathers_pushed : (Fact : Config S → Spot S → Type 0) (layer : List (Config S))
       (from : Config S) (old mid new : List (Config S)) → Gathers (FromOne Fact layer) old mid
       → Gathers (Fact from) mid new → Gathers (FromOne Fact (layer ++ from ∷ [])) old new
   gathers_pushed Fact layer from old mid new f g =
-      gathers_then (FromOne Fact layer) (Fact from) (FromOne Fact (layer ++ from ∷ [])) old mid new
+      gathers_then _ _ _ _ _ _
       (λ k r. elim (Contains-push_cases layer from r.0 r.1) [
         | inl m ↦ inl (r.0, m, r.2)
-        | inr e ↦ inr (subst (λ (x : Config S). Fact x k) (sym e) r.2)
-      ])
-      (λ k p. (p.0, Contains-append_left layer (from ∷ []) p.0 p.1, p.2))
+        | inr e ↦ inr (rw e r.2)
+      ]) (λ k p. (p.0, Contains-append_left layer (from ∷ []) p.0 p.1, p.2))
       (λ k q. (from, Contains-push layer from, q)) f g
 
   -- the same of a place
@@ -203,14 +180,12 @@ module _ {S : Type 0} where
   gathers_one Fact layer at from old mid new h is f g =
       let one_more : take (at + 1) layer ≡ take at layer ++ from ∷ [] =
       take_more layer at from h ∙ ap (λ (x : Config S). take at layer ++ x ∷ []) (sym is) in
-      subst (λ l. Gathers (FromOne Fact l) old new) (sym one_more)
-      (gathers_pushed Fact (take at layer) from old mid new f g)
+      rw one_more (gathers_pushed _ _ _ _ _ _ f g)
 
   -- of none, nothing is found
   pub gathers_no_one : (Fact : Config S → Spot S → Type 0) (old : List (Config S))
       → Gathers (FromOne Fact []) old old
-  gathers_no_one Fact old =
-      gathers_none (FromOne Fact []) old (λ k f. absurd (omega (arith, f.1.1)))
+  gathers_no_one Fact old = gathers_none _ _ (λ k f. absurd (omega (arith, f.1.1)))
 
   -- one state more from which an order of no calls begins
   pub gathers_first : (states : List S) (at : ℕ) (from : S) (config : Config S)
@@ -221,9 +196,7 @@ module _ {S : Type 0} where
   gathers_first states at from config old mid new h is same waits made f g =
       let one_more : take (at + 1) states ≡ take at states ++ from ∷ [] =
       take_more states at from h ∙ ap (λ x. take at states ++ x ∷ []) (sym is) in
-      subst (λ l. Gathers (IsFirst l) old new) (sym one_more)
-      (gathers_states (take at states) from 0 no_path old mid new f
-      (gathers_with config from 0 no_path mid new same waits made g))
+      rw one_more (gathers_states _ _ _ _ _ _ _ f (gathers_with config _ _ _ _ _ same waits made g))
 
   -- of those that are found by copies of others
   pub gathers_through : (Fact : Spot S → Type 0) (others old new : List (Config S))
@@ -245,13 +218,11 @@ module _ {S : Type 0} where
   pub gathers_done : (slot : ℕ) (config : Config S) (old new : List (Config S))
       → bit_at config.waiting slot ≡ 0 → Gathers (IsCopy config) old new
       → Gathers (IsDone slot config) old new
-  gathers_done slot config old new gone g =
-      gathers_as (IsCopy config) (IsDone slot config) old new (λ k p. (gone, p)) (λ k p. p.1) g
+  gathers_done slot config old new gone g = gathers_as _ _ _ _ (λ k p. (gone, p)) (λ k p. p.1) g
 
   pub gathers_not_done : (slot : ℕ) (config : Config S) (old : List (Config S))
       → bit_at config.waiting slot ≡ 1 → Gathers (IsDone slot config) old old
-  gathers_not_done slot config old waits =
-      gathers_none (IsDone slot config) old (λ k f. absurd (omega (arith, f.0)))
+  gathers_not_done slot config old waits = gathers_none _ _ (λ k f. absurd (omega (arith, f.0)))
 
   -- or where its call is dropped
   pub gathers_dropped : (slot : ℕ) (config dropped : Config S) (old new : List (Config S))
@@ -284,8 +255,7 @@ linked_as one other heads before same l = record {
 -- one place more
 pub linked_more : (chain : ℕ → ℕ) (heads before : List ℕ) (number : ℕ)
     → number ≡ chain (length before) → number < length heads → AreLinked chain heads before
-    → AreLinked chain (set heads number (length before + 1))
-    (before ++ get_or heads number 0 ∷ [])
+    → AreLinked chain (set heads number (length before + 1)) (before ++ get_or heads number 0 ∷ [])
 linked_more chain heads before number is within l =
     let last = length before in
     let head = get_or heads number 0 in
@@ -294,8 +264,7 @@ linked_more chain heads before number is within l =
     let many : length more ≡ last + 1 = length_push before head in
     let here : get_or now number 0 ≡ last + 1 = get_or-set_same heads number (last + 1) 0 within in
     let there : (other : ℕ) → other ≢ number → get_or now other 0 ≡ get_or heads other 0 = λ other
-    ne.
-    get_or-set_other heads number other (last + 1) 0 ne in
+    ne. get_or-set_other heads number other (last + 1) 0 ne in
     let was : (at : ℕ) → at < last → get_or more at 0 ≡ get_or before at 0 = λ at below.
     get_or-append before (head ∷ []) 0 at below in
     let end : get_or more last 0 ≡ head = get_or-append_seam before head [] 0 in
@@ -323,8 +292,7 @@ linked_more chain heads before number is within l =
 
 -- each of many copies of a number is that
 pub copies : (count index number : ℕ) → get_or (replicate count number) index number ≡ number
-copies count index number =
-    grind (arith, cases_lt, get_or-replicate, get_or_past, length-replicate)
+copies count index number = grind (arith, cases_lt, get_or-replicate, get_or_past, length-replicate)
 
 module _ {S : Type 0} where
   -- a configuration more, which is in no chain yet
@@ -332,11 +300,8 @@ module _ {S : Type 0} where
       → AreChained configs heads before → AreChained (configs ++ config ∷ []) heads before
   chained_push configs config heads before c = (
     omega (arith, c.0, length_push configs config),
-    λ d. linked_as (chain_at configs d) (chain_at (configs ++ config ∷ []) d) heads before
-        (λ index h.
-        ap (λ (k : Config S). chain_of k.waiting)
-        (get_or-append configs (config ∷ []) d index (omega (arith, h, c.0))))
-        (c.1 d),
+    λ d. linked_as _ _ _ _ (λ index h. ap (λ (k : Config S). chain_of k.waiting)
+        (get_or-append configs (config ∷ []) d index (omega (arith, h, c.0)))) (c.1 d),
   )
 
   -- where none is in a chain
@@ -373,11 +338,9 @@ module _ {S : Type 0} where
               let at = linked.head (chain_of config.waiting) (left - 1) (omega (arith, is, some)) in
               omega (arith, at.0, some)
         ];
-        here = λ index d e.
-            ((c.1 d).head (chain_of config.waiting) index (sym is ∙ e)).1;
+        here = λ index d e. ((c.1 d).head (chain_of config.waiting) index (sym is ∙ e)).1;
         others = λ index d from below same.
-            let chained : chain_at configs d index ≡ chain_of config.waiting =
-            ap chain_of same.1 in
+            let chained : chain_at configs d index ≡ chain_of config.waiting = ap chain_of same.1 in
             absurd (omega (
               arith,
               from,
@@ -403,20 +366,14 @@ module _ {S : Type 0} where
       ] in (
         record {
           within = omega (arith, less, f.within);
-          here = λ index d e.
-              ((c.1 d).link at index below (sym is ∙ e)).1 ∙ f.here at d one;
+          here = λ index d e. ((c.1 d).link at index below (sym is ∙ e)).1 ∙ f.here at d one;
           others = λ index d from end same.
               elim (cases_order index at) [
                 | inl e ↦ grind (arith, get_or_default)
                 | inr (inl before_) ↦
                     let chained : chain_at configs d index ≡ chain_at configs d at =
                     ap chain_of same.1 ∙ sym (f.here at d one) in
-                    absurd (omega (
-                      arith,
-                      from,
-                      is,
-                      (c.1 d).kept index at before_ below chained,
-                    ))
+                    absurd (omega (arith, from, is, (c.1 d).kept index at before_ below chained))
                 | inr (inr behind) ↦ grind arith
               ];
         },
@@ -425,8 +382,7 @@ module _ {S : Type 0} where
 
   -- the first ones are others, and so are the rest
   pub all_other : (configs : List (Config S)) (config : Config S) (from : ℕ)
-      → AreOther configs 0 from config
-      → All (λ known. ¬ (IsSame known config)) (drop from configs)
+      → AreOther configs 0 from config → All (λ known. ¬ (IsSame known config)) (drop from configs)
       → All (λ known. ¬ (IsSame known config)) configs
   all_other configs config from first rest index d below =
       elim (cases_lt index from) [
@@ -434,9 +390,7 @@ module _ {S : Type 0} where
         | inr past ↦
             let at : from + (index - from) ≡ index = omega (arith, past) in
             subst (λ i. ¬ (IsSame (get_or configs i d) config)) at
-            (subst (λ (k : Config S). ¬ (IsSame k config))
-            (get_or-drop from configs (index - from) d)
-            (rest (index - from) d
+            (rw (← get_or-drop from configs (index - from) d) (rest (index - from) d
             (omega (arith, length-drop from configs, below, past))))
       ]
 
@@ -454,4 +408,4 @@ module _ {S : Type 0} where
         ),
         is.2,
       )
-  known_rest configs config from false first is = all_other configs config from first is
+  known_rest configs config from false first is = all_other _ config _ first is

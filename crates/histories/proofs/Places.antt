@@ -1,5 +1,5 @@
 -- Lists that are changed place by place, and orders that are read from links.
-use Rattle.histories.proofs.Words.{zero, suc, [], ◌∷◌, ◌≡◌, ◌≢◌, ℕ, ◌+◌, ◌<◌, ◌≤◌, List, ◌++◌, take, drop, append-nil, take_all, length, get_or, set, refl, sym, ◌∙◌, ap, subst, arith, inl, inr, Contains, map, get_or-map, cases_eq, cases_lt, Contains-get_or, Contains-push_cases, AreEach, drop_all, get_or-set_other, get_or-set_same, get_or_default, length-set, set-get_or, length-map, Option, take-append-drop, reverse, length-append, append_assoc, get_or-append, get_or-append_seam, get_or_past, length-take-le, reverse-append, take_more, Config, Link, Event, IsFollowed, IsFrontier, Path, Runs, no_path, order_at, path_more, AreLaid, Grows, IsLaid, IsLaidOut}
+use Rattle.histories.proofs.Words.{zero, suc, [], ◌∷◌, ◌≡◌, ◌≢◌, ℕ, ◌+◌, ◌<◌, ◌≤◌, List, ◌++◌, take, drop, append-nil, take_all, length, get_or, set, refl, sym, ◌∙◌, ap, arith, Contains, map, get_or-map, cases_eq, cases_lt, Contains-get_or, AreEach, drop_all, get_or-set_other, get_or-set_same, get_or_default, length-set, set-get_or, length-map, Option, take-append-drop, reverse, length-append, append_assoc, get_or-append, get_or-append_seam, get_or_past, length-take-le, reverse-append, take_more, Config, Link, Event, IsFollowed, IsFrontier, Path, no_path, order_at, path_more, AreLaid, Grows, IsLaid, IsLaidOut}
 use Rattle.histories.specs.Frontier.{orders, read}
 
 -- up to a place each value is related to the one that was there, and from there on it is that one
@@ -9,13 +9,11 @@ pub record AreDone {X : Type 0} (R : X → X → Type 0) (olds now : List X) (at
   pub rest : (index : ℕ) (d : X) → at ≤ index → get_or now index d ≡ get_or olds index d
 
 pub less_of : (i n : ℕ) → i < n + 1 → i ≢ n → i < n
-less_of i n h ne =
-    grind (arith, cases_lt)
+less_of i n h ne = grind (arith, cases_lt)
 
 -- none yet
 pub done_none : {X : Type 0} (R : X → X → Type 0) (olds : List X) → AreDone R olds olds 0
-done_none R olds =
-    grind arith
+done_none R olds = grind arith
 
 -- one place more
 pub done_more : {X : Type 0} (R : X → X → Type 0) (olds now : List X) (at : ℕ) (item one : X)
@@ -27,8 +25,7 @@ done_more {X} R olds now at item one h is r a =
 -- the same by a relation that follows
 pub done_as : {X : Type 0} (P Q : X → X → Type 0) (olds now : List X) (at : ℕ)
     → ((x y : X) → P x y → Q x y) → AreDone P olds now at → AreDone Q olds now at
-done_as P Q olds now at follows a =
-    grind arith
+done_as P Q olds now at follows a = grind arith
 
 -- an element is put where it stood
 pub same_set : {X : Type 0} (now : List X) (at : ℕ) (item one : X) → at < length now
@@ -39,26 +36,16 @@ same_set {X} now at item one h is same =
 -- from each a new one has come, and each has a new one
 pub each_from : {X : Type 0} (R : X → X → Type 0) (olds news : List X) (y : X) → AreEach R olds news
     → Contains news y → (x : X) × Contains olds x × R x y
-each_from R olds news y e has = (
-  get_or olds has.0 y,
-  Contains-get_or olds has.0 y (omega (arith, has.1, e.0)),
-  subst (λ z. R (get_or olds has.0 y) z) has.2 (e.1 has.0 y has.1),
-)
+each_from R olds news y e has = grind (arith, Contains-get_or)
 
 pub each_to : {X : Type 0} (R : X → X → Type 0) (olds news : List X) (x : X) → AreEach R olds news
     → Contains olds x → (y : X) × Contains news y × R x y
-each_to R olds news x e has =
-    let within : has.0 < length news = omega (arith, has.1, e.0) in (
-      get_or news has.0 x,
-      Contains-get_or news has.0 x within,
-      subst (λ z. R z (get_or news has.0 x)) has.2 (e.1 has.0 x within),
-    )
+each_to R olds news x e has = grind (arith, Contains-get_or)
 
 -- what was changed in place is all there is
 pub put_back : {X : Type 0} (new old : List X) (len : ℕ) → length new ≡ length old
     → len ≡ length old → take len (new ++ drop (length new) old) ≡ new
-put_back new old len many is =
-    grind (arith, drop_all, append-nil, take_all)
+put_back new old len many is = grind (arith, drop_all, append-nil, take_all)
 
 -- a list of none has none
 pub nothing_in : {X : Type 0} (k : X) → ¬ (Contains [] k)
@@ -66,8 +53,7 @@ nothing_in k has = absurd (omega (arith, has.1))
 
 -- the one that a list of one has
 pub only : {X : Type 0} (x k : X) → Contains (x ∷ []) k → k ≡ x
-only x k has =
-    grind arith
+only x k has = grind arith
 
 -- what stands in the list of the values of others
 pub contains_map_of : {X Y : Type 0} (f : X → Y) (xs : List X) (x : X) → Contains xs x
@@ -76,8 +62,7 @@ contains_map_of f xs x has =
     (has.0, omega (arith, has.1, length-map xs f), get_or-map f xs has.0 x ∙ ap f has.2)
 
 contains_map_at : {X Y : Type 0} (f : X → Y) (xs : List X) (y : Y) (i : ℕ)
-    → i < length (map f xs) → get_or (map f xs) i y ≡ y
-    → (x : X) × Contains xs x × (f x ≡ y)
+    → i < length (map f xs) → get_or (map f xs) i y ≡ y → (x : X) × Contains xs x × (f x ≡ y)
 contains_map_at f [] y i h is = absurd (omega (arith, h))
 contains_map_at f (x ∷ xs) y zero h is = (x, (0, omega arith, refl), is)
 contains_map_at f (x ∷ xs) y (suc i) h is =
@@ -86,7 +71,7 @@ contains_map_at f (x ∷ xs) y (suc i) h is =
 
 pub contains_of_map : {X Y : Type 0} (f : X → Y) (xs : List X) (y : Y) → Contains (map f xs) y
     → (x : X) × Contains xs x × (f x ≡ y)
-contains_of_map f xs y has = contains_map_at f xs y has.0 has.1 has.2
+contains_of_map f xs y has = contains_map_at _ _ _ _ has.1 has.2
 
 orders_append : (known : List (List ℕ)) (xs ys : List Link)
     → orders known (xs ++ ys) ≡ orders (orders known xs) ys
@@ -101,11 +86,7 @@ unfolding orders
 orders_length known [] = omega arith
 orders_length known (x ∷ xs) =
     let one : List ℕ = get_or known x.before [] ++ x.call ∷ [] in
-    omega (
-      arith,
-      orders_length (known ++ one ∷ []) xs,
-      length-append known (one ∷ []),
-    )
+    omega (arith, orders_length (known ++ one ∷ []) xs, length-append known (one ∷ []))
 
 -- those that are known stay
 orders_keep : (known : List (List ℕ)) (xs : List Link) (n : ℕ) → n < length known
@@ -119,7 +100,7 @@ orders_keep known (x ∷ xs) n h =
 
 pub read_zero : (links : List Link) → read links 0 ≡ []
 unfolding read
-read_zero links = orders_keep ([] ∷ []) links 0 (omega arith)
+read_zero links = orders_keep _ _ _ (omega arith)
 
 -- what was read is read still where there are more links
 read_keep : (links others : List Link) (n : ℕ) → n ≤ length links
@@ -146,8 +127,7 @@ read_past links base h =
     get_or_past (orders ([] ∷ []) links) base [] (omega (arith, h, orders_length ([] ∷ []) links))
 
 left_short : (front : List Link) (at left : ℕ) (link : Link) → length front ≡ at
-    → (link.before ≤ at → left ≡ link.before) → (at < link.before → left ≡ 0)
-    → left ≤ length front
+    → (link.before ≤ at → left ≡ link.before) → (at < link.before → left ≡ 0) → left ≤ length front
 left_short front at left link long same none = grind (arith, cases_lt)
 
 -- the number, or 0 where more links are asked for than there are
@@ -159,26 +139,21 @@ read_bounded links base left same none = grind (arith, cases_lt, read_past, read
 -- one call more is read
 pub read_step : (links : List Link) (at left : ℕ) (link : Link) → at < length links
     → link ≡ get_or links at link → (link.before ≤ at → left ≡ link.before)
-    → (at < link.before → left ≡ 0)
-    → read links (at + 1) ≡ read links left ++ link.call ∷ []
+    → (at < link.before → left ≡ 0) → read links (at + 1) ≡ read links left ++ link.call ∷ []
 read_step links at left link h is same none =
     let front : List Link = take at links in
     let rest : List Link = drop (at + 1) links in
     let long : length front ≡ at = length-take-le at links (omega arith) in
-    let whole : (front ++ link ∷ []) ++ rest ≡ links =
-    ap (λ (l : List Link). l ++ rest)
-    (ap (λ (x : Link). front ++ x ∷ []) is ∙ sym (take_more links at link h))
-    ∙ take-append-drop (at + 1) links in
+    let whole : (front ++ link ∷ []) ++ rest ≡ links = grind (arith, take_more, take-append-drop) in
     let here : read links (at + 1) ≡ read (front ++ link ∷ []) (at + 1) =
-    ap (λ (l : List Link). read l (at + 1)) (sym whole)
-    ∙ read_keep (front ++ link ∷ []) rest (at + 1)
+    ap (λ (l : List Link). read l (at + 1)) (sym whole) ∙ read_keep _ _ _
     (omega (arith, long, length-append front (link ∷ []))) in
     let last : read (front ++ link ∷ []) (at + 1) ≡ read front link.before ++ link.call ∷ [] =
-    ap (λ n. read (front ++ link ∷ []) (n + 1)) (sym long) ∙ read_push front link in
+    ap (λ n. read (front ++ link ∷ []) (n + 1)) (sym long) ∙ read_push _ _ in
     let before : read front link.before ≡ read links left =
-    read_bounded front link.before left (λ few. same (omega (arith, few, long)))
+    read_bounded _ _ _ (λ few. same (omega (arith, few, long)))
     (λ many. none (omega (arith, many, long)))
-    ∙ (sym (read_keep front (drop at links) left (left_short front at left link long same none))
+    ∙ (sym (read_keep _ _ _ (left_short _ at left link long same none))
     ∙ ap (λ (l : List Link). read l left) (take-append-drop at links)) in
     here ∙ (last ∙ ap (λ (o : List ℕ). o ++ link.call ∷ []) before)
 
@@ -189,24 +164,19 @@ pub read_more : (links : List Link) (base at left : ℕ) (link : Link) (found : 
     → read links base ≡ read links (at + 1) ++ reverse found
     → read links base ≡ read links left ++ reverse (found ++ link.call ∷ [])
 read_more links base at left link found h is same none before =
-    before
-    ∙ (ap (λ (o : List ℕ). o ++ reverse found) (read_step links at left link h is same none)
+    before ∙ (ap (λ (o : List ℕ). o ++ reverse found) (read_step _ at left link h is same none)
     ∙ (append_assoc (read links left) (link.call ∷ []) (reverse found)
-    ∙ ap (λ (o : List ℕ). read links left ++ o)
-    (sym (reverse-append found (link.call ∷ [])))))
+    ∙ ap (λ (o : List ℕ). read links left ++ o) (sym (reverse-append found (link.call ∷ [])))))
 
 pub length_grows : (links more : List Link) → Grows links more → length links ≤ length more
 length_grows links more g = omega (arith, ap length g.1, length-append links g.0)
 
 pub read_grows : (links more : List Link) (n : ℕ) → Grows links more → n ≤ length links
     → read more n ≡ read links n
-read_grows links more n g h =
-    ap (λ (l : List Link). read l n) g.1 ∙ read_keep links g.0 n h
+read_grows links more n g h = ap (λ (l : List Link). read l n) g.1 ∙ read_keep _ _ _ h
 
-pub grows_then : (links mid more : List Link) → Grows links mid → Grows mid more
-    → Grows links more
-grows_then links mid more f g =
-    grind (arith, append_assoc)
+pub grows_then : (links mid more : List Link) → Grows links mid → Grows mid more → Grows links more
+grows_then links mid more f g = grind (arith, append_assoc)
 
 pub grows_none : (links : List Link) → Grows links links
 grows_none links = ([], sym (append-nil links))
@@ -217,11 +187,10 @@ pub order_more : (links : List Link) (path : Path) (calls : List ℕ)
 order_more links path calls = sym (append_assoc (read links path.base) path.calls calls)
 
 pub order_none : (links : List Link) → order_at links no_path ≡ []
-order_none links = append-nil (read links 0) ∙ read_zero links
+order_none links = append-nil (read links 0) ∙ read_zero _
 
 pub laid_out_none : (links : List Link) (base : ℕ) → IsLaidOut links base [] links base
-laid_out_none links base =
-    (grows_none links, λ within. (within, sym (append-nil (read links base))))
+laid_out_none links base = (grows_none _, λ within. (within, sym (append-nil (read links base))))
 
 -- one call more
 pub laid_out_more : (links mid : List Link) (base at : ℕ) (calls : List ℕ) (link : Link)
@@ -229,11 +198,10 @@ pub laid_out_more : (links mid : List Link) (base at : ℕ) (calls : List ℕ) (
     → IsLaidOut links base (take at calls) mid link.before
     → IsLaidOut links base (take (at + 1) calls) (mid ++ link ∷ []) (length mid + 1)
 laid_out_more links mid base at calls link h is l = (
-  grows_then links mid (mid ++ link ∷ []) l.0 (link ∷ [], refl),
+  grows_then _ _ _ l.0 (link ∷ [], refl),
   λ within. (
     omega (arith, length-append mid (link ∷ [])),
-    read_push mid link
-        ∙ (ap (λ (o : List ℕ). o ++ link.call ∷ []) (l.1 within).1
+    read_push _ _ ∙ (ap (λ (o : List ℕ). o ++ link.call ∷ []) (l.1 within).1
         ∙ (append_assoc (read links base) (take at calls) (link.call ∷ [])
         ∙ ap (λ (t : List ℕ). read links base ++ t)
         (ap (λ c. take at calls ++ c ∷ []) is ∙ sym (take_more calls at 0 h)))),
@@ -247,11 +215,11 @@ module _ {S : Type 0} where
   laid_grows links mid more config laid g l = (
     l.0,
     l.1,
-    grows_then links mid more l.2 g,
+    grows_then _ _ _ l.2 g,
     λ within.
         let is = l.3 within in (
           omega (arith, is.0, length_grows mid more g),
-          ap (λ (o : List ℕ). o ++ laid.made.items) (read_grows mid more laid.base g is.0) ∙ is.1,
+          ap (λ (o : List ℕ). o ++ laid.made.items) (read_grows _ _ _ g is.0) ∙ is.1,
         ),
   )
 
@@ -261,13 +229,11 @@ module _ {S : Type 0} where
   laid_before links mid more config laid g l = (
     l.0,
     l.1,
-    grows_then links mid more g l.2,
+    grows_then _ _ _ g l.2,
     λ within.
         let is = l.3 (omega (arith, within, length_grows links mid g)) in (
           is.0,
-          is.1
-              ∙ ap (λ (o : List ℕ). o ++ config.made.items)
-              (read_grows links mid config.base g within),
+          is.1 ∙ ap (λ (o : List ℕ). o ++ config.made.items) (read_grows _ _ _ g within),
         ),
   )
 
@@ -294,17 +260,7 @@ module _ {S : Type 0} (Step : S → ℕ → S → Type 0) where
         let is = one.2 in (
           lead.0,
           lead.1,
-          (
-            k,
-            one.1,
-            (
-              run.0,
-              run.1,
-              subst (λ s. Runs Step slots s k.waiting run.0 new run.1) (sym is.0)
-                  (subst (λ w. Runs Step slots config.state w run.0 new run.1) (sym is.1) run.2),
-              run.3,
-            ),
-          ),
+          (k, one.1, (run.0, run.1, rw is.0 (rw (← is.1) at run.2), run.3)),
         );
     once = λ i j d less within same. grind arith;
     table = f.table;

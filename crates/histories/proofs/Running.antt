@@ -4,18 +4,20 @@ use Rattle.histories.proofs.Bits.{bit_cases, cleared_le, cleared_other, cleared_
 use Rattle.histories.proofs.Counting.{times-append, times-cons, times_one, times_other}
 
 module _ {S : Type 0} (Step : S → ℕ → S → Type 0) where
+  pub leads_join : (old mid new : S) (before after : List ℕ) → Leads Step old before mid
+      → Leads Step mid after new → Leads Step old (before ++ after) new
+  leads_join old mid new [] after f g = rw (← f) g
+  leads_join old mid new (c ∷ before) after f g =
+      (f.0, f.1, leads_join f.0 mid new before after f.2 g)
+
   pub leads_push : (old mid new : S) (order : List ℕ) (call : ℕ) → Leads Step old order mid
       → Step mid call new → Leads Step old (order ++ call ∷ []) new
-  leads_push old mid new [] call l step =
-      (new, subst (λ s. Step s call new) l step, refl)
-  leads_push old mid new (c ∷ order) call l step =
-      (l.0, l.1, leads_push l.0 mid new order call l.2 step)
+  leads_push old mid new order call l step = leads_join _ _ _ order (call ∷ []) l (new, step, refl)
 
   pub leads_split : (old new : S) (before after : List ℕ) → Leads Step old (before ++ after) new
       → (mid : S) × Leads Step old before mid × Leads Step mid after new
   leads_split old new [] after l = (old, refl, l)
-  leads_split old new (c ∷ before) after l =
-      grind (arith, leads_split l.0 new before after l.2)
+  leads_split old new (c ∷ before) after l = grind (arith, leads_split l.0 new before after l.2)
 
   module _ (slots : List (Option ℕ)) where
     -- first some calls, and then others
@@ -69,8 +71,6 @@ module _ {S : Type 0} (Step : S → ℕ → S → Type 0) where
         let here = run.1.0 in
         let h = slot_64 slots slot call few here in
         let mid = run.2.0 in
-        let Goal : Type 0 = (less : List ℕ) × (last : ℕ)
-        × Runs Step slots old fewer less new last × IsLighter Step slots last rest in
         elim (bit_cases fewer slot) [
           | inr some ↦
               let more = runs_lighter mid new (cleared fewer slot) (cleared waiting slot) rest calls
@@ -83,7 +83,13 @@ module _ {S : Type 0} (Step : S → ℕ → S → Type 0) where
           | inl none ↦
               elim (l slot call here) [
                 | inl same ↦ absurd (omega (arith, same, none, run.1.1))
-                | inr idle ↦ grind (arith, lighter_without, runs_lighter old new fewer (cleared waiting slot) rest calls few (lighter_without fewer waiting slot few h none l) (subst (λ s. Runs Step slots s (cleared waiting slot) calls new rest) (idle.1 old mid run.2.1) run.2.2))
+                | inr idle ↦ grind (
+                  arith,
+                  lighter_without,
+                  runs_lighter old new fewer (cleared waiting slot) rest calls few
+                      (lighter_without fewer waiting slot few h none l)
+                      (rw (idle.1 old mid run.2.1) at run.2.2),
+                )
               ]
         ]
 
@@ -97,24 +103,22 @@ module _ {S : Type 0} (Step : S → ℕ → S → Type 0) where
         → length slots ≤ 64 → HasSlot slots slot call → bit_at waiting slot ≡ 1
         → bit_at rest slot ≡ 0
         → ((at other : ℕ) → IsBeside slots waiting slot at other → MovesBefore Step call other)
-        → Runs Step slots old waiting calls new rest
-        → (mid : S) × Step old call mid
+        → Runs Step slots old waiting calls new rest → (mid : S) × Step old call mid
         × ((others : List ℕ) × Runs Step slots mid (cleared waiting slot) others new rest)
     runs_first old new waiting rest slot call [] few here waits gone moves run =
         absurd (omega (arith, ap (λ w. bit_at w slot) run.1, waits, gone))
     runs_first old new waiting rest slot call (c ∷ calls) few here waits gone moves run =
         let at = run.0 in
-        let h = slot_64 slots slot call few here in
-        let k = slot_64 slots at c few run.1.0 in
+        let h = slot_64 _ _ _ few here in
+        let k = slot_64 _ at c few run.1.0 in
         elim (cases_eq at slot) [
           | inl e ↦ grind (arith, slot_once)
           | inr ne ↦
               let still : bit_at (cleared waiting at) slot ≡ 1 =
-              cleared_other waiting at slot k h (λ e. ne (sym e)) ∙ waits in
+              cleared_other _ at slot k h (λ e. ne (sym e)) ∙ waits in
               let more = runs_first run.2.0 new (cleared waiting at) rest slot call calls few here
-              still gone
-              (λ i other is.
-              moves i other (is.0, (is.1.0, waits_before waiting at i other few k is.1))) run.2.2 in
+              still gone (λ i other is.
+              moves i other (is.0, (is.1.0, waits_before _ at i other few k is.1))) run.2.2 in
               let moved = moves at c (ne, run.1) old run.2.0 more.0 run.2.1 more.1 in (
                 moved.0,
                 moved.1,
@@ -122,13 +126,8 @@ module _ {S : Type 0} (Step : S → ℕ → S → Type 0) where
                   c ∷ more.2.0,
                   (
                     at,
-                    (run.1.0, cleared_other waiting slot at h k ne ∙ run.1.1),
-                    (
-                      more.0,
-                      moved.2,
-                      subst (λ w. Runs Step slots more.0 w more.2.0 new rest)
-                          (cleared_swap waiting at slot) more.2.1,
-                    ),
+                    (run.1.0, cleared_other _ _ at h k ne ∙ run.1.1),
+                    (more.0, moved.2, rw (← cleared_swap _ at slot) more.2.1),
                   ),
                 ),
               )
@@ -157,44 +156,32 @@ module _ {S : Type 0} (Step : S → ℕ → S → Type 0) where
         → ((one other c : ℕ) → HasSlot slots one c → HasSlot slots other c → one ≡ other)
         → Leaves slots order waiting → Runs Step slots old waiting calls new rest
         → Leaves slots (order ++ calls) rest
-    leaves_run order old new waiting rest [] few apart leaves run =
-        grind (arith, append-nil)
+    leaves_run order old new waiting rest [] few apart leaves run = grind (arith, append-nil)
     leaves_run order old new waiting rest (call ∷ calls) few apart leaves run =
-        subst (λ (o : List ℕ). Leaves slots o rest) (append_assoc order (call ∷ []) calls)
+        rw (← append_assoc order (call ∷ []) calls)
         (leaves_run (order ++ call ∷ []) run.2.0 new (cleared waiting run.0) rest calls few apart
-        (leaves_made order waiting run.0 call few apart leaves run.1) run.2.2)
+        (leaves_made _ _ _ _ few apart leaves run.1) run.2.2)
 
     -- calls that all wait can be made in their order
     pub runs_order : (old new : S) (waiting : ℕ) (order : List ℕ) → length slots ≤ 64
         → ((one other c : ℕ) → HasSlot slots one c → HasSlot slots other c → one ≡ other)
         → ((c : ℕ) → times c order ≤ 1)
         → ((c : ℕ) → 0 < times c order → (slot : ℕ) × IsWaiting slots waiting slot c)
-        → Leads Step old order new
-        → (rest : ℕ) × Runs Step slots old waiting order new rest
+        → Leads Step old order new → (rest : ℕ) × Runs Step slots old waiting order new rest
     runs_order old new waiting [] few apart once all l = (waiting, (l, refl))
     runs_order old new waiting (x ∷ order) few apart once all l =
         let at = all x (omega (arith, times-cons x x order, times_one x)) in
-        let h = slot_64 slots at.0 x few at.1.0 in
+        let h = slot_64 _ _ _ few at.1.0 in
         let more = runs_order l.0 new (cleared waiting at.0) order few apart
-        (λ c. omega (arith, once c, times-cons c x order))
-        (λ c some.
+        (λ c. omega (arith, once c, times-cons c x order)) (λ c some.
         let is = all c (omega (arith, some, times-cons c x order)) in
-        let other : x ≢ c = λ e. absurd
-        (omega (
-          arith,
-          some,
-          once c,
-          times-cons c x order,
-          subst (λ y. times y (x ∷ []) ≡ 1) e
-              (times_one x),
-        )) in (
+        let other : x ≢ c = grind (arith, times-cons, times_one) in (
           is.0,
           (
             is.1.0,
-            cleared_other waiting at.0 is.0 h (slot_64 slots is.0 c few is.1.0)
-                (λ e. other (slot_once slots at.0 x c at.1.0 (subst (λ s. HasSlot slots s c) e
-                is.1.0)))
-                ∙ is.1.1,
+            cleared_other _ _ _ h (slot_64 _ _ _ few is.1.0)
+                (λ e. other (slot_once slots at.0 _ _ at.1.0 (subst (λ s. HasSlot slots s c) e
+                is.1.0))) ∙ is.1.1,
           ),
         )) l.2 in
         (more.0, (at.0, at.1, (l.0, l.1, more.1)))
@@ -203,8 +190,7 @@ module _ {S : Type 0} (Step : S → ℕ → S → Type 0) where
   pub runs_in : (slots other : List (Option ℕ)) (old new : S) (waiting rest : ℕ) (calls : List ℕ)
       (t : ℕ) (change : ℕ → ℕ)
       → ((w s : ℕ) → s ≢ t → s < 64 → cleared (change w) s ≡ change (cleared w s))
-      → ((w s : ℕ) → s ≢ t → s < 64 → bit_at (change w) s ≡ bit_at w s)
-      → length slots ≤ 64
+      → ((w s : ℕ) → s ≢ t → s < 64 → bit_at (change w) s ≡ bit_at w s) → length slots ≤ 64
       → ((s c : ℕ) → HasSlot slots s c → bit_at waiting s ≡ 1 → (s ≢ t) × HasSlot other s c)
       → Runs Step slots old waiting calls new rest
       → Runs Step other old (change waiting) calls new (change rest)
@@ -235,11 +221,9 @@ module _ {S : Type 0} (Step : S → ℕ → S → Type 0) where
 
   -- a call that waits in the end need not wait for the others to be made
   pub runs_without : (slots : List (Option ℕ)) (old new : S) (waiting rest t : ℕ) (calls : List ℕ)
-      → length slots ≤ 64 → t < 64 → bit_at rest t ≡ 1
-      → Runs Step slots old waiting calls new rest
+      → length slots ≤ 64 → t < 64 → bit_at rest t ≡ 1 → Runs Step slots old waiting calls new rest
       → Runs Step slots old (cleared waiting t) calls new (cleared rest t)
-  runs_without slots old new waiting rest t [] few h some run =
-      (run.0, ap (λ w. cleared w t) run.1)
+  runs_without slots old new waiting rest t [] few h some run = (run.0, ap (λ w. cleared w t) run.1)
   runs_without slots old new waiting rest t (call ∷ calls) few h some run =
       grind (
         arith,
@@ -251,22 +235,3 @@ module _ {S : Type 0} (Step : S → ℕ → S → Type 0) where
         cleared_swap,
         runs_without slots run.2.0 new (cleared waiting run.0) rest t calls few h some run.2.2,
       )
-
--- as another relation has the steps
-module _ {S : Type 0} (A B : S → ℕ → S → Type 0) (slots : List (Option ℕ))
-    (makes : (slot call : ℕ) → HasSlot slots slot call → (old new : S) → A old call new → B old
-    call new)
-  where
-    pub runs_as : (old new : S) (waiting rest : ℕ) (calls : List ℕ)
-        → Runs A slots old waiting calls new rest → Runs B slots old waiting calls new rest
-    runs_as old new waiting rest [] run = run
-    runs_as old new waiting rest (call ∷ calls) run =
-        grind (arith, runs_as run.2.0 new (cleared waiting run.0) rest calls run.2.2)
-
-    pub lighter_as : (fewer waiting : ℕ) → IsLighter B slots fewer waiting
-        → IsLighter A slots fewer waiting
-    lighter_as fewer waiting l slot call has =
-        elim (l slot call has) [
-          | inl same ↦ inl same
-          | inr idle ↦ inr (idle.0, λ old new step. idle.1 old new (makes slot call has old new step))
-        ]

@@ -1,5 +1,5 @@
 -- What is found of a whole history.
-use Rattle.histories.proofs.Words.{◌≡◌, ◌⊎◌, ℕ, zero, suc, ◌+◌, ◌-◌, ◌<◌, ◌≤◌, List, [], ◌∷◌, ◌++◌, length, take, get_or, refl, sym, ◌∙◌, ap, subst, arith, inl, inr, Option, add-zero, take_all, cases_lt, cases_order, take-append_seam, take_more, take-append-le, slice_get-get_or, Event, Begin, End, Crash, Advance, Front, Config, Link, begins, times, Explains, IsExplained, IsHistory, IsOpen, MayFollow, StandsAt, AdvancesIn, Agrees, Ends, EndsOpen, IsAdvance, IsVerdict, HasManyOpen, HasManyOrders, IsFrontOf, IsFrontier, IsSound, order_of, VerdictsExclude}
+use Rattle.histories.proofs.Words.{◌≡◌, ℕ, zero, suc, ◌+◌, ◌-◌, ◌<◌, ◌≤◌, List, [], ◌∷◌, ◌++◌, length, take, get_or, refl, sym, ◌∙◌, subst, arith, inl, inr, Option, add-zero, take_all, cases_lt, cases_order, take-append_seam, take_more, take-append-le, slice_get-get_or, Event, Begin, End, Crash, Advance, Front, Config, Link, begins, times, IsExplained, IsHistory, MayFollow, AdvancesIn, Agrees, Ends, EndsOpen, IsAdvance, IsVerdict, IsFrontOf, IsFrontier, IsSound, order_of, VerdictsExclude}
 use Rattle.histories.specs.declared.front.Advance.TheVariants as advance
 use Rattle.histories.specs.declared.whole.Verdict.TheVariants as verdict
 use Rattle.histories.specs.Histories.{begun, IsNext}
@@ -22,7 +22,7 @@ begun_begin es c = begun-append es (Begin c ∷ [])
 
 begun_end : (es : List Event) (e : Event) (c : ℕ) → Ends e c → begun (es ++ e ∷ []) ≡ begun es
 unfolding begun
-begun_end es (Begin b) c ends = absurd (begin_no_end b c ends)
+begun_end es (Begin b) c ends = absurd (begin_no_end _ _ ends)
 begun_end es (End b) c ends = omega (arith, begun-append es (End b ∷ []))
 begun_end es (Crash b) c ends = omega (arith, begun-append es (Crash b ∷ []))
 
@@ -37,25 +37,25 @@ counts_begin count call es is = omega (arith, is, begun_begin es call)
 
 pub counts_end : (count call : ℕ) (es : List Event) → count ≡ begun es
     → count ≡ begun (es ++ End call ∷ [])
-counts_end count call es is = is ∙ sym (begun_end es (End call) call (inl refl))
+counts_end count call es is = is ∙ sym (begun_end _ _ _ (inl refl))
 
 pub counts_crash : (count call : ℕ) (es : List Event) → count ≡ begun es
     → count ≡ begun (es ++ Crash call ∷ [])
-counts_crash count call es is = is ∙ sym (begun_end es (Crash call) call (inr refl))
+counts_crash count call es is = is ∙ sym (begun_end _ _ _ (inr refl))
 
 -- how many have begun after one event more, where a call that begins has the next number
 pub count_begin : (count call : ℕ) (es : List Event) → call ≡ count → count ≡ begun es
     → (count + 1 ≡ begun (es ++ Begin call ∷ [])) × IsNext es (Begin call)
 count_begin count call es same is =
-    (counts_begin count call es is, λ c e. let x : call ≡ c = cc in sym x ∙ (same ∙ is))
+    (counts_begin _ _ _ is, λ c e. let x : call ≡ c = cc in sym x ∙ (same ∙ is))
 
 pub count_end : (count call : ℕ) (es : List Event) → count ≡ begun es
     → (count ≡ begun (es ++ End call ∷ [])) × IsNext es (End call)
-count_end count call es is = (counts_end count call es is, λ c e. absurd (cc))
+count_end count call es is = (counts_end _ _ _ is, λ c e. absurd (cc))
 
 pub count_crash : (count call : ℕ) (es : List Event) → count ≡ begun es
     → (count ≡ begun (es ++ Crash call ∷ [])) × IsNext es (Crash call)
-count_crash count call es is = (counts_crash count call es is, λ c e. absurd (cc))
+count_crash count call es is = (counts_crash _ _ _ is, λ c e. absurd (cc))
 
 -- the calls that have begun have numbers below their count
 abbrev pub AreNumbered : List Event → Type 0
@@ -73,24 +73,19 @@ pub numbered_more : (es : List Event) (e : Event) → AreNumbered es → IsNext 
     → AreNumbered (es ++ e ∷ [])
 numbered_more es (Begin b) n next c h =
     grind (arith, cases_lt, begun_begin, begins_begin, times_same)
-numbered_more es (End b) n next c h =
-    ends_numbered es (End b) b (inl refl) n c h
-numbered_more es (Crash b) n next c h =
-    ends_numbered es (Crash b) b (inr refl) n c h
+numbered_more es (End b) n next c h = ends_numbered _ _ _ (inl refl) n c h
+numbered_more es (Crash b) n next c h = ends_numbered _ _ _ (inr refl) n c h
 
 -- a call with the next number is new
 pub next_fresh : (es : List Event) (e : Event) → AreNumbered es → IsNext es e → (c : ℕ)
     → e ≡ Begin c → begins c es ≡ 0
-next_fresh es e n next c is =
-    not_some (begins c es) (λ some. absurd (omega (arith, n c some, next c is)))
+next_fresh es e n next c is = not_some _ (λ some. absurd (omega (arith, n c some, next c is)))
 
 pub sound_more : (es : List Event) (e : Event) → IsSound es
     → ((c : ℕ) → e ≡ Begin c → begins c es ≡ 0) → EndsOpen es e → IsSound (es ++ e ∷ [])
-sound_more es (Begin c) s fresh ends = sound_begin es c s (fresh c refl)
-sound_more es (End c) s fresh ends =
-    sound_end es (End c) c (inl refl) s (ends c (inl refl)).0
-sound_more es (Crash c) s fresh ends =
-    sound_end es (Crash c) c (inr refl) s (ends c (inr refl)).0
+sound_more es (Begin c) s fresh ends = sound_begin _ _ s (fresh c refl)
+sound_more es (End c) s fresh ends = sound_end _ _ _ (inl refl) s (ends c (inl refl)).0
+sound_more es (Crash c) s fresh ends = sound_end _ _ _ (inr refl) s (ends c (inr refl)).0
 
 -- the event may follow
 pub may_of : (es : List Event) (e : Event) → IsNext es e → EndsOpen es e → MayFollow es e
@@ -104,11 +99,9 @@ next_of es (End c) may b is = absurd (cc)
 next_of es (Crash c) may b is = absurd (cc)
 
 pub ends_of : (es : List Event) (e : Event) → MayFollow es e → EndsOpen es e
-ends_of es (Begin c) may b ends = absurd (begin_no_end c b ends)
-ends_of es (End c) may b ends =
-    subst (λ x. IsOpen es x) (ends_one (End c) c b (inl refl) ends) may
-ends_of es (Crash c) may b ends =
-    subst (λ x. IsOpen es x) (ends_one (Crash c) c b (inr refl) ends) may
+ends_of es (Begin c) may b ends = absurd (begin_no_end _ _ ends)
+ends_of es (End c) may b ends = rw (← ends_one _ _ _ (inl refl) ends) may
+ends_of es (Crash c) may b ends = rw (← ends_one _ _ _ (inr refl) ends) may
 
 -- the events up to one more
 pub one_more : (es : List Event) (i : ℕ) (d : Event) → i < length es
@@ -123,8 +116,7 @@ plus_suc i n = omega arith
 
 may_more : (es : List Event) (i : ℕ) → IsHistory es → i < length es
     → MayFollow (take i es) (get_or es i (Begin 0))
-may_more es i history h =
-    history i (get_or es i (Begin 0)) (slice_get-get_or es i (Begin 0) h)
+may_more es i history h = history i (get_or es i (Begin 0)) (slice_get-get_or es i (Begin 0) h)
 
 -- a history begins each call once, and with the next number
 pub history_take : (es : List Event) → IsHistory es → (i : ℕ) → i ≤ length es
@@ -132,21 +124,18 @@ pub history_take : (es : List Event) → IsHistory es → (i : ℕ) → i ≤ le
 history_take es history zero h = (sound_none, numbered_none)
 history_take es history (suc i) h =
     let before = history_take es history i (omega arith) in
-    let e = get_or es i (Begin 0) in
-    let may = may_more es i history (omega arith) in
-    let next = next_of (take i es) e may in
-    subst (λ n. IsSound (take n es) × AreNumbered (take n es)) (add_one i)
-    (subst (λ (l : List Event). IsSound l × AreNumbered l) (sym (one_more es i (Begin 0) (omega
+    let may = may_more _ _ history (omega arith) in
+    let next = next_of _ _ may in
+    subst (λ n. IsSound (take n es) × AreNumbered (take n es)) (add_one _)
+    (subst (λ (l : List Event). IsSound l × AreNumbered l) (sym (one_more _ _ _ (omega
     arith))) (
-      sound_more (take i es) e before.0 (next_fresh (take i es) e before.1 next)
-          (ends_of (take i es) e may),
-      numbered_more (take i es) e before.1 next,
+      sound_more _ _ before.0 (next_fresh _ _ before.1 next) (ends_of _ _ may),
+      numbered_more _ _ before.1 next,
     ))
 
 pub history_sound : (es : List Event) → IsHistory es → IsSound es × AreNumbered es
 history_sound es history =
-    subst (λ (l : List Event). IsSound l × AreNumbered l) (take_all (length es) es (omega arith))
-    (history_take es history (length es) (omega arith))
+    rw (← take_all (length es) es (omega arith)) (history_take _ history _ (omega arith))
 
 module _ {S : Type 0} (Step : S → ℕ → S → Type 0) where
   -- what explains the history with one event more, explains it without, in part
@@ -154,50 +143,43 @@ module _ {S : Type 0} (Step : S → ℕ → S → Type 0) where
       → ((c : ℕ) → e ≡ Begin c → begins c es ≡ 0)
       → IsExplained Step (es ++ e ∷ []) olds → IsExplained Step es olds
   explained_before es (End call) olds s fresh x =
-      (x.0, x.1, x.2, x.3, explains_open Step es (End call) x.0 x.2 x.1 call (inl refl) x.4)
+      (x.0, x.1, x.2, x.3, explains_open _ _ _ _ _ _ _ (inl refl) x.4)
   explained_before es (Crash call) olds s fresh x =
-      (x.0, x.1, x.2, x.3, explains_open Step es (Crash call) x.0 x.2 x.1 call (inr refl) x.4)
+      (x.0, x.1, x.2, x.3, explains_open _ _ _ _ _ _ _ (inr refl) x.4)
   explained_before es (Begin call) olds s fresh x =
       elim (cases_lt 0 (times call x.1)) [
         | inl some ↦
-            let parts = split_times call x.1 some in
-            let ex = subst (λ (o : List ℕ). Explains Step (es ++ Begin call ∷ []) x.0 o x.2) parts.2
-            x.4 in
-            let leads = leads_split Step x.0 x.2 parts.0 (call ∷ parts.1) ex.leads in (
+            let parts = split_times _ _ some in
+            let ex = rw parts.2 at x.4 in
+            let leads = leads_split _ _ _ _ _ ex.leads in (
               x.0,
               parts.0,
               leads.0,
               x.3,
-              explains_front Step es x.0 leads.0 x.2 parts.0 parts.1 call s (fresh call refl) ex
-                  leads.1,
+              explains_front _ _ _ _ _ _ _ _ s (fresh call refl) ex leads.1,
             )
         | inr none ↦
-            (x.0, x.1, x.2, x.3, explains_without Step es x.0 x.2 x.1 call x.4 (omega arith))
+            (x.0, x.1, x.2, x.3, explains_without _ _ _ _ _ _ x.4 (omega arith))
       ]
 
   pub explained_take : (es : List Event) (olds : List S) (i more : ℕ) → IsHistory es
       → i + more ≤ length es → IsExplained Step (take (i + more) es) olds
       → IsExplained Step (take i es) olds
-  explained_take es olds i zero history h x =
-      subst (λ n. IsExplained Step (take n es) olds) (add-zero i) x
+  explained_take es olds i zero history h x = rw (← add-zero i) x
   explained_take es olds i (suc more) history h x =
       let at = i + more in
       let within : at < length es = omega arith in
-      let before = history_take es history at (omega arith) in
-      let e = get_or es at (Begin 0) in
-      explained_take es olds i more history (omega arith)
-      (explained_before (take at es) e olds before.0
-      (next_fresh (take at es) e before.1 (next_of (take at es) e (may_more es at history within)))
-      (subst (λ (l : List Event). IsExplained Step l olds) (one_more es at (Begin 0) within)
-      (subst (λ n. IsExplained Step (take n es) olds) (plus_suc i more) x)))
+      let before = history_take _ history at (omega arith) in
+      explained_take es olds i more history (omega arith) (explained_before _ _ _ before.0
+      (next_fresh _ _ before.1 (next_of _ _ (may_more _ at history within)))
+      (rw (← one_more _ at (Begin 0) within) (rw (plus_suc _ _) at x)))
 
   -- where no order explains the events up to a place, none explains all
   pub refused_whole : (es : List Event) (olds : List S) (i : ℕ) → i ≤ length es
       → ¬ (IsExplained Step (take i es) olds) → IsHistory es → ¬ (IsExplained Step es olds)
   refused_whole es olds i h none history x =
-      none (explained_take es olds i (length es - i) history (omega arith)
-      (subst (λ (l : List Event). IsExplained Step l olds)
-      (sym (take_all (i + (length es - i)) es (omega arith))) x))
+      none (explained_take _ _ _ _ history (omega arith)
+      (rw (← take_all (i + (length es - i)) es (omega arith)) at x))
 
   -- a configuration is left exactly where an order explains the history
   pub frontier_explained : (links : List Link) (slots : List (Option ℕ)) (es : List Event)
@@ -219,7 +201,7 @@ module _ {S : Type 0} (Step : S → ℕ → S → Type 0) where
       → IsFrontier Step links slots [] olds configs → 0 < length configs
   frontier_some links slots [] configs h f = absurd (omega arith)
   frontier_some links slots (old ∷ olds) configs h f =
-      let l = f.complete old [] old (0, omega arith, refl) (explains_none Step old) in
+      let l = f.complete old [] old (0, omega arith, refl) (explains_none _ _) in
       omega (arith, l.2.1.1)
 
 -- an event that may follow comes next
@@ -242,7 +224,7 @@ pub judged_begin : {S : Type 0} (Step : S → ℕ → S → Type 0) (front : Fro
     → IsJudged Step front events olds 0 0
 judged_begin Step front events olds some f = record {
   front_of = f;
-  some = frontier_some Step front.links.items front.slots.items olds front.configs.items some f;
+  some = frontier_some _ _ _ _ _ some f;
   history = λ index event at. absurd (cc);
   counts = sym begun_none;
   most = omega arith;
@@ -251,8 +233,7 @@ judged_begin Step front events olds some f = record {
 pub judged_end : {S : Type 0} (Step : S → ℕ → S → Type 0) (front : Front S) (events : List Event)
     (olds : List S) (count at : ℕ) → length events ≤ at → IsJudged Step front events olds count at
     → IsVerdict Step olds events (verdict.Explained front)
-judged_end Step front events olds count at h j =
-    grind (arith, take_all)
+judged_end Step front events olds count at h j = grind (arith, take_all)
 
 pub agrees_same : {S : Type 0} (Step : S → ℕ → S → Type 0) (events : List Event)
     → Agrees Step Step events
@@ -283,32 +264,24 @@ module _ {M S : Type 0} (StepOf : M → S → ℕ → S → Type 0) (machine : M
     Shows advance.NoEvent = IsVerdict Step olds events (verdict.NoHistory at)
 
     whole : take (at + 1) events ≡ es ++ e ∷ []
-    whole = one_more events at d h
+    whole = one_more _ at d h
 
     shown : (result : Advance) → AdvancesIn Step es olds e new result → Shows result
-    shown advance.Done a =
-        grind (arith, whole, history_more, may_of)
+    shown advance.Done a = grind (arith, whole, history_more, may_of)
     shown advance.Refused a =
         let refused : ¬ (IsExplained Step (take (at + 1) events) olds) =
-        subst (λ (l : List Event). ¬ (IsExplained Step l olds)) (sym whole)
-        (frontier_refused Step new.links.items new.slots.items (es ++ e ∷ []) olds
-        new.configs.items a.0 a.1) in (
+        rw whole (frontier_refused _ _ _ _ _ _ a.0 a.1) in (
           h,
-          frontier_explained Step old.links.items old.slots.items es olds old.configs.items
-              j.front_of j.some,
+          frontier_explained _ _ _ _ _ _ j.front_of j.some,
           refused,
-          refused_whole Step events olds (at + 1) (omega (arith, h)) refused,
+          refused_whole _ _ _ _ (omega (arith, h)) refused,
         )
-    shown advance.ManyConfigs a =
-        grind (arith, whole)
-    shown advance.ManyOpen a =
-        (h, subst (λ (l : List Event). HasManyOpen l) (sym whole) a)
-    shown advance.NoEvent a =
-        (e, slice_get-get_or events at d h, λ may. a (ends_of es e may))
+    shown advance.ManyConfigs a = grind (arith, whole)
+    shown advance.ManyOpen a = (h, rw whole a)
+    shown advance.NoEvent a = (e, slice_get-get_or events at d h, λ may. a (ends_of _ _ may))
 
     pub judged : (result : Advance) → IsAdvance StepOf machine old e new result → Shows result
-    judged result advances =
-        grind (arith, history_sound, shown, agrees_same, next_fresh)
+    judged result advances = grind (arith, history_sound, shown, agrees_same, next_fresh)
 
 module _ {S : Type 0} (Step : S → ℕ → S → Type 0) where
   -- an order explains no less than what is refused earlier
@@ -316,9 +289,8 @@ module _ {S : Type 0} (Step : S → ℕ → S → Type 0) where
       → index < other → IsVerdict Step olds events (verdict.Refused index)
       → IsVerdict Step olds events (verdict.Refused other) → ⊥
   not_before olds events index other history less a b =
-      let more = other - (index + 1) in
-      a.2 (explained_take Step events olds (index + 1) more history (omega (arith, less, b.0))
-      (subst (λ n. IsExplained Step (take n events) olds) (back index other less) b.1))
+      a.2 (explained_take _ _ _ _ _ history (omega (arith, less, b.0))
+      (rw (back index other less) at b.1))
     where
       back : (index other : ℕ) → index < other → other ≡ index + 1 + (other - (index + 1))
       back index other less = omega (arith, less)
@@ -326,12 +298,10 @@ module _ {S : Type 0} (Step : S → ℕ → S → Type 0) where
   -- verdicts exclude each other
   pub verdicts_exclude : VerdictsExclude Step
   verdicts_exclude olds events front index other history = (
-    λ a b. b.3 history
-        (frontier_explained Step front.links.items front.slots.items events olds front.configs.items
-        a.0 a.1),
+    λ a b. b.3 history (frontier_explained _ _ _ _ _ _ a.0 a.1),
     λ a b. elim (cases_order index other) [
       | inl same ↦ same
-      | inr (inl less) ↦ absurd (not_before olds events index other history less a b)
-      | inr (inr more) ↦ absurd (not_before olds events other index history more b a)
+      | inr (inl less) ↦ absurd (not_before _ _ _ _ history less a b)
+      | inr (inr more) ↦ absurd (not_before _ _ _ _ history more b a)
     ],
   )

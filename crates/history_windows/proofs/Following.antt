@@ -1,5 +1,5 @@
 -- Windows that go on event by event.
-use Rattle.history_windows.proofs.Words.{◌≡◌, ℕ, zero, suc, ◌+◌, ◌-◌, ◌<◌, ◌≤◌, List, [], ◌∷◌, ◌++◌, length, take, get_or, refl, sym, ◌∙◌, ap, subst, arith, append_assoc, take_all, true, Some, length-take-le, take-take, take-append_seam, slice_get-get_or, Event, Begin, End, Advance, Front, IsAdvance, IsMadeAlone, IsSameFront, IsExplained, IsHistory, MayFollow, StandsAt, IsFrontOf, Cut, Window, GoesTo, IsMadeNext, CutsAt, IsStop}
+use Rattle.history_windows.proofs.Words.{◌≡◌, ℕ, zero, suc, ◌+◌, ◌-◌, ◌<◌, ◌≤◌, List, [], ◌∷◌, ◌++◌, length, take, get_or, refl, sym, ◌∙◌, ap, arith, append_assoc, take_all, true, Some, length-take-le, take-take, take-append_seam, slice_get-get_or, Event, Begin, End, Advance, Front, IsAdvance, IsSameFront, IsExplained, IsHistory, StandsAt, IsFrontOf, Cut, Window, GoesTo, IsMadeNext, CutsAt, IsStop}
 use Rattle.histories.specs.declared.front.Advance.TheVariants as advance
 use Rattle.histories.proofs.Events.{stands_within}
 use Rattle.histories.proofs.Verdicts.{explained_take, one_more}
@@ -11,9 +11,9 @@ use Rattle.history_windows.proofs.Growing.{Passes, StopsBy, advance_same, advanc
 pub take_stands : (es : List Event) (at : ℕ) (e : Event) → StandsAt es at e
     → take (at + 1) es ≡ take at es ++ e ∷ []
 take_stands es at e stands =
-    let h : at < length es = stands_within es at e stands in
+    let h : at < length es = stands_within _ at e stands in
     let same : Some (get_or es at e) ≡ Some e = sym (slice_get-get_or es at e h) ∙ stands in
-    one_more es at e h ∙ ap (λ (x : Event). take at es ++ x ∷ []) (some_same same)
+    one_more _ at e h ∙ ap (λ (x : Event). take at es ++ x ∷ []) (some_same same)
   where
     some_same : {x y : Event} → Some x ≡ Some y → x ≡ y
     some_same p = cc
@@ -22,9 +22,8 @@ pub take_both : (es : List Event) (at : ℕ) (e f : Event) → StandsAt es at e
     → StandsAt es (at + 1) f → take (at + 2) es ≡ take at es ++ e ∷ f ∷ []
 take_both es at e f one other =
     let two : at + 2 ≡ (at + 1) + 1 = omega arith in
-    ap (λ n. take n es) two
-    ∙ (take_stands es (at + 1) f other
-    ∙ (ap (λ (l : List Event). l ++ f ∷ []) (take_stands es at e one)
+    ap (λ n. take n es) two ∙ (take_stands _ _ _ other
+    ∙ (ap (λ (l : List Event). l ++ f ∷ []) (take_stands _ at e one)
     ∙ append_assoc (take at es) (e ∷ []) (f ∷ [])))
 
 stands_take : (es : List Event) (k p : ℕ) (e : Event) → StandsAt (take k es) p e
@@ -38,11 +37,7 @@ stands_take (x ∷ es) (suc k) (suc p) e at =
 
 -- the first events of a history are one
 pub history_front : (es : List Event) (k : ℕ) → IsHistory es → IsHistory (take k es)
-history_front es k history index event at =
-    let there = stands_take es k index event at in
-    subst (λ (l : List Event). MayFollow l event)
-    (sym (take-take index k es (omega (arith, there.1))))
-    (history index event there.0)
+history_front es k history index event at = grind (arith, stands_take, take-take)
 
 module _ {S : Type 0} (Step : S → ℕ → S → Type 0) (olds : List S) (es : List Event) (k : ℕ) where
   -- where an order explains the first events, none of them is refused
@@ -51,16 +46,11 @@ module _ {S : Type 0} (Step : S → ℕ → S → Type 0) (olds : List S) (es : 
   not_refused at history x s =
       let front = take k es in
       let within : at < length front = s.within in
-      s.at.1
-      (explained_take Step front olds (at + 1) (length front - (at + 1))
-      (history_front es k history) (omega arith)
-      (subst (λ (l : List Event). IsExplained Step l olds)
-      (sym (take_all (at + 1 + (length front - (at + 1))) front (omega arith))) x))
+      s.at.1 (explained_take _ _ _ _ _ (history_front _ _ history) (omega arith)
+      (rw (← take_all (at + 1 + (length front - (at + 1))) front (omega arith)) at x))
 
 pub history_past : (past window : List Event) → IsHistory (past ++ window) → IsHistory past
-history_past past window history =
-    subst (λ (l : List Event). IsHistory l) (take-append_seam past window)
-    (history_front (past ++ window) (length past) history)
+history_past past window history = rw (← take-append_seam past window) (history_front _ _ history)
 
 -- The events end in the window, and where they are never cut, all of them are in it.
 pub record FollowsTo {S : Type 0} (Step : S → ℕ → S → Type 0) (olds : List S) (c : Cut)
@@ -81,21 +71,16 @@ follows_cut : {S : Type 0} (Step : S → ℕ → S → Type 0) (olds : List S) (
     (es : List Event) (count : ℕ) (old new : Window S) → count ≡ length es
     → FollowsTo Step olds c es old → CutsAt Step c count old new → FollowsTo Step olds c es new
 follows_cut Step olds cut.WhereQuiet es count old new is f cuts = record {
-  goes = goes_window Step olds es old new count is f.goes cuts;
+  goes = goes_window _ _ _ _ _ _ is f.goes cuts;
   whole = λ never. absurd (cc);
 }
-follows_cut {S} Step olds cut.Never es count old new is f same =
-    subst (λ (x : Window S). FollowsTo Step olds cut.Never es x) (sym same) f
+follows_cut {S} Step olds cut.Never es count old new is f same = rw same f
 
 -- the configurations are then those of all orders
 pub follows_whole : {S : Type 0} (Step : S → ℕ → S → Type 0) (olds : List S) (c : Cut)
     (es : List Event) (w : Window S) → FollowsTo Step olds c es w → c ≡ cut.Never
     → IsFrontOf Step w.front es olds
-follows_whole Step olds c es w f never =
-    let is = f.whole never in
-    subst (λ l. IsFrontOf Step w.front es l) is.1
-    (subst (λ (l : List Event). IsFrontOf Step w.front l f.goes.is.states)
-    (sym (f.goes.is.split ∙ ap (λ (l : List Event). l ++ f.goes.is.inside) is.0)) f.goes.is.front)
+follows_whole Step olds c es w f never = grind arith
 
 module _ {M S : Type 0} (StepOf : M → S → ℕ → S → Type 0) (machine : M) (olds : List S)
     (es : List Event) (at : ℕ) (history : IsHistory es) (c : Cut) (w : Window S)
@@ -105,7 +90,7 @@ module _ {M S : Type 0} (StepOf : M → S → ℕ → S → Type 0) (machine : M
 
   history_to : (k : ℕ) (more : List Event) → take k es ≡ take at es ++ more
       → IsHistory (take at es ++ more)
-  history_to k more is = subst (λ (l : List Event). IsHistory l) is (history_front es k history)
+  history_to k more is = rw (← is) (history_front _ _ history)
 
   -- so many events more
   follows_more : (k : ℕ) (more : List Event) → k ≤ length es → take k es ≡ take at es ++ more
@@ -115,15 +100,12 @@ module _ {M S : Type 0} (StepOf : M → S → ℕ → S → Type 0) (machine : M
   follows_more k more within is new window passes cuts =
       let first = take at es in
       let g = f.goes in
-      let all = history_to k more is in
-      follows_cut Step olds c (take k es) k (record { begin = w.begin; front = new }) window
-      (sym (length-take-le k es within))
-      (subst (λ (l : List Event). FollowsTo Step olds c l (record { begin = w.begin; front = new }))
-      (sym is)
-      (record {
+      let all = history_to _ _ is in
+      follows_cut _ _ _ _ _ _ _ (sym (length-take-le k es within))
+      (rw is (record {
         goes = goes_more Step olds first w g more all new
-            (passes machine g.is.inside g.is.states (agrees_on Step g.is.inside more)
-            (formed_more Step olds first w g more all) g.is.front);
+            (passes machine g.is.inside g.is.states (agrees_on _ _ _)
+            (formed_more _ _ _ _ g _ all) g.is.front);
         whole = f.whole;
       })) cuts
 
@@ -147,26 +129,21 @@ module _ {M S : Type 0} (StepOf : M → S → ℕ → S → Type 0) (machine : M
         → CutsAt Step c (at + 1) (record { begin = w.begin; front = new }) window
         → FollowsTo Step olds c (take (at + 1) es) window
     follows_done window advances cuts =
-        follows_more (at + 1) (e ∷ []) (omega (arith, h)) (one_more es at d h) new window
-        (passes_one StepOf machine w.front e new
-        (advance_same StepOf machine w.front front is e new advance.Done advances)) cuts
+        follows_more _ _ (omega (arith, h)) (one_more _ at d h) _ _ (passes_one _ _ w.front _ new
+        (advance_same _ _ w.front front is _ new advance.Done advances)) cuts
 
     pub stopped : (result : Advance) → IsAdvance StepOf machine front e new result
         → StopsBy Step olds es at result
     stopped result advances =
-        let first = take at es in
         let g = f.goes in
-        let more = one_more es at d h in
-        let all = history_to (at + 1) (e ∷ []) more in
-        stops Step olds es at e (slice_get-get_or es at d h) h more w g all new result
-        (advances_in StepOf machine w.front e new result
-        (advance_same StepOf machine w.front front is e new result advances) machine g.is.inside
-        g.is.states (agrees_on Step g.is.inside (e ∷ []))
-        (formed_more Step olds first w g (e ∷ []) all) g.is.front)
+        let more = one_more _ at d h in
+        let all = history_to _ _ more in
+        stops _ _ _ at e (slice_get-get_or es at d h) h more w g all new result
+        (advances_in _ _ w.front _ new _ (advance_same _ _ w.front front is _ new _ advances) _ _
+        _ (agrees_on _ _ _) (formed_more _ _ _ _ g _ all) g.is.front)
 
 -- all events were followed
 pub follows_end : {S : Type 0} (Step : S → ℕ → S → Type 0) (olds : List S) (c : Cut)
     (es : List Event) (at : ℕ) (w : Window S) → length es ≤ at
     → FollowsTo Step olds c (take at es) w → FollowsTo Step olds c es w
-follows_end Step olds c es at w h f =
-    subst (λ (l : List Event). FollowsTo Step olds c l w) (take_all at es h) f
+follows_end Step olds c es at w h f = rw (← take_all at es h) f

@@ -1,5 +1,5 @@
 -- Fronts that go on while replies are still to come.
-use Rattle.history_windows.proofs.Words.{◌≡◌, ℕ, ◌+◌, ◌<◌, ◌≤◌, List, [], ◌∷◌, ◌++◌, Bool, true, false, length, take, drop, get_or, sym, ◌∙◌, ap, subst, arith, inl, inr, append_assoc, take_all, take-append-drop, take-append-add, Event, Begin, End, Front, IsAdvance, IsSameFront, BeginsAnew, IsHistory, IsOpen, begins, HasSlot, Window, AgreesOn, GoesOnTo, IsFrontAfter, IsMadeNext, Precedes}
+use Rattle.history_windows.proofs.Words.{◌≡◌, ℕ, ◌+◌, ◌<◌, ◌≤◌, List, [], ◌++◌, Bool, true, false, length, take, drop, get_or, sym, ◌∙◌, ap, arith, inl, inr, append_assoc, take_all, take-append-drop, take-append-add, Event, Begin, End, Front, IsAdvance, IsSameFront, BeginsAnew, IsHistory, IsOpen, begins, HasSlot, Window, AgreesOn, GoesOnTo, IsFrontAfter, IsMadeNext, Precedes}
 use Rattle.histories.specs.declared.front.Advance.TheVariants as advance
 use Rattle.histories.proofs.Cutting.{begins-append}
 use Rattle.histories.proofs.Events.{begins_none}
@@ -11,10 +11,8 @@ use Rattle.history_windows.proofs.Joins.{open_inside, open_parts}
 pub anew : {S : Type 0} (Step : S → ℕ → S → Type 0) (olds : List S) (es : List Event)
     (old new : Front S) (did : Bool) → BeginsAnew Step old new did
     → IsFrontAfter Step olds es old → IsFrontAfter Step olds es new
-anew Step olds es old new true begins f =
-    (length es, goes_anew Step olds es (record { begin = f.0; front = old }) f.1 new begins)
-anew {S} Step olds es old new false stays f =
-    subst (λ (x : Front S). IsFrontAfter Step olds es x) (sym stays.0) f
+anew Step olds es old new true begins f = (length es, goes_anew _ _ _ _ f.1 _ begins)
+anew {S} Step olds es old new false stays f = rw stays.0 f
 
 -- before any event no call has a slot
 pub no_slot : {S : Type 0} (Step : S → ℕ → S → Type 0) (olds : List S) (front : Front S)
@@ -35,8 +33,7 @@ pub slot_open : {S : Type 0} (Step : S → ℕ → S → Type 0) (olds : List S)
     → (slot : ℕ) × HasSlot front.slots.items slot c
 slot_open Step olds es front f c is =
     let w = f.1.is in
-    w.front.table.all c (open_inside w.past w.inside c w.cut.quiet
-    (subst (λ (l : List Event). IsOpen l c) w.split is))
+    w.front.table.all c (open_inside _ _ _ w.cut.quiet (rw (← w.split) is))
 
 module _ {M S : Type 0} (StepOf : M → S → ℕ → S → Type 0) (machine : M) (old : Front S)
     (events : List Event) (at : ℕ) (mid : Front S)
@@ -55,11 +52,10 @@ module _ {M S : Type 0} (StepOf : M → S → ℕ → S → Type 0) (machine : M
         let all : past ++ take k events ≡ es ++ more =
         ap (λ (l : List Event). past ++ l) is ∙ sym (append_assoc past (take at events) more) in
         let history : IsHistory (es ++ more) =
-        subst (λ (l : List Event). IsHistory l) (take-append-add past events k ∙ all)
-        (history_front (past ++ events) (length past + k) p.history) in
+        rw (← take-append-add past events k ∙ all) (history_front _ _ p.history) in
         let agrees : AgreesOn (StepOf machine) Step es more = λ c which.
         p.agrees c (elim which [
-          | inl now ↦ elim (open_parts past (take at events) c now) [
+          | inl now ↦ elim (open_parts _ _ _ now) [
             | inl was ↦ inl was
             | inr begun ↦ inr (begun_in c at begun)
           ]
@@ -67,11 +63,9 @@ module _ {M S : Type 0} (StepOf : M → S → ℕ → S → Type 0) (machine : M
               (omega (arith, then, ap (begins c) is, begins-append c (take at events) more)))
         ]) in
         let goes = goes_more Step olds es w f.1 more history next
-        (passes whole f.1.is.inside f.1.is.states
-        (agrees_inside Step olds es w f.1 (StepOf machine) more agrees)
-        (formed_more Step olds es w f.1 more history) f.1.is.front) in
-        subst (λ (l : List Event). IsFrontAfter Step olds l new) (sym all)
-        (anew Step olds (es ++ more) next new did (anews whole) (f.0, goes))
+        (passes whole f.1.is.inside f.1.is.states (agrees_inside _ _ _ _ f.1 _ _ agrees)
+        (formed_more _ _ _ _ f.1 _ history) f.1.is.front) in
+        rw all (anew _ _ _ _ _ _ (anews whole) (f.0, goes))
       where
         begun_in : (c n : ℕ) → 0 < begins c (take n events) → 0 < begins c events
         begun_in c n some =
@@ -88,10 +82,8 @@ module _ {M S : Type 0} (StepOf : M → S → ℕ → S → Type 0) (machine : M
         → ((whole : M) → BeginsAnew (StepOf whole) next new did)
         → GoesOnTo StepOf machine old events (at + 1) new
     one_done d h front next new did is advances =
-        let e = get_or events at d in
-        goes_on (at + 1) (e ∷ []) (one_more events at d h) next new did
-        (passes_one StepOf machine mid e next
-        (advance_same StepOf machine mid front is e next advance.Done advances))
+        goes_on _ _ (one_more _ at d h) _ _ _ (passes_one _ _ mid _ next
+        (advance_same _ _ mid front is _ next advance.Done advances))
 
     pub two_done : (next new : Front S) (did : Bool)
         → IsMadeNext StepOf machine events at mid next true
@@ -99,13 +91,10 @@ module _ {M S : Type 0} (StepOf : M → S → ℕ → S → Type 0) (machine : M
         → GoesOnTo StepOf machine old events (at + 2) new
     two_done next new did made =
         let c = made.0 in
-        goes_on (at + 2) (Begin c ∷ End c ∷ [])
-        (take_both events at (Begin c) (End c) made.1 made.2) next new did
-        (passes_alone StepOf machine mid c next made.3)
+        goes_on _ _ (take_both _ at (Begin c) (End c) made.1 made.2) _ _ _
+        (passes_alone _ _ mid _ next made.3)
 
     pub end_upto : length events ≤ at → (whole : M) (past : List Event) (olds : List S)
         → Precedes StepOf machine old events whole past olds
         → IsFrontAfter (StepOf whole) olds (past ++ events) mid
-    end_upto h whole past olds p =
-        subst (λ (l : List Event). IsFrontAfter (StepOf whole) olds (past ++ l) mid)
-        (take_all at events h) (before whole past olds p)
+    end_upto h whole past olds p = rw (← take_all at events h) (before whole past olds p)

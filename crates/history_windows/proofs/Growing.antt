@@ -1,11 +1,11 @@
 -- Windows that grow by events.
-use Rattle.history_windows.proofs.Words.{◌≡◌, ◌⊎◌, ◌↔◌, ℕ, ◌+◌, ◌<◌, List, [], ◌∷◌, ◌++◌, length, take, get_or, refl, sym, ◌∙◌, ap, subst, arith, inl, inr, append_assoc, append-nil, true, slice_get-get_or, Event, Begin, End, Crash, Advance, Front, AdvancesIn, BeginsAnew, IsAdvance, IsMadeAlone, IsQuiet, IsSameFront, begins, IsExplained, IsHistory, IsOpen, StandsAt, HasManyOpen, IsFrontOf, IsSound, Stop, Window, AgreesOn, GoesTo, IsWellFormed, BeginsWindow, IsStop, IsStopAt, LeadsTooFar}
+use Rattle.history_windows.proofs.Words.{◌≡◌, ◌↔◌, ℕ, ◌+◌, ◌<◌, List, [], ◌∷◌, ◌++◌, length, take, refl, sym, ◌∙◌, ap, arith, inl, inr, append_assoc, append-nil, true, Event, Begin, End, Crash, Advance, Front, AdvancesIn, BeginsAnew, IsAdvance, IsMadeAlone, IsSameFront, begins, IsExplained, IsHistory, IsOpen, StandsAt, IsFrontOf, IsSound, Stop, Window, AgreesOn, GoesTo, IsWellFormed, BeginsWindow, IsStop, IsStopAt}
 use Rattle.histories.specs.declared.front.Advance.TheVariants as advance
 use Rattle.histories.proofs.Advancing.{front_same}
 use Rattle.histories.proofs.Events.{begins_none, sound_none}
 use Rattle.histories.proofs.Explaining.{explains_begin, explains_end}
 use Rattle.histories.proofs.Cutting.{begins-append}
-use Rattle.histories.proofs.Verdicts.{frontier_explained, frontier_refused, frontier_some, history_sound, numbered_none, one_more}
+use Rattle.histories.proofs.Verdicts.{frontier_explained, frontier_refused, frontier_some, history_sound, numbered_none}
 use Rattle.history_windows.specs.declared.window.Stop.TheVariants as stop
 use Rattle.history_windows.proofs.Joins.{open_parts, open_whole, quiet_both, sound_back}
 use Rattle.history_windows.proofs.Trying.{formed_front, formed_history, formed_inside, formed_next, sound_formed}
@@ -27,8 +27,8 @@ module _ {M S : Type 0} (StepOf : M → S → ℕ → S → Type 0) (machine : M
       → AdvancesIn (StepOf whole) events states e new result
   advances_in e new result advances whole events states agrees formed f =
       advances whole events states (λ c is. agrees c (inl is))
-      (λ c is. agrees c (open_parts events (e ∷ []) c is))
-      (formed_front events (e ∷ []) formed) (formed_next events [] e formed).0 f
+      (λ c is. agrees c (open_parts _ _ _ is))
+      (formed_front _ _ formed) (formed_next _ _ _ formed).0 f
 
   pub passes_one : (e : Event) (new : Front S) → IsAdvance StepOf machine old e new advance.Done
       → Passes (e ∷ []) new
@@ -41,20 +41,17 @@ module _ {M S : Type 0} (StepOf : M → S → ℕ → S → Type 0) (machine : M
       → Passes (Begin c ∷ End c ∷ []) new
   passes_alone c new alone whole events states agrees formed f =
       alone whole events states
-      (λ x is. agrees x (elim (open_parts events (Begin c ∷ []) x is) [
+      (λ x is. agrees x (elim (open_parts _ _ _ is) [
         | inl before ↦ inl before
         | inr now ↦ inr (omega (arith, now, begins-append x (Begin c ∷ []) (End c ∷ [])))
-      ]))
-      (formed_front events (Begin c ∷ End c ∷ []) formed)
-      ((formed_next events (End c ∷ []) (Begin c) formed).0 c refl) f
+      ])) (formed_front _ _ formed) ((formed_next _ _ _ formed).0 c refl) f
 
   -- a front with the same slots, configurations and links
   pub advance_same : (mid : Front S) → IsSameFront old mid → (e : Event) (new : Front S)
       (result : Advance) → IsAdvance StepOf machine mid e new result
       → IsAdvance StepOf machine old e new result
   advance_same mid is e new result advances whole events states now then sound fresh f =
-      advances whole events states now then sound fresh
-      (front_same (StepOf whole) events states old mid is f)
+      advances whole events states now then sound fresh (front_same _ _ _ old mid is f)
 
 -- the machine itself makes each call
 pub agrees_on : {S : Type 0} (Step : S → ℕ → S → Type 0) (past events : List Event)
@@ -66,7 +63,7 @@ answered : {S : Type 0} (Step : S → ℕ → S → Type 0) (olds : List S) (es 
     → ((c : ℕ) → e ≡ Begin c → begins c es ≡ 0) → IsExplained Step es olds
     → ¬ (IsExplained Step (es ++ e ∷ []) olds) → (c : ℕ) × (e ≡ End c)
 answered Step olds es (Begin c) fresh x none =
-    absurd (none (x.0, x.1, x.2, x.3, explains_begin Step es x.0 x.2 x.1 c (fresh c refl) x.4))
+    absurd (none (x.0, x.1, x.2, x.3, explains_begin _ _ _ _ _ _ (fresh c refl) x.4))
 answered Step olds es (End c) fresh x none = (c, refl)
 answered Step olds es (Crash c) fresh x none =
     absurd (none (
@@ -74,7 +71,7 @@ answered Step olds es (Crash c) fresh x none =
       x.1,
       x.2,
       x.3,
-      explains_end Step es (Crash c) x.0 x.2 x.1 c (inr refl) (λ no. absurd (cc)) x.4,
+      explains_end _ _ _ _ _ _ _ (inr refl) (λ no. absurd (cc)) x.4,
     ))
 
 module _ {S : Type 0} (Step : S → ℕ → S → Type 0) (olds : List S) where
@@ -92,7 +89,7 @@ module _ {S : Type 0} (Step : S → ℕ → S → Type 0) (olds : List S) where
         same = λ rest s t. (λ x. x, λ x. x);
       };
       front = f;
-      some = frontier_some Step front.links.items front.slots.items olds front.configs.items some f;
+      some = frontier_some _ _ _ _ _ some f;
     };
     history = λ index event at. absurd (cc);
     first = sound_none;
@@ -105,15 +102,13 @@ module _ {S : Type 0} (Step : S → ℕ → S → Type 0) (olds : List S) where
     module _ (more : List Event) (history : IsHistory (es ++ more)) where
       pub split_more : es ++ more ≡ g.is.past ++ (g.is.inside ++ more)
       split_more =
-          ap (λ (l : List Event). l ++ more) g.is.split
-          ∙ append_assoc g.is.past g.is.inside more
+          ap (λ (l : List Event). l ++ more) g.is.split ∙ append_assoc g.is.past g.is.inside more
 
       parts_more : IsHistory (g.is.past ++ (g.is.inside ++ more))
-      parts_more = subst (λ (l : List Event). IsHistory l) split_more history
+      parts_more = rw (← split_more) history
 
       pub formed_more : IsWellFormed (g.is.inside ++ more)
-      formed_more =
-          formed_inside g.is.past (g.is.inside ++ more) parts_more g.is.cut.quiet
+      formed_more = formed_inside _ _ parts_more g.is.cut.quiet
 
       sound_more : IsSound (g.is.past ++ (g.is.inside ++ more))
       sound_more = sound_formed _ (formed_history _ parts_more)
@@ -121,18 +116,14 @@ module _ {S : Type 0} (Step : S → ℕ → S → Type 0) (olds : List S) where
       explained_more : IsExplained Step (es ++ more) olds
           ↔ IsExplained Step (g.is.inside ++ more) g.is.states
       explained_more =
-          subst (λ (l : List Event). IsExplained Step l olds
-          ↔ IsExplained Step (g.is.inside ++ more) g.is.states) (sym split_more)
-          (g.is.cut.same (g.is.inside ++ more) (sound_formed _ formed_more) sound_more)
+          rw split_more (g.is.cut.same (g.is.inside ++ more)
+          (sound_formed _ formed_more) sound_more)
 
       -- a call that is open in the window is open
       open_more : (c : ℕ) → IsOpen (g.is.inside ++ more) c → IsOpen (es ++ more) c
-      open_more c is =
-          subst (λ (l : List Event). IsOpen l c) (sym split_more)
-          (open_whole g.is.past (g.is.inside ++ more) c g.first sound_more is)
+      open_more c is = rw split_more (open_whole _ _ _ g.first sound_more is)
 
-      abbrev pub goes_more : (new : Front S)
-          → IsFrontOf Step new (g.is.inside ++ more) g.is.states
+      abbrev pub goes_more : (new : Front S) → IsFrontOf Step new (g.is.inside ++ more) g.is.states
           × (0 < length new.configs.items)
           → GoesTo Step olds (es ++ more) (record { begin = w.begin; front = new })
       goes_more new f = record {
@@ -148,35 +139,30 @@ module _ {S : Type 0} (Step : S → ℕ → S → Type 0) (olds : List S) where
         };
         history = history;
         first = g.first;
-        whole = (history_sound (es ++ more) history).0;
-        numbered = (history_sound (es ++ more) history).1;
+        whole = (history_sound _ history).0;
+        numbered = (history_sound _ history).1;
       }
 
     -- and none
     history_now : IsHistory (es ++ [])
-    history_now = subst (λ (l : List Event). IsHistory l) (sym (append-nil es)) g.history
+    history_now = rw (append-nil es) g.history
 
     explained_inside : IsExplained Step g.is.inside g.is.states
-    explained_inside =
-        frontier_explained Step w.front.links.items w.front.slots.items g.is.inside g.is.states
-        w.front.configs.items g.is.front g.is.some
+    explained_inside = frontier_explained _ _ _ _ _ _ g.is.front g.is.some
 
     -- an order explains the events
     pub goes_explained : IsExplained Step es olds
     goes_explained =
-        subst (λ (l : List Event). IsExplained Step l olds) (append-nil es)
-        ((explained_more [] history_now).1
-        (subst (λ (l : List Event). IsExplained Step l g.is.states)
-        (sym (append-nil g.is.inside)) explained_inside))
+        rw (← append-nil es) ((explained_more _ history_now).1
+        (rw (← append-nil g.is.inside) at explained_inside))
 
     -- where the machine makes the calls as the history has it, it does so in the window
     pub agrees_inside : (Made : S → ℕ → S → Type 0) (more : List Event)
         → AgreesOn Made Step es more → AgreesOn Made Step g.is.inside more
     agrees_inside Made more agrees c is =
         agrees c (elim is [
-          | inl now ↦ inl (subst (λ (l : List Event). IsOpen l c) (append-nil es)
-              (open_more [] history_now c
-              (subst (λ (l : List Event). IsOpen l c) (sym (append-nil g.is.inside)) now)))
+          | inl now ↦ inl (rw (← append-nil es) (open_more _ history_now _
+              (rw (← append-nil g.is.inside) at now)))
           | inr then ↦ inr then
         ])
 
@@ -184,15 +170,12 @@ module _ {S : Type 0} (Step : S → ℕ → S → Type 0) (olds : List S) where
     pub goes_anew : (new : Front S) → BeginsAnew Step w.front new true
         → GoesTo Step olds es (record { begin = length es; front = new })
     goes_anew new anew =
-        let inside_sound : IsSound g.is.inside =
-        formed_front g.is.inside [] (formed_more [] history_now) in
+        let inside_sound : IsSound g.is.inside = formed_front _ _ (formed_more _ history_now) in
         let a = anew g.is.inside g.is.states inside_sound g.is.front in
         let states = a.1.0 in
         let left : IsExplained Step [] states =
-        (a.1.2 [] sound_none
-        (subst (λ (l : List Event). IsSound l) (sym (append-nil g.is.inside)) inside_sound)).0
-        (subst (λ (l : List Event). IsExplained Step l g.is.states) (sym (append-nil g.is.inside))
-        explained_inside) in
+        (a.1.2 [] sound_none (rw (append-nil g.is.inside) inside_sound)).0
+        (rw (append-nil g.is.inside) explained_inside) in
         let some : 0 < length states = omega (arith, left.3.1) in
         record {
           is = record {
@@ -202,24 +185,21 @@ module _ {S : Type 0} (Step : S → ℕ → S → Type 0) (olds : List S) where
             begins = refl;
             states = states;
             cut = record {
-              quiet = subst (λ (l : List Event). IsQuiet l) (sym g.is.split)
-                  (quiet_both g.is.past g.is.inside g.is.cut.quiet a.0);
+              quiet = rw g.is.split (quiet_both _ _ g.is.cut.quiet a.0);
               same = λ rest sound all.
                   let whole = g.is.past ++ (g.is.inside ++ rest) in
                   let is : es ++ rest ≡ whole =
                   ap (λ (l : List Event). l ++ rest) g.is.split
                   ∙ append_assoc g.is.past g.is.inside rest in
-                  let parts : IsSound whole = subst (λ (l : List Event). IsSound l) is all in
+                  let parts : IsSound whole = rw (← is) all in
                   let behind : IsSound (g.is.inside ++ rest) =
-                  sound_back g.is.past g.is.inside rest inside_sound sound parts in
+                  sound_back _ _ _ inside_sound sound parts in
                   let first = g.is.cut.same (g.is.inside ++ rest) behind parts in
                   let second = a.1.2 rest sound behind in
-                  subst (λ (l : List Event). IsExplained Step l olds ↔ IsExplained Step rest states)
-                  (sym is) (λ x. second.0 (first.0 x), λ x. first.1 (second.1 x));
+                  rw is (λ x. second.0 (first.0 x), λ x. first.1 (second.1 x));
             };
             front = a.1.1;
-            some = frontier_some Step new.links.items new.slots.items states new.configs.items some
-                a.1.1;
+            some = frontier_some _ _ _ _ _ some a.1.1;
           };
           history = g.history;
           first = g.whole;
@@ -233,12 +213,8 @@ pub goes_window : {S : Type 0} (Step : S → ℕ → S → Type 0) (olds : List 
     → BeginsWindow Step count old new → GoesTo Step olds es new
 goes_window Step olds es old new count is g b =
     elim b [
-      | inl anew ↦ subst (λ n. GoesTo Step olds es (record { begin = n; front = new.front }))
-          (sym (anew.0 ∙ is)) (goes_anew Step olds es old g new.front anew.1)
-      | inr stays ↦ subst (λ n. GoesTo Step olds es (record { begin = n; front = new.front }))
-          (sym stays.0)
-          (subst (λ f. GoesTo Step olds es (record { begin = old.begin; front = f }))
-          (sym stays.1.0) g)
+      | inl anew ↦ rw (anew.0 ∙ is) (goes_anew _ _ _ _ g _ anew.1)
+      | inr stays ↦ rw stays.0 (rw (← stays.1.0) at g)
     ]
 
 -- why an event is not followed, by what it did to the front
@@ -257,11 +233,7 @@ module _ {S : Type 0} (Step : S → ℕ → S → Type 0) (olds : List S) (es : 
     (new : Front S)
   where
     stop_of : (why : Stop) → IsStopAt Step olds es at why → IsStop Step olds es at why
-    stop_of why is = record {
-      within = within;
-      before = goes_explained Step olds (take at es) w g;
-      at = is;
-    }
+    stop_of why is = record { within = within; before = goes_explained _ _ _ _ g; at = is }
 
     pub stops : (result : Advance) → AdvancesIn Step g.is.inside g.is.states e new result
         → StopsBy Step olds es at result
@@ -269,18 +241,13 @@ module _ {S : Type 0} (Step : S → ℕ → S → Type 0) (olds : List S) (es : 
     stops advance.Refused done =
         let first = take at es in
         let none : ¬ (IsExplained Step (first ++ e ∷ []) olds) =
-        λ x. frontier_refused Step new.links.items new.slots.items (g.is.inside ++ e ∷ [])
-        g.is.states new.configs.items done.0 done.1
-        ((explained_more Step olds first w g (e ∷ []) history).0 x) in
-        let by = answered Step olds first e
-        (formed_next first [] e (formed_history (first ++ e ∷ []) history)).0
-        (goes_explained Step olds first w g) none in
-        stop_of stop.Refused (
-          (by.0, subst (λ (x : Event). StandsAt es at x) by.1 stands),
-          subst (λ (l : List Event). ¬ (IsExplained Step l olds)) (sym more) none,
-        )
+        λ x. frontier_refused _ _ _ _ _ _ done.0 done.1
+        ((explained_more _ _ _ _ g _ history).0 x) in
+        let by = answered Step olds first e (formed_next _ _ _ (formed_history _ history)).0
+        (goes_explained _ _ _ _ g) none in
+        stop_of _ ((by.0, rw (← by.1) stands), rw more none)
     stops advance.ManyConfigs many =
-        stop_of stop.ManyConfigs (elim many [
+        stop_of _ (elim many [
           | inl before ↦ inl (record {
             past = g.is.past;
             inside = g.is.inside;
@@ -292,20 +259,13 @@ module _ {S : Type 0} (Step : S → ℕ → S → Type 0) (olds : List S) (es : 
           | inr now ↦ inr (record {
             past = g.is.past;
             inside = g.is.inside ++ e ∷ [];
-            split = more ∙ split_more Step olds (take at es) w g (e ∷ []) history;
+            split = more ∙ split_more _ _ _ _ g _ history;
             states = g.is.states;
             cut = g.is.cut;
             many = now;
           })
         ])
     stops advance.ManyOpen many =
-        stop_of stop.ManyOpen
-        (subst (λ (l : List Event). HasManyOpen l) (sym more) (
-          many.0,
-          many.1,
-          many.2,
-          λ c has. open_more Step olds (take at es) w g (e ∷ []) history c (many.3 c has),
-        ))
-    stops advance.NoEvent closed =
-        closed (formed_next g.is.inside [] e
-        (formed_more Step olds (take at es) w g (e ∷ []) history)).1
+        stop_of _
+        (rw more (many.0, many.1, many.2, λ c has. open_more _ _ _ _ g _ history _ (many.3 c has)))
+    stops advance.NoEvent closed = closed (formed_next _ _ _ (formed_more _ _ _ _ g _ history)).1

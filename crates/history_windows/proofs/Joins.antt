@@ -3,10 +3,10 @@ use Rattle.history_windows.proofs.Words.{ℕ, ◌<◌, ◌⊎◌, List, ◌++◌
 use Rattle.histories.proofs.Events.{begins-append, ends_either, ends_left, ends_right}
 
 pub ended_left : (es fs : List Event) (c : ℕ) → HasEnded es c → HasEnded (es ++ fs) c
-ended_left es fs c h = (h.0, ends_left es fs h.0 c h.1)
+ended_left es fs c h = (h.0, ends_left es fs h.0 _ h.1)
 
 pub ended_right : (es fs : List Event) (c : ℕ) → HasEnded fs c → HasEnded (es ++ fs) c
-ended_right es fs c h = let r = ends_right es fs h.0 c h.1 in (r.0, r.2)
+ended_right es fs c h = let r = ends_right es fs h.0 _ h.1 in (r.0, r.2)
 
 pub ended_either : (es fs : List Event) (c : ℕ) → HasEnded (es ++ fs) c
     → HasEnded es c ⊎ HasEnded fs c
@@ -21,7 +21,7 @@ pub sound_back : (es fs gs : List Event) → IsSound fs → IsSound gs
     → IsSound (es ++ (fs ++ gs)) → IsSound (fs ++ gs)
 sound_back es fs gs f g whole = record {
   once = λ c. omega (arith, whole.once c, begins-append c es (fs ++ gs));
-  begun = λ c ended. elim (ended_either fs gs c ended) [
+  begun = λ c ended. elim (ended_either _ _ _ ended) [
     | inl x ↦ omega (arith, f.begun c x, begins-append c fs gs)
     | inr x ↦ omega (arith, g.begun c x, begins-append c fs gs)
   ];
@@ -29,40 +29,28 @@ sound_back es fs gs f g whole = record {
 
 -- no call is open after two parts after each of which none is
 pub quiet_both : (es fs : List Event) → IsQuiet es → IsQuiet fs → IsQuiet (es ++ fs)
-quiet_both es fs p q c begun =
-    elim (cases_lt 0 (begins c es)) [
-      | inl some ↦ ended_left es fs c (p c some)
-      | inr none ↦
-          ended_right es fs c (q c (omega (arith, begun, none, begins-append c es fs)))
-    ]
+quiet_both es fs p q c begun = grind (arith, cases_lt, ended_left, ended_right, begins-append)
 
 -- a call that is open after both is open after the first, or begins in the second
 pub open_parts : (es fs : List Event) (c : ℕ) → IsOpen (es ++ fs) c
     → IsOpen es c ⊎ (0 < begins c fs)
 open_parts es fs c is =
     elim (cases_lt 0 (begins c es)) [
-      | inl some ↦ inl (some, λ ended. is.1 (ended_left es fs c ended))
+      | inl some ↦ inl (some, λ ended. is.1 (ended_left _ _ _ ended))
       | inr none ↦ inr (omega (arith, is.0, none, begins-append c es fs))
     ]
 
 -- a call that is open has begun in the second part, where none is open after the first
 pub open_inside : (es fs : List Event) (c : ℕ) → IsQuiet es → IsOpen (es ++ fs) c → IsOpen fs c
-open_inside es fs c quiet is =
-    let late : 0 < begins c fs =
-    elim (cases_lt 0 (begins c es)) [
-      | inl some ↦ absurd (is.1 (ended_left es fs c (quiet c some)))
-      | inr none ↦ omega (arith, is.0, none, begins-append c es fs)
-    ] in
-    (late, λ ended. is.1 (ended_right es fs c ended))
+open_inside es fs c quiet is = grind (arith, cases_lt, ended_left, begins-append, ended_right)
 
 -- a call that is open in the second part is open in the whole
 pub open_whole : (es fs : List Event) (c : ℕ) → IsSound es → IsSound (es ++ fs) → IsOpen fs c
     → IsOpen (es ++ fs) c
 open_whole es fs c first whole is = (
   omega (arith, is.0, begins-append c es fs),
-  λ ended. elim (ended_either es fs c ended) [
-    | inl x ↦
-        absurd (omega (arith, first.begun c x, is.0, whole.once c, begins-append c es fs))
+  λ ended. elim (ended_either _ _ _ ended) [
+    | inl x ↦ absurd (omega (arith, first.begun c x, is.0, whole.once c, begins-append c es fs))
     | inr x ↦ is.1 x
   ],
 )

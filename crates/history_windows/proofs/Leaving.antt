@@ -1,5 +1,5 @@
 -- Histories and orders of which calls are left out.
-use Rattle.history_windows.proofs.Words.{◌≡◌, ℕ, zero, suc, ◌+◌, ◌<◌, ◌≤◌, Bool, true, false, cond, eqb, List, [], ◌∷◌, take, refl, ap, subst, arith, inl, inr, filter, cond_both, eqb_tells, AllPairs-filter, Event, Begin, End, Crash, Explains, HasEnded, IsAnswered, IsExplained, IsOver, Leads, StandsAt, IsRest, LeavesOutIdle, call_of, events_of}
+use Rattle.history_windows.proofs.Words.{◌≡◌, ℕ, zero, suc, ◌<◌, ◌≤◌, Bool, true, false, eqb, List, [], ◌∷◌, take, refl, ap, arith, inl, inr, filter, cond_both, eqb_tells, AllPairs-filter, Event, Begin, End, Crash, Explains, HasEnded, IsAnswered, IsExplained, IsOver, Leads, StandsAt, IsRest, LeavesOutIdle, call_of, events_of}
 use Rattle.histories.specs.Histories.{begins, times}
 use Rattle.histories.proofs.Counting.{times-cons, times_none, times_other}
 
@@ -21,8 +21,7 @@ module _ (kept : ℕ → Bool) where
   from_left : (x : Event) (es rest : List Event) → kept (call_of x) ≡ false
       → ((p : ℕ) (e : Event) → StandsAt rest p e → IsFrom es rest p e)
       → (p : ℕ) (e : Event) → StandsAt rest p e → IsFrom (x ∷ es) rest p e
-  from_left x es rest f more p e at =
-      let r = more p e at in (suc r.0, r.1, rw f r.2, r.3)
+  from_left x es rest f more p e at = let r = more p e at in (suc r.0, r.1, rw f r.2, r.3)
 
   pub stands_of : (es : List Event) (p : ℕ) (e : Event) → StandsAt (events_of kept es) p e
       → IsFrom es (events_of kept es) p e
@@ -31,13 +30,11 @@ module _ (kept : ℕ → Bool) where
       let rest = events_of kept es in
       cond_both (kept (call_of x)) (x ∷ rest) rest
       (λ (l : List Event). (p : ℕ) (e : Event) → StandsAt l p e → IsFrom (x ∷ es) l p e)
-      (λ t. from_kept x es rest t (stands_of es))
-      (λ f. from_left x es rest f (stands_of es)) p e at
+      (λ t. from_kept _ _ _ t (stands_of es)) (λ f. from_left _ _ _ f (stands_of es)) p e at
 
   -- two events that stand one before the other did so before
   abbrev AreFrom : List Event → Event → Event → Type 0
-  AreFrom es e f =
-      (one : ℕ) × (other : ℕ) × (one < other) × StandsAt es one e × StandsAt es other f
+  AreFrom es e f = (one : ℕ) × (other : ℕ) × (one < other) × StandsAt es one e × StandsAt es other f
 
   both_kept : (x : Event) (es : List Event)
       → ((p q : ℕ) (e f : Event) → p < q → StandsAt (events_of kept es) p e
@@ -46,7 +43,7 @@ module _ (kept : ℕ → Bool) where
       → StandsAt (x ∷ events_of kept es) q f → AreFrom (x ∷ es) e f
   both_kept x es more p zero e f less one other = absurd (omega (arith, less))
   both_kept x es more zero (suc q) e f less one other =
-      let r = stands_of es q f other in (0, suc r.0, omega arith, one, r.1)
+      let r = stands_of _ _ _ other in (0, suc r.0, omega arith, one, r.1)
   both_kept x es more (suc p) (suc q) e f less one other =
       let r = more p q e f (omega (arith, less)) one other in
       (suc r.0, suc r.1, omega (arith, r.2), r.3, r.4)
@@ -66,13 +63,12 @@ module _ (kept : ℕ → Bool) where
       let rest = events_of kept es in
       cond_both (kept (call_of x)) (x ∷ rest) rest
       (λ (l : List Event). (p q : ℕ) (e f : Event) → p < q → StandsAt l p e → StandsAt l q f
-      → AreFrom (x ∷ es) e f)
-      (λ t. both_kept x es (both_of es))
-      (λ no. both_left x es (both_of es)) p q e f less one other
+      → AreFrom (x ∷ es) e f) (λ t. both_kept _ _ (both_of es))
+      (λ no. both_left _ _ (both_of es)) p q e f less one other
 
   pub answered_of : (es : List Event) (c : ℕ) → IsAnswered (events_of kept es) c
       → IsAnswered es c × (kept c ≡ true)
-  answered_of es c a = let r = stands_of es a.0 (End c) a.1 in ((r.0, r.1), r.3)
+  answered_of es c a = let r = stands_of _ _ _ a.1 in ((r.0, r.1), r.3)
 
   pub ended_of : (es : List Event) (c : ℕ) → HasEnded (events_of kept es) c
       → HasEnded es c × (kept c ≡ true)
@@ -89,66 +85,27 @@ module _ (kept : ℕ → Bool) where
       → begins c (events_of kept es) ≡ begins c es
   unfolding begins
   begins_of c [] t = refl
-  begins_of c (Begin b ∷ es) t =
-      let rest = events_of kept es in
-      let more : begins c rest ≡ begins c es = begins_of c es t in
-      cond_both (kept b) (Begin b ∷ rest) rest
-      (λ (l : List Event). begins c l ≡ cond (eqb b c) 1 0 + begins c es)
-      (λ _. ap (λ n. cond (eqb b c) 1 0 + n) more)
-      (λ f. rw (other_call b c f t) (omega (arith, more)))
-  begins_of c (End b ∷ es) t =
-      let rest = events_of kept es in
-      let more : begins c rest ≡ begins c es = begins_of c es t in
-      cond_both (kept b) (End b ∷ rest) rest (λ (l : List Event). begins c l ≡ begins c es)
-      (λ _. more) (λ _. more)
-  begins_of c (Crash b ∷ es) t =
-      let rest = events_of kept es in
-      let more : begins c rest ≡ begins c es = begins_of c es t in
-      cond_both (kept b) (Crash b ∷ rest) rest (λ (l : List Event). begins c l ≡ begins c es)
-      (λ _. more) (λ _. more)
+  begins_of c (Begin b ∷ es) t = grind (arith, cond_both, other_call, begins_of c es t)
+  begins_of c (End b ∷ es) t = grind (arith, cond_both, begins_of c es t)
+  begins_of c (Crash b ∷ es) t = grind (arith, cond_both, begins_of c es t)
 
   pub begins_fewer : (c : ℕ) (es : List Event) → begins c (events_of kept es) ≤ begins c es
   unfolding begins
   begins_fewer c [] = omega arith
-  begins_fewer c (Begin b ∷ es) =
-      let rest = events_of kept es in
-      let more : begins c rest ≤ begins c es = begins_fewer c es in
-      cond_both (kept b) (Begin b ∷ rest) rest
-      (λ (l : List Event). begins c l ≤ cond (eqb b c) 1 0 + begins c es)
-      (λ _. omega (arith, more)) (λ _. omega (arith, more))
-  begins_fewer c (End b ∷ es) =
-      let rest = events_of kept es in
-      let more : begins c rest ≤ begins c es = begins_fewer c es in
-      cond_both (kept b) (End b ∷ rest) rest (λ (l : List Event). begins c l ≤ begins c es)
-      (λ _. more) (λ _. more)
-  begins_fewer c (Crash b ∷ es) =
-      let rest = events_of kept es in
-      let more : begins c rest ≤ begins c es = begins_fewer c es in
-      cond_both (kept b) (Crash b ∷ rest) rest (λ (l : List Event). begins c l ≤ begins c es)
-      (λ _. more) (λ _. more)
+  begins_fewer c (Begin b ∷ es) = grind (arith, cond_both, begins_fewer c es)
+  begins_fewer c (End b ∷ es) = grind (arith, cond_both, begins_fewer c es)
+  begins_fewer c (Crash b ∷ es) = grind (arith, cond_both, begins_fewer c es)
 
   -- how often a call stands in an order
-  times_of : (c : ℕ) (order : List ℕ) → kept c ≡ true
-      → times c (filter kept order) ≡ times c order
+  times_of : (c : ℕ) (order : List ℕ) → kept c ≡ true → times c (filter kept order) ≡ times c order
   unfolding times
   times_of c [] t = refl
-  times_of c (x ∷ xs) t =
-      let rest = filter kept xs in
-      let more : times c rest ≡ times c xs = times_of c xs t in
-      cond_both (kept x) (x ∷ rest) rest
-      (λ (l : List ℕ). times c l ≡ cond (eqb x c) 1 0 + times c xs)
-      (λ _. ap (λ n. cond (eqb x c) 1 0 + n) more)
-      (λ f. rw (other_call x c f t) (omega (arith, more)))
+  times_of c (x ∷ xs) t = grind (arith, cond_both, other_call, times_of c xs t)
 
   times_fewer : (c : ℕ) (order : List ℕ) → times c (filter kept order) ≤ times c order
   unfolding times
   times_fewer c [] = omega arith
-  times_fewer c (x ∷ xs) =
-      let rest = filter kept xs in
-      let more : times c rest ≤ times c xs = times_fewer c xs in
-      cond_both (kept x) (x ∷ rest) rest
-      (λ (l : List ℕ). times c l ≤ cond (eqb x c) 1 0 + times c xs)
-      (λ _. omega (arith, more)) (λ _. omega (arith, more))
+  times_fewer c (x ∷ xs) = grind (arith, cond_both, times_fewer c xs)
 
   times_kept : (c : ℕ) (order : List ℕ) → 0 < times c (filter kept order) → kept c ≡ true
   times_kept c [] h = absurd (omega (arith, h, times_none c))
@@ -156,22 +113,16 @@ module _ (kept : ℕ → Bool) where
       let rest = filter kept xs in
       cond_both (kept x) (x ∷ rest) rest (λ (l : List ℕ). 0 < times c l → kept c ≡ true)
       (λ t h. elim (eqb_tells x c) [
-        | inl same ↦ subst (λ n. kept n ≡ true) same.1 t
+        | inl same ↦ rw (← same.1) t
         | inr other ↦
             times_kept c xs (omega (arith, h, times-cons c x rest, times_other c x other.1))
-      ])
-      (λ _ h. times_kept c xs h) some
+      ]) (λ _ h. times_kept c xs h) some
 
   module _ {S : Type 0} (Step : S → ℕ → S → Type 0) (idle : LeavesOutIdle Step kept) where
     leads_of : (old new : S) (order : List ℕ) → Leads Step old order new
         → Leads Step old (filter kept order) new
     leads_of old new [] l = l
-    leads_of old new (x ∷ xs) l =
-        cond_both (kept x) (x ∷ filter kept xs) (filter kept xs)
-        (λ (o : List ℕ). Leads Step old o new)
-        (λ _. (l.0, l.1, leads_of l.0 new xs l.2))
-        (λ f. subst (λ s. Leads Step s (filter kept xs) new) (idle x f old l.0 l.1)
-        (leads_of l.0 new xs l.2))
+    leads_of old new (x ∷ xs) l = grind (arith, cond_both, leads_of l.0 new xs l.2)
 
     pub explains_of : (es : List Event) (old new : S) (order : List ℕ)
         → Explains Step es old order new
@@ -180,28 +131,25 @@ module _ (kept : ℕ → Bool) where
       once = λ c. omega (arith, times_fewer c order, ex.once c);
       begun = λ c some. grind (arith, times_kept, times_of, begins_of);
       answered = λ c a.
-          let r = answered_of es c a in
+          let r = answered_of _ _ a in
           omega (arith, times_of c order r.1, ex.answered c r.0);
       real_time = λ i j d less within over.
           AllPairs-filter (λ first second. ¬ (IsOver es second first)) kept order ex.real_time
-          i j d less within (over_of es _ _ over);
-      leads = leads_of old new order ex.leads;
+          i j d less within (over_of _ _ _ over);
+      leads = leads_of _ _ _ ex.leads;
     }
 
     pub explained_of : (es : List Event) (olds : List S) → IsExplained Step es olds
         → IsExplained Step (events_of kept es) olds
-    explained_of es olds x =
-        (x.0, filter kept x.1, x.2, x.3, explains_of es x.0 x.2 x.1 x.4)
+    explained_of es olds x = (x.0, filter kept x.1, x.2, x.3, explains_of _ _ _ _ x.4)
 
 pub explains_rest : {S : Type 0} (Step : S → ℕ → S → Type 0) (kept : ℕ → Bool)
     (events : List Event) (old new : S) (order : List ℕ) → LeavesOutIdle Step kept
     → Explains Step events old order new
     → Explains Step (events_of kept events) old (filter kept order) new
-explains_rest Step kept events old new order idle ex =
-    explains_of kept Step idle events old new order ex
+explains_rest Step kept events old new order idle ex = explains_of _ _ idle _ _ _ _ ex
 
 pub refused_rest : {S : Type 0} (Step : S → ℕ → S → Type 0) (kept : ℕ → Bool)
     (events : List Event) (olds : List S) → IsRest Step olds events kept
     → ¬ (IsExplained Step events olds)
-refused_rest Step kept events olds rest x =
-    rest.refused (explained_of kept Step rest.others events olds x)
+refused_rest Step kept events olds rest x = rest.refused (explained_of _ _ rest.others _ _ x)

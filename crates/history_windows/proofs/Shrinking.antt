@@ -1,5 +1,5 @@
 -- The states with which a window begins, and its calls that are left out.
-use Rattle.history_windows.proofs.Words.{◌≡◌, ◌+◌, ◌<◌, ℕ, zero, suc, Option, List, [], ◌∷◌, ◌++◌, length, get_or, refl, sym, ◌∙◌, ap, subst, arith, append-nil, Bool, true, false, inl, inr, take, take_all, Result, Ok, Err, IfOk, Contains, set, replicate, nil_from_length, length-append, get_or-set_other, get_or_past, get_or-replicate, length-replicate, Event, Config, Link, HasSlot, IsFrontOf, IsFrontier, IsIdle, IsExplained, IsHistory, Window, states_of, AreIdle, AreNeeded, HasCut, IsRest, IsWellFormed, events_of, is_kept, IsCut, IsWindowOf, cases_eq, cases_lt, not, Vec, slice_get-get_or, Advance, Front, AdvancesIn, IsAdvance}
+use Rattle.history_windows.proofs.Words.{◌≡◌, ◌+◌, ◌<◌, ℕ, zero, suc, Option, List, [], ◌∷◌, ◌++◌, length, get_or, refl, sym, ◌∙◌, ap, subst, arith, append-nil, Bool, true, false, take, take_all, Result, Ok, Err, IfOk, Contains, set, replicate, nil_from_length, length-append, get_or-set_other, get_or_past, get_or-replicate, length-replicate, Event, Config, Link, HasSlot, IsFrontOf, IsFrontier, IsIdle, IsExplained, IsHistory, Window, states_of, AreIdle, AreNeeded, HasCut, IsRest, IsWellFormed, events_of, is_kept, IsCut, IsWindowOf, cases_eq, cases_lt, not, Vec, slice_get-get_or, Advance, Front, AdvancesIn, IsAdvance}
 use Rattle.histories.proofs.Cutting.{runs_nothing}
 use Rattle.histories.proofs.Events.{begins_none}
 use Rattle.histories.proofs.Places.{contains_map_of, contains_of_map}
@@ -13,21 +13,18 @@ module _ {S : Type 0} (Step : S → ℕ → S → Type 0) (links : List Link) (s
   where
     state_before : (s : S) → Contains (states_of configs) s → Contains olds s
     state_before s has =
-        let k = contains_of_map (λ (k : Config S). k.state) configs s has in
+        let k = contains_of_map _ _ _ has in
         let is = f.sound k.0 k.1 in
-        subst (λ x. Contains olds x)
-        (sym (no_calls Step is.old k.0.state _ is.explains).1 ∙ k.2) is.from
+        subst (λ x. Contains olds x) (sym (no_calls _ _ _ _ is.explains).1 ∙ k.2) is.from
 
     no_slot : (slot call : ℕ) → HasSlot slots slot call → ⊥
-    no_slot slot call has =
-        absurd (omega (arith, (f.table.each slot call has).0, begins_none call))
+    no_slot slot call has = absurd (omega (arith, (f.table.each slot call has).0, begins_none call))
 
     state_after : (s : S) → Contains olds s → Contains (states_of configs) s
     state_after s has =
-        let l = (f.complete s [] s has (explains_none Step s)).2 in
-        subst (λ x. Contains (states_of configs) x)
-        (sym (runs_nothing Step slots l.0.state s l.0.waiting l.2.1 l.2.0 no_slot l.2.2))
-        (contains_map_of (λ (k : Config S). k.state) configs l.0 l.1)
+        let l = (f.complete s [] s has (explains_none _ _)).2 in
+        rw (runs_nothing Step _ _ _ l.0.waiting l.2.1 l.2.0 no_slot l.2.2)
+        (contains_map_of _ _ _ l.1)
 
 module _ {S : Type 0} (Step : S → ℕ → S → Type 0) where
   explained_from : (es : List Event) (olds news : List S)
@@ -39,13 +36,7 @@ module _ {S : Type 0} (Step : S → ℕ → S → Type 0) where
       → ((s : S) → Contains one s → Contains other s)
       → ((s : S) → Contains other s → Contains one s)
       → IsCut Step olds past one → IsCut Step olds past other
-  cut_same olds past one other to from cut = record {
-    quiet = cut.quiet;
-    same = λ rest sound all. (
-      λ x. explained_from rest one other to ((cut.same rest sound all).0 x),
-      λ x. (cut.same rest sound all).1 (explained_from rest other one from x),
-    );
-  }
+  cut_same olds past one other to from cut = grind (arith, explained_from)
 
   -- where the events end in a window that begins after them, they have left its states
   pub cut_states : (olds : List S) (es : List Event) (w : Window S) → IsWindowOf Step olds es w
@@ -57,16 +48,9 @@ module _ {S : Type 0} (Step : S → ℕ → S → Type 0) where
       (omega (arith, begins, is.begins, ap length is.split, length-append is.past is.inside)) in
       let all : is.past ≡ es =
       sym (is.split ∙ (ap (λ (l : List Event). is.past ++ l) none ∙ append-nil is.past)) in
-      let f : IsFrontOf Step w.front [] is.states =
-      subst (λ (l : List Event). IsFrontOf Step w.front l is.states) none is.front in
-      let links = w.front.links.items in
-      let slots = w.front.slots.items in
-      let configs = w.front.configs.items in
-      subst (λ (l : List S). IsCut Step olds es l) (sym are)
-      (subst (λ (l : List Event). IsCut Step olds l (states_of configs)) all
-      (cut_same olds is.past is.states (states_of configs)
-      (state_after Step links slots is.states configs f)
-      (state_before Step links slots is.states configs f) is.cut))
+      let f : IsFrontOf Step w.front [] is.states = rw (← none) is.front in
+      rw are (rw all at (cut_same _ _ _ _ (state_after _ _ _ _ _ f)
+      (state_before _ _ _ _ _ f) is.cut))
 
 pub left_out_is : (calls : List Bool) (call : ℕ) → is_kept calls call ≡ false
     → get_or calls call false ≡ true
@@ -88,81 +72,51 @@ module _ {S : Type 0} (Step : S → ℕ → S → Type 0) (olds : List S) (es : 
   pub rest_back : (calls : List Bool) (call : ℕ) (was : Bool) → was ≡ get_or calls call was
       → IsRest Step olds es (is_kept calls)
       → IsRest Step olds es (is_kept (set (set calls call true) call was))
-  rest_back calls call was is rest =
-      subst
-      (λ (w : Bool). IsRest Step olds es (is_kept (set (set calls call true) call w))) (sym is)
-      (subst (λ (l : List Bool). IsRest Step olds es (is_kept l))
-      (sym (set_back calls call true was)) rest)
+  rest_back calls call was is rest = grind (arith, set_back)
 
   -- one call more is left out
   pub rest_more : (calls : List Bool) (call : ℕ) → IsIdle Step call
       → ¬ (IsExplained Step (events_of (is_kept (set calls call true)) es) olds)
       → IsRest Step olds es (is_kept calls) → IsRest Step olds es (is_kept (set calls call true))
-  rest_more calls call idle none rest = record {
-    refused = none;
-    others = λ c left. elim (cases_eq c call) [
-      | inl same ↦ subst (λ n. IsIdle Step n) (sym same) idle
-      | inr other ↦ rest.others c
-          (sym (ap not (get_or-set_other calls call c true false other)) ∙ left)
-    ];
-  }
+  rest_more calls call idle none rest = grind (arith, cases_eq, get_or-set_other)
 
   -- all of these are left out
   pub rest_all : (calls : List Bool) → AreIdle Step calls
       → ¬ (IsExplained Step (events_of (is_kept calls) es) olds)
       → IsRest Step olds es (is_kept calls)
-  rest_all calls idle none = record {
-    refused = none;
-    others = λ c left. idle c (left_out_is calls c left);
-  }
+  rest_all calls idle none = grind (arith, left_out_is)
 
 none_left : (n c : ℕ) → is_kept (replicate n false) c ≡ true
-none_left n c =
-    elim (cases_lt c n) [
-      | inl in_list ↦ ap not (get_or-replicate n c false false in_list)
-      | inr after ↦ ap not (get_or_past (replicate n false) c false
-          (omega (arith, after, length-replicate n false)))
-    ]
+none_left n c = grind (arith, cases_lt, get_or-replicate, get_or_past, length-replicate)
 
-all_kept : (kept : ℕ → Bool) (es : List Event) → ((c : ℕ) → kept c ≡ true)
-    → events_of kept es ≡ es
+all_kept : (kept : ℕ → Bool) (es : List Event) → ((c : ℕ) → kept c ≡ true) → events_of kept es ≡ es
 all_kept kept [] all = refl
 all_kept kept (e ∷ es) all = rw all (ap (λ (l : List Event). e ∷ l) (all_kept kept es all))
 
 -- no call is left out
 pub rest_none : {S : Type 0} (Step : S → ℕ → S → Type 0) (olds : List S) (es : List Event)
     (n : ℕ) → ¬ (IsExplained Step es olds) → IsRest Step olds es (is_kept (replicate n false))
-rest_none Step olds es n none = record {
-  refused = subst (λ (l : List Event). ¬ (IsExplained Step l olds))
-      (sym (all_kept (is_kept (replicate n false)) es (none_left n))) none;
-  others = λ c left. absurd (let e = none_left n c in cc);
-}
+rest_none Step olds es n none = grind (arith, all_kept, none_left)
 
 module _ {S : Type 0} (Step : S → ℕ → S → Type 0) (olds : List S) (past window : List Event)
     (history : IsHistory (past ++ window)) where
   pub formed_window : HasCut Step olds past → IsWellFormed window
-  formed_window cut = formed_inside past window history cut.1.quiet
+  formed_window cut = formed_inside _ _ history cut.1.quiet
 
   -- no order explains the window from the states with which it begins
   pub refused_window : (states given : List S) → given ≡ states → IsCut Step olds past states
       → ¬ (IsExplained Step (past ++ window) olds) → ¬ (IsExplained Step window given)
   refused_window states given same cut none x =
-      let formed : IsWellFormed window = formed_inside past window history cut.quiet in
-      none
-      ((cut.same window (sound_formed window formed)
-      (sound_formed (past ++ window) (formed_history (past ++ window) history))).1
-      (subst (λ (l : List S). IsExplained Step window l) same x))
+      let formed : IsWellFormed window = formed_inside _ _ history cut.quiet in
+      none ((cut.same window (sound_formed _ formed) (sound_formed _ (formed_history _ history))).1
+      (rw (← same) x))
 
   pub needed_found : {E : Type 0} (states given : List S) → given ≡ states
       → IsCut Step olds past states → (found : Result (Vec Bool) E)
       → IfOk found (λ left_out. IsRest Step given window (is_kept left_out.items))
       → IfOk found (λ left_out. AreNeeded Step olds past window (is_kept left_out.items))
   needed_found states given same cut (Err e) rest = rest
-  needed_found states given same cut (Ok found) rest = record {
-    states = states;
-    cut = cut;
-    rest = subst (λ (l : List S). IsRest Step l window (is_kept found.items)) same rest;
-  }
+  needed_found states given same cut (Ok found) rest = grind arith
 
   pub needed_whole : {E : Type 0} (n : ℕ) → HasCut Step olds past
       → ¬ (IsExplained Step (past ++ window) olds) → (found : Result (Vec Bool) E)
@@ -172,8 +126,7 @@ module _ {S : Type 0} (Step : S → ℕ → S → Type 0) (olds : List S) (past 
   needed_whole n cut none (Ok found) all = record {
     states = cut.0;
     cut = cut.1;
-    rest = subst (λ (l : List Bool). IsRest Step cut.0 window (is_kept l)) (sym all)
-        (rest_none Step cut.0 window n (refused_window cut.0 cut.0 refl cut.1 none));
+    rest = rw all (rest_none _ _ _ _ (refused_window _ _ refl cut.1 none));
   }
 
 -- the front is that of the events before a place, and one event more is tried
@@ -183,22 +136,18 @@ module _ {M S : Type 0} (StepOf : M → S → ℕ → S → Type 0) (machine : M
   tried : (result : Advance) → IsAdvance StepOf machine old (get_or es at d) new result
       → AdvancesIn (StepOf machine) (take at es) olds (get_or es at d) new result
   tried result advances =
-      advances machine (take at es) olds (agrees_same (StepOf machine) (take at es))
-      (agrees_same (StepOf machine) (take at es ++ get_or es at d ∷ []))
-      (sound_take es formed at (omega arith))
+      advances machine (take at es) olds (agrees_same _ _) (agrees_same _ _)
+      (sound_take _ formed at (omega arith))
       (formed at (get_or es at d) (slice_get-get_or es at d h)).0 f
 
   pub tried_done : IsAdvance StepOf machine old (get_or es at d) new advance.Done
       → IsFrontOf (StepOf machine) new (take (at + 1) es) olds
-  tried_done advances =
-      subst (λ (l : List Event). IsFrontOf (StepOf machine) new l olds)
-      (sym (one_more es at d h)) (tried advance.Done advances).0
+  tried_done advances = rw (one_more _ at d h) (tried advance.Done advances).0
 
   pub tried_refused : IsAdvance StepOf machine old (get_or es at d) new advance.Refused
       → at + 1 ≡ length es → ¬ (IsExplained (StepOf machine) es olds)
   tried_refused advances last x =
       let done = tried advance.Refused advances in
-      frontier_refused (StepOf machine) new.links.items new.slots.items
-      (take at es ++ get_or es at d ∷ []) olds new.configs.items done.0 done.1
+      frontier_refused _ _ _ _ _ _ done.0 done.1
       (subst (λ (l : List Event). IsExplained (StepOf machine) l olds)
-      (sym (take_all (at + 1) es (omega (arith, last))) ∙ one_more es at d h) x)
+      (sym (take_all (at + 1) es (omega (arith, last))) ∙ one_more _ at d h) x)

@@ -1,5 +1,5 @@
 -- Histories in which each call begins once, and one that is open ends.
-use Rattle.history_windows.proofs.Words.{◌≡◌, ℕ, zero, suc, ◌+◌, ◌<◌, ◌≤◌, Bool, true, List, [], ◌∷◌, ◌++◌, length, length-append, take, get_or, refl, sym, ◌∙◌, ap, subst, arith, inl, inr, take_all, take-append-add, take-append_seam, slice_get-get_or, Event, Begin, EndsOpen, Ends, IsQuiet, begins, IsHistory, IsOpen, MayFollow, StandsAt, IsSound, IsWellFormed, call_of, events_of}
+use Rattle.history_windows.proofs.Words.{◌≡◌, ℕ, zero, suc, ◌+◌, ◌≤◌, Bool, true, List, [], ◌∷◌, ◌++◌, length, length-append, take, get_or, refl, sym, ◌∙◌, ap, subst, arith, inl, inr, take_all, take-append-add, take-append_seam, slice_get-get_or, Event, Begin, EndsOpen, Ends, IsQuiet, begins, IsHistory, IsOpen, MayFollow, StandsAt, IsSound, IsWellFormed, call_of, events_of}
 use Rattle.histories.proofs.Cutting.{begins-append}
 use Rattle.histories.proofs.Events.{begins_none, sound_none, stands_right, stands_within}
 use Rattle.histories.proofs.Verdicts.{AreNumbered, ends_of, history_take, next_fresh, next_of, one_more, sound_more}
@@ -9,21 +9,20 @@ use Rattle.history_windows.proofs.Leaving.{begins_fewer, begins_of, ended_of, st
 -- what comes in a history where no call is open is well formed
 pub formed_inside : (es fs : List Event) → IsHistory (es ++ fs) → IsQuiet es → IsWellFormed fs
 formed_inside es fs history quiet p e at =
-    let r = stands_right es fs p e at in
+    let r = stands_right _ _ _ _ at in
     let front : List Event = es ++ take p fs in
     let is : take r.0 (es ++ fs) ≡ front =
     ap (λ n. take n (es ++ fs)) r.1 ∙ take-append-add es fs p in
-    let may : MayFollow front e =
-    subst (λ (l : List Event). MayFollow l e) is (history r.0 e r.2) in
+    let may : MayFollow front e = rw (← is) (history r.0 e r.2) in
     let numbered : AreNumbered front =
     subst (λ (l : List Event). AreNumbered l) is
-    (history_take (es ++ fs) history r.0 (omega (arith, stands_within (es ++ fs) r.0 e r.2))).1 in (
+    (history_take _ history _ (omega (arith, stands_within (es ++ fs) r.0 e r.2))).1 in (
       λ c begins. omega (
         arith,
         next_fresh front e numbered (next_of front e may) c begins,
         begins-append c es (take p fs),
       ),
-      λ c ends. open_inside es (take p fs) c quiet (ends_of front e may c ends),
+      λ c ends. open_inside _ _ _ quiet (ends_of _ _ may c ends),
     )
 
 -- so is a history
@@ -38,28 +37,24 @@ sound_take es formed (suc i) h =
     let e = get_or es i (Begin 0) in
     let next : i + 1 ≡ suc i = omega arith in
     let whole : take (suc i) es ≡ take i es ++ e ∷ [] =
-    ap (λ n. take n es) (sym next) ∙ one_more es i (Begin 0) (omega arith) in
+    ap (λ n. take n es) (sym next) ∙ one_more _ _ _ (omega arith) in
     let this = formed i e (slice_get-get_or es i (Begin 0) (omega arith)) in
-    subst (λ (l : List Event). IsSound l) (sym whole)
-    (sound_more (take i es) e (sound_take es formed i (omega arith)) this.0 this.1)
+    rw whole (sound_more _ _ (sound_take es formed i (omega arith)) this.0 this.1)
 
 pub sound_formed : (es : List Event) → IsWellFormed es → IsSound es
 sound_formed es formed =
-    subst (λ (l : List Event). IsSound l) (take_all (length es) es (omega arith))
-    (sound_take es formed (length es) (omega arith))
+    rw (← take_all (length es) es (omega arith)) (sound_take _ formed _ (omega arith))
 
 -- the first events are well formed
 pub formed_front : (es fs : List Event) → IsWellFormed (es ++ fs) → IsSound es
 formed_front es fs formed =
-    subst (λ (l : List Event). IsSound l) (take-append_seam es fs)
-    (sound_take (es ++ fs) formed (length es) (omega (arith, length-append es fs)))
+    rw (← take-append_seam es fs) (sound_take _ formed _ (omega (arith, length-append es fs)))
 
 -- a call that begins next is new, and one that ends next is open
 pub formed_next : (es fs : List Event) (e : Event) → IsWellFormed (es ++ e ∷ fs)
     → ((c : ℕ) → e ≡ Begin c → begins c es ≡ 0) × EndsOpen es e
 formed_next es fs e formed =
-    subst (λ (l : List Event). ((c : ℕ) → e ≡ Begin c → begins c l ≡ 0) × EndsOpen l e)
-    (take-append_seam es (e ∷ fs)) (formed (length es) e (stands_seam es))
+    rw (← take-append_seam es (e ∷ fs)) (formed (length es) e (stands_seam es))
   where
     stands_seam : (es : List Event) → StandsAt (es ++ e ∷ fs) (length es) e
     stands_seam [] = refl
@@ -76,16 +71,14 @@ call_ends e c ends =
 pub formed_rest : (kept : ℕ → Bool) (es : List Event) → IsWellFormed es
     → IsWellFormed (events_of kept es)
 formed_rest kept es formed p e at =
-    let r = stands_of kept es p e at in
+    let r = stands_of kept _ _ _ at in
     let f = formed r.0 e r.1 in
     let before : List Event = take r.0 es in (
-      λ c is.
-          subst (λ (l : List Event). begins c l ≡ 0) r.2
-          (omega (arith, begins_fewer kept c before, f.0 c is)),
+      λ c is. rw (← r.2) (omega (arith, begins_fewer kept c before, f.0 c is)),
       λ c ends.
           let was : IsOpen before c = f.1 c ends in
-          let t : kept c ≡ true = subst (λ n. kept n ≡ true) (call_ends e c ends) r.3 in
-          subst (λ (l : List Event). IsOpen l c) r.2 (
+          let t : kept c ≡ true = rw (← call_ends _ _ ends) r.3 in
+          rw (← r.2) (
             omega (arith, begins_of kept c before t, was.0),
             λ h. was.1 (ended_of kept before c h).0,
           ),

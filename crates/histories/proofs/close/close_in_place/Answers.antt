@@ -11,7 +11,7 @@ returns g c apart =
     let made : Config g.row.M-State.Denot = c.make_first.new.config in
     let settled : Config g.row.M-State.Denot = c.settle.new.config in
     let one : length configs ≡ 1 = search rules in
-    let parts = one_of_one configs config made one c.index-configs-0.is in
+    let parts = one_of_one _ _ _ one c.index-configs-0.is in
     let first : IsMadeFirst Step slots c.args.slot c.args.call config made true =
     subst (λ (x : Config g.row.M-State.Denot). IsMadeFirst Step slots c.args.slot c.args.call x made
     true) (sym c.index-configs-0.is) (rw c.if-not-branch.false at c.in_ok-make_first.ensures) in
@@ -19,14 +19,10 @@ returns g c apart =
     subst (λ (x : Config g.row.M-State.Denot). IsSettled Step slots x (spot_of settled))
     (ap (λ (l : List (Config g.row.M-State.Denot)). get_or l 0 c.index-configs-0-2.result) parts.1)
     c.in_ok-settle.ensures.settled in
-    subst (λ l. IsClosed Step slots l c.args.slot (slice_set (slice_set configs 0 made) 0 settled))
-    (sym parts.0)
-    (subst (λ l. IsClosed Step slots (config ∷ []) c.args.slot (slice_set l 0 settled))
-    (sym parts.1)
-    (closed_in_place Step slots c.requires.few c.args.slot c.args.call c.requires.has config made
-    settled first idle))
+    rw (← parts.0) at (subst (λ l. IsClosed Step slots (config ∷ []) c.args.slot
+    (slice_set l 0 settled))
+    (sym parts.1) (closed_in_place _ _ c.requires.few _ _ c.requires.has _ _ _ first idle))
 
 pub returns-then-waits_in_none : goal.returns-then-waits_in_none
 returns-then-waits_in_none g c apart =
-    closed_already (g.M.Machine.Step c.args.machine.now) c.args.slots.now c.args.slot
-    c.args.configs.now (c.waits_in_none.ensures c.if-waits_in_none.true) apart
+    closed_already _ _ _ _ (c.waits_in_none.ensures c.if-waits_in_none.true) apart

@@ -5,6 +5,5 @@ use Rattle.histories.proofs.close.make_call.Goals as goal
 pub returns-in-All : goal.returns-in-All
 returns-in-All g c =
     on_ok_weaker c.make_states.result
-    (gathers_call (g.M.Machine.Step c.args.machine.now) c.args.slots.now c.args.config.now
-    c.args.slot c.args.call c.in-All.states.items _ _ c.requires.waits
-    (rw c.in-All.is at c.in_ok-follow.ensures)) c.make_states.ensures
+    (gathers_call (g.M.Machine.Step c.args.machine.now) _ c.args.config.now
+    _ _ _ _ _ c.requires.waits (rw c.in-All.is at c.in_ok-follow.ensures)) c.make_states.ensures

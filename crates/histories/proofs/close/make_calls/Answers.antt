@@ -8,7 +8,6 @@ returns g c =
     let Step = g.M.Machine.Step c.args.machine.now in
     let slots = c.args.slots.now in
     let all : c.loop-other.other ≡ length slots = search rules in
-    on_ok_weaker c.make_last-2.result
-    (λ found. goes_all Step slots c.args.slot c.args.config _ _ c.requires.waits
-    (gathers_last Step slots c.args.config c.args.slot _ _ _ c.requires.within
+    on_ok_weaker c.make_last-2.result (λ found. goes_all _ _ _ _ _ _ c.requires.waits
+    (gathers_last Step _ c.args.config _ _ _ _ c.requires.within
     (rw all at c.loop-other.invariant) found)) c.make_last-2.ensures

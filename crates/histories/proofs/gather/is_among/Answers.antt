@@ -1,4 +1,4 @@
-use Rattle.histories.proofs.Words.{rules, ◌<◌, ◌≤◌, All, length, subst, sym, take_all, All-more, IsSame}
+use Rattle.histories.proofs.Words.{rules, ◌<◌, ◌≤◌, length, sym, take_all, All-more, IsSame}
 use Rattle.histories.proofs.gather.is_among.Goals as goal
 
 pub returns-then-is_same : goal.returns-then-is_same
@@ -14,12 +14,10 @@ loop-known-preserved g c =
     let within : c.loop-known.known-index < length c.args.configs.now = search rules in
     All-more (λ known. ¬ (IsSame known c.args.config.now)) c.args.configs.now
     c.loop-known.known-index c.known-item.result within c.loop-known.invariant
-    (subst (λ known. ¬ (IsSame known c.args.config.now)) c.known-item.is
-    (λ same. cc (c.is_same.ensures.1 same, c.if-is_same.false)))
+    (rw (← c.known-item.is) (λ same. cc (c.is_same.ensures.1 same, c.if-is_same.false)))
 
 pub returns : goal.returns
 returns g c =
     let configs = c.args.configs.now in
     let all : length configs ≤ c.loop-known.known-index = search rules in
-    subst (λ l. All (λ known. ¬ (IsSame known c.args.config.now)) l)
-    (take_all c.loop-known.known-index configs all) c.loop-known.invariant
+    rw (← take_all c.loop-known.known-index configs all) c.loop-known.invariant

@@ -3,29 +3,22 @@ use Rattle.histories.proofs.Gathering.{following_head, following_more}
 use Rattle.histories.proofs.gather.is_in_chain.Goals as goal
 
 pub loop-left-init : goal.loop-left-init
-loop-left-init g c =
-    following_head c.args.configs.now c.args.heads.now c.args.before.now c.args.config.now _
-    c.head_of-left.ensures c.requires
+loop-left-init g c = following_head _ _ _ _ _ c.head_of-left.ensures c.requires
 
 pub loop-left-preserved : goal.loop-left-preserved
 loop-left-preserved g c =
-    (following_more c.args.configs.now c.args.heads.now c.args.before.now c.args.config.now
-    c.index-configs-at.result (c.loop-left.left - 1) c.loop-left.left _
+    (following_more _ _ _ _ _ _ _ _
     (omega (arith, c.loop-left-test.true)) refl c.index-configs-at.is
-    (λ same. cc (c.is_same.ensures.1 same, c.if-is_same.false)) c.requires
-    c.loop-left.invariant).0
+    (λ same. cc (c.is_same.ensures.1 same, c.if-is_same.false)) c.requires c.loop-left.invariant).0
 
 pub loop-left-smaller : goal.loop-left-smaller
 loop-left-smaller g c =
-    (following_more c.args.configs.now c.args.heads.now c.args.before.now c.args.config.now
-    c.index-configs-at.result (c.loop-left.left - 1) c.loop-left.left _
+    (following_more _ _ _ _ _ _ _ _
     (omega (arith, c.loop-left-test.true)) refl c.index-configs-at.is
-    (λ same. cc (c.is_same.ensures.1 same, c.if-is_same.false)) c.requires
-    c.loop-left.invariant).1
+    (λ same. cc (c.is_same.ensures.1 same, c.if-is_same.false)) c.requires c.loop-left.invariant).1
 
 pub returns-clause-no : goal.returns-clause-no
-returns-clause-no g c is index d from below =
-    c.loop-left.invariant.others index d (omega (arith, c.loop-left-test.false)) below
+returns-clause-no g c is index d from below = grind arith
 
 pub returns-then-is_same-clause-yes : goal.returns-then-is_same-clause-yes
 returns-then-is_same-clause-yes g c is = (

@@ -2,4 +2,4 @@ use Rattle.histories.proofs.Verdicts.{verdicts_exclude}
 use Rattle.histories.proofs.laws.verdicts_exclude.Goals as goal
 
 pub returns : goal.returns
-returns g c = verdicts_exclude (g.M.Machine.Step c.args._machine.now)
+returns g c = verdicts_exclude _

@@ -1,19 +1,7 @@
-use Rattle.histories.proofs.Words.{rules, ◌≡◌, ◌+◌, ◌∷◌, [], List, ap, arith, get_or, length, length-append, refl, subst, sym, take, Link, IsLaidOut}
+use Rattle.std.proofs.lemmas.Grind.{common_steps}
+use Rattle.histories.proofs.Words.{arith, length-append}
 use Rattle.histories.proofs.Places.{laid_out_more}
 use Rattle.histories.proofs.links.lay_calls.Goals as goal
 
 pub loop-call-preserved : goal.loop-call-preserved
-loop-call-preserved c =
-    let links = c.args.links.now.items in
-    let base = c.args.base in
-    let calls = c.args.calls.now in
-    let at = c.loop-call.call-index in
-    let mid = c.loop-call.links.items in
-    let link : Link = record { call = get_or calls at 0; before = c.loop-call.last } in
-    let now : c.len-last.result ≡ length c.push.new.self.items = search rules in
-    let many : length mid + 1 ≡ c.len-last.result =
-    omega (arith, now, ap length c.in_ok-push.ensures.items, length-append mid (link ∷ [])) in
-    subst (λ n. IsLaidOut links base (take (at + 1) calls) c.push.new.self.items n) many
-    (subst (λ (l : List Link). IsLaidOut links base (take (at + 1) calls) l (length mid + 1))
-    (sym c.in_ok-push.ensures.items)
-    (laid_out_more links mid base at calls link c.loop-call-test.true refl c.loop-call.invariant))
+loop-call-preserved c = grind (arith, common_steps, length-append, laid_out_more)

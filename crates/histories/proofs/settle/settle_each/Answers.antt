@@ -1,4 +1,4 @@
-use Rattle.histories.proofs.Words.{rules, ◌<◌, ◌∙◌, ap, arith, get_or, length, refl, sym, true≢false, get_or_default, IsSettled, spot_of}
+use Rattle.histories.proofs.Words.{rules, ◌<◌, ◌∙◌, arith, get_or, length, refl, sym, true≢false, get_or_default}
 use Rattle.histories.proofs.Places.{done_more, same_set}
 use Rattle.histories.proofs.settle.settle_each.Goals.{then-branch, else-branch}
 use Rattle.histories.proofs.settle.settle_each.Goals as goal
@@ -14,16 +14,10 @@ loop-config-preserved g c =
     let h : at < length now = omega (arith, c.loop-config-test.true, c.loop-config.auto.configs) in
     let config = get_or now at c.config-item.result in
     let is = get_or_default now at c.config-item.result config h in (
-      done_more
-          (λ x y. IsSettled (g.M.Machine.Step c.args.machine.now) c.args.slots.now x (spot_of y))
-          c.args.configs.now now at config one h is c.in_ok-any.ensures.settled
-          c.loop-config.invariant.0,
+      done_more _ _ _ at config one h is c.in_ok-any.ensures.settled c.loop-config.invariant.0,
       λ none index d.
           elim c.if-branch.branch [
             | then-branch w ↦ absurd (true≢false (sym w.if-branch.true ∙ (sym w.any-is ∙ none)))
-            | else-branch w ↦
-                ap (λ l. get_or l index d)
-                (same_set now at config one h is (c.in_ok-any.ensures.same w.if-branch.false))
-                ∙ c.loop-config.invariant.1 (sym w.any-is ∙ none) index d
+            | else-branch w ↦ grind (arith, same_set)
           ],
     )

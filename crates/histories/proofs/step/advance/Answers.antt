@@ -1,30 +1,16 @@
-use Rattle.histories.proofs.Words.{rules, inl, subst, sym, IfOk, Event, IsAdvance}
+use Rattle.histories.proofs.Words.{rules, inl}
 use Rattle.histories.proofs.Frontiers.{front_many}
 use Rattle.histories.proofs.step.advance.Goals as goal
 
 pub returns-then-len-gt-MAX_CONFIGS : goal.returns-then-len-gt-MAX_CONFIGS
 returns-then-len-gt-MAX_CONFIGS g c whole events olds before after sound fresh f =
-    let front = c.args.front.now in
-    inl (front_many (g.M.Machine.Step whole) front.links.items front.slots.items events olds
-    front.configs.items f (search rules))
+    inl (front_many _ _ _ _ _ _ f (search rules))
 
 pub returns-in-Begin : goal.returns-in-Begin
-returns-in-Begin g c =
-    subst
-    (λ (e : Event). IfOk c.begin.result
-    (IsAdvance g.M.Machine.Step c.args.machine.now c.args.front.now e c.begin.new.front))
-    (sym c.in-Begin.is) c.begin.ensures
+returns-in-Begin g c = rw c.in-Begin.is c.begin.ensures
 
 pub returns-in-End : goal.returns-in-End
-returns-in-End g c =
-    subst
-    (λ (e : Event). IfOk c.end.result
-    (IsAdvance g.M.Machine.Step c.args.machine.now c.args.front.now e c.end.new.front))
-    (sym c.in-End.is) c.end.ensures
+returns-in-End g c = rw c.in-End.is c.end.ensures
 
 pub returns-in-Crash : goal.returns-in-Crash
-returns-in-Crash g c =
-    subst
-    (λ (e : Event). IfOk c.crash.result
-    (IsAdvance g.M.Machine.Step c.args.machine.now c.args.front.now e c.crash.new.front))
-    (sym c.in-Crash.is) c.crash.ensures
+returns-in-Crash g c = rw c.in-Crash.is c.crash.ensures

@@ -1,4 +1,4 @@
-use Rattle.histories.proofs.Words.{AllPairs, Option, ℕ, ◌∷◌, ◌++◌, [], List, refl, subst, sym, Vec, IfOk-weaker, Begin, Config, IsFrontier, IsSame, AreOpened, AreSettled, AreTaken, TakesSlot}
+use Rattle.histories.proofs.Words.{List, refl, IfOk-weaker, Config, AreOpened, AreSettled, AreTaken, TakesSlot}
 use Rattle.histories.proofs.Advancing.{agrees_slots, begin_ends, laid_out, many_open, frontier_begin}
 use Rattle.histories.proofs.Closing.{settled_as}
 use Rattle.histories.proofs.Places.{put_back}
@@ -11,40 +11,30 @@ returns g c =
     IfOk-weaker c.lay.result _ _ (λ r lies whole events olds before after sound fresh f.
     let S = g.row.M-State.Denot in
     let Made = g.M.Machine.Step c.args.machine.now in
-    let Step = g.M.Machine.Step whole in
     let call = c.args.call in
     let front = c.args.front.now in
     let slots = front.slots.items in
     let configs = front.configs.items in
-    let links = front.links.items in
     let more = c.take_slot.new.slots.items in
     let slot = c.in-Some.slot in
     let opened : List (Config S) = c.open_all-is_new.new.configs in
     let settled = c.settle_all.new.configs.items in
     let takes : TakesSlot slots call slot more = rw c.in-Some.is at c.in_ok-slot.ensures.some in
-    let next = table_begin events slots more call slot sound (fresh call refl) f.table takes in
+    let next = table_begin _ _ _ _ _ sound (fresh call refl) f.table takes in
     let o : AreOpened slot configs opened =
     rw c.deref_mut.ensures.value at c.open_all-is_new.ensures.opened in
-    let back = put_back opened configs front.configs.len o.0 front.configs.ok.0 in
+    let back = put_back _ _ _ o.0 front.configs.ok.0 in
     let all : AreSettled Made more opened settled =
-    subst (λ (l : List (Config S)). AreSettled Made more l settled) back
-    ((rw c.deref.ensures.value at c.in_ok-settle_all.ensures) (λ is.
-    subst (λ (l : List (Config S)). AllPairs (λ a b. ¬ (IsSame a b)) l) (sym back)
-    (opened_apart slot configs opened takes.within o
+    rw (← back) ((rw c.deref.ensures.value at c.in_ok-settle_all.ensures) (λ is.
+    rw (← back) at (opened_apart _ _ _ takes.within o
     ((rw c.deref_mut.ensures.value at c.open_all-is_new.ensures.new) is) f.once))) in
-    laid_out Step events olds (Begin call) links settled c.lay.new.front r
-    (subst
-    (λ (s : Vec (Option ℕ)). IsFrontier Step links s.items (events ++ Begin call ∷ []) olds settled)
-    (sym lies.0)
-    (frontier_begin Step slots more call slot takes f.table.few links events olds configs opened
-    sound (fresh call refl) f o settled
-    (settled_as Made Step more
-    (agrees_slots Made Step (events ++ Begin call ∷ []) more next after) opened settled all)))
-    lies.1 (begin_ends events call)) c.lay.ensures
+    laid_out _ _ _ _ _ _ c.lay.new.front _ (rw lies.0
+    (frontier_begin _ _ _ _ _ takes f.table.few _ _ _ _ _ sound (fresh call refl) f o _
+    (settled_as _ _ _ (agrees_slots _ _ _ _ next after) _ _ all)))
+    lies.1 (begin_ends _ _)) c.lay.ensures
 
 pub returns-in_default : goal.returns-in_default
 returns-in_default g c whole events olds before after sound fresh f =
     let taken : AreTaken c.args.front.now.slots.items =
     rw c.in_default.is at c.in_ok-slot.ensures.none in
-    many_open events c.args.front.now.slots.items c.args.call sound (fresh c.args.call refl) f.table
-    taken
+    many_open _ _ _ sound (fresh c.args.call refl) f.table taken

@@ -11,7 +11,7 @@ returns g c whole events olds sound f =
     let slots = front.slots.items in
     let configs = front.configs.items in
     let empty = rw c.deref.ensures.value at (c.are_free.ensures.yes c.if-not-are_free.false) in
-    let quiet = quiet_empty events slots f.table empty in
+    let quiet = quiet_empty _ _ f.table empty in
     let unlinked = c.unlink.new.configs in
     let is : AreEach IsUnlinked configs unlinked =
     rw c.deref_mut.ensures.value at c.unlink.ensures in
@@ -20,12 +20,9 @@ returns g c whole events olds sound f =
       (
         map (λ k. k.state) configs,
         subst (λ (l : List (Config g.row.M-State.Denot)). IsFrontier Step left slots []
-            (map (λ k. k.state) configs) l)
-            (sym (put_back unlinked configs front.configs.len is.0 long))
-            (fresh_anew Step left slots configs unlinked f.table.few empty f.once is),
-        λ rest after all.
-            split_anew Step front.links.items slots events olds configs sound quiet empty f rest
-            after all,
+            (map (λ k. k.state) configs) l) (sym (put_back _ _ _ is.0 long))
+            (fresh_anew _ _ _ _ _ f.table.few empty f.once is),
+        λ rest after all. split_anew _ _ _ _ _ _ sound quiet empty f _ after all,
       ),
     )
 

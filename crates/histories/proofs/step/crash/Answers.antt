@@ -1,4 +1,4 @@
-use Rattle.histories.proofs.Words.{inl, inr, refl, subst, sym, IfOk-weaker, Crash, HasSlot, FromOne, Gathers, HasMany, IsClosed, IsDropped}
+use Rattle.histories.proofs.Words.{inl, inr, refl, IfOk-weaker, HasSlot, FromOne, Gathers, HasMany, IsClosed, IsDropped}
 use Rattle.histories.proofs.Advancing.{agrees_slots, finished, many_as, no_slot, slot_ends}
 use Rattle.histories.proofs.Closing.{closed_as}
 use Rattle.histories.proofs.Frontiers.{frontier_crash, many_orders}
@@ -9,7 +9,6 @@ pub returns-in_ok-more-in-Some-2 : goal.returns-in_ok-more-in-Some-2
 returns-in_ok-more-in-Some-2 g c =
     IfOk-weaker c.finish.result _ _ (λ r is whole events olds before after sound fresh f.
     let Made = g.M.Machine.Step c.args.machine.now in
-    let Step = g.M.Machine.Step whole in
     let call = c.args.call in
     let front = c.args.front.now in
     let slots = front.slots.items in
@@ -22,37 +21,30 @@ returns-in_ok-more-in-Some-2 g c =
     rw c.in-Some-2.is at (rw c.deref-3.ensures.value at (rw c.replace-configs.ensures.value at
     c.in_ok-closed.ensures)) in
     let drops : Gathers (FromOne (IsDropped slot) configs) closed all =
-    gathers_through (FromOne (IsDropped slot) configs) c.in_ok-dropped.dropped.items closed all
+    gathers_through _ _ _ _
     (rw c.deref-2.ensures.value at c.in_ok-dropped.ensures) c.in_ok-more-in-Some-2.ensures in
-    finished Step events olds (Crash call) front c.finish.new.front slot all r
-    (λ more frees.
-    frontier_crash Step slots more slot frees f.table.few front.links.items events olds configs
-    closed call here f
-    (closed_as Made Step slots (agrees_slots Made Step events slots f.table before) configs closed
-    slot made) all drops)
-    (slot_ends events (Crash call) slots slot call (inr refl) f.table here) is) c.finish.ensures
+    finished _ _ _ _ front c.finish.new.front _ _ _ (λ more frees.
+    frontier_crash _ _ _ _ frees f.table.few _ _ _ _ _ _ here f
+    (closed_as _ _ _ (agrees_slots _ _ _ _ f.table before) _ _ _ made) _ drops)
+    (slot_ends _ _ _ _ _ (inr refl) f.table here) is) c.finish.ensures
 
 pub returns-in_default : goal.returns-in_default
 returns-in_default g c whole events olds before after sound fresh f =
-    no_slot events (Crash c.args.call) c.args.front.now.slots.items c.args.call (inr refl) f.table
+    no_slot _ _ _ _ (inr refl) f.table
     (rw c.deref.ensures.value at (rw c.in_default.is at c.slot_of.ensures.none))
 
 pub returns-in-None : goal.returns-in-None
 returns-in-None g c whole events olds before after sound fresh f =
     let Made = g.M.Machine.Step c.args.machine.now in
-    let Step = g.M.Machine.Step whole in
     let front = c.args.front.now in
     let slots = front.slots.items in
     let many : HasMany Made slots front.configs.items =
     rw c.in-None.is at (rw c.deref-3.ensures.value at (rw c.replace-configs.ensures.value at
     c.in_ok-closed.ensures)) in
-    inl (many_orders Step front.links.items slots events olds front.configs.items f
-    (many_as Made Step slots (agrees_slots Made Step events slots f.table before)
-    front.configs.items many))
+    inl (many_orders _ _ _ _ _ _ f (many_as _ _ _ (agrees_slots _ _ _ _ f.table before) _ many))
 
 pub close-requires-clause-taken : goal.close-requires-clause-taken
 close-requires-clause-taken g c = (
   c.args.call,
-  subst (λ l. HasSlot l c.in-Some.slot c.args.call) (sym c.deref-3.ensures.value)
-      (rw c.deref.ensures.value at c.in-Some.ensures.some).1,
+  rw c.deref-3.ensures.value (rw c.deref.ensures.value at c.in-Some.ensures.some).1,
 )

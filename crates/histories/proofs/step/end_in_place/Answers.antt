@@ -1,4 +1,4 @@
-use Rattle.histories.proofs.Words.{List, Option, ℕ, inr, subst, sym, AllPairs, Vec, Config, IsSame, AreLaidIn, FreesSlot, IsClosed}
+use Rattle.histories.proofs.Words.{List, inr, subst, AllPairs, Config, IsSame, AreLaidIn, IsClosed}
 use Rattle.histories.proofs.Places.{put_back}
 use Rattle.histories.proofs.step.end_in_place.Goals as goal
 
@@ -16,12 +16,9 @@ returns g c =
       closed,
       is,
       (
-        subst (λ (s : Vec (Option ℕ)). FreesSlot slots c.args.slot s.items) (sym laid.0)
-            c.free.ensures,
-        inr (subst
-            (λ (l : List (Config g.row.M-State.Denot)). AreLaidIn front.links.items l
-            c.lay.new.front c.in_ok-done.done)
-            (put_back closed configs front.configs.len
+        rw laid.0 c.free.ensures,
+        inr (subst (λ (l : List (Config g.row.M-State.Denot)). AreLaidIn front.links.items l
+            c.lay.new.front c.in_ok-done.done) (put_back _ _ _
             (rw c.deref_mut.ensures.value at c.close_in_place.auto.configs)
             front.configs.ok.0) laid.1),
       ),

@@ -5,15 +5,13 @@ use Rattle.histories.proofs.step.make_alone.Goals as goal
 pub returns-then-not-branch : goal.returns-then-not-branch
 returns-then-not-branch g c = (
   refl,
-  made_none c.args.front.now.configs.items c.index_mut.result.now c.make_in.new.config
+  made_none _ _ _
       (search rules) c.index_mut.ensures.value (rw c.if-not-branch.true at c.in_ok-make_in.ensures),
   refl,
 )
 
 pub returns : goal.returns
 returns g c =
-    let front = c.args.front.now in
-    made_alone g.M.Machine.Step c.args.machine.now front.links.items front.slots.items
-    front.configs.items c.index_mut.result.now c.make_in.new.config c.args.call
+    made_alone _ _ _ _ _ _ _ _
     (rw c.deref.ensures.value at (c.are_free.ensures.yes c.if-not-are_free.false)) (search rules)
     c.index_mut.ensures.value (rw c.if-not-branch.false at c.in_ok-make_in.ensures)

@@ -1,4 +1,4 @@
-use Rattle.histories.proofs.Words.{rules, ◌<◌, ◌∙◌, ap, arith, get_or, inl, inr, length, sym, true≢false, bit_at, cases_eq, get_or_default, Config}
+use Rattle.histories.proofs.Words.{rules, ◌<◌, ◌∙◌, arith, length, sym, true≢false, cases_eq, get_or_default}
 use Rattle.histories.proofs.Places.{done_more, less_of}
 use Rattle.histories.proofs.step.open_all.Goals.{then-open, else-open}
 use Rattle.histories.proofs.step.open_all.Goals as goal
@@ -8,28 +8,14 @@ loop-config-init g c = (search rules, λ is index d h. absurd (omega (arith, h))
 
 pub loop-config-preserved : goal.loop-config-preserved
 loop-config-preserved g c =
-    let S = g.row.S.Denot in
-    let slot = c.args.slot in
-    let olds = c.args.configs.now in
     let now = c.loop-config.configs in
     let at = c.loop-config.config-index in
-    let item = c.config-item.result in
-    let before = c.loop-config.invariant in
-    let h : at < length now = omega (arith, c.loop-config-test.true, c.loop-config.auto.configs) in
-    let config = get_or now at item in (
+    let h : at < length now =
+    omega (arith, c.loop-config-test.true, c.loop-config.auto.configs) in (
       search (rules, done_more),
       λ is index d less.
           elim c.if-open.branch [
-            | then-open w ↦
-                elim (cases_eq index at) [
-                  | inl e ↦
-                      ap (λ (k : Config S). bit_at k.waiting slot)
-                      (ap (λ i. get_or olds i d) e
-                      ∙ (sym (before.0.rest at d (omega arith)) ∙ get_or_default now at d item h))
-                      ∙ c.open.ensures.new w.if-open.true
-                  | inr ne ↦
-                      before.1 (sym w.is_new-is ∙ is) index d (less_of index at less ne)
-                ]
+            | then-open w ↦ grind (arith, cases_eq, get_or_default, less_of)
             | else-open w ↦ absurd (true≢false (sym is ∙ (w.is_new-is ∙ w.if-open.false)))
           ],
     )

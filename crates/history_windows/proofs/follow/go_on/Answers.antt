@@ -1,17 +1,14 @@
-use Rattle.history_windows.proofs.Words.{◌++◌, List, ap, append-nil, arith, length, subst, sym, Event, IsFrontAfter}
+use Rattle.history_windows.proofs.Words.{ap, append-nil, arith, length}
 use Rattle.history_windows.proofs.Goings.{end_upto, one_done, two_done}
 use Rattle.history_windows.proofs.follow.go_on.Goals as goal
 
 pub loop-at-init : goal.loop-at-init
-loop-at-init g c whole past olds p =
-    subst (λ (l : List Event). IsFrontAfter (g.M.Machine.Step whole) olds l c.args.front.now)
-    (sym (append-nil past)) p.front_of
+loop-at-init g c whole past olds p = rw (append-nil past) p.front_of
 
 pub loop-at-preserved-then-branch : goal.loop-at-preserved-then-branch
 loop-at-preserved-then-branch g c =
-    two_done g.M.Machine.Step c.args.machine.now c.args.front.now c.args.events.now c.loop-at.at
-    c.loop-at.front c.loop-at.invariant c.make_next.new.front c.begin_anew.new.front
-    c.begin_anew.result (rw c.if-branch.true at c.in_ok-make_next.ensures) c.begin_anew.ensures
+    two_done _ _ _ _ _ _ c.loop-at.invariant _ _
+    _ (rw c.if-branch.true at c.in_ok-make_next.ensures) c.begin_anew.ensures
 
 pub advance-requires : goal.advance-requires
 advance-requires g c = record {
@@ -24,13 +21,9 @@ advance-requires g c = record {
 
 pub loop-at-preserved : goal.loop-at-preserved
 loop-at-preserved g c =
-    one_done g.M.Machine.Step c.args.machine.now c.args.front.now c.args.events.now c.loop-at.at
-    c.loop-at.front c.loop-at.invariant _ c.loop-at-test.true c.make_next.new.front
-    c.advance.new.front c.begin_anew-in-loop-at.new.front c.begin_anew-in-loop-at.result
+    one_done _ _ _ _ _ _ c.loop-at.invariant _ c.loop-at-test.true c.make_next.new.front _ _ _
     (rw c.if-branch.false at c.in_ok-make_next.ensures) (rw c.in-Done.is at c.in_ok-advance.ensures)
     c.begin_anew-in-loop-at.ensures
 
 pub returns : goal.returns
-returns g c =
-    end_upto g.M.Machine.Step c.args.machine.now c.args.front.now c.args.events.now c.loop-at.at
-    c.loop-at.front c.loop-at.invariant c.loop-at-test.false
+returns g c = end_upto _ _ _ _ _ _ c.loop-at.invariant c.loop-at-test.false

@@ -7,12 +7,11 @@ loop-at-init g c = c.in_ok-front.ensures c.args.machine.now
 
 pub loop-at-preserved : goal.loop-at-preserved
 loop-at-preserved g c =
-    tried_done g.M.Machine.Step c.args.machine.now c.args.states.now c.args.events.now
-    c.loop-at.at _ c.loop-at-test.true c.requires.formed c.loop-at.front c.advance.new.front
+    tried_done _ _ _ _ _ _ c.loop-at-test.true c.requires.formed c.loop-at.front c.advance.new.front
     c.loop-at.invariant (rw c.in-Done.is at c.in_ok-advance.ensures)
 
 pub returns-in-Refused : goal.returns-in-Refused
 returns-in-Refused g c last =
-    tried_refused g.M.Machine.Step c.args.machine.now c.args.states.now c.args.events.now
-    c.loop-at.at _ c.loop-at-test.true c.requires.formed c.loop-at.front c.advance.new.front
+    tried_refused _ _ _ _
+    _ _ c.loop-at-test.true c.requires.formed c.loop-at.front c.advance.new.front
     c.loop-at.invariant (rw c.in-Refused.is at c.in_ok-advance.ensures) (eqb-true _ _ last)

@@ -6,8 +6,7 @@ pub loop-event-init : goal.loop-event-init
 loop-event-init g c =
     subst (λ (l : List Bool).
     IsRest (g.M.Machine.Step c.args.machine.now) c.args.states.now c.args.events.now (is_kept l))
-    (sym (c.in_ok-left_out.ensures.items_if_clones_equal (λ y same. same)))
-    (rest_none (g.M.Machine.Step c.args.machine.now) c.args.states.now c.args.events.now _
+    (sym (c.in_ok-left_out.ensures.items_if_clones_equal (λ y same. same))) (rest_none _ _ _ _
     c.requires.refused)
 
 pub loop-event-preserved : goal.loop-event-preserved

@@ -3,6 +3,5 @@ use Rattle.history_windows.proofs.needed.states_left.Goals as goal
 
 pub returns : goal.returns
 returns g c =
-    cut_states (g.M.Machine.Step c.args.machine.now) c.args.states.now c.args.past.now
-    c.in-Ok.window (rw c.in-Ok.is at c.in_ok-window.ensures.all) c.if-begin-past.false _
+    cut_states _ _ _ _ (rw c.in-Ok.is at c.in_ok-window.ensures.all) c.if-begin-past.false _
     c.in_ok-states_of.ensures

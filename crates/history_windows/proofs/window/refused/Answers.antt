@@ -4,6 +4,5 @@ use Rattle.history_windows.proofs.window.refused.Goals as goal
 pub unreachable-requires : goal.unreachable-requires
 unreachable-requires g c =
     let arm = c.in-Err-default-Refused in
-    not_refused (g.M.Machine.Step c.args.machine.now) c.args.states.now c.args.events.now
-    c.args.index arm.field-0-0 c.requires.history c.requires.stop.before
+    not_refused _ _ _ _ _ c.requires.history c.requires.stop.before
     (rw arm.field-0-1-is at (rw arm.is at c.in_ok-window.ensures.stop))
