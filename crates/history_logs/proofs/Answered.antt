@@ -27,9 +27,10 @@ use Rattle.history_logs.specs.Reading.{Dies, GoesOn, HasRead, Log, Says}
 use Rattle.history_logs.specs.Reading.HasRead.{nothing as none_read, note as note_read, line as line_read}
 use Rattle.history_logs.specs.declared.logs.callers.CallerState.{CallerState}
 use Rattle.history_logs.specs.declared.logs.callers.CallerState.TheVariants as caller
+use Rattle.history_logs.proofs.AtIndex.{all_get, get_within}
 use Rattle.history_logs.proofs.Kept.{kept_new, kept_step}
 use Rattle.history_logs.proofs.Orderly.{open_new}
-use Rattle.history_logs.specs.Seen.{Begins, Service, called, calls_answered, calls_shown, changed, start_of, started, starting, stopping, unseen, with_begin, with_crash, with_end, with_look, with_over, with_part}
+use Rattle.history_logs.specs.Seen.{Begins, Service, called, calls_answered, calls_shown, changed, start_of, started, starting, stopping, unseen, with_alone, with_begin, with_crash, with_end, with_look, with_over, with_part}
 
 -- so it is above a line: the events stand in these lines, and replies where their calls end,
 -- whatever follows
@@ -278,24 +279,9 @@ module _ (text : List ℕ) (count : ℕ) (s : Service) (p : HasEventLinesTo text
         end_is : (a b : ℕ) → End a ≡ End b → a ≡ b
         end_is a b e = cc
 
-get_within : {X : Type 0} (xs : List X) (i : ℕ) → i < length xs
-    → (x : X) × (slice_get xs i ≡ Some x)
-get_within [] i h = absurd (omega (arith, h))
-get_within (x ∷ xs) zero h = (x, refl)
-get_within (x ∷ xs) (suc i) h = get_within xs i (omega (arith, h))
-
 get_end : {X : Type 0} (xs : List X) (y : X) → slice_get (xs ++ y ∷ []) (length xs) ≡ Some y
 get_end [] y = refl
 get_end (x ∷ xs) y = get_end xs y
-
-all_at : {X : Type 0} (P : X → Type 0) (xs : List X) (i : ℕ) (x : X) → All P xs
-    → slice_get xs i ≡ Some x → P x
-all_at P [] i x all e = absurd (cc)
-all_at P (y ∷ xs) zero x all e = subst P (some_is y x e) (All-head P y xs all)
-  where
-    some_is : {X : Type 0} (a b : X) → Some a ≡ Some b → a ≡ b
-    some_is a b e = cc
-all_at P (y ∷ xs) (suc i) x all e = all_at P xs i x (All-tail P y xs all) e
 
 -- the lines that follow the text have their numbers after those of the text
 abbrev FollowsOn : List ℕ → ℕ → Type 0
@@ -357,7 +343,7 @@ module _ (text : List ℕ) (count : ℕ) where
       subst (λ (l : List Service). All Next l) (sym d) (all_later ss all)
   placed_dies ss new (Some (caller.Calls at number)) all d =
       set_next ss new at (with_crash d.0 number (count + 1)) all
-      (placed_crash text count d.0 (all_at Now ss at d.0 all d.1) (count + 1) (omega arith) number)
+      (placed_crash text count d.0 (all_get Now ss at d.0 all d.1) (count + 1) (omega arith) number)
       d.2
 
   placed_look : (s : Service) (part : Part) → Now s → Next (with_look s part (count + 1))
@@ -394,22 +380,23 @@ module _ (text : List ℕ) (count : ℕ) where
   placed_step old new (reply words) kept all g is there =
       let s = g.2 in
       let k = count + 1 in
-      let orderly = all_at IsOrderly old.services g.0 s kept.orderly g.5 in
-      let begun : HasEventLinesTo text k (with_begin s g.1 k) =
-      placed_begin text count s (all_at Now old.services g.0 s all g.5) k (omega arith) g.1 in
-      let ended : HasEventLinesTo text k (with_end (with_begin s g.1 k) (length s.calls) g.3 k) =
-      placed_end text k (with_begin s g.1 k) begun k (omega arith) (length s.calls) g.3 g.1.seen
-      (reply words) words (open_new s g.1 k orderly) (get_end s.calls g.1.seen) g.6 tt refl there in
+      let orderly = all_get IsOrderly old.services g.0 s kept.orderly g.5 in
+      let c = called s g.1 in
+      let begun : HasEventLinesTo text k (with_begin s c k) =
+      placed_begin text count s (all_get Now old.services g.0 s all g.5) k (omega arith) c in
+      let ended : HasEventLinesTo text k (with_alone s c g.3 k) =
+      placed_end text k (with_begin s c k) begun k (omega arith) (length s.calls) g.3 c.seen
+      (reply words) words (open_new s c k orderly) (get_end s.calls c.seen) g.6 tt refl there in
       set_next old.services new.services g.0 _ all ended
       (ap (λ (x : Log). x.services) g.7)
   placed_step old new (begin number name begun) kept all g is there =
       let s = g.1 in
       set_next old.services new.services g.0 g.5.0 all
-      (placed_begun s g.5.0 begun g.5.1 (all_at Now old.services g.0 s all g.3.there) g.5.2) g.5.3
+      (placed_begun s g.5.0 begun g.5.1 (all_get Now old.services g.0 s all g.3.there) g.5.2) g.5.3
   placed_step old new (end name words) kept all g is there =
       let s = g.2 in
       let k = count + 1 in
-      let orderly = all_at IsOrderly old.services g.0 s kept.orderly g.6 in
+      let orderly = all_get IsOrderly old.services g.0 s kept.orderly g.6 in
       let o = kept.opened name g.0 g.1 g.5 in
       let same : o.0 ≡ s = same_service o.0 s (sym o.1 ∙ g.6) in
       let live : IsOpen s.events g.1 =
@@ -418,7 +405,7 @@ module _ (text : List ℕ) (count : ℕ) where
       omega (arith, orderly.numbered g.1 live.0, orderly.counts) in
       let c = get_within s.calls g.1 within in
       set_next old.services new.services g.0 (with_end s g.1 g.3 k) all
-      (placed_end text count s (all_at Now old.services g.0 s all g.6) k (omega arith) g.1 g.3 c.0
+      (placed_end text count s (all_get Now old.services g.0 s all g.6) k (omega arith) g.1 g.3 c.0
       (end name words) words live c.1 g.7 is refl there) g.8
     where
       same_service : (a b : Service) → Some a ≡ Some b → a ≡ b
@@ -430,7 +417,7 @@ module _ (text : List ℕ) (count : ℕ) where
         | inl first ↦
             set_next old.services new.services g.0 (started g.1 g.2) all
             (placed_started g.1 g.2
-            (later g.1 (all_at Now old.services g.0 g.1 all g.4.there)))
+            (later g.1 (all_get Now old.services g.0 g.1 all g.4.there)))
             (ap (λ (x : Log). x.services) first.1)
         | inr anew ↦
             let t = started (unseen g.1.line) g.2 in

@@ -24,11 +24,11 @@ use Rattle.history_logs.specs.Seen.{Service}
 use Rattle.history_logs.specs.Settling.{AreRightShort, AreSameFronts, GoesShort, HasShort, HaveShort, IsRightShort, IsShortAbove, StayAll, Stays}
 use Rattle.history_logs.specs.Shortened.{AreShort, IsShort, IsShortLog, front_at}
 use Rattle.history_logs.proofs.Above.{above_more, above_room, read_whole}
+use Rattle.history_logs.proofs.AtIndex.{all_get, all_of, get_other, get_same, get_within, same_some}
 use Rattle.history_logs.proofs.Judgements.{judged_conforms}
-use Rattle.history_logs.proofs.Kept.{all_get, get_within}
-use Rattle.history_logs.proofs.Named.{same_count, same_some}
+use Rattle.history_logs.proofs.Named.{same_count}
 use Rattle.history_logs.proofs.Settled.{events_split}
-use Rattle.history_logs.proofs.ShortLogs.{all_of, goes_line, set_other, set_same, short_sane}
+use Rattle.history_logs.proofs.ShortLogs.{goes_line, short_sane}
 
 -- where no call was seen, nothing was
 explained_none : (s : Service) → IsOrderly s → length s.calls ≡ 0 → IsSeenRightly s
@@ -128,7 +128,7 @@ module _ (old live : List Service) (fronts mid : List (Option (Front Watched))) 
                     same_some s.0 x
                     (sym s.1 ∙ (ap (λ j. slice_get services j) (sym same) ∙ ex)) in
                     let isy : next ≡ y =
-                    same_some next y (sym (set_same live at next t here)
+                    same_some next y (sym (get_same live at next t here)
                     ∙ (ap (λ j. slice_get (slice_set live at next) j) (sym same) ∙ ey)) in
                     subst (λ j. IsShort x y (front_at (slice_set mid at front) j)) (sym same)
                     (subst (λ (f : Option (Front Watched)). IsShort x y f)
@@ -138,7 +138,7 @@ module _ (old live : List Service) (fronts mid : List (Option (Front Watched))) 
                 | inr other ↦
                     subst (λ (f : Option (Front Watched)). IsShort x y f)
                     (sym (front_other mid at i front other))
-                    (a.2 i x y ex (sym (set_other live at i next other) ∙ ey))
+                    (a.2 i x y ex (sym (get_other live at i next other) ∙ ey))
               ],
         )
 
@@ -237,7 +237,6 @@ short_none bytes log services waits above = record {
         (refl, omega arith, λ at s t there here. absurd (cc));
     callers = refl;
     waits = refl;
-    starts = λ at c e. absurd (cc);
   };
 }
 
@@ -285,7 +284,6 @@ module _ (bytes : List ℕ) (live : Log) (fronts : List (Option (Front Watched))
         services = stay h.log.services h.above.kept.orderly h.short.services;
         callers = callers ∙ h.short.callers;
         waits = waits ∙ h.short.waits;
-        starts = h.short.starts;
       };
     }
 

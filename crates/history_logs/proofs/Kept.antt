@@ -9,18 +9,17 @@ use Rattle.std.proofs.lemmas.List.Sums.{sum_by-cons, sum_by_push}
 use Rattle.std.proofs.lemmas.Option.{slice_get-get_or, slice_get_within}
 use Rattle.histories.specs.declared.event.Event.{Event}
 use Rattle.histories.specs.Histories.{IsOpen}
-use Rattle.log_lines.specs.Commands.{Begun}
+use Rattle.log_lines.specs.Commands.{Begun, NamedCommand}
 use Rattle.log_lines.specs.Commands.Begun.{command, weak}
 use Rattle.log_lines.specs.Lines.{Line}
 use Rattle.log_lines.specs.Lines.Line.{service, call, reply, begin, end, crash, given}
-use Rattle.service_conformance.specs.Judged.{Judged, stopped}
 use Rattle.history_logs.specs.declared.logs.callers.CallerState.{CallerState}
 use Rattle.history_logs.specs.declared.logs.callers.CallerState.TheVariants as caller
-use Rattle.history_logs.specs.declared.logs.service.LogCall.{LogCall}
 use Rattle.history_logs.specs.Good.{IsKept, IsOpenOn, IsOrderly}
 use Rattle.history_logs.specs.Logs.{calls_in}
-use Rattle.history_logs.specs.Reading.{Dies, GoesOn, IsSane, Log, Sets, StopsKept}
-use Rattle.history_logs.specs.Seen.{Begins, HasHandles, IsKeptCall, Service, start_of, started, unseen, with_begin, with_crash, with_end}
+use Rattle.history_logs.specs.Reading.{Dies, GoesOn, IsSane, Log, Sets}
+use Rattle.history_logs.specs.Seen.{Begins, HasHandles, Service, called, started, unseen, with_alone, with_begin, with_crash, with_end}
+use Rattle.history_logs.proofs.AtIndex.{all_get, get_other, get_push, get_same, same_some}
 use Rattle.history_logs.proofs.Callers.{other_bytes, same_bytes}
 use Rattle.history_logs.proofs.Orderly.{begun_of, open_alone, open_crashed, open_ended, orderly_alone, orderly_crash, orderly_end, orderly_new, orderly_started}
 
@@ -30,35 +29,6 @@ cases_name a b = cases (bytes_eq a b) refl
     cases : (t : Bool) → bytes_eq a b ≡ t → (a ≡ b) ⊎ (a ≢ b)
     cases true e = inl (same_bytes a b e)
     cases false e = inr (other_bytes a b e)
-
-same_some : {X : Type 0} (a b : X) → Some a ≡ Some b → a ≡ b
-same_some a b e = cc
-
-get_other : {X : Type 0} (xs : List X) (i j : ℕ) (a : X) → j ≢ i
-    → slice_get (slice_set xs i a) j ≡ slice_get xs j
-get_other [] i j a n = refl
-get_other (x ∷ xs) zero zero a n = absurd (n refl)
-get_other (x ∷ xs) zero (suc j) a n = refl
-get_other (x ∷ xs) (suc i) zero a n = refl
-get_other (x ∷ xs) (suc i) (suc j) a n = get_other xs i j a (λ e. n (ap suc e))
-
-get_same : {X : Type 0} (xs : List X) (i : ℕ) (a b : X) → slice_get xs i ≡ Some b
-    → slice_get (slice_set xs i a) i ≡ Some a
-get_same [] i a b e = absurd (cc)
-get_same (x ∷ xs) zero a b e = refl
-get_same (x ∷ xs) (suc i) a b e = get_same xs i a b e
-
-get_push : {X : Type 0} (xs : List X) (y : X) (i : ℕ) (x : X) → slice_get xs i ≡ Some x
-    → slice_get (xs ++ y ∷ []) i ≡ Some x
-get_push [] y i x e = absurd (cc)
-get_push (z ∷ xs) y zero x e = e
-get_push (z ∷ xs) y (suc i) x e = get_push xs y i x e
-
-pub all_get : {X : Type 0} (P : X → Type 0) (xs : List X) (i : ℕ) (x : X) → All P xs
-    → slice_get xs i ≡ Some x → P x
-all_get P [] i x all e = absurd (cc)
-all_get P (y ∷ xs) zero x all e = subst P (same_some y x e) (All-head P y xs all)
-all_get P (y ∷ xs) (suc i) x all e = all_get P xs i x (All-tail P y xs all) e
 
 -- where what was open on a service stays open, it does on all
 opened_set : (ss : List Service) (at : ℕ) (s t : Service) → slice_get ss at ≡ Some s → (b m : ℕ)
@@ -87,7 +57,7 @@ push_some : {X : Type 0} (xs : List X) (y : X) → xs ++ y ∷ [] ≢ []
 push_some [] y e = absurd (cc)
 push_some (x ∷ xs) y e = absurd (cc)
 
-none_waits : (log : Log) → log.waits ≡ None → (at : ℕ) (c : LogCall)
+none_waits : (log : Log) → log.waits ≡ None → (at : ℕ) (c : NamedCommand)
     → log.waits ≡ Some (at, c) → at < length log.services
 none_waits log none at c e = absurd (cc)
 
@@ -104,14 +74,14 @@ kept_push old t k none orderly = record {
   none = λ e name. absurd (push_some old.services t e);
 }
 
-kept_call : (old : Log) (at : ℕ) (s : Service) (c : LogCall) → IsKept old
+kept_call : (old : Log) (at : ℕ) (s : Service) (c : NamedCommand) → IsKept old
     → slice_get old.services at ≡ Some s → IsKept (record old { waits = Some (at, c) })
 kept_call old at s c k there = record {
   orderly = k.orderly;
   opened = k.opened;
   apart = k.apart;
   waits = λ b d e.
-      let same : at ≡ b = ap (λ (p : ℕ × LogCall). p.0) (same_some (at, c) (b, d) e) in
+      let same : at ≡ b = ap (λ (p : ℕ × NamedCommand). p.0) (same_some (at, c) (b, d) e) in
       subst (λ i. i < length old.services) same (slice_get_within old.services at s there);
   none = k.none;
 }
@@ -270,13 +240,14 @@ pub kept_step : (old new : Log) (k : ℕ) (l : Line) → IsKept old → GoesOn o
 kept_step old new k (service line) kept g =
     subst IsKept (sym g.2) (kept_push old (unseen line) kept g.0 (orderly_new line))
 kept_step old new k (call number c) kept g =
-    subst IsKept (sym g.4) (kept_call old g.0 g.1 _ kept g.3.there)
+    subst IsKept (sym g.4) (kept_call old g.0 g.1 c kept g.3.there)
 kept_step old new k (reply words) kept g =
     let s = g.2 in
     let orderly = all_get IsOrderly old.services g.0 s kept.orderly g.5 in
     subst IsKept (sym g.7)
-    (kept_alone old g.0 s (with_end (with_begin s g.1 k) (length s.calls) g.3 k) kept g.5
-    (orderly_alone s g.1 g.3 k orderly) (λ m o. open_alone s g.1 g.3 k m orderly o))
+    (kept_alone old g.0 s (with_alone s (called s g.1) g.3 k) kept g.5
+    (orderly_alone s (called s g.1) g.3 k orderly)
+    (λ m o. open_alone s (called s g.1) g.3 k m orderly o))
 kept_step old new k (begin number name begun) kept g =
     let s = g.1 in
     let t = g.5.0 in
@@ -380,7 +351,7 @@ sum_step old new k (call number c) g =
     omega (arith, ap (λ (x : Log). sum_by calls_of x.services) g.4)
 sum_step old new k (reply words) g =
     let s = g.2 in
-    let t = with_end (with_begin s g.1 k) (length s.calls) g.3 k in
+    let t = with_alone s (called s g.1) g.3 k in
     omega (
       arith,
       ap (λ (x : Log). sum_by calls_of x.services) g.7,
@@ -440,40 +411,6 @@ handles_of s o = record {
   first = omega (arith, o.all.whole);
 }
 
-pub get_within : {X : Type 0} (xs : List X) (i : ℕ) → i < length xs
-    → (x : X) × (slice_get xs i ≡ Some x)
-get_within [] i h = absurd (omega (arith, h))
-get_within (x ∷ xs) zero h = (x, refl)
-get_within (x ∷ xs) (suc i) h = get_within xs i (omega (arith, h))
-
--- a call that begins last is kept, where what it stops is
-start_last : (calls : List Judged) (c : Judged)
-    → start_of (calls ++ c ∷ []) (length calls) ≡ stopped c
-start_last [] c = refl
-start_last (x ∷ calls) c = start_last calls c
-
-pub kept_begun : (s : Service) (c : LogCall) (k : ℕ) → HasHandles s → StopsKept s c
-    → IsKeptCall (with_begin s c k) (length s.calls)
-kept_begun s c k h stops = record {
-  call = h.first;
-  start = λ start is. stops start (sym (start_last s.calls c.seen) ∙ is);
-}
-
--- the same of the service that was found
-pub kept_found : (ss : List Service) (at : ℕ) (d new : Service) (c : LogCall) (k number : ℕ)
-    → All HasHandles ss → (s : Service) × (slice_get ss at ≡ Some s) × StopsKept s c
-    → d ≡ get_or ss at d → new ≡ with_begin d c k → number ≡ length d.calls
-    → IsKeptCall new number
-kept_found ss at d new c k number handles on is begun same =
-    let there : slice_get ss at ≡ Some d =
-    slice_get-get_or ss at d (slice_get_within ss at on.0 on.1)
-    ∙ ap (λ (s : Service). Some s) (sym is) in
-    let found : on.0 ≡ d = same_some on.0 d (sym on.1 ∙ there) in
-    subst (λ n. IsKeptCall new n) (sym same)
-    (subst (λ (s : Service). IsKeptCall s (length d.calls)) (sym begun)
-    (kept_begun d c k (all_get HasHandles ss at d handles there)
-    (subst (λ (s : Service). StopsKept s c) found on.2)))
-
 -- what holds of all that is read is what the parts need
 pub sane_of : (log : Log) → IsKept log → IsSane log
 sane_of log k = record {
@@ -489,8 +426,5 @@ sane_of log k = record {
           start = λ start is. omega (arith, orderly.all.whole);
         },
       );
-  waits = λ at c e.
-      let there = get_within log.services at (k.waits at c e) in
-      let orderly = all_get IsOrderly log.services at there.0 k.orderly there.1 in
-      (there.0, there.1, λ start is. omega (arith, orderly.all.whole));
+  waits = k.waits;
 }

@@ -12,7 +12,7 @@ use Rattle.histories.proofs.Events.{begins_begin, begins_none}
 use Rattle.histories.proofs.Verdicts.{one_more}
 use Rattle.history_windows.proofs.Joins.{ended_right}
 use Rattle.history_logs.specs.Seen.{Service}
-use Rattle.history_logs.specs.Settling.{AreOver, IsLastBegun, IsOverIn}
+use Rattle.history_logs.specs.Settling.{AreOver, IsBehind, IsBehindBegun, IsOverIn}
 use Rattle.history_logs.proofs.Settled.{begins-one}
 
 -- what an event alone begins
@@ -69,47 +69,47 @@ least_each slots most at first l h slot call has =
     ]
 
 -- the last call that begins
-pub last_none : (first : ℕ) (events : List Event) → IsLastBegun first (take 0 events) first
+pub last_none : (first : ℕ) (events : List Event) → IsBehindBegun first (take 0 events) first
 last_none first events = inl refl
 
 pub last_more : (first : ℕ) (events : List Event) (at : ℕ) (d : Event) (last next : ℕ)
-    → at < length events → IsLastBegun first (take at events) last
-    → (get_or events at d ≡ Begin next) ⊎ (next ≡ last)
-    → IsLastBegun first (take (at + 1) events) next
+    → at < length events → IsBehindBegun first (take at events) last
+    → ((call : ℕ) × (get_or events at d ≡ Begin call) × IsBehind call next) ⊎ (next ≡ last)
+    → IsBehindBegun first (take (at + 1) events) next
 last_more first events at d last next h l is =
     let e = get_or events at d in
-    subst (λ (es : List Event). IsLastBegun first es next) (sym (one_more events at d h))
-    (elim is as (λ _. IsLastBegun first (take at events ++ e ∷ []) next) [
-      | inl begins_now ↦
-          subst (λ (x : Event). IsLastBegun first (take at events ++ x ∷ []) next)
-          (sym begins_now)
-          (inr (omega (
-            arith,
-            begins-one next,
-            begins-append next (take at events) (Begin next ∷ []),
-          )))
+    subst (λ (es : List Event). IsBehindBegun first es next) (sym (one_more events at d h))
+    (elim is as (λ _. IsBehindBegun first (take at events ++ e ∷ []) next) [
+      | inl now ↦
+          let call = now.0 in
+          subst (λ (x : Event). IsBehindBegun first (take at events ++ x ∷ []) next) (sym now.1)
+          (inr (
+            call,
+            omega (
+              arith,
+              begins-one call,
+              begins-append call (take at events) (Begin call ∷ []),
+            ),
+            now.2,
+          ))
       | inr same ↦
-          subst (λ n. IsLastBegun first (take at events ++ e ∷ []) n) (sym same)
-          (elim l as (λ _. IsLastBegun first (take at events ++ e ∷ []) last) [
+          subst (λ n. IsBehindBegun first (take at events ++ e ∷ []) n) (sym same)
+          (elim l as (λ _. IsBehindBegun first (take at events ++ e ∷ []) last) [
             | inl from ↦ inl from
-            | inr some ↦ inr (omega (arith, some, begins-append last (take at events) (e ∷ [])))
+            | inr some ↦ inr (
+              some.0,
+              omega (arith, some.1, begins-append some.0 (take at events) (e ∷ [])),
+              some.2,
+            )
           ])
     ])
 
 pub last_all : (first : ℕ) (events : List Event) (at last : ℕ) → length events ≤ at
-    → IsLastBegun first (take at events) last → IsLastBegun first events last
+    → IsBehindBegun first (take at events) last → IsBehindBegun first events last
 last_all first events at last h l =
-    subst (λ (es : List Event). IsLastBegun first es last) (take_all at events h) l
+    subst (λ (es : List Event). IsBehindBegun first es last) (take_all at events h) l
 
--- what is over behind a place is over
-pub over_from : (s : Service) (at call : ℕ) → IsOverIn s (drop at s.events) call
-    → IsOverIn s s.events call
-over_from s at call is =
-    let whole : (n : ℕ) → HasEnded (drop at s.events) n → HasEnded s.events n =
-    λ n h. subst (λ (l : List Event). HasEnded l n) (take-append-drop at s.events)
-    (ended_right (take at s.events) (drop at s.events) n h) in
-    (whole call is.0, λ from. whole (call + 1) (is.1 from))
-
+-- calls that are over
 pub over_more : (s : Service) (at : ℕ) (d : Event) → at < length s.events
     → AreOver s (take at s.events)
     → ((call : ℕ) → get_or s.events at d ≡ Begin call → IsOverIn s s.events call)

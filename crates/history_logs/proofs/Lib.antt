@@ -1,7 +1,9 @@
 pub mod Starting
 pub mod Empty
 pub mod Above
-pub mod Answered
+pub mod Alone
+pub mod AtIndex
+mod Answered
 pub mod Answering
 pub mod Callers
 pub mod Counts
@@ -21,7 +23,9 @@ pub mod Streams
 pub mod Telling
 pub mod Needing
 pub mod Shortened
+pub mod Forgotten
 pub mod Settled
+pub mod ShortServices
 pub mod ShortLogs
 pub mod Least
 pub mod Conforming

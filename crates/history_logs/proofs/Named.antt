@@ -10,9 +10,7 @@ use Rattle.std.proofs.lemmas.Option.{get_or_from_slice_get, slice_get-get_or, sl
 use Rattle.history_logs.specs.Logs.{services_in}
 use Rattle.history_logs.specs.Reading.{HaveNumber, IsNamed, IsNameless, IsNew, IsNewBehind}
 use Rattle.history_logs.specs.Seen.{Service}
-
-pub same_some : {X : Type 0} (a b : X) → Some a ≡ Some b → a ≡ b
-same_some a b e = cc
+use Rattle.history_logs.proofs.AtIndex.{same_some}
 
 -- the number of a service
 abbrev number_of : Service → ℕ

@@ -1,7 +1,9 @@
 -- Lines that may not come next.
 use Rattle.std.proofs.Common.{◌≡◌, ◌≢◌, ◌⊎◌, ℕ, List, [], ◌∷◌, true, false, Option, Some, None, Result, Ok, Err, IfOk, length, refl, sym, ◌∙◌, ap, subst, arith, inl, inr}
 use Rattle.std.specs.Prelude.{IsTrue, slice_get}
+use Rattle.std.specs.List.{slice_set}
 use Rattle.std.proofs.lemmas.List.Elements.{All-nil}
+use Rattle.log_lines.specs.Commands.{NamedCommand}
 use Rattle.log_lines.specs.Laws.{IsAlike}
 use Rattle.log_lines.specs.Lines.{IsLine, Line, is_note, line_text}
 use Rattle.log_lines.specs.Lines.Line.{service, call, reply, begin, end, crash, given}
@@ -11,13 +13,12 @@ use Rattle.service_conformance.specs.declared.conformance.seen_reply.SeenReply.{
 use Rattle.service_descriptions.specs.declared.replay.lines.service_line.ServiceLine.{ServiceLine}
 use Rattle.history_logs.specs.declared.logs.callers.CallerState.{CallerState}
 use Rattle.history_logs.specs.declared.logs.callers.CallerState.TheVariants as caller
-use Rattle.history_logs.specs.declared.logs.service.LogCall.{LogCall}
 use Rattle.history_logs.specs.declared.logs.verdict.Expected.{Expected}
 use Rattle.history_logs.specs.declared.logs.verdict.Expected.TheVariants as expected
-use Rattle.history_logs.specs.Good.{HasNoNext, IsBadLine, IsKept, Takes, TakesLine, TakesNext, TakesReply, is_service, waiting}
+use Rattle.history_logs.specs.Good.{HasNoNext, IsBadLine, IsKept, SaysIn, Takes, TakesLine, TakesNext, is_service}
 use Rattle.history_logs.specs.Logs.{EndsInReturn, IsBadText, IsWrong}
 use Rattle.history_logs.specs.Reading.{Dies, Does, GoesOn, IsNamed, IsNew, IsRefused, IsSane, Log, MayBegin, RefusesBegin, RefusesDeath, RefusesEnd, Says, StartsAnewAs, StartsAs}
-use Rattle.history_logs.specs.Seen.{Service}
+use Rattle.history_logs.specs.Seen.{Service, called, with_alone}
 use Rattle.history_logs.proofs.Named.{one_named, one_place}
 
 -- what was read, where no call waits any more
@@ -28,29 +29,23 @@ sane_taken log k = record {
   waits = λ at c e. absurd (cc);
 }
 
--- a line below a call that waits
-pub reply_line : (old new : Log) (at : ℕ) (c : LogCall) (k : ℕ) (text : List ℕ)
-    (found : Option Expected) (w : Option (ℕ × LogCall)) → old.waits ≡ Some (at, c)
-    → TakesReply (record old { waits = w }) at c k text found new
-    → TakesLine old k text found new
-reply_line old new at c k text None w is t =
-    let same : waiting (record old { waits = w }) at c ≡ old =
-    ap (λ (w : Option (ℕ × LogCall)). record {
-      services = old.services;
-      callers = old.callers;
-      waits = w;
-    }) (sym is) in
-    (reply t.0, _, t.1, subst (λ (x : Log). GoesOn x k (reply t.0) new) same t.2)
-reply_line old new at c k text (Some e) w is t =
-    (inl ((λ none. absurd (cc)), t.0, t.1), t.2)
+-- the reply to the call that waits
+pub replied : (old new : Log) (at : ℕ) (c : NamedCommand) (s : Service) (r : SeenReply) (k : ℕ)
+    (text : List ℕ) → old.waits ≡ Some (at, c) → slice_get old.services at ≡ Some s
+    → SaysIn text r → new ≡ record old {
+      services = slice_set old.services at (with_alone s (called s c) r k);
+      waits = None;
+    } → TakesLine old k text None new
+replied old new at c s r k text waits there says is =
+    (reply says.words, tt, sym says.spelled, (at, c, s, r, waits, there, says.says, is))
 
 -- a line where none waits
 pub next_line : (old new : Log) (k : ℕ) (text : List ℕ) (found : Option Expected)
-    (w : Option (ℕ × LogCall)) → w ≡ None → old.waits ≡ None
+    (w : Option (ℕ × NamedCommand)) → w ≡ None → old.waits ≡ None
     → TakesNext (record old { waits = w }) k text found new → TakesLine old k text found new
 next_line old new k text None w none is t =
     let same : record old { waits = w } ≡ old =
-    ap (λ (x : Option (ℕ × LogCall)). record {
+    ap (λ (x : Option (ℕ × NamedCommand)). record {
       services = old.services;
       callers = old.callers;
       waits = x;
@@ -58,7 +53,7 @@ next_line old new k text None w none is t =
     (t.0, t.1, t.2, subst (λ (x : Log). GoesOn x k t.0 new) same t.3)
 next_line old new k text (Some e) w none is t =
     let same : record old { waits = w } ≡ old =
-    ap (λ (x : Option (ℕ × LogCall)). record {
+    ap (λ (x : Option (ℕ × NamedCommand)). record {
       services = old.services;
       callers = old.callers;
       waits = x;
@@ -306,15 +301,8 @@ pub ok_taken : {E : Type 0} (result : Result (Option Expected) E) (old new : Log
 ok_taken (Ok found) old new k text l p is first h = taken old new k text l found p is first h
 ok_taken (Err e) old new k text l p is first h = h
 
-pub ok_reply : {E : Type 0} (result : Result (Option Expected) E) (old new : Log) (at : ℕ)
-    (c : LogCall) (k : ℕ) (text : List ℕ) (w : Option (ℕ × LogCall)) → old.waits ≡ Some (at, c)
-    → IfOk result (λ found. TakesReply (record old { waits = w }) at c k text found new)
-    → IfOk result (λ found. TakesLine old k text found new)
-ok_reply (Ok found) old new at c k text w is h = reply_line old new at c k text found w is h
-ok_reply (Err e) old new at c k text w is h = h
-
 pub ok_next : {E : Type 0} (result : Result (Option Expected) E) (old new : Log) (k : ℕ)
-    (text : List ℕ) (w : Option (ℕ × LogCall)) → w ≡ None → old.waits ≡ None
+    (text : List ℕ) (w : Option (ℕ × NamedCommand)) → w ≡ None → old.waits ≡ None
     → IfOk result (λ found. TakesNext (record old { waits = w }) k text found new)
     → IfOk result (λ found. TakesLine old k text found new)
 ok_next (Ok found) old new k text w none is h = next_line old new k text found w none is h

@@ -1,7 +1,7 @@
 -- What settles while a log is read.
-use Rattle.std.proofs.Common.{◌≡◌, ◌⊎◌, ◌↔◌, ℕ, zero, suc, ◌+◌, ◌-◌, ◌<◌, ◌≤◌, List, [], ◌∷◌, ◌++◌, Some, None, append_assoc, drop, get_or, length, replicate, refl, sym, ◌∙◌, ap, subst, arith, inl, inr, slice_get, take, eqb, eq-eqb, true}
+use Rattle.std.proofs.Common.{◌≡◌, ◌⊎◌, ℕ, zero, suc, ◌+◌, ◌-◌, ◌<◌, ◌≤◌, List, [], ◌∷◌, ◌++◌, Some, None, append_assoc, drop, get_or, length, replicate, refl, sym, ◌∙◌, ap, subst, arith, inl, inr, slice_get, take, eqb, eq-eqb, true}
 use Rattle.std.proofs.lemmas.Bool.{cases_lt}
-use Rattle.std.proofs.lemmas.List.{length-append, length-replicate, length-take-le, take-append-drop, take-take}
+use Rattle.std.proofs.lemmas.List.{length-append, take-append-drop, take-take}
 use Rattle.std.proofs.Math.Seq.{take-append_seam}
 use Rattle.std.proofs.lemmas.Option.{slice_get-get_or}
 use Rattle.histories.specs.declared.event.Event.{Event}
@@ -21,9 +21,10 @@ use Rattle.service_conformance.specs.Looks.{Watched, unwatched}
 use Rattle.history_logs.specs.Good.{IsOrderly}
 use Rattle.history_logs.specs.Logs.{StepOf, news}
 use Rattle.history_logs.specs.Seen.{Service, forgetting, forgotten, start_of}
-use Rattle.history_logs.specs.Settling.{AreOver, IsLastBegun, Stays}
+use Rattle.history_logs.specs.Settling.{AreOver, IsBehindBegun, Stays}
 use Rattle.history_logs.specs.Shortened.{IsShort, Kept}
 use Rattle.history_logs.proofs.Shortened.{start_get}
+use Rattle.history_logs.proofs.Forgotten.{get_forgotten, length_forgotten, step_same}
 
 -- how many calls begin in two parts
 pub begun-append : (es fs : List Event) → begun (es ++ fs) ≡ begun es + begun fs
@@ -111,66 +112,6 @@ begun_behind s o past rest is n some =
       | inr above ↦ above
     ]
 
--- calls of which the first ones are forgotten
-get_forgotten : {X : Type 0} (first : ℕ) (d : X) (xs : List X) (n : ℕ) → first ≤ n
-    → slice_get (replicate first d ++ drop first xs) n ≡ slice_get xs n
-get_forgotten zero d [] n h = refl
-get_forgotten zero d (x ∷ xs) n h = refl
-get_forgotten (suc first) d xs zero h = absurd (omega (arith, h))
-get_forgotten (suc first) d [] (suc n) h = none first n (omega (arith, h))
-  where
-    none : (k m : ℕ) → k ≤ m → slice_get (replicate k d ++ []) m ≡ None
-    none zero m h = refl
-    none (suc k) zero h = absurd (omega (arith, h))
-    none (suc k) (suc m) h = none k m (omega (arith, h))
-get_forgotten (suc first) d (x ∷ xs) (suc n) h = get_forgotten first d xs n (omega (arith, h))
-
-length_forgotten : {X : Type 0} (first : ℕ) (d : X) (xs : List X) → first ≤ length xs
-    → length (replicate first d ++ drop first xs) ≡ length xs
-length_forgotten first d xs h =
-    omega (
-      arith,
-      h,
-      length-append (replicate first d) (drop first xs),
-      length-replicate first d,
-      length-append (take first xs) (drop first xs),
-      ap (λ l. length l) (take-append-drop first xs),
-      length-take-le first xs h,
-    )
-
--- calls that are kept agree with those of the service
-get_kept : (first : ℕ) (calls : List Judged) (n : ℕ) → first ≤ n
-    → slice_get (replicate first forgotten ++ calls) n ≡ slice_get calls (n - first)
-get_kept zero calls n h =
-    let same : n - 0 ≡ n = omega arith in
-    ap (slice_get calls) (sym same)
-get_kept (suc first) calls zero h = absurd (omega (arith, h))
-get_kept (suc first) calls (suc n) h =
-    let same : suc n - suc first ≡ n - first = omega arith in
-    get_kept first calls n (omega (arith, h)) ∙ ap (slice_get calls) (sym same)
-
-pub step_same : (first : ℕ) (calls final : List Judged) (n : ℕ) → first ≤ n
-    → slice_get (replicate first forgotten ++ calls) n ≡ slice_get final n
-    → (old new : Watched) → WindowStep first calls old n new ↔ WindowStep 0 final old n new
-step_same first calls final n h same old new =
-    let is = sym (get_kept first calls n h) ∙ same in (
-      λ w.
-          let at : w.1.0 ≡ n - first = omega (arith, w.1.1, h) in
-          let zero_at : n ≡ 0 + n = omega arith in (
-            w.0,
-            (n, zero_at, sym is ∙ (ap (slice_get calls) (sym at) ∙ w.1.2)),
-            w.2,
-          ),
-      λ w.
-          let at : w.1.0 ≡ n = omega (arith, w.1.1) in
-          let first_at : n ≡ first + (n - first) = omega (arith, h) in (
-            w.0,
-            (n - first, first_at, is ∙ (ap (slice_get final) (sym at) ∙ w.1.2)),
-            w.2,
-          ),
-    )
-
--- calls of which the first ones agree
 get_take : {X : Type 0} (b : ℕ) (xs : List X) (n : ℕ) → n < b
     → slice_get (take b xs) n ≡ slice_get xs n
 get_take zero xs n h = absurd (omega (arith, h))
@@ -329,7 +270,7 @@ module _ (live s : Service) (front new : Front Watched) (count : ℕ) (o : IsOrd
     → IsFrontAfter (WindowStep 0 final) (news s)
     (past live s front count o k ++ followed live s front count o k) new)
     (known : AreOver live (followed live s front count o k))
-    (most first : ℕ) (last : IsLastBegun live.first (followed live s front count o k) most)
+    (most first : ℕ) (last : IsBehindBegun live.first (followed live s front count o k) most)
     (less : first ≤ most)
     (slots : (slot call : ℕ) → HasSlot new.slots.items slot call → first ≤ call)
   where
@@ -355,8 +296,9 @@ module _ (live s : Service) (front new : Front Watched) (count : ℕ) (o : IsOrd
               omega (
                 arith,
                 less,
-                numbered most
-                    (omega (arith, some, begins-append most before now)),
+                some.2.1,
+                numbered some.0
+                    (omega (arith, some.1, begins-append some.0 before now)),
               )
         ]
 
@@ -384,7 +326,7 @@ module _ (live s : Service) (front new : Front Watched) (count : ℕ) (o : IsOrd
     last_low =
         elim last as (λ _. live.first ≤ most) [
           | inl same ↦ omega (arith, same)
-          | inr some ↦ low live s front count o k most (inr some)
+          | inr some ↦ omega (arith, some.2.0, low live s front count o k some.0 (inr some.1))
         ]
 
     pub first_low_of : ((first ≡ most) ⊎ ((slot : ℕ) × HasSlot new.slots.items slot first))

@@ -1,214 +1,33 @@
 -- What is kept of a log after one line more.
-use Rattle.std.proofs.Common.{◌≡◌, ◌≢◌, ◌⊎◌, ℕ, zero, suc, ◌+◌, ◌≤◌, List, [], ◌∷◌, ◌++◌, All, Option, Some, None, length, refl, sym, ◌∙◌, ap, subst, arith, inl, inr, slice_get}
+use Rattle.std.proofs.Common.{◌≡◌, ◌≢◌, ◌⊎◌, ℕ, ◌+◌, ◌≤◌, List, [], ◌∷◌, ◌++◌, Option, Some, None, length, refl, sym, ◌∙◌, ap, subst, arith, inl, inr, slice_get}
 use Rattle.std.specs.List.{slice_set}
 use Rattle.std.proofs.lemmas.Bool.{cases_eq}
 use Rattle.std.proofs.lemmas.List.{get_or_past, length-append, length-set}
-use Rattle.std.proofs.lemmas.List.Elements.{All-cons, All-nil}
 use Rattle.std.proofs.lemmas.Option.{slice_get_within}
-use Rattle.histories.specs.declared.event.Event.TheVariants.{Begin, End, Crash}
 use Rattle.histories.specs.declared.front.Front.{Front}
-use Rattle.histories.specs.Histories.{HasEnded, IsOpen}
+use Rattle.histories.specs.Histories.{IsOpen}
 use Rattle.iox2_dynamic.specs.Service as dynamic
 use Rattle.log_lines.specs.Commands.{Begun, NamedCommand}
-use Rattle.log_lines.specs.Commands.Begun.{command as begun_command, weak}
-use Rattle.log_lines.specs.Commands.NamedCommand.{numbered}
 use Rattle.log_lines.specs.Lines.{Line}
 use Rattle.log_lines.specs.Lines.Line.{service, call, reply, begin, end, crash, given}
 use Rattle.log_lines.specs.States.{State}
-use Rattle.service_conformance.specs.declared.conformance.possible.Part.{Part}
-use Rattle.service_conformance.specs.declared.conformance.seen_reply.SeenReply.{SeenReply}
 use Rattle.service_conformance.specs.declared.conformance.seen_reply.SeenReply.TheVariants as seen_reply
-use Rattle.service_conformance.specs.Judged.{Judged, stopped}
+use Rattle.service_conformance.specs.Judged.{Judged}
 use Rattle.service_conformance.specs.Looks.{Watched}
 use Rattle.service_descriptions.specs.declared.replay.lines.service_line.ServiceLine.{ServiceLine}
-use Rattle.service_descriptions.specs.declared.replay.machine.command.Command.TheVariants as command
 use Rattle.history_logs.specs.declared.logs.callers.CallerState.{CallerState}
 use Rattle.history_logs.specs.declared.logs.callers.CallerState.TheVariants as caller
 use Rattle.history_logs.specs.declared.logs.service.LogCall.{LogCall}
 use Rattle.history_logs.specs.Good.{IsKept, IsOrderly}
 use Rattle.history_logs.specs.Reading.{Dies, Gives, GoesOn, HaveNumber, IsNamed, IsSane, Log, MayBegin, Sets, StartsAnewAs, StartsAs}
-use Rattle.history_logs.specs.Seen.{Begins, HasHandles, IsKeptCall, Service, called, started, starting, stopping, unseen, with_begin, with_crash, with_end, with_look, with_over}
-use Rattle.history_logs.specs.Shortened.{AreShort, HasFront, IsShort, IsShortLog, Keeps, Kept, front_at, shortened}
-use Rattle.history_logs.proofs.Kept.{all_get, get_within}
-use Rattle.history_logs.proofs.Named.{same_some}
+use Rattle.history_logs.specs.Seen.{Begins, HasHandles, IsKeptCall, Service, called, started, unseen, with_alone, with_begin, with_crash, with_end}
+use Rattle.history_logs.specs.Shortened.{AreShort, IsShort, IsShortLog, Keeps, Kept, front_at, shortened}
+use Rattle.history_logs.proofs.Alone.{called_stops}
+use Rattle.history_logs.proofs.AtIndex.{all_get, all_of, get_other, get_push_at, get_same, get_within, same_some}
 use Rattle.history_logs.proofs.Orderly.{open_new}
 use Rattle.history_logs.proofs.Refused.{nil_of}
-use Rattle.history_logs.proofs.Shortened.{begin_is, called_same, called_stops, end_is, ended, kept_call, kept_start, length_answered, keeps_begin, keeps_end, keeps_over, keeps_part, part, with_event}
-
--- a service that is kept so
-module _ (s : Service) (kept : Kept) (upto : ℕ) (front : Option (Front Watched))
-    (k : Keeps s kept upto front) (within : upto ≤ length s.calls)
-  where
-    pub short_begin : (c : LogCall) (line : ℕ) → stopped c.seen ≡ None
-        → IsShort (with_begin s c line) (with_begin (shortened s kept) c line) front
-    short_begin c line none = record {
-      kept = part s kept upto front k c line (λ start is. absurd (cc)) within
-          (λ start is. absurd (cc));
-      upto = upto;
-      within = omega (arith, within, length-append s.calls (c.seen ∷ []));
-      is = begin_is s kept upto front k c line (λ start is. absurd (cc)) within
-          (λ start is. absurd (cc));
-      keeps = keeps_begin s kept upto front k c line (λ start is. absurd (cc)) within
-          (λ start is. absurd (cc));
-    }
-
-    pub short_end : (number : ℕ) (r : SeenReply) (line : ℕ) → (¬ (HasEnded s.events number))
-        → IsShort (with_end s number r line) (with_end (shortened s kept) number r line) front
-    short_end number r line now =
-        let e = keeps_end s kept upto front k number r line now in record {
-          kept = ended s kept upto front k number r line now;
-          upto = upto;
-          within = omega (arith, within, length_answered r s.calls number);
-          is = end_is s kept upto front k number r line now;
-          keeps = e;
-        }
-
-    pub short_crash : (number line : ℕ)
-        → IsShort (with_crash s number line) (with_crash (shortened s kept) number line) front
-    short_crash number line = record {
-      kept = with_event kept (Crash number) line;
-      upto = upto;
-      within = within;
-      is = refl;
-      keeps = keeps_over s (with_crash s number line) kept upto front k (Crash number) line refl
-          refl refl;
-    }
-
-    pub short_look : (p : Part) (line : ℕ)
-        → IsShort (with_look s p line) (with_look (shortened s kept) p line) front
-    unfolding short_begin
-    short_look p line =
-        let n = length s.calls in
-        let one = with_begin s (starting p) line in
-        let first = short_begin (starting p) line refl in
-        let two = with_over one n line in
-        let long : length two.calls ≡ n + 1 = length-append s.calls ((starting p).seen ∷ []) in
-        let over = with_event first.kept (End n) line in
-        let second : Keeps two over upto front =
-        keeps_over one two first.kept upto front first.keeps (End n) line refl refl refl in
-        let next : (start : ℕ) → stopped (stopping n).seen ≡ Some start
-        → start + 1 ≡ length two.calls =
-        λ start is. omega (arith, same_some n start is, long) in
-        let late : (start : ℕ) → stopped (stopping n).seen ≡ Some start → upto ≤ start =
-        λ start is. omega (arith, same_some n start is, within) in
-        let few : upto ≤ length two.calls = omega (arith, within, long) in
-        record {
-          kept = part two over upto front second (stopping n) line next few late;
-          upto = upto;
-          within = omega (
-            arith,
-            within,
-            long,
-            length-append two.calls ((stopping n).seen ∷ []),
-          );
-          is = look_is p line;
-          keeps = keeps_part two over upto front second (stopping n) line next few late;
-        }
-      where
-        look_is : (p : Part) (line : ℕ) → with_look (shortened s kept) p line
-            ≡ shortened (with_look s p line) (record {
-              first = kept.first;
-              calls = (kept.calls ++ (starting p).seen ∷ []) ++ (stopping (length s.calls)).seen
-                  ∷ [];
-              begins = (kept.begins ++ line ∷ []) ++ line ∷ [];
-              events = ((kept.events ++ Begin (length kept.calls) ∷ []) ++ End (length s.calls)
-                  ∷ []) ++ Begin (length (kept.calls ++ (starting p).seen ∷ [])) ∷ [];
-              event_lines = ((kept.event_lines ++ line ∷ []) ++ line ∷ []) ++ line ∷ [];
-            })
-        look_is p line = rw k.count refl
-
-    pub short_begins : (b : Begun) (line : ℕ) (t : Service) (current : ℕ)
-        → Begins (shortened s kept) b line t current
-        → (new : Service) × Begins s b line new current × IsShort new t front
-    short_begins (begun_command c) line t current is =
-        let same = called_same s kept c in (
-          with_begin s (called s c) line,
-          (refl, is.1 ∙ k.count),
-          subst (λ (x : Service). IsShort (with_begin s (called s c) line) x front)
-              (sym (is.0 ∙ ap (λ (x : LogCall). with_begin (shortened s kept) x line) same))
-              (short_begin (called s c) line (called_stops s c)),
-        )
-    short_begins (weak r) line t current (inl looks) = (
-      with_look s looks.0 line,
-      inl (looks.0, looks.1, refl, looks.3 ∙ ap (λ n. n + 1) k.count),
-      subst (λ (x : Service). IsShort (with_look s looks.0 line) x front) (sym looks.2)
-          (short_look looks.0 line),
-    )
-    short_begins (weak r) line t current (inr lists) =
-        let c = numbered (command.List r) in
-        let same = called_same s kept c in (
-          with_begin s (called s c) line,
-          inr (lists.0, refl, lists.2 ∙ k.count),
-          subst (λ (x : Service). IsShort (with_begin s (called s c) line) x front)
-              (sym (lists.1 ∙ ap (λ (x : LogCall). with_begin (shortened s kept) x line) same))
-              (short_begin (called s c) line (called_stops s c)),
-        )
-
-    pub short_started : (what : State) (start : dynamic.Service)
-        → StartsAs (shortened s kept) what start
-        → StartsAs s what start × IsShort (started s start) (started (shortened s kept) start) front
-    short_started what start is =
-        let none : length s.calls ≡ 0 =
-        sym k.count ∙ ap (λ (l : List Judged). length l) is.0 in (
-          (nil_of s.calls none, is.1),
-          record {
-            kept = kept;
-            upto = upto;
-            within = within;
-            is = refl;
-            keeps = record {
-              count = k.count;
-              calls = k.calls;
-              stops = k.stops;
-              has = start_front front k.has none;
-            };
-          },
-        )
-      where
-        start_front : (f : Option (Front Watched)) → HasFront s kept upto f
-            → length s.calls ≡ 0 → HasFront (started s start) kept upto f
-        start_front None is none = is
-        start_front (Some f) is none = absurd (omega (arith, is.some, none))
-
--- a service that begins
-short_new : (line : ServiceLine) (start : dynamic.Service)
-    → IsShort (started (unseen line) start) (started (unseen line) start) None
-short_new line start = record {
-  kept = record { first = 0; calls = []; begins = []; events = []; event_lines = [] };
-  upto = 0;
-  within = omega arith;
-  is = refl;
-  keeps = record {
-    count = refl;
-    calls = λ n h. refl;
-    stops = λ n start is. absurd (cc);
-    has = (refl, refl);
-  };
-}
-
-pub short_unseen : (line : ServiceLine) → IsShort (unseen line) (unseen line) None
-short_unseen line = short_new line (unseen line).start
-
--- services at an index
-pub set_same : {X : Type 0} (xs : List X) (i : ℕ) (a b : X) → slice_get xs i ≡ Some b
-    → slice_get (slice_set xs i a) i ≡ Some a
-set_same [] i a b e = absurd (cc)
-set_same (x ∷ xs) zero a b e = refl
-set_same (x ∷ xs) (suc i) a b e = set_same xs i a b e
-
-pub set_other : {X : Type 0} (xs : List X) (i j : ℕ) (a : X) → j ≢ i
-    → slice_get (slice_set xs i a) j ≡ slice_get xs j
-set_other [] i j a n = refl
-set_other (x ∷ xs) zero zero a n = absurd (n refl)
-set_other (x ∷ xs) zero (suc j) a n = refl
-set_other (x ∷ xs) (suc i) zero a n = refl
-set_other (x ∷ xs) (suc i) (suc j) a n = set_other xs i j a (λ e. n (ap suc e))
-
-pub all_of : {X : Type 0} (P : X → Type 0) (xs : List X)
-    → ((i : ℕ) (x : X) → slice_get xs i ≡ Some x → P x) → All P xs
-all_of P [] each = All-nil P
-all_of P (x ∷ xs) each =
-    All-cons P x xs (each 0 x refl) (all_of P xs (λ i y e. each (suc i) y e))
+use Rattle.history_logs.proofs.Shortened.{called_same, kept_call, kept_start}
+use Rattle.history_logs.proofs.ShortServices.{short_begin, short_begins, short_crash, short_end, short_new, short_started, short_unseen}
 
 -- the service that is kept at an index
 pub found_at : (services live : List Service) (fronts : List (Option (Front Watched))) (at : ℕ)
@@ -229,32 +48,19 @@ short_set services live fronts at old oldt s t a there here short = (
   λ i x y ex ey. elim (cases_eq i at) as (λ _. IsShort x y (front_at fronts i)) [
     | inl same ↦
         let isx : s ≡ x =
-        same_some s x (sym (set_same services at s old there)
+        same_some s x (sym (get_same services at s old there)
         ∙ (ap (λ j. slice_get (slice_set services at s) j) (sym same) ∙ ex)) in
         let isy : t ≡ y =
-        same_some t y (sym (set_same live at t oldt here)
+        same_some t y (sym (get_same live at t oldt here)
         ∙ (ap (λ j. slice_get (slice_set live at t) j) (sym same) ∙ ey)) in
         subst (λ j. IsShort x y (front_at fronts j)) (sym same)
         (subst (λ (v : Service). IsShort v y (front_at fronts at)) isx
         (subst (λ (v : Service). IsShort s v (front_at fronts at)) isy short))
     | inr other ↦
-        a.2 i x y (sym (set_other services at i s other) ∙ ex)
-        (sym (set_other live at i t other) ∙ ey)
+        a.2 i x y (sym (get_other services at i s other) ∙ ex)
+        (sym (get_other live at i t other) ∙ ey)
   ],
 )
-
-get_push_at : {X : Type 0} (xs : List X) (y : X) (i : ℕ) (x : X)
-    → slice_get (xs ++ y ∷ []) i ≡ Some x
-    → (slice_get xs i ≡ Some x) ⊎ ((i ≡ length xs) × (y ≡ x))
-get_push_at [] y zero x e = inr (refl, same_some y x e)
-get_push_at [] y (suc i) x e = absurd (cc)
-get_push_at (z ∷ xs) y zero x e = inl e
-get_push_at (z ∷ xs) y (suc i) x e =
-    elim (get_push_at xs y i x e) as (λ _. (slice_get (z ∷ xs) (suc i) ≡ Some x)
-    ⊎ ((suc i ≡ length (z ∷ xs)) × (y ≡ x))) [
-      | inl before ↦ inl before
-      | inr last ↦ inr (ap suc last.0, last.1)
-    ]
 
 short_push : (services live : List Service) (fronts : List (Option (Front Watched)))
     (new : Service) → IsShort new new None → AreShort services live fronts
@@ -362,7 +168,6 @@ module _ (log live new : Log) (fronts : List (Option (Front Watched))) (k : ℕ)
                 h.services;
             callers = h.callers;
             waits = h.waits;
-            starts = h.starts;
           }),
     )
 
@@ -371,9 +176,7 @@ module _ (log live new : Log) (fronts : List (Option (Front Watched))) (k : ℕ)
     goes_call number c g =
         let f = found_at log.services live.services fronts g.0 g.1 h.services g.3.there in
         let s = f.0 in
-        let same : called g.1 c ≡ called s c =
-        ap (λ (x : Service). called x c) f.2.is ∙ called_same s f.2.kept c in
-        let more : Log = record log { waits = Some (g.0, called s c) } in (
+        let more : Log = record log { waits = Some (g.0, c) } in (
           more,
           (
             g.0,
@@ -385,46 +188,42 @@ module _ (log live new : Log) (fronts : List (Option (Front Watched))) (k : ℕ)
           subst (λ (x : Log). IsShortLog more x fronts) (sym g.4) (record {
             services = h.services;
             callers = h.callers;
-            waits = ap (λ (x : LogCall). Some (g.0, x)) same;
-            starts = λ at d e.
-                let is : called s c ≡ d =
-                ap (λ (p : ℕ × LogCall). p.1) (same_some (g.0, called s c) (at, d) e) in
-                ap (λ (x : LogCall). stopped x.seen) (sym is) ∙ called_stops s c;
+            waits = refl;
           }),
         )
 
     goes_reply : (words : List ℕ) → GoesOn live k (reply words) new → Goes (reply words)
     goes_reply words g =
         let at = g.0 in
-        let c = g.1 in
         let f = found_at log.services live.services fronts at g.2 h.services g.5 in
         let s = f.0 in
-        let waits : log.waits ≡ Some (at, c) = sym h.waits ∙ g.4 in
-        let none = h.starts at c waits in
+        let c = called s g.1 in
+        let same : called g.2 g.1 ≡ c =
+        ap (λ (x : Service). called x g.1) f.2.is ∙ called_same s f.2.kept g.1 in
+        let waits : log.waits ≡ Some (at, g.1) = sym h.waits ∙ g.4 in
+        let none = called_stops s g.1 in
         let b = short_begin s f.2.kept f.2.upto (front_at fronts at) f.2.keeps f.2.within c k none
         in
         let orderly = all_get IsOrderly log.services at s kept.orderly f.1 in
         let count : length (shortened s f.2.kept).calls ≡ length s.calls = f.2.keeps.count in
         let e = short_end (with_begin s c k) b.kept b.upto (front_at fronts at) b.keeps b.within
         (length s.calls) g.3 k (open_new s c k orderly).1 in
-        let both : IsShort (with_end (with_begin s c k) (length s.calls) g.3 k)
-        (with_end (with_begin g.2 c k) (length g.2.calls) g.3 k) (front_at fronts at) =
-        subst (λ (x : Service). IsShort (with_end (with_begin s c k) (length s.calls) g.3 k)
-        (with_end (with_begin x c k) (length x.calls) g.3 k) (front_at fronts at)) (sym f.2.is)
-        (subst (λ n. IsShort (with_end (with_begin s c k) (length s.calls) g.3 k)
+        let t = with_alone s c g.3 k in
+        let both : IsShort t (with_alone g.2 (called g.2 g.1) g.3 k) (front_at fronts at) =
+        subst (λ (x : LogCall). IsShort t (with_alone g.2 x g.3 k) (front_at fronts at)) (sym same)
+        (subst (λ (x : Service). IsShort t (with_alone x c g.3 k) (front_at fronts at)) (sym f.2.is)
+        (subst (λ n. IsShort t
         (with_end (with_begin (shortened s f.2.kept) c k) n g.3 k) (front_at fronts at)) (sym count)
-        (subst (λ (x : Service). IsShort (with_end (with_begin s c k) (length s.calls) g.3 k)
-        (with_end x (length s.calls) g.3 k) (front_at fronts at)) (sym b.is) e)) in
-        let t = with_end (with_begin s c k) (length s.calls) g.3 k in
+        (subst (λ (x : Service). IsShort t
+        (with_end x (length s.calls) g.3 k) (front_at fronts at)) (sym b.is) e))) in
         let more : Log = record log { services = slice_set log.services at t; waits = None } in (
           more,
-          (at, c, s, g.3, waits, f.1, g.6, refl),
+          (at, g.1, s, g.3, waits, f.1, g.6, refl),
           subst (λ (x : Log). IsShortLog more x fronts) (sym g.7) (record {
             services = short_set log.services live.services fronts at s g.2 t
-                (with_end (with_begin g.2 c k) (length g.2.calls) g.3 k) h.services f.1 g.5 both;
+                (with_alone g.2 (called g.2 g.1) g.3 k) h.services f.1 g.5 both;
             callers = h.callers;
             waits = refl;
-            starts = λ i d e. absurd (cc);
           }),
         )
 
@@ -443,7 +242,6 @@ module _ (log live new : Log) (fronts : List (Option (Front Watched))) (k : ℕ)
           (short_set log.services live.services fronts at s oldt s' t h.services there here short);
       callers = refl;
       waits = waits;
-      starts = λ i d e. absurd (cc);
     }
 
     does_same : (name : List ℕ) → live.callers name ≡ log.callers name
@@ -535,7 +333,6 @@ module _ (log live new : Log) (fronts : List (Option (Front Watched))) (k : ℕ)
             h.services;
         callers = refl;
         waits = none;
-        starts = λ i d e. absurd (cc);
       },
     )
     goes_dies name (Some (caller.Calls at number)) does waits dies sets none =
@@ -590,7 +387,6 @@ module _ (log live new : Log) (fronts : List (Option (Front Watched))) (k : ℕ)
                 h.services f.1 named.there short;
             callers = h.callers;
             waits = h.waits;
-            starts = h.starts;
           }),
         )
 
@@ -636,7 +432,6 @@ module _ (log live new : Log) (fronts : List (Option (Front Watched))) (k : ℕ)
                 h.services);
             callers = h.callers;
             waits = h.waits;
-            starts = h.starts;
           }),
         )
 
@@ -697,11 +492,7 @@ short_sane log live fronts h kept = record {
               (seen_reply.Count 0) 0 live_call.2.1 from s;
         }),
       );
-  waits = λ at c e.
-      let w : log.waits ≡ Some (at, c) = sym h.waits ∙ e in
-      let t = get_within live.services at (omega (arith, h.services.0, kept.waits at c w)) in
-      let none = h.starts at c w in
-      (t.0, t.1, λ from s. absurd (cc));
+  waits = λ at c e. omega (arith, h.services.0, kept.waits at c (sym h.waits ∙ e));
 }
   where
     first_within : (s : Service) (k : Kept) (upto : ℕ) (f : Option (Front Watched))

@@ -240,12 +240,6 @@ module _ (s : Service) (kept : Kept) where
   gives_same (Some a) (reply.List ids) = refl
   gives_same (Some a) (reply.Count n) = refl
 
--- a command is no weak listing that stops
-pub called_stops : (s : Service) (c : NamedCommand) → stopped (called s c).seen ≡ None
-called_stops s (numbered c) = refl
-called_stops s (deregister slot ticket) = refl
-called_stops s (release r slot ticket) = refl
-
 -- one event more
 abbrev pub with_event : Kept → Event → ℕ → Kept
 with_event kept e line = record kept {

@@ -14,7 +14,8 @@ use Rattle.history_logs.specs.declared.logs.verdict.Expected.TheVariants as expe
 use Rattle.history_logs.specs.Good.{GivesAnew, Starts}
 use Rattle.history_logs.specs.Reading.{Does, Gives, IsNamed, Log, NoneCalls}
 use Rattle.history_logs.specs.Seen.{Service, started, unseen}
-use Rattle.history_logs.proofs.Named.{same_some, set_back}
+use Rattle.history_logs.proofs.AtIndex.{same_some}
+use Rattle.history_logs.proofs.Named.{set_back}
 use Rattle.history_logs.proofs.Refused.{nil_of}
 
 -- what becomes of the start becomes of the service

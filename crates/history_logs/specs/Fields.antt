@@ -1,5 +1,7 @@
 -- What the fields of what is read tell.
 use Rattle.std.specs.Prelude.{◌≡◌, ◌≢◌, ◌==◌, ◌&&◌, ℕ, All, Bool, true, false, List, [], ◌∷◌, Option, Some, None, if◌then◌else◌, slice_get, take}
+use Rattle.log_lines.specs.declared.command.LogCommand.{LogCommand}
+use Rattle.log_lines.specs.Commands.{NamedCommand, named}
 use Rattle.history_logs.specs.declared.logs.callers.Caller.{Caller}
 use Rattle.history_logs.specs.declared.logs.callers.CallerState.{CallerState}
 use Rattle.history_logs.specs.declared.logs.callers.CallerState.TheVariants as caller
@@ -39,10 +41,15 @@ pub record HasName (known : List Caller) (name : List ℕ) (at : ℕ) : Type 0 w
 abbrev pub IsOn : ℕ → Option CallerState → Type 0
 IsOn at state = (number : ℕ) × (state ≡ Some (caller.Calls at number))
 
+-- the command that waits for its reply, with the index of its service
+abbrev pub waits_in : Option (ℕ × LogCommand) → Option (ℕ × NamedCommand)
+waits_in None = None
+waits_in (Some call) = Some (call.0, named call.1)
+
 -- what was read, as its fields tell it
 abbrev pub log_of : Reading → Log
 log_of r = record {
   services = r.services.items;
   callers = callers_of r.callers;
-  waits = r.waits;
+  waits = waits_in r.waits;
 }

@@ -3,12 +3,12 @@ use Rattle.std.specs.Prelude.{◌≡◌, ◌≢◌, ◌⊎◌, ℕ, ◌+◌, ◌
 use Rattle.histories.specs.Frontier.{IsSound}
 use Rattle.histories.specs.Histories.{IsHistory, IsOpen, begins, begun}
 use Rattle.iox2_dynamic.specs.Service as dynamic
+use Rattle.log_lines.specs.Commands.{NamedCommand}
 use Rattle.log_lines.specs.Lines.{IsLine, Line, is_note, line_text}
 use Rattle.log_lines.specs.States.{State}
 use Rattle.log_lines.specs.Lines.Line.{reply, service}
 use Rattle.service_conformance.specs.declared.conformance.seen_reply.SeenReply.{SeenReply}
 use Rattle.history_logs.specs.declared.logs.callers.CallerState.TheVariants as caller
-use Rattle.history_logs.specs.declared.logs.service.LogCall.{LogCall}
 use Rattle.history_logs.specs.declared.logs.verdict.Expected.TheVariants as expected
 use Rattle.history_logs.specs.declared.logs.verdict.Expected.{Expected}
 use Rattle.history_logs.specs.Logs.{HasGood, IsBad, IsBadText, IsWrong, LacksReply, calls_in}
@@ -38,7 +38,7 @@ pub record IsKept (log : Log) : Type 0 where
   pub apart : (one other : List ℕ) (at number : ℕ)
       → log.callers one ≡ Some (caller.Calls at number)
       → log.callers other ≡ Some (caller.Calls at number) → one ≡ other
-  pub waits : (at : ℕ) (c : LogCall) → log.waits ≡ Some (at, c) → at < length log.services
+  pub waits : (at : ℕ) (c : NamedCommand) → log.waits ≡ Some (at, c) → at < length log.services
   pub none : log.services ≡ [] → (name : List ℕ) → log.callers name ≡ None
 
 -- no line with this text may come next, and have this number
@@ -62,18 +62,6 @@ abbrev pub TakesNext : Log → ℕ → List ℕ → Option Expected → Log → 
 TakesNext old k text None new =
     (l : Line) × IsLine l × (line_text l ≡ text) × GoesOn old k l new
 TakesNext old k text (Some e) new = IsWrong old text e × (new.services ≡ old.services)
-
--- what was read, where this call waits on the service at the index
-abbrev pub waiting : Log → ℕ → LogCall → Log
-waiting log at c = record log { waits = Some (at, c) }
-
--- what a line below this call does to what was read
-abbrev pub TakesReply : Log → ℕ → LogCall → ℕ → List ℕ → Option Expected → Log → Type 0
-TakesReply old at c k text None new =
-    (words : List ℕ) × (line_text (reply words) ≡ text)
-    × GoesOn (waiting old at c) k (reply words) new
-TakesReply old at c k text (Some e) new =
-    LacksReply text × (e ≡ expected.Reply) × (new.services ≡ old.services)
 
 -- what is wrong with a line that is no note
 abbrev pub IsBadLine : Log → List ℕ → Expected → Type 0

@@ -3,28 +3,27 @@ use Rattle.std.specs.Prelude.{◌≡◌, ◌≢◌, ◌⊎◌, ℕ, ◌+◌, ◌
 use Rattle.std.specs.List.{slice_set}
 use Rattle.iox2_dynamic.specs.Service as dynamic
 use Rattle.line_streams.specs.Spelling.{HasNo}
+use Rattle.log_lines.specs.Commands.{NamedCommand}
 use Rattle.log_lines.specs.Lines.{IsLine, Line, is_note, line_text}
 use Rattle.log_lines.specs.Lines.Line.{service, call, reply, begin, end, crash, given}
 use Rattle.log_lines.specs.States.{State}
 use Rattle.log_lines.specs.States.State.{nodes, ports, entry}
 use Rattle.service_conformance.specs.declared.conformance.seen_reply.SeenReply.{SeenReply}
 use Rattle.service_conformance.specs.Given.{GivesNode, GivesNodes, GivesPort, GivesPorts}
-use Rattle.service_conformance.specs.Judged.{stopped}
 use Rattle.service_conformance.specs.Seen.{IsSeen, seen_text}
 use Rattle.service_descriptions.specs.declared.replay.machine.command.Command.TheVariants as command
 use Rattle.history_logs.specs.declared.logs.callers.CallerState.{CallerState}
 use Rattle.history_logs.specs.declared.logs.callers.CallerState.TheVariants as caller
-use Rattle.history_logs.specs.declared.logs.service.LogCall.{LogCall}
 use Rattle.history_logs.specs.declared.logs.verdict.Expected.{Expected}
 use Rattle.history_logs.specs.declared.logs.verdict.Expected.TheVariants as expected
-use Rattle.history_logs.specs.Seen.{Begins, HasHandles, IsKeptCall, Service, called, started, unseen, with_begin, with_crash, with_end}
+use Rattle.history_logs.specs.Seen.{Begins, HasHandles, IsKeptCall, Service, called, started, unseen, with_alone, with_crash, with_end}
 
 -- What was read: the services, what each caller does (`None` where it has begun no call), and the
--- call alone that waits for its reply, with the index of its service.
+-- command of the call alone that waits for its reply, with the index of its service.
 pub record Log : Type 0 where
   pub services : List Service
   pub callers : List ℕ → Option CallerState
-  pub waits : Option (ℕ × LogCall)
+  pub waits : Option (ℕ × NamedCommand)
 
 -- no service has this number
 abbrev pub IsNew : ℕ → List Service → Type 0
@@ -121,12 +120,12 @@ GoesOn old k (service line) new =
     × (new ≡ record old { services = old.services ++ unseen line ∷ [] })
 GoesOn old k (call number command) new =
     (at : ℕ) × (s : Service) × (old.waits ≡ None) × IsNamed number old.services at s
-    × (new ≡ record old { waits = Some (at, called s command) })
+    × (new ≡ record old { waits = Some (at, command) })
 GoesOn old k (reply words) new =
-    (at : ℕ) × (c : LogCall) × (s : Service) × (r : SeenReply) × (old.waits ≡ Some (at, c))
+    (at : ℕ) × (c : NamedCommand) × (s : Service) × (r : SeenReply) × (old.waits ≡ Some (at, c))
     × (slice_get old.services at ≡ Some s) × Says words r
     × (new ≡ record old {
-      services = slice_set old.services at (with_end (with_begin s c k) (length s.calls) r k);
+      services = slice_set old.services at (with_alone s (called s c) r k);
       waits = None;
     })
 GoesOn old k (begin number name begun) new =
@@ -210,10 +209,6 @@ abbrev pub Does : Log → ℕ → Line → Option Expected → Log → Type 0
 Does old k l None new = GoesOn old k l new
 Does old k l (Some e) new = IsRefused old l e × (new.services ≡ old.services)
 
--- the weak listing that the call stops is not forgotten, if it stops one
-abbrev pub StopsKept : Service → LogCall → Type 0
-StopsKept s c = (start : ℕ) → stopped c.seen ≡ Some start → s.first ≤ start
-
 -- Each service has the handles of its calls, and a call that a caller has open, or that waits for
 -- its reply, is on one of them and not forgotten.
 pub record IsSane (log : Log) : Type 0 where
@@ -222,5 +217,4 @@ pub record IsSane (log : Log) : Type 0 where
       → log.callers name ≡ Some (caller.Calls at number)
       → (s : Service) × (slice_get log.services at ≡ Some s) × (number < length s.calls)
       × IsKeptCall s number
-  pub waits : (at : ℕ) (c : LogCall) → log.waits ≡ Some (at, c)
-      → (s : Service) × (slice_get log.services at ≡ Some s) × StopsKept s c
+  pub waits : (at : ℕ) (c : NamedCommand) → log.waits ≡ Some (at, c) → at < length log.services

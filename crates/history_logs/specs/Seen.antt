@@ -120,25 +120,33 @@ abbrev pub given_in : Service → Option Role → SeenReply → Option Handle
 given_in s (Some r) (reply.Handle slot ticket) = Some (handle_in s r slot ticket)
 given_in s _ _ = None
 
--- a call begins in this line, and is no command of its own
-abbrev pub with_part : Service → LogCall → ℕ → Service
-with_part s c line = record {
+-- a call begins in this line, with what its reply gives
+abbrev pub with_call : Service → LogCall → Option Handle → ℕ → Service
+with_call s c gives line = record {
   line = s.line;
   start = s.start;
   first = s.first;
   calls = s.calls ++ c.seen ∷ [];
   adds = s.adds ++ c.adds ∷ [];
-  given = s.given ++ None ∷ [];
+  given = s.given ++ gives ∷ [];
   begins = s.begins ++ line ∷ [];
   commands = s.commands;
   events = s.events ++ Begin (length s.calls) ∷ [];
   event_lines = s.event_lines ++ line ∷ [];
 }
 
+-- a call begins in this line, and is no command of its own
+abbrev pub with_part : Service → LogCall → ℕ → Service
+with_part s c line = with_call s c None line
+
+-- the call of a command begins in this line, with what its reply gives
+abbrev pub with_begun : Service → LogCall → Option Handle → ℕ → Service
+with_begun s c gives line =
+    record (with_call s c gives line) { commands = s.commands ++ length s.calls ∷ [] }
+
 -- a call begins in this line
 abbrev pub with_begin : Service → LogCall → ℕ → Service
-with_begin s c line =
-    record (with_part s c line) { commands = s.commands ++ length s.calls ∷ [] }
+with_begin s c line = with_begun s c None line
 
 -- the call of this number is over in this line, and has no reply
 abbrev pub with_over : Service → ℕ → ℕ → Service
@@ -213,6 +221,10 @@ with_end s number r line = record s {
   events = s.events ++ End number ∷ [];
   event_lines = s.event_lines ++ line ∷ [];
 }
+
+-- a call alone began and was answered so in this line
+abbrev pub with_alone : Service → LogCall → SeenReply → ℕ → Service
+with_alone s c r line = with_end (with_begin s c line) (length s.calls) r line
 
 -- the caller of the call of this number died above this line
 abbrev pub with_crash : Service → ℕ → ℕ → Service

@@ -1,5 +1,5 @@
 -- What settles while a log is read.
-use Rattle.std.specs.Prelude.{◌≡◌, ◌+◌, ◌<◌, ◌⊎◌, ℕ, All, List, ◌++◌, Option, Some, take}
+use Rattle.std.specs.Prelude.{◌≡◌, ◌+◌, ◌<◌, ◌≤◌, ◌⊎◌, ℕ, All, List, ◌++◌, Option, Some, take}
 use Rattle.histories.specs.declared.event.Event.{Event}
 use Rattle.histories.specs.declared.event.Event.TheVariants.{Begin}
 use Rattle.histories.specs.declared.front.Front.{Front}
@@ -32,9 +32,14 @@ AreOver s followed = (call : ℕ) → 0 < begins call followed → IsOverIn s s.
 abbrev pub HasShort : Service → Option (Front Watched) → Type 0
 HasShort live front = (s : Service) × IsOrderly s × IsShort s live front
 
--- the number is the first one, or that of a call that begins in the events
-abbrev pub IsLastBegun : ℕ → List Event → ℕ → Type 0
-IsLastBegun first events number = (number ≡ first) ⊎ (0 < begins number events)
+-- the number is that of the call, or the next one
+abbrev pub IsBehind : ℕ → ℕ → Type 0
+IsBehind call number = (call ≤ number) × (number ≤ call + 1)
+
+-- the number is the first one, or stands behind that of a call that begins in the events
+abbrev pub IsBehindBegun : ℕ → List Event → ℕ → Type 0
+IsBehindBegun first events number =
+    (number ≡ first) ⊎ ((call : ℕ) × (0 < begins call events) × IsBehind call number)
 
 -- Of each service that is kept so, the new front is that of so many events more, whatever replies
 -- come later to the calls that begin behind them.

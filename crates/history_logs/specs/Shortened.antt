@@ -5,9 +5,8 @@ use Rattle.histories.specs.declared.front.Front.{Front}
 use Rattle.histories.specs.Frontier.{HasSlot}
 use Rattle.histories.specs.Histories.{HasEnded, begun}
 use Rattle.history_windows.specs.Goings.{IsFrontAfter}
-use Rattle.service_conformance.specs.Judged.{Judged, WindowStep, stopped}
+use Rattle.service_conformance.specs.Judged.{Judged, WindowStep}
 use Rattle.service_conformance.specs.Looks.{Watched}
-use Rattle.history_logs.specs.declared.logs.service.LogCall.{LogCall}
 use Rattle.history_logs.specs.Logs.{news}
 use Rattle.history_logs.specs.Reading.{Log}
 use Rattle.history_logs.specs.Seen.{Service, start_of}
@@ -84,4 +83,3 @@ pub record IsShortLog (log live : Log) (fronts : List (Option (Front Watched))) 
   pub services : AreShort log.services live.services fronts
   pub callers : live.callers ≡ log.callers
   pub waits : live.waits ≡ log.waits
-  pub starts : (at : ℕ) (c : LogCall) → log.waits ≡ Some (at, c) → stopped c.seen ≡ None

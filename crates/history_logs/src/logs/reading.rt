@@ -9,16 +9,16 @@ ghost use Rattle.log_lines.specs.States.{state_seen};
 ghost use Rattle.history_logs.specs.Fields.{callers_of, log_of};
 ghost use Rattle.log_lines.specs.Lines.{IsLine, Line, line_seen, line_text};
 ghost use Rattle.history_logs.specs.Good.{GivesAnew, IsReadTo, SaysIn, Takes, TakesLine};
-ghost use Rattle.history_logs.specs.Good.{TakesNext, TakesReply, is_service};
+ghost use Rattle.history_logs.specs.Good.{TakesNext, is_service};
 ghost use Rattle.history_logs.specs.Logs.{EndsInReturn, IsMissing, IsWrong, LacksReply};
 ghost use Rattle.history_logs.specs.Progress.{AddsCounts};
-ghost use Rattle.history_logs.specs.Reading.{Does, IsSane, StopsKept};
+ghost use Rattle.history_logs.specs.Reading.{Does, IsSane};
 ghost use Rattle.history_logs.specs.Seen.{Service};
 
 use super::callers::{CallerState, Callers, refuses_begin};
 use super::named::{position_of, service_named};
 use super::progress::Progress;
-use super::service::{LogCall, LogService};
+use super::service::LogService;
 use super::verdict::Expected;
 use line_streams::{after_word, before_byte};
 use log_lines::{BegunCall, LogCommand, LogLine, LogState, is_note, read_command, read_log_line};
@@ -33,8 +33,8 @@ pub(super) struct Reading {
     pub(super) services: Vec<LogService>,
     /// The callers.
     pub(super) callers: Callers,
-    /// The index of the service of the call alone that waits for its reply, and the call.
-    pub(super) waits: Option<(usize, LogCall)>,
+    /// The index of the service of the call alone that waits for its reply, and its command.
+    pub(super) waits: Option<(usize, LogCommand)>,
 }
 
 /// Whether a carriage return stands at the end of the line.
@@ -78,7 +78,7 @@ impl Reading {
     pub(super) fn new(alloc: Global) -> Self
         ensures services { result.services.items ≡ [] }
         ensures callers { (name : List ℕ) → callers_of result.callers name ≡ None }
-        ensures waits { result.waits ≡ None }
+        ensures waits { (log_of result).waits ≡ None }
     {
         Reading {
             services: Vec::new(alloc),
@@ -90,7 +90,7 @@ impl Reading {
     /// A service. Returns what is expected instead, if it may not come.
     #[inline(never)]
     fn service(&mut self, alloc: Global, line: ServiceLine) -> Result<Option<Expected>, AllocError>
-        requires { self.old.waits ≡ None }
+        requires { (log_of self.old).waits ≡ None }
         ensures { IfOk result (λ found. (k : ℕ)
             → Does (log_of self.old) k (service_line line) found (log_of self.new)) }
     {
@@ -136,7 +136,7 @@ impl Reading {
         number: Option<u64>,
         given: LogState,
     ) -> Result<Option<Expected>, AllocError>
-        requires { self.old.waits ≡ None }
+        requires { (log_of self.old).waits ≡ None }
         ensures { IfOk result (λ found. (k : ℕ) → Does (log_of self.old) k
             (given_line number (state_seen given)) found (log_of self.new)) }
     {
@@ -156,15 +156,14 @@ impl Reading {
     /// A call alone. Returns what is expected instead, if it may not come.
     #[inline(always)]
     fn call(&mut self, number: Option<u64>, command: LogCommand) -> Option<Expected>
-        requires { self.old.waits ≡ None }
+        requires { (log_of self.old).waits ≡ None }
         ensures { (k : ℕ) → Does (log_of self.old) k
             (call_line number (named_command command)) result (log_of self.new) }
     {
         let Some(at) = service_named(&self.services, number) else {
             return Some(Expected::Call);
         };
-        let call = self.services[at].call(command);
-        self.waits = Some((at, call));
+        self.waits = Some((at, command));
         None
     }
 
@@ -178,7 +177,7 @@ impl Reading {
         begun: BegunCall,
         line: usize,
     ) -> Result<Option<Expected>, AllocError>
-        requires waits { self.old.waits ≡ None }
+        requires waits { (log_of self.old).waits ≡ None }
         requires sane { IsSane (log_of self.old) }
         ensures { IfOk result (λ found. Does (log_of self.old) line
             (begin_line number caller.now (begun_in begun)) found (log_of self.new)) }
@@ -205,7 +204,7 @@ impl Reading {
         words: &[u8],
         line: usize,
     ) -> Result<Option<Expected>, AllocError>
-        requires waits { self.old.waits ≡ None }
+        requires waits { (log_of self.old).waits ≡ None }
         requires sane { IsSane (log_of self.old) }
         ensures { IfOk result (λ found. Does (log_of self.old) line
             (end_line caller.now words.now) found (log_of self.new)) }
@@ -233,7 +232,7 @@ impl Reading {
         caller: &[u8],
         line: usize,
     ) -> Result<Option<Expected>, AllocError>
-        requires waits { self.old.waits ≡ None }
+        requires waits { (log_of self.old).waits ≡ None }
         requires sane { IsSane (log_of self.old) }
         ensures { IfOk result (λ found. Does (log_of self.old) line
             (crash_line caller.now) found (log_of self.new)) }
@@ -253,30 +252,6 @@ impl Reading {
         }
     }
 
-    /// The reply to the call that waited, in this line. Where memory was refused, nothing is to be
-    /// used any more.
-    #[inline(always)]
-    fn reply(
-        &mut self,
-        alloc: Global,
-        at: usize,
-        call: LogCall,
-        reply: SeenReply,
-        line: usize,
-    ) -> Result<(), AllocError>
-        requires waits { self.old.waits ≡ None }
-        requires sane { IsSane (log_of self.old) }
-        requires within { at < length self.old.services.items }
-        requires on { (s : Service) × (slice_get self.old.services.items at ≡ Some s)
-            × StopsKept s call }
-        ensures { OnOk result ((text : List ℕ) → SaysIn text reply
-            → TakesReply (log_of self.old) at call line text None (log_of self.new)) }
-    {
-        let service = &mut self.services[at];
-        let number = service.begin(call, line)?;
-        service.end(alloc, number, reply, line)
-    }
-
     /// A line of a log, where no call waits. Returns what is expected instead, if it may not
     /// come.
     #[inline(always)]
@@ -286,7 +261,7 @@ impl Reading {
         read: LogLine<'_>,
         line: usize,
     ) -> Result<Option<Expected>, AllocError>
-        requires waits { self.old.waits ≡ None }
+        requires waits { (log_of self.old).waits ≡ None }
         requires sane { IsSane (log_of self.old) }
         ensures { IfOk result (λ found.
             Does (log_of self.old) line (line_seen read.entry) found (log_of self.new)) }
@@ -326,7 +301,7 @@ impl Reading {
         text: &[u8],
         line: usize,
     ) -> Result<Option<Expected>, AllocError>
-        requires waits { self.old.waits ≡ None }
+        requires waits { (log_of self.old).waits ≡ None }
         requires sane { IsSane (log_of self.old) }
         ensures { IfOk result (λ found.
             TakesNext (log_of self.old) line text.now found (log_of self.new)) }
@@ -349,7 +324,7 @@ impl Reading {
         text: &[u8],
         line: usize,
     ) -> Result<Option<Expected>, AllocError>
-        requires waits { self.old.waits ≡ None }
+        requires waits { (log_of self.old).waits ≡ None }
         requires sane { IsSane (log_of self.old) }
         ensures { IfOk result (λ found.
             TakesNext (log_of self.old) line text.now found (log_of self.new)) }
@@ -386,8 +361,8 @@ impl Reading {
             return Ok(Some(Expected::Reply));
         };
         match self.waits.take() {
-            Some((at, call)) => {
-                self.reply(alloc, at, call, reply, line)?;
+            Some((at, command)) => {
+                self.services[at].alone(command, reply, line)?;
                 Ok(None)
             }
             None => unreachable!(),
@@ -421,7 +396,7 @@ impl Reading {
     /// What is expected where the log ends after good lines, if anything is.
     pub(super) fn at_end(&self) -> Option<Expected>
         ensures none { IfNone result
-            ((self.now.waits ≡ None) × (0 < length self.now.services.items)) }
+            (((log_of self.now).waits ≡ None) × (0 < length self.now.services.items)) }
         ensures some { IfSome result (IsMissing (log_of self.now)) }
     {
         if self.waits.is_some() {

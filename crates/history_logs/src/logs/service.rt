@@ -10,8 +10,8 @@ ghost use Rattle.history_logs.specs.Good.{Starts};
 ghost use Rattle.history_logs.specs.Reading.{Gives};
 ghost use Rattle.history_logs.specs.Seen.{Begins, HasHandles, IsKeptCall, calls_shown_from, called, given_by, given_in};
 ghost use Rattle.history_logs.specs.Seen.{handle_in, handle_named, role_added, start_of};
-ghost use Rattle.history_logs.specs.Seen.{forgetting, forgotten, unseen, with_begin, with_crash, with_end};
-ghost use Rattle.history_logs.specs.Seen.{with_look, with_over, with_part};
+ghost use Rattle.history_logs.specs.Seen.{forgetting, forgotten, unseen, with_alone, with_begun, with_crash, with_end};
+ghost use Rattle.history_logs.specs.Seen.{with_call, with_look, with_over};
 
 use histories::Event;
 use iox2_container::container::{ContainerHandle, Role};
@@ -117,7 +117,11 @@ fn keep_from<T: Drop>(items: &mut Vec<T>, at: usize)
     requires { at ≤ length items.old.items }
     ensures kept { items.new.items ≡ drop at items.old.items }
 {
-    items.drain(..at);
+    if at < items.len() {
+        items.drain(..at);
+    } else {
+        items.clear();
+    }
 }
 
 impl LogService {
@@ -303,39 +307,51 @@ impl LogService {
         }
     }
 
-    /// A call begins in this line, and is no command of its own. Returns its number. Where memory
-    /// was refused, the service is not to be used any more.
+    /// A call begins in this line, and is no command of its own. With it comes the handle that its
+    /// reply gives, if that is known. Returns its number. Where memory was refused, the service is
+    /// not to be used any more.
     #[inline(always)]
-    fn begin_part(&mut self, call: LogCall, line: usize) -> Result<usize, AllocError>
+    fn push(
+        &mut self,
+        call: LogCall,
+        gives: Option<ContainerHandle>,
+        line: usize,
+    ) -> Result<usize, AllocError>
         requires { HasHandles self.old }
-        ensures begun { OnOk result (self.new ≡ with_part self.old call line) }
+        ensures begun { OnOk result (self.new ≡ with_call self.old call gives line) }
         ensures number { IfOk result (λ number. number ≡ length self.old.calls) }
     {
         let number = self.given.len();
         let LogCall { seen, adds } = call;
         self.calls.push(seen)?;
         self.adds.push(adds)?;
-        self.given.push(None)?;
+        self.given.push(gives)?;
         self.begins.push(line)?;
         self.events.push(Event::Begin(number))?;
         self.event_lines.push(line)?;
         Ok(number)
     }
 
-    /// A call begins in this line. Returns its number. Where memory was refused, the service is not
-    /// to be used any more.
+    /// A call begins in this line. With it comes the handle that its reply gives, if that is known.
+    /// Returns its number. Where memory was refused, the service is not to be used any more.
     #[inline(always)]
-    pub(super) fn begin(&mut self, call: LogCall, line: usize) -> Result<usize, AllocError>
+    fn begin(
+        &mut self,
+        call: LogCall,
+        gives: Option<ContainerHandle>,
+        line: usize,
+    ) -> Result<usize, AllocError>
         requires { HasHandles self.old }
-        ensures begun { OnOk result (self.new ≡ with_begin self.old call line) }
+        ensures begun { OnOk result (self.new ≡ with_begun self.old call gives line) }
         ensures number { IfOk result (λ number. number ≡ length self.old.calls) }
     {
         self.commands.push(self.given.len())?;
-        self.begin_part(call, line)
+        self.push(call, gives, line)
     }
 
     /// The call of this number is over in this line, and has no reply. Where memory was refused,
     /// the service is not to be used any more.
+    #[inline(always)]
     fn finish(&mut self, number: usize, line: usize) -> Result<(), AllocError>
         ensures { OnOk result (self.new ≡ with_over self.old number line) }
     {
@@ -355,13 +371,13 @@ impl LogService {
             seen: JudgedCall::starts(part),
             adds: None,
         };
-        let number = self.begin(start, line)?;
+        let number = self.begin(start, None, line)?;
         self.finish(number, line)?;
         let stop = LogCall {
             seen: JudgedCall::stops(number),
             adds: None,
         };
-        self.begin_part(stop, line)
+        self.push(stop, None, line)
     }
 
     /// A weak listing of the ports of a role, or of the nodes, begins in this line. Returns the
@@ -375,7 +391,7 @@ impl LogService {
             Some(part) => self.look(part, line),
             None => {
                 let call = self.call(LogCommand::Numbered(LineCommand::List(role)));
-                self.begin(call, line)
+                self.begin(call, None, line)
             }
         }
     }
@@ -389,7 +405,7 @@ impl LogService {
         match begun {
             BegunCall::Command(command) => {
                 let call = self.call(command);
-                self.begin(call, line)
+                self.begin(call, None, line)
             }
             BegunCall::Weak(role) => self.begin_weak(role, line),
         }
@@ -408,9 +424,29 @@ impl LogService {
         }
     }
 
+    /// A call alone of this command begins in this line and is answered so. Where memory was
+    /// refused, the service is not to be used any more.
+    #[inline(always)]
+    pub(super) fn alone(
+        &mut self,
+        command: LogCommand,
+        reply: SeenReply,
+        line: usize,
+    ) -> Result<(), AllocError>
+        requires { HasHandles self.old }
+        ensures { OnOk result
+            (self.new ≡ with_alone self.old (called self.old (named command)) reply line) }
+    {
+        let mut call = self.call(command);
+        let gives = self.given_in(call.adds, &reply);
+        call.seen.answer(reply);
+        let number = self.begin(call, gives, line)?;
+        self.finish(number, line)?;
+        Ok(())
+    }
+
     /// The call of this number was answered in this line. Where memory was refused, the service is
     /// not to be used any more.
-    #[inline(always)]
     pub(super) fn end(
         &mut self,
         alloc: Global,

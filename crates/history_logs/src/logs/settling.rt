@@ -4,7 +4,7 @@ ghost use Rattle.histories.specs.declared.event.Event.TheVariants.{Begin};
 ghost use Rattle.histories.specs.Advances.{Ends};
 ghost use Rattle.histories.specs.Frontier.{HasSlot};
 ghost use Rattle.histories.specs.Histories.{HasEnded};
-ghost use Rattle.history_logs.specs.Settling.{AreOver, GoesShort, HasShort, IsLastBegun, IsOverIn};
+ghost use Rattle.history_logs.specs.Settling.{AreOver, GoesShort, HasShort, IsBehind, IsBehindBegun, IsOverIn};
 ghost use Rattle.history_logs.specs.Settling.{IsRightShort, MayFollowAt, Stays};
 
 use super::needed::first_states;
@@ -105,23 +105,23 @@ fn first_open(slots: &[Option<usize>], most: usize) -> usize
     first
 }
 
-/// The call that the event begins, or this one, where it begins none.
-fn begun_or(event: Event, call: usize) -> usize
-    ensures { (event ≡ Begin result) ⊎ (result ≡ call) }
+/// The number behind the call that the event begins, or this one, where it begins none.
+fn behind_begun(event: Event, first: usize) -> usize
+    ensures { ((call : ℕ) × (event ≡ Begin call) × IsBehind call result) ⊎ (result ≡ first) }
 {
     match event {
-        Event::Begin(begun) => begun,
-        Event::End(_) | Event::Crash(_) => call,
+        Event::Begin(begun) => begun.saturating_add(1),
+        Event::End(_) | Event::Crash(_) => first,
     }
 }
 
-/// The number of the last call that begins in the events, or this one, where none does.
-fn last_begun(events: &[Event], first: usize) -> usize
-    ensures { IsLastBegun first events.now result }
+/// The number behind that of the last call that begins in the events, or this one, where none does.
+fn behind_last(events: &[Event], first: usize) -> usize
+    ensures { IsBehindBegun first events.now result }
 {
     let mut last = first;
     for at in 0..events.len() {
-        last = begun_or(events[at], last);
+        last = behind_begun(events[at], last);
     }
     last
 }
@@ -158,7 +158,7 @@ fn follow(
         → Stays service.old (Some front.old) service.new (Some front.new)) }
 {
     let count = count_settled(service);
-    let most = last_begun(&service.events()[..count], service.first());
+    let most = behind_last(&service.events()[..count], service.first());
     if !go_short(alloc, service, front, count)? {
         return Ok(false);
     }

@@ -2,7 +2,7 @@ use Rattle.std.proofs.Common.{rules, ap, ◌≡◌, ◌+◌, ◌<◌, ◌^◌, L
 use Rattle.histories.specs.declared.front.Front.{Front}
 use Rattle.histories.proofs.Places.{put_back}
 use Rattle.service_conformance.specs.Looks.{Watched}
-use Rattle.history_logs.specs.Fields.{callers_of, log_of}
+use Rattle.history_logs.specs.Fields.{callers_of, log_of, waits_in}
 use Rattle.history_logs.specs.Judging.{end_verdict}
 use Rattle.history_logs.specs.Logs.{Judged}
 use Rattle.history_logs.specs.Reading.{Log}
@@ -62,7 +62,7 @@ loop-text-preserved g c =
     record {
       services = c.settle_at.new.services;
       callers = callers_of c.read.new.self.callers;
-      waits = c.read.new.self.waits;
+      waits = waits_in c.read.new.self.waits;
     } in
     let stay : StayAll read.services fronts new.services next =
     subst (λ (l : List Service). StayAll l fronts c.settle_at.new.services next)

@@ -2,7 +2,7 @@ use Rattle.std.proofs.Common.{rules, ◌≡◌, ◌≤◌, ◌⊎◌, sym, subst
 use Rattle.histories.specs.declared.event.Event.{Event}
 use Rattle.histories.specs.Frontier.{HasSlot}
 use Rattle.history_logs.specs.Seen.{Service}
-use Rattle.history_logs.specs.Settling.{IsLastBegun}
+use Rattle.history_logs.specs.Settling.{IsBehindBegun}
 use Rattle.history_logs.specs.Shortened.{IsShort}
 use Rattle.history_logs.proofs.Settled.{first_low_of, first_within, short_now}
 use Rattle.history_logs.proofs.logs.settling.follow.Goals as goal
@@ -13,13 +13,13 @@ forget-requires-clause-first c =
     let front = c.args.front.now in
     let new = c.go_short.new.front in
     let count = c.count_settled-count.result in
-    let most = c.last_begun-most.result in
+    let most = c.behind_last-most.result in
     let first = c.first_open-first.result in
     let goes = c.in_ok-go_short.ensures (search rules) in
-    let last : IsLastBegun live.first (take count live.events) most =
-    subst (λ n. IsLastBegun n (take count live.events) most) c.first.ensures
-    (subst (λ (l : List Event). IsLastBegun c.first.result (take count l) most) c.events.ensures
-    c.last_begun-most.ensures) in
+    let last : IsBehindBegun live.first (take count live.events) most =
+    subst (λ n. IsBehindBegun n (take count live.events) most) c.first.ensures
+    (subst (λ (l : List Event). IsBehindBegun c.first.result (take count l) most) c.events.ensures
+    c.behind_last-most.ensures) in
     let slots : (slot call : ℕ) → HasSlot new.slots.items slot call → first ≤ call =
     subst (λ (l : List (Option ℕ)). (slot call : ℕ) → HasSlot l slot call → first ≤ call)
     c.deref.ensures.value c.first_open-first.ensures.each in
@@ -38,13 +38,13 @@ forget-requires-clause-within c =
     let front = c.args.front.now in
     let new = c.go_short.new.front in
     let count = c.count_settled-count.result in
-    let most = c.last_begun-most.result in
+    let most = c.behind_last-most.result in
     let first = c.first_open-first.result in
     let goes = c.in_ok-go_short.ensures (search rules) in
-    let last : IsLastBegun live.first (take count live.events) most =
-    subst (λ n. IsLastBegun n (take count live.events) most) c.first.ensures
-    (subst (λ (l : List Event). IsLastBegun c.first.result (take count l) most) c.events.ensures
-    c.last_begun-most.ensures) in
+    let last : IsBehindBegun live.first (take count live.events) most =
+    subst (λ n. IsBehindBegun n (take count live.events) most) c.first.ensures
+    (subst (λ (l : List Event). IsBehindBegun c.first.result (take count l) most) c.events.ensures
+    c.behind_last-most.ensures) in
     let slots : (slot call : ℕ) → HasSlot new.slots.items slot call → first ≤ call =
     subst (λ (l : List (Option ℕ)). (slot call : ℕ) → HasSlot l slot call → first ≤ call)
     c.deref.ensures.value c.first_open-first.ensures.each in
@@ -60,13 +60,13 @@ returns c = λ yes s o k.
     let front = c.args.front.now in
     let new = c.go_short.new.front in
     let count = c.count_settled-count.result in
-    let most = c.last_begun-most.result in
+    let most = c.behind_last-most.result in
     let first = c.first_open-first.result in
     let goes = c.in_ok-go_short.ensures (search rules) in
-    let last : IsLastBegun live.first (take count live.events) most =
-    subst (λ n. IsLastBegun n (take count live.events) most) c.first.ensures
-    (subst (λ (l : List Event). IsLastBegun c.first.result (take count l) most) c.events.ensures
-    c.last_begun-most.ensures) in
+    let last : IsBehindBegun live.first (take count live.events) most =
+    subst (λ n. IsBehindBegun n (take count live.events) most) c.first.ensures
+    (subst (λ (l : List Event). IsBehindBegun c.first.result (take count l) most) c.events.ensures
+    c.behind_last-most.ensures) in
     let slots : (slot call : ℕ) → HasSlot new.slots.items slot call → first ≤ call =
     subst (λ (l : List (Option ℕ)). (slot call : ℕ) → HasSlot l slot call → first ≤ call)
     c.deref.ensures.value c.first_open-first.ensures.each in

@@ -1,16 +1,38 @@
-use Rattle.std.proofs.Common.{rules, ◌≡◌, None}
-use Rattle.history_logs.specs.Fields.{log_of}
-use Rattle.history_logs.proofs.Refused.{ok_next, reply_line}
+use Rattle.std.proofs.Common.{rules, ℕ, ◌≡◌, ◌∙◌, Option, None, Some, ap, slice_get, sym}
+use Rattle.std.proofs.lemmas.Option.{slice_get-get_or}
+use Rattle.std.specs.List.{slice_set}
+use Rattle.log_lines.specs.declared.command.LogCommand.{LogCommand}
+use Rattle.log_lines.specs.Commands.{named}
+use Rattle.history_logs.specs.Fields.{log_of, waits_in}
+use Rattle.history_logs.specs.Seen.{Service}
+use Rattle.history_logs.proofs.Refused.{ok_next, replied}
 use Rattle.history_logs.proofs.logs.reading.Reading.go.Goals as goal
 
 pub returns : goal.returns
 returns c =
-    reply_line (log_of c.args.self.now) _ c.in-Some-take.at c.in-Some-take.call c.args.line
-    c.args.text.now None c.take.new.self (search rules)
-    (c.in_ok-reply-in-Some-take.ensures c.args.text.now (search rules))
+    let at = c.in-Some-take.at in
+    let command = c.in-Some-take.command in
+    let old = c.args.self.now in
+    let services = old.services.items in
+    let own : old.waits ≡ Some (at, command) = search rules in
+    let waits = ap waits_in own in
+    let d : Service = c.index_mut.result.now in
+    let there : slice_get services at ≡ Some d =
+    slice_get-get_or services at d (c.requires.waits at (named command) waits)
+    ∙ ap (λ (s : Service). Some s) (sym c.index_mut.ensures.value) in
+    let gone : c.take.new.self ≡ None = search rules in
+    replied (log_of old) _ at (named command) d c.in-Some.reply c.args.line c.args.text.now waits
+    there (search rules)
+    (ap (λ (w : Option (ℕ × LogCommand)). record (log_of old) {
+      services = slice_set services at c.alone.new.self;
+      waits = waits_in w;
+    }) gone
+    ∙ ap (λ (s : Service). record (log_of old) {
+      services = slice_set services at s;
+      waits = None;
+    }) c.in_ok-alone-in-Some-take.ensures)
 
 pub returns-then-is_none : goal.returns-then-is_none
 returns-then-is_none c =
-    let none : c.args.self.now.waits ≡ None = search rules in
     ok_next c.next.result (log_of c.args.self.now) _ c.args.line c.args.text.now
-    c.args.self.now.waits none none c.next.ensures
+    (waits_in c.args.self.now.waits) (search rules) (search rules) c.next.ensures

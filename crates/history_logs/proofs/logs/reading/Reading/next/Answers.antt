@@ -1,4 +1,4 @@
-use Rattle.std.proofs.Common.{rules, ◌≡◌, [], refl, ap, length}
+use Rattle.std.proofs.Common.{rules, ◌≡◌}
 use Rattle.log_lines.specs.Commands.{HasText, command_text, named}
 use Rattle.log_lines.specs.Lines.Line.{call}
 use Rattle.std.specs.Prelude.{None}

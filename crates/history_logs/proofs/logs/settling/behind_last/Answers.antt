@@ -1,14 +1,14 @@
 use Rattle.std.proofs.Common.{rules}
 use Rattle.history_logs.proofs.Least.{last_all, last_more, last_none}
-use Rattle.history_logs.proofs.logs.settling.last_begun.Goals as goal
+use Rattle.history_logs.proofs.logs.settling.behind_last.Goals as goal
 
 pub loop-at-init : goal.loop-at-init
 loop-at-init c = last_none c.args.first c.args.events.now
 
 pub loop-at-preserved : goal.loop-at-preserved
 loop-at-preserved c =
-    last_more c.args.first c.args.events.now c.loop-at.at _ c.loop-at.last c.begun_or-last.result
-    (search rules) c.loop-at.invariant c.begun_or-last.ensures
+    last_more c.args.first c.args.events.now c.loop-at.at _ c.loop-at.last
+    c.behind_begun-last.result (search rules) c.loop-at.invariant c.behind_begun-last.ensures
 
 pub returns : goal.returns
 returns c =
