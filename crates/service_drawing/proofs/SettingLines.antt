@@ -1,7 +1,7 @@
 -- The lines of settings, and the reason for which a line is bad.
 use Rattle.std.proofs.Common.{◌≡◌, ◌≢◌, ℕ, ◌<◌, ◌≤◌, ◌∷◌, ◌++◌, List, Bool, false, length, get_or, ap, Some, None, slice_get, subst, sym, ◌∙◌, arith, zero, suc, replicate, true, [], inl, inr, codes, map, nat_eq, slice_set, refl, length-append}
 use Rattle.std.proofs.lemmas.Option.{none-some, slice_get_within, slice_get_cases, slice_get-get_or}
-use Rattle.service_drawing.specs.Settings.{HasName, IsSetting, IsNamed, word_of, MayBecome, Assignment, GivesSetting, assigned, AreSettings, HasSettings, Sets, NamesMarked, IsNotSet, value_text, HasConfiguration, restored, setting_names, setting_values}
+use Rattle.service_drawing.specs.Settings.{HasName, IsSetting, IsNamed, word_of, MayBecome, Assignment, GivesSetting, assigned, AreSettings, Sets, NamesMarked, IsNotSet, value_text, HasConfiguration, restored, setting_names, setting_values}
 use Rattle.service_drawing.proofs.Words.{longer, same_text, line_one, same_pattern}
 use Rattle.std.specs.List.{AllByRecursion, IsDistinct, list_any}
 use Rattle.std.proofs.Math.Bool.{or-false, or-true}
