@@ -40,7 +40,7 @@ which calls overlap, every reply that the call could have had, and who was attac
   --version  write the version and read nothing
 
 docs/CONFORM.md has the lines of logs, docs/SCRIPT.md has commands and replies. Lines that are empty
-or begin with # are comments. The status is 0 where the log conforms, 1 where it does not, 2 after a
+or begin with # are notes. The status is 0 where the log conforms, 1 where it does not, 2 after a
 bad argument or line, or where too many calls are open or orders of them are possible, 3 where
 memory was refused or reading or writing failed.
 ";

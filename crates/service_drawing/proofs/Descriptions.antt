@@ -8,7 +8,7 @@ use Rattle.iox2_config.specs.declared.config.Config.{Config}
 use Rattle.iox2_config.specs.declared.hash.input.PatternKind.{PatternKind}
 use Rattle.service_drawing.specs.Descriptions.{StopsReading, after_settings, after_service}
 use Rattle.service_drawing.specs.Lines.{IsLine, HasSameLine, Whole, Stops, Form, line_by_line, HasService, HasAttributes, HasRequirements, AreAttributes, AreRequired, GivesPair, GivesRequirement, is_plain, IsPlain, HasNoLine, Begins, no_lines, IsDescribed, IsFixed, type_text, payload_text, alignments_text, type_line, payload_line, elements_line, HasOpener, opener_line, message_of, message, exchange}
-use Rattle.service_drawing.specs.Settings.{HasConfiguration, GivesSetting, AreSettings, section}
+use Rattle.service_drawing.specs.Settings.{HasConfiguration, GivesSetting, AreSettings, restored, setting_names, setting_values}
 use Rattle.service_drawing.proofs.Forms.{Lawful, same_back, line_like, lines_before, none_of_nothing, none_begins, sequence_lawful, stops_as, many_lawful, IsPart, none_like, stops_at_once, line_lawful, then_lawful, made_lawful}
 use Rattle.service_drawing.proofs.Words.{same_pattern, line_one, same_variant}
 use lib.Count.{ones}
@@ -209,16 +209,16 @@ service_same j k m n x y bytes p q =
     let same = line_one _ _ x y bytes p.line q.line in
     ((same_pattern j k m n same.0).0, same.1)
 
-same_base : (base : Config) (k : PatternKind)
-    → record base { defaults = (section k).reset base.defaults base.defaults } ≡ base
+pub same_base : (base : Config) (k : PatternKind)
+    → record base { defaults = restored k base.defaults base.defaults } ≡ base
 same_base base k = grind arith
 
 configuration_lawful : (base : Config) (k : PatternKind)
     → Lawful (codes "set " ∷ []) [] (line_by_line (HasConfiguration base k))
 unfolding IsDistinct
 configuration_lawful base k =
-    let names = (section k).names in
-    let values = (section k).values in
+    let names = setting_names k in
+    let values = setting_values k in
     let many = many_lawful (codes "set ") (GivesSetting names (values base.defaults))
     (AreSettings (values base.defaults)) (values base.defaults) (tt, refl) in
     record {

@@ -1,12 +1,12 @@
 -- What stands in front of a description, line by line.
-use Rattle.std.proofs.Common.{◌≡◌, ◌≢◌, ℕ, ◌-◌, List, [], ◌∷◌, ◌++◌, length, take, codes, refl, sym, ap, ◌∙◌, arith, append_assoc, append-nil, length-append}
+use Rattle.std.proofs.Common.{◌≡◌, ◌≢◌, ℕ, ◌-◌, List, [], ◌∷◌, ◌++◌, length, take, codes, refl, sym, ap, ◌∙◌, arith, add-one, ◌+◌, append_assoc, append-nil, length-append}
 use Rattle.std.specs.List.{All}
 use Rattle.std.proofs.Math.Seq.{take-append_seam}
 use Rattle.std.proofs.lemmas.Grind.{flat_map-append}
 use Rattle.std.proofs.lemmas.List.Elements.{All-head, All-tail, All-cons, All-nil, All-push}
 use Rattle.line_streams.specs.OneWay.{before_one}
 use Rattle.line_streams.specs.Spelling.{HasNo}
-use Rattle.service_drawing.specs.Descriptions.{IsInside, lines_text, Ends}
+use Rattle.service_drawing.specs.Descriptions.{IsInside, lines_text, Ends, HasBlock}
 
 -- the word `end` is no newline
 end_lacks : HasNo 10 (codes "end")
@@ -83,3 +83,16 @@ no_end rest bytes none p inside tail h =
         (All-head IsInside m ms other).0
         (sym (first l ls rest) ∙ same ∙ first m ms (codes "end\n" ++ tail)) in
         go ls ms (All-tail IsInside l ls each) (All-tail IsInside m ms other) both.1
+
+-- the block of settings, with the newline of the line `config`
+pub block_here : (bytes settings inside lines rest : List ℕ) → bytes ≡ codes "config" ++ settings
+    → settings ≡ codes "\n" ++ inside → Ends lines rest inside
+    → HasBlock (take (length lines + 1) settings) rest bytes
+block_here bytes settings inside lines rest opens is ends = record {
+  inside = lines;
+  after = inside;
+  opens = opens ∙ ap (λ l. codes "config" ++ l) is;
+  ends = ends;
+  file = rw (is, ends.parts, add-one) (ap (λ (l : List ℕ). 10 ∷ l)
+      (take-append_seam lines (codes "end\n" ++ rest)));
+}

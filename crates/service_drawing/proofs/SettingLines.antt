@@ -1,7 +1,7 @@
 -- The lines of settings, and the reason for which a line is bad.
 use Rattle.std.proofs.Common.{◌≡◌, ◌≢◌, ℕ, ◌<◌, ◌≤◌, ◌∷◌, ◌++◌, List, Bool, false, length, get_or, ap, Some, None, slice_get, subst, sym, ◌∙◌, arith, zero, suc, replicate, true, [], inl, inr, codes, map, nat_eq, slice_set, refl, length-append}
 use Rattle.std.proofs.lemmas.Option.{none-some, slice_get_within, slice_get_cases, slice_get-get_or}
-use Rattle.service_drawing.specs.Settings.{HasName, IsSetting, IsNamed, word_of, MayBecome, Assignment, GivesSetting, assigned, AreSettings, HasSettings, Sets, NamesMarked, IsNotSet, value_text, HasConfiguration, section}
+use Rattle.service_drawing.specs.Settings.{HasName, IsSetting, IsNamed, word_of, MayBecome, Assignment, GivesSetting, assigned, AreSettings, Sets, NamesMarked, IsNotSet, value_text, HasConfiguration, restored, setting_names, setting_values}
 use Rattle.service_drawing.proofs.Words.{longer, same_text, line_one, same_pattern}
 use Rattle.std.specs.List.{AllByRecursion, IsDistinct, list_any}
 use Rattle.std.proofs.Math.Bool.{or-false, or-true}
@@ -14,8 +14,9 @@ use Rattle.service_drawing.specs.Lines.{IsLine, StopsAt, AreLines, HasNoLine, Up
 use Rattle.service_drawing.specs.declared.reading.cause.Reason.{Reason}
 use Rattle.service_drawing.specs.declared.reading.cause.Reason.TheVariants.{InternalName, UnknownSetting, SetTwice, OtherForm}
 use Rattle.service_drawing.specs.declared.settings.Value.{Value}
-use Rattle.service_drawing.proofs.Forms.{ReadMany, one_read, many_stops, GoesOn, up_lines}
+use Rattle.service_drawing.proofs.Forms.{ReadMany, one_read, many_stops, GoesOn, stops_as, up_lines}
 use Rattle.iox2_config.specs.declared.config.Config.{Config}
+use Rattle.iox2_config.specs.declared.config.defaults.Defaults.{Defaults}
 use Rattle.iox2_config.specs.declared.hash.input.PatternKind.{PatternKind}
 use Rattle.service_drawing.specs.Descriptions.{StopsReading, after_settings, BeginsInternal, IsServiceReason, AtSetting, IsUnknown, WasSet, IsSettingReason, AmongSettings, IsReason}
 use Rattle.service_drawing.proofs.Descriptions.{Breaks, broken, service_same, after_settings_lawful, stops_behind_service}
@@ -224,17 +225,45 @@ not_set names defaults values given reason at bytes text r bad sets other made n
               b.1 next.one (gives_at names defaults values next.one text same next.spelled)
         ]
 
+-- settings of this pattern in the place of others
+taken : (k : PatternKind) (base d : Defaults)
+    → (setting_values k (restored k d base) ≡ setting_values k d)
+    × (restored k base (restored k d base) ≡ base)
+taken k base d = grind arith
+
+-- other settings are as they were where one more of this pattern is set
+pub still_restored : (k : PatternKind) (base c : Config) (d : Defaults)
+    → record c { defaults = restored k base.defaults c.defaults } ≡ base
+    → restored k c.defaults d ≡ c.defaults
+    → record c { defaults = restored k base.defaults d } ≡ base
+still_restored k base c d h e = grind arith
+
+-- where nothing is set, settings are as they were
+pub restored_same : (k : PatternKind) (d : Defaults) → restored k d d ≡ d
+restored_same k d = grind arith
+
 -- reading stops at a line that sets nothing
-pub stops_at_setting : {S : Type 0} (names : List (List ℕ)) (defaults : List Value)
-    (values : S → List Value) (s : S) (given : List Bool) (reason : Reason)
-    (at bytes text tail : List ℕ) → Setting names defaults (values s) given at bytes
+pub stops_at_setting : (base : Config) (k : PatternKind) (c : Config) (given : List Bool)
+    (reason : Reason) (at bytes text tail : List ℕ)
+    → Setting (setting_names k) (setting_values k base.defaults) (setting_values k c.defaults)
+    given at bytes
     → IsLine (codes "set " ++ text) tail at
-    → IsNotSet names (values s) given text reason
-    → StopsAt (λ (s : S). HasSettings names defaults (values s)) at bytes
-stops_at_setting names defaults values s given reason at bytes text tail r l bad =
-    many_stops (codes "set ") (GivesSetting names defaults) (AreSettings defaults) values
-    (λ set. set.index) (same_setting names defaults) s at bytes text tail r.read l
-    (not_set names defaults (values s) given reason at bytes text r bad)
+    → IsNotSet (setting_names k) (setting_values k c.defaults) given text reason
+    → StopsAt (HasConfiguration base k) at bytes
+stops_at_setting base k c given reason at bytes text tail r l bad =
+    let names = setting_names k in
+    let defaults = setting_values k base.defaults in
+    stops_as _ _ _ _ at bytes
+    (λ b w.
+    let same = taken k base.defaults w.0.defaults in (
+      record base { defaults = restored k w.0.defaults base.defaults },
+      (rw same.0 w.1, ap (λ (d : Defaults). record base { defaults = d }) same.1),
+    ))
+    (λ b g. (g.0, g.1, g.2.0))
+    (many_stops (codes "set ") (GivesSetting names defaults) (AreSettings defaults)
+    (λ (c : Config). setting_values k c.defaults) (λ set. set.index) (same_setting names defaults)
+    c at bytes text tail r.read l
+    (not_set names defaults (setting_values k c.defaults) given reason at bytes text r bad))
 
 line_within : (text rest bytes : List ℕ) → IsLine text rest bytes → length rest < length bytes
 line_within text rest bytes l = grind (arith, length-append, l.spelled)
@@ -359,7 +388,7 @@ from_outside k name rest bytes h i = grind (arith, line_one, same_pattern)
 of_the_pattern : (base : Config) (Holds : List (List ℕ) → List Value → List ℕ → List ℕ → Type 0)
     (k : PatternKind) (name left rest bytes : List ℕ) → HasService k name rest bytes
     → AmongSettings base Holds left bytes
-    → Holds (section k).names ((section k).values base.defaults) left rest
+    → Holds (setting_names k) (setting_values k base.defaults) left rest
 of_the_pattern base Holds k name left rest bytes h a =
     let same = service_same a.kind k a.name name a.at_settings rest bytes a.service h in
     rw (same.0, same.1) at a.holds
@@ -367,18 +396,18 @@ of_the_pattern base Holds k name left rest bytes h a =
 pub reason_in_settings : (base : Config) (reason : Reason) (k : PatternKind)
     (name left rest bytes : List ℕ)
     → HasService k name rest bytes
-    → IsSettingReason (section k).names ((section k).values base.defaults) reason left rest
+    → IsSettingReason (setting_names k) (setting_values k base.defaults) reason left rest
     → IsReason base reason left bytes
 reason_in_settings base reason k name left rest bytes h b = go reason b
   where
     among : (Holds : List (List ℕ) → List Value → List ℕ → List ℕ → Type 0)
-        → Holds (section k).names ((section k).values base.defaults) left rest
+        → Holds (setting_names k) (setting_values k base.defaults) left rest
         → AmongSettings base Holds left bytes
     among Holds b =
         record { kind = k; name = name; at_settings = rest; service = h; holds = b }
 
     go : (why : Reason)
-        → IsSettingReason (section k).names ((section k).values base.defaults) why left rest
+        → IsSettingReason (setting_names k) (setting_values k base.defaults) why left rest
         → IsReason base why left bytes
     go InternalName b = absurd b
     go UnknownSetting b = among IsUnknown b
@@ -395,8 +424,8 @@ pub stops_behind_settings : (base : Config) (reason : Reason) (k : PatternKind) 
     → HasConfiguration base k c rest mid → Breaks (after_settings k) left rest
     → StopsReading base left bytes × IsReason base reason left bytes
 stops_behind_settings base reason k name c left rest mid bytes e h g bad =
-    let names = (section k).names in
-    let defaults = (section k).values base.defaults in
+    let names = setting_names k in
+    let defaults = setting_values k base.defaults in
     let s = broken (after_settings_lawful k) left rest bad in
     let late : AtSetting names defaults left mid → ⊥ =
     λ a. no_further (codes "set ") (GivesSetting names defaults) g.0.each a.sets left rest a.text
@@ -424,7 +453,7 @@ known names defaults left bytes u w =
 unknown_or_set : (base : Config) (left bytes : List ℕ) → AmongSettings base IsUnknown left bytes
     → ¬ AmongSettings base WasSet left bytes
 unknown_or_set base left bytes u w =
-    known (section u.kind).names ((section u.kind).values base.defaults) left u.at_settings
+    known (setting_names u.kind) (setting_values u.kind base.defaults) left u.at_settings
     u.holds (of_the_pattern base WasSet u.kind u.name left u.at_settings bytes u.service w)
 
 -- where one reason holds, no other does

@@ -6,14 +6,12 @@ use Rattle.line_streams.specs.Spelling.{HasNo}
 use Rattle.config_report.specs.Findings.{HasConfig, IsRefusal}
 use Rattle.service_drawing.specs.declared.fault.Fault.{Fault}
 use Rattle.service_drawing.specs.declared.fault.Fault.TheVariants.{BadSettings, NoEnd, NoMemory}
-use Rattle.service_drawing.specs.declared.front.Front.{Front}
-use Rattle.service_drawing.specs.declared.front.Front.TheVariants.{Absent, Block, Unended}
 use Rattle.iox2_texts.specs.Pair.{Pair}
 use Rattle.iox2_texts.specs.Verify.{Requirements}
 use Rattle.iox2_config.specs.Hashing.{hash_input, sha1_text}
 use Rattle.iox2_config.specs.declared.hash.input.PatternKind.{PatternKind}
 use Rattle.service_drawing.specs.Lines.{Form, Stops, line_by_line, sequence, exchange, HasService, HasAttributes, HasRequirements, is_plain, IsLine, UpTo, IsInternal}
-use Rattle.service_drawing.specs.Settings.{HasConfiguration, Assignment, GivesSetting, HasName, IsSetting, section, word_of}
+use Rattle.service_drawing.specs.Settings.{HasConfiguration, Assignment, GivesSetting, HasName, IsSetting, setting_names, setting_values, word_of}
 use Rattle.service_drawing.specs.declared.description.Description.{Description}
 use Rattle.service_drawing.specs.declared.description.Exchange.{Exchange}
 use Rattle.std.specs.List.{find, before_first, ends_with, list_any}
@@ -50,13 +48,6 @@ pub record HasBlock (settings rest bytes : List ℕ) : Type 0 where
   pub opens : bytes ≡ codes "config\n" ++ after
   pub ends : Ends inside rest after
   pub file : settings ≡ codes "\n" ++ inside
-
--- what stands in front of a description
-abbrev pub IsFront : List ℕ → Front → Type 0
-IsFront bytes Absent = ¬ Opens bytes
-IsFront bytes (Block settings rest) = HasBlock settings.now rest.now bytes
-IsFront bytes Unended =
-    Opens bytes × ((settings rest : List ℕ) → ¬ HasBlock settings rest bytes)
 
 -- what is left of the bytes is a description over this configuration: that of the block in front,
 -- whose unknown keys are reported, or without a block the default one
@@ -204,7 +195,7 @@ pub record AmongSettings (base : Config)
   pub name : List ℕ
   pub at_settings : List ℕ
   pub service : HasService kind name at_settings bytes
-  pub holds : Holds (section kind).names ((section kind).values base.defaults) left at_settings
+  pub holds : Holds (setting_names kind) (setting_values kind base.defaults) left at_settings
 
 -- this is the reason why no description goes on with the line with which what is left begins:
 -- the name of the service, that of a setting, a setting that was set before, and else its form

@@ -8,7 +8,6 @@ use Rattle.iox2_config.specs.declared.config.Config.{Config}
 use Rattle.iox2_config.specs.declared.config.defaults.Defaults.{Defaults}
 use Rattle.iox2_config.specs.declared.config.choices.BackpressureStrategy.TheVariants.{RetryUntilDelivered, DiscardData}
 use Rattle.iox2_config.specs.declared.config.choices.AllocationStrategy.TheVariants.{BestFit, PowerOfTwo, Static}
-use Rattle.iox2_config.specs.declared.config.blackboard.Blackboard.{Blackboard}
 use Rattle.iox2_config.specs.declared.config.event.Event.{Event}
 use Rattle.iox2_config.specs.declared.config.publish_subscribe.PublishSubscribe.{PublishSubscribe}
 use Rattle.iox2_config.specs.declared.config.request_response.RequestResonse.{RequestResonse}
@@ -51,17 +50,21 @@ MayBecome old value = ⊥
 abbrev pub underscore_for : ℕ → ℕ
 underscore_for b = cond (nat_eq b 45) 95 b
 
--- the names of settings: their keys in a file of settings, with underscores
-abbrev pub names_of : List Setting → List (List ℕ)
-names_of settings = map (λ x. map underscore_for x.key) settings
+-- the settings of a pattern, as they stand in a file of settings
+abbrev pub settings_of : PatternKind → List Setting
+settings_of kind.PublishSubscribe = publish_subscribe_settings default_publish_subscribe
+settings_of kind.Event = event_settings default_event
+settings_of kind.RequestResponse = request_response_settings default_request_response
+settings_of kind.Blackboard = blackboard_settings default_blackboard
 
--- the names of the settings of a publish-subscribe service
-abbrev pub publish_subscribe_names : List (List ℕ)
-publish_subscribe_names = names_of (publish_subscribe_settings default_publish_subscribe)
+-- the names of the settings of a pattern: their keys in such a file, with underscores
+abbrev pub setting_names : PatternKind → List (List ℕ)
+setting_names k = map (λ x. map underscore_for x.key) (settings_of k)
 
--- the values of a publish-subscribe service
-abbrev pub publish_subscribe_values : PublishSubscribe → List Value
-publish_subscribe_values s =
+-- the values of the settings of a pattern
+abbrev pub setting_values : PatternKind → Defaults → List Value
+setting_values kind.PublishSubscribe d =
+    let s : PublishSubscribe = d.publish_subscribe in
     Number s.max_subscribers ∷ Number s.max_publishers ∷ Number s.max_nodes
     ∷ Number s.subscriber_max_buffer_size
     ∷ Number s.subscriber_max_borrowed_samples ∷ Number s.publisher_max_loaned_samples
@@ -69,26 +72,14 @@ publish_subscribe_values s =
     ∷ Switch s.enable_safe_overflow ∷ Backpressure s.backpressure_strategy
     ∷ Number s.subscriber_expired_connection_buffer
     ∷ Allocation s.publisher_allocation_strategy ∷ []
-
--- the names of the settings of an event service
-abbrev pub event_names : List (List ℕ)
-event_names = names_of (event_settings default_event)
-
--- the values of an event service
-abbrev pub event_values : Event → List Value
-event_values s =
+setting_values kind.Event d =
+    let s : Event = d.event in
     Number s.max_listeners ∷ Number s.max_notifiers ∷ Number s.max_nodes
     ∷ Number s.event_id_max_value
     ∷ Deadline s.deadline ∷ Perhaps s.notifier_created_event ∷ Perhaps s.notifier_dropped_event
     ∷ Perhaps s.notifier_dead_event ∷ []
-
--- the names of the settings of a request-response service
-abbrev pub request_response_names : List (List ℕ)
-request_response_names = names_of (request_response_settings default_request_response)
-
--- the values of a request-response service
-abbrev pub request_response_values : RequestResonse → List Value
-request_response_values s =
+setting_values kind.RequestResponse d =
+    let s : RequestResonse = d.request_response in
     Switch s.enable_safe_overflow_for_requests ∷ Switch s.enable_safe_overflow_for_responses
     ∷ Number s.max_active_requests_per_client ∷ Number s.max_response_buffer_size
     ∷ Number s.max_servers
@@ -99,14 +90,15 @@ request_response_values s =
     ∷ Number s.client_expired_connection_buffer ∷ Number s.server_expired_connection_buffer
     ∷ Switch s.enable_fire_and_forget_requests ∷ Allocation s.client_allocation_strategy
     ∷ Allocation s.server_allocation_strategy ∷ []
+setting_values kind.Blackboard d =
+    Number d.blackboard.max_readers ∷ Number d.blackboard.max_nodes ∷ []
 
--- the names of the settings of a blackboard service
-abbrev pub blackboard_names : List (List ℕ)
-blackboard_names = names_of (blackboard_settings default_blackboard)
-
--- the values of a blackboard service
-abbrev pub blackboard_values : Blackboard → List Value
-blackboard_values s = Number s.max_readers ∷ Number s.max_nodes ∷ []
+-- the second settings, but for those of this pattern, which are as in the first ones
+abbrev pub restored : PatternKind → Defaults → Defaults → Defaults
+restored kind.PublishSubscribe base d = record d { publish_subscribe = base.publish_subscribe }
+restored kind.Event base d = record d { event = base.event }
+restored kind.RequestResponse base d = record d { request_response = base.request_response }
+restored kind.Blackboard base d = record d { blackboard = base.blackboard }
 
 -- names one after the other, with a comma and a space between two of them
 abbrev pub listed : List (List ℕ) → List ℕ
@@ -201,39 +193,10 @@ IsNotSet names values given text OtherForm =
     × ((set : Assignment) → ¬ GivesSetting names values set text)
 IsNotSet names values given text InternalName = ⊥
 
--- the settings of a pattern: their names, their values, and the settings of
--- all patterns after these have got those of others again
-pub record Section : Type 0 where
-  pub names : List (List ℕ)
-  pub values : Defaults → List Value
-  pub reset : Defaults → Defaults → Defaults
-
-abbrev pub section : PatternKind → Section
-section kind.PublishSubscribe = record {
-  names = publish_subscribe_names;
-  values = λ d. publish_subscribe_values d.publish_subscribe;
-  reset = λ base d. record d { publish_subscribe = base.publish_subscribe };
-}
-section kind.Event = record {
-  names = event_names;
-  values = λ d. event_values d.event;
-  reset = λ base d. record d { event = base.event };
-}
-section kind.RequestResponse = record {
-  names = request_response_names;
-  values = λ d. request_response_values d.request_response;
-  reset = λ base d. record d { request_response = base.request_response };
-}
-section kind.Blackboard = record {
-  names = blackboard_names;
-  values = λ d. blackboard_values d.blackboard;
-  reset = λ base d. record d { blackboard = base.blackboard };
-}
-
 -- the bytes begin with the lines of the settings of this pattern, with
 -- which the configuration is the one below it but for those settings
 abbrev pub HasConfiguration : Config → PatternKind → Config → List ℕ → List ℕ → Type 0
 HasConfiguration base kind c rest bytes =
-    HasSettings (section kind).names ((section kind).values base.defaults)
-    ((section kind).values c.defaults) rest bytes
-    × (record c { defaults = (section kind).reset base.defaults c.defaults } ≡ base)
+    HasSettings (setting_names kind) (setting_values kind base.defaults)
+    (setting_values kind c.defaults) rest bytes
+    × (record c { defaults = restored kind base.defaults c.defaults } ≡ base)

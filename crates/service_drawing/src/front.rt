@@ -1,29 +1,13 @@
 //! The block of settings that may stand in front of a description, and the configuration that it
 //! gives.
 ghost use Rattle.std.specs.Prelude.{ℕ, List, MatchOption, string_bytes, MatchResult};
-ghost use Rattle.service_drawing.specs.Descriptions.{Ends, IsFront, IsOver, IsNotOver};
+ghost use Rattle.service_drawing.specs.Descriptions.{Ends, IsOver, IsNotOver, Opens};
 
 use crate::fault::Fault;
 use config_report::{ReportError, read_file};
 use iox2_config::config::Config;
 use line_streams::{after_word, before_byte};
 use std::alloc::Global;
-
-/// What stands in front of a description.
-#[derive(Clone, Copy)]
-pub(crate) enum Front<'a> {
-    /// No block.
-    Absent,
-    /// A block, between the line `config` and the line `end`.
-    Block {
-        /// The lines between the two, and before them the newline of the line `config`.
-        settings: &'a [u8],
-        /// What follows the line `end`.
-        rest: &'a [u8],
-    },
-    /// A line `config` that no line `end` follows.
-    Unended,
-}
 
 /// The lines before the first line `end`, and what follows that.
 fn before_end(bytes: &[u8]) -> Option<(&[u8], &[u8])>
@@ -40,25 +24,6 @@ fn before_end(bytes: &[u8]) -> Option<(&[u8], &[u8])>
     None
 }
 
-/// What stands in front of a description.
-pub(crate) fn front_of(bytes: &[u8]) -> Front<'_>
-    ensures { IsFront bytes.now result }
-{
-    let Some(settings) = after_word(bytes, b"config") else {
-        return Front::Absent;
-    };
-    let Some(inside) = after_word(settings, b"\n") else {
-        return Front::Absent;
-    };
-    match before_end(inside) {
-        Some((lines, rest)) => Front::Block {
-            settings: &settings[..lines.len() + 1],
-            rest,
-        },
-        None => Front::Unended,
-    }
-}
-
 /// What is left of an input, and the configuration over which it is read.
 #[derive(Drop)]
 pub(crate) struct Over<'a> {
@@ -70,27 +35,41 @@ pub(crate) struct Over<'a> {
     pub(crate) rest: &'a [u8],
 }
 
+/// The default configuration, where no block stands in front.
+fn without_block(alloc: Global, bytes: &[u8]) -> Over<'_>
+    ensures { (¬ Opens bytes.now)
+        → IsOver result.base (string_bytes result.warnings) result.rest.now bytes.now }
+{
+    Over {
+        base: Config::default(),
+        warnings: String::new(alloc),
+        rest: bytes,
+    }
+}
+
 /// The configuration over which a description is read, or what is wrong with the block in front.
 pub(crate) fn base_of(alloc: Global, bytes: &[u8]) -> Result<Over<'_>, Fault>
     ensures { MatchResult result
         (λ over. IsOver over.base (string_bytes over.warnings) over.rest.now bytes.now)
         (λ fault. IsNotOver bytes.now fault) }
 {
-    match front_of(bytes) {
-        Front::Absent => Ok(Over {
-            base: Config::default(),
-            warnings: String::new(alloc),
-            rest: bytes,
+    let Some(settings) = after_word(bytes, b"config") else {
+        return Ok(without_block(alloc, bytes));
+    };
+    let Some(inside) = after_word(settings, b"\n") else {
+        return Ok(without_block(alloc, bytes));
+    };
+    let Some((lines, rest)) = before_end(inside) else {
+        return Err(Fault::NoEnd);
+    };
+    // The newline of the line `config` too, so that lines have the numbers that they have in all.
+    match read_file(alloc, &settings[..lines.len() + 1]) {
+        Ok(file) => Ok(Over {
+            base: file.config,
+            warnings: file.warnings,
+            rest,
         }),
-        Front::Block { settings, rest } => match read_file(alloc, settings) {
-            Ok(file) => Ok(Over {
-                base: file.config,
-                warnings: file.warnings,
-                rest,
-            }),
-            Err(ReportError::Refused(lines)) => Err(Fault::BadSettings(lines)),
-            Err(ReportError::NoMemory) => Err(Fault::NoMemory),
-        },
-        Front::Unended => Err(Fault::NoEnd),
+        Err(ReportError::Refused(lines)) => Err(Fault::BadSettings(lines)),
+        Err(ReportError::NoMemory) => Err(Fault::NoMemory),
     }
 }

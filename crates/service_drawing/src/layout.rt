@@ -113,14 +113,6 @@ impl MessageLayout {
         }
     }
 
-    /// How many bytes this many messages take, or `None` where that passes 2^64 - 1.
-    pub(crate) fn memory(&self, chunks: usize) -> Option<usize>
-        ensures { MatchOption result (2 ^ 64 ≤ chunks * self.now.size)
-            (λ bytes. bytes ≡ chunks * self.now.size) }
-    {
-        chunks.checked_mul(self.size)
-    }
-
     /// How many bytes this many messages of each of so many ports take, or `None` where that passes
     /// 2^64 - 1.
     #[tactic(auto, using(crate::proofs::Inside::no_less))]
@@ -128,7 +120,7 @@ impl MessageLayout {
         ensures { MatchOption result (2 ^ 64 ≤ (chunks * self.now.size) * ports)
             (λ bytes. bytes ≡ (chunks * self.now.size) * ports) }
     {
-        match self.memory(chunks) {
+        match chunks.checked_mul(self.size) {
             Some(bytes) => bytes.checked_mul(ports),
             None if ports == 0 => Some(0),
             None => None,

@@ -1,9 +1,8 @@
 //! Descriptions as lines.
 ghost use Rattle.std.specs.Prelude.{MatchResult};
 ghost use Rattle.service_drawing.specs.Descriptions.{HasDescription, StopsReading};
-ghost use Rattle.service_drawing.specs.Lines.{IsFailure, StopsAt, exchange};
-ghost use Rattle.service_drawing.specs.Descriptions.{IsReason, IsSettingReason};
-ghost use Rattle.service_drawing.specs.Settings.{HasConfiguration, section};
+ghost use Rattle.service_drawing.specs.Lines.{IsFailure, exchange};
+ghost use Rattle.service_drawing.specs.Descriptions.{IsReason};
 
 mod attributes;
 pub(crate) mod cause;
@@ -20,39 +19,6 @@ use iox2_config::hash::PatternKind;
 use message::{fixed_before, message_before};
 use service::service_before;
 use settings::settings_before;
-
-/// The lines of the settings, with which the configuration is changed.
-fn configuration_before(
-    bytes: &[u8],
-    kind: PatternKind,
-    base: Config,
-) -> Result<(Config, &[u8]), Expected<'_>>
-    ensures { MatchResult result
-        (λ found. HasConfiguration base kind found.0 found.1.now bytes.now)
-        (λ expected. StopsAt (HasConfiguration base kind) expected.rest.now bytes.now
-        × IsSettingReason (section kind).names ((section kind).values base.defaults)
-        expected.reason expected.rest.now bytes.now) }
-{
-    let mut config = base;
-    match kind {
-        PatternKind::PublishSubscribe => {
-            let rest = settings_before(bytes, &mut config.defaults.publish_subscribe)?;
-            Ok((config, rest))
-        }
-        PatternKind::Event => {
-            let rest = settings_before(bytes, &mut config.defaults.event)?;
-            Ok((config, rest))
-        }
-        PatternKind::RequestResponse => {
-            let rest = settings_before(bytes, &mut config.defaults.request_response)?;
-            Ok((config, rest))
-        }
-        PatternKind::Blackboard => {
-            let rest = settings_before(bytes, &mut config.defaults.blackboard)?;
-            Ok((config, rest))
-        }
-    }
-}
 
 /// The lines of what the ports exchange.
 fn exchange_before(bytes: &[u8], kind: PatternKind) -> Result<(Exchange, &[u8]), Expected<'_>>
@@ -91,12 +57,17 @@ pub(crate) fn read_description(bytes: &[u8], base: Config) -> Result<Description
         × IsReason base expected.reason expected.rest.now bytes.now) }
 {
     let (service, rest) = service_before(bytes)?;
-    let (config, rest) = configuration_before(rest, service.kind, base)?;
+    let mut config = base;
+    let rest = settings_before(rest, service.kind, &mut config)?;
     let (exchange, rest) = exchange_before(rest, service.kind)?;
     let (attributes, rest) = attributes_before(rest)?;
     let (required, rest) = required_before(rest)?;
     if !rest.is_empty() {
-        return Err(Expected::plain(rest, "the end, or a line that may follow the one before it"));
+        return Err(Expected::prefixed(
+            rest,
+            "",
+            "the end, or a line that may follow the one before it",
+        ));
     }
     Ok(Description {
         name: service.name,

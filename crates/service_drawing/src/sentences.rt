@@ -140,7 +140,7 @@ pub(crate) fn write_memory(
         Counted::new(chunks, "chunk"),
         Counted::new(layout.size, "byte")
     )?;
-    write_bytes(out, layout.memory(chunks))?;
+    write_bytes(out, layout.memory_of_all(chunks, 1))?;
     write!(
         out,
         ", of all {}: ",

@@ -1,11 +1,12 @@
 //! The settings of a service, by their own names.
 ghost use Rattle.std.specs.Prelude.{◌≡◌, ◌<◌, ◌^◌, ℕ, Bool, Option, IfSome, MatchOption, Some};
-ghost use Rattle.std.specs.Prelude.{List, IsTrue, false, slice_get, slice_set};
+ghost use Rattle.std.specs.Prelude.{IsTrue, false, slice_get, slice_set};
 ghost use Rattle.std.specs.Duration.{as_nanos};
 ghost use Rattle.std.specs.declared.time.Duration.{Duration};
 ghost use Rattle.iox2_config.specs.declared.config.choices.AllocationStrategy.{AllocationStrategy};
 ghost use Rattle.iox2_config.specs.declared.config.choices.BackpressureStrategy.{BackpressureStrategy};
-ghost use Rattle.service_drawing.specs.Settings.{MayBecome, value_text, listed};
+ghost use Rattle.service_drawing.specs.Settings.{MayBecome, value_text, listed, restored};
+ghost use Rattle.service_drawing.specs.Settings.{setting_names, setting_values};
 ghost use Rattle.service_drawing.specs.declared.settings.Value.{Value};
 ghost use Rattle.service_drawing.specs.declared.settings.Value.TheVariants.{Switch, Perhaps};
 ghost use Rattle.service_drawing.specs.declared.settings.Value.TheVariants.{Deadline, Backpressure};
@@ -13,9 +14,8 @@ ghost use Rattle.service_drawing.specs.declared.settings.Value.TheVariants.{Allo
 ghost use Rattle.std.specs.Option.{option_map};
 
 use crate::reading::words::number;
-use iox2_config::config::{
-    AllocationStrategy, BackpressureStrategy, Blackboard, Event, PublishSubscribe, RequestResonse,
-};
+use iox2_config::config::{AllocationStrategy, BackpressureStrategy, Defaults};
+use iox2_config::hash::PatternKind;
 use iox2_config_file::{
     blackboard_settings, event_settings, publish_subscribe_settings, request_response_settings,
 };
@@ -65,49 +65,32 @@ impl Value {
     {
         match self {
             Value::Number(_) => number(text).map(Value::Number),
-            Value::Switch(_) => switch(text).map(Value::Switch),
-            Value::Perhaps(_) => perhaps(text).map(Value::Perhaps),
-            Value::Deadline(_) => deadline(text).map(Value::Deadline),
+            Value::Switch(_) => match text {
+                b"true" => Some(Value::Switch(true)),
+                b"false" => Some(Value::Switch(false)),
+                _ => None,
+            },
+            Value::Perhaps(_) => {
+                if text == b"none".as_slice() {
+                    return Some(Value::Perhaps(None));
+                }
+                number(text).map(|n| Value::Perhaps(Some(n)))
+            }
+            Value::Deadline(_) => {
+                if text == b"none".as_slice() {
+                    return Some(Value::Deadline(None));
+                }
+                number(text).map(|n| Value::Deadline(Some(Duration::from_nanos(n as u64))))
+            }
             Value::Backpressure(_) => backpressure(text).map(Value::Backpressure),
-            Value::Allocation(_) => allocation(text).map(Value::Allocation),
+            Value::Allocation(_) => match text {
+                b"BestFit" => Some(Value::Allocation(AllocationStrategy::BestFit)),
+                b"PowerOfTwo" => Some(Value::Allocation(AllocationStrategy::PowerOfTwo)),
+                b"Static" => Some(Value::Allocation(AllocationStrategy::Static)),
+                _ => None,
+            },
         }
     }
-}
-
-fn switch(text: &[u8]) -> Option<bool>
-    ensures { MatchOption result ((on : Bool) → ¬ (text.now ≡ value_text (Switch on)))
-        (λ on. text.now ≡ value_text (Switch on)) }
-{
-    match text {
-        b"true" => Some(true),
-        b"false" => Some(false),
-        _ => None,
-    }
-}
-
-fn perhaps(text: &[u8]) -> Option<Option<usize>>
-    ensures { MatchOption result
-        ((n : Option ℕ) → IfSome n (λ n. n < 2 ^ 64) → ¬ (text.now ≡ value_text (Perhaps n)))
-        (λ n. IfSome n (λ n. n < 2 ^ 64) × (text.now ≡ value_text (Perhaps n))) }
-{
-    if text == b"none".as_slice() {
-        return Some(None);
-    }
-    Some(Some(number(text)?))
-}
-
-fn deadline(text: &[u8]) -> Option<Option<Duration>>
-    ensures { MatchOption result
-        ((time : Option Duration) → IfSome time (λ time. as_nanos time < 2 ^ 64)
-        → ¬ (text.now ≡ value_text (Deadline time)))
-        (λ time. IfSome time (λ time. as_nanos time < 2 ^ 64)
-        × (text.now ≡ value_text (Deadline time))) }
-{
-    if text == b"none".as_slice() {
-        return Some(None);
-    }
-    let n = number(text)?;
-    Some(Some(Duration::from_nanos(n as u64)))
 }
 
 fn backpressure(text: &[u8]) -> Option<BackpressureStrategy>
@@ -121,19 +104,6 @@ fn backpressure(text: &[u8]) -> Option<BackpressureStrategy>
         Some(BackpressureStrategy::DiscardData)
     } else {
         None
-    }
-}
-
-fn allocation(text: &[u8]) -> Option<AllocationStrategy>
-    ensures { MatchOption result
-        ((strategy : AllocationStrategy) → ¬ (text.now ≡ value_text (Allocation strategy)))
-        (λ strategy. text.now ≡ value_text (Allocation strategy)) }
-{
-    match text {
-        b"BestFit" => Some(AllocationStrategy::BestFit),
-        b"PowerOfTwo" => Some(AllocationStrategy::PowerOfTwo),
-        b"Static" => Some(AllocationStrategy::Static),
-        _ => None,
     }
 }
 
@@ -153,7 +123,7 @@ macro_rules! names_of {
 
 /// The name and the value of the setting of a number.
 macro_rules! row_of {
-    ($settings:ident, $index:ident, $(
+    ($settings:expr, $index:ident, $(
         $number:literal => $field:ident: $key:literal, $kind:ident $($optional:ident)?,
             $about:literal;
     )*) => {
@@ -169,7 +139,7 @@ macro_rules! row_of {
 
 /// Sets the setting of a number, and returns whether there is one that may have the value.
 macro_rules! set_in {
-    ($settings:ident, $index:ident, $value:ident, $(
+    ($settings:expr, $index:ident, $value:ident, $(
         $number:literal => $field:ident: $key:literal, $kind:ident $($optional:ident)?,
             $about:literal;
     )*) => {{
@@ -191,111 +161,65 @@ macro_rules! value_of {
     (Allocation, $($held:tt)*) => { Value::Allocation($($held)*) };
 }
 
-/// Settings that have numbers, from 0 on, and names.
-pub(crate) trait Settings {
-    /// The names by their numbers.
-    ghost names: { List (List ℕ) };
-
-    /// The values by their numbers.
-    ghost values: { Self → List Value };
-
-    /// All names, one after the other.
-    fn all_names() -> &'static str
-        ensures { result.now ≡ listed names };
-
-    /// The name and the value of the setting of this number, if there is one. There are at most 32.
-    fn row(&self, index: usize) -> Option<(&'static str, Value)>
-        ensures name { option_map (λ row. row.0.now) result ≡ slice_get names index }
-        ensures value { option_map (λ row. row.1) result ≡ slice_get (values self.now) index }
-        ensures few { IfSome result (λ row. index < 32) };
-
-    /// Sets the setting of this number. A number that no setting has is refused, and a value of
-    /// another kind than the setting's.
-    fn set(&mut self, index: usize, value: Value) -> bool
-        ensures set { IsTrue result → values self.new ≡ slice_set (values self.old) index value }
-        ensures kept { result ≡ false → self.new ≡ self.old }
-        ensures refused { result ≡ false → (old : Value)
-            → slice_get (values self.old) index ≡ Some old → ¬ MayBecome old value };
-}
-
-impl Settings for PublishSubscribe {
-    ghost use Rattle.service_drawing.specs.Settings.{publish_subscribe_names};
-    ghost use Rattle.service_drawing.specs.Settings.{publish_subscribe_values};
-
-    ghost names = { publish_subscribe_names };
-
-    ghost values = { publish_subscribe_values };
-
-    fn all_names() -> &'static str {
-        publish_subscribe_settings!(names_of)
-    }
-
-    fn row(&self, index: usize) -> Option<(&'static str, Value)> {
-        publish_subscribe_settings!(row_of self, index,)
-    }
-
-    fn set(&mut self, index: usize, value: Value) -> bool {
-        publish_subscribe_settings!(set_in self, index, value,)
+/// The names of all settings of a pattern, one after the other.
+pub(crate) fn all_names(kind: PatternKind) -> &'static str
+    ensures { result.now ≡ listed (setting_names kind) }
+{
+    match kind {
+        PatternKind::PublishSubscribe => publish_subscribe_settings!(names_of),
+        PatternKind::Event => event_settings!(names_of),
+        PatternKind::RequestResponse => request_response_settings!(names_of),
+        PatternKind::Blackboard => blackboard_settings!(names_of),
     }
 }
 
-impl Settings for Event {
-    ghost use Rattle.service_drawing.specs.Settings.{event_names, event_values};
-
-    ghost names = { event_names };
-
-    ghost values = { event_values };
-
-    fn all_names() -> &'static str {
-        event_settings!(names_of)
-    }
-
-    fn row(&self, index: usize) -> Option<(&'static str, Value)> {
-        event_settings!(row_of self, index,)
-    }
-
-    fn set(&mut self, index: usize, value: Value) -> bool {
-        event_settings!(set_in self, index, value,)
-    }
-}
-
-impl Settings for RequestResonse {
-    ghost use Rattle.service_drawing.specs.Settings.{request_response_names};
-    ghost use Rattle.service_drawing.specs.Settings.{request_response_values};
-
-    ghost names = { request_response_names };
-
-    ghost values = { request_response_values };
-
-    fn all_names() -> &'static str {
-        request_response_settings!(names_of)
-    }
-
-    fn row(&self, index: usize) -> Option<(&'static str, Value)> {
-        request_response_settings!(row_of self, index,)
-    }
-
-    fn set(&mut self, index: usize, value: Value) -> bool {
-        request_response_settings!(set_in self, index, value,)
+/// The name and the value of the setting of this number, if the pattern has one. There are at most
+/// 32.
+pub(crate) fn row(
+    defaults: &Defaults,
+    kind: PatternKind,
+    index: usize,
+) -> Option<(&'static str, Value)>
+    ensures name { option_map (λ row. row.0.now) result ≡ slice_get (setting_names kind) index }
+    ensures value { option_map (λ row. row.1) result
+        ≡ slice_get (setting_values kind defaults.now) index }
+    ensures few { IfSome result (λ row. index < 32) }
+{
+    match kind {
+        PatternKind::PublishSubscribe => {
+            publish_subscribe_settings!(row_of defaults.publish_subscribe, index,)
+        }
+        PatternKind::Event => event_settings!(row_of defaults.event, index,),
+        PatternKind::RequestResponse => {
+            request_response_settings!(row_of defaults.request_response, index,)
+        }
+        PatternKind::Blackboard => blackboard_settings!(row_of defaults.blackboard, index,),
     }
 }
 
-impl Settings for Blackboard {
-    ghost use Rattle.service_drawing.specs.Settings.{blackboard_names, blackboard_values};
-
-    ghost names = { blackboard_names };
-
-    ghost values = { blackboard_values };
-
-    fn all_names() -> &'static str {
-        blackboard_settings!(names_of)
-    }
-
-    fn row(&self, index: usize) -> Option<(&'static str, Value)> {
-        blackboard_settings!(row_of self, index,)
-    }
-
-    fn set(&mut self, index: usize, value: Value) -> bool {
-        blackboard_settings!(set_in self, index, value,)
+/// Sets the setting of this number. A number that no setting of the pattern has is refused, and a
+/// value of another kind than the setting's.
+pub(crate) fn set_value(
+    defaults: &mut Defaults,
+    kind: PatternKind,
+    index: usize,
+    value: Value,
+) -> bool
+    ensures set { IsTrue result → setting_values kind defaults.new
+        ≡ slice_set (setting_values kind defaults.old) index value }
+    ensures others { restored kind defaults.old defaults.new ≡ defaults.old }
+    ensures kept { result ≡ false → defaults.new ≡ defaults.old }
+    ensures refused { result ≡ false → (old : Value)
+        → slice_get (setting_values kind defaults.old) index ≡ Some old → ¬ MayBecome old value }
+{
+    match kind {
+        PatternKind::PublishSubscribe => {
+            publish_subscribe_settings!(set_in defaults.publish_subscribe, index, value,)
+        }
+        PatternKind::Event => event_settings!(set_in defaults.event, index, value,),
+        PatternKind::RequestResponse => {
+            request_response_settings!(set_in defaults.request_response, index, value,)
+        }
+        PatternKind::Blackboard => blackboard_settings!(set_in defaults.blackboard, index, value,),
     }
 }

@@ -87,15 +87,7 @@ impl Sheet {
     }
 }
 
-/// Appends a text, in which the characters that have a
-/// meaning in a document are written by their names.
-pub(super) fn write_escaped(out: &mut String, text: &str) -> Result<(), AllocError> {
-    for letter in text.chars() {
-        write_letter(out, letter)?;
-    }
-    Ok(())
-}
-
+/// Appends a character, by its name where it has a meaning in a document.
 fn write_letter(out: &mut String, letter: char) -> Result<(), AllocError> {
     match letter {
         '&' => out.push_str("&amp;"),
@@ -144,7 +136,9 @@ pub(crate) fn write_svg(
         "<svg xmlns=\"http://www.w3.org/2000/svg\" viewBox=\"0 0 7600 {height}\" width=\"760\" role=\"img\" aria-labelledby=\"title description\" font-family=\"sans-serif\" font-size=\"130\" class=\"ink\">"
     )?;
     write!(out, "<title id=\"title\">")?;
-    write_escaped(out, service.name.as_str())?;
+    for letter in service.name.as_str().chars() {
+        write_letter(out, letter)?;
+    }
     writeln!(out, " ({})</title>", service.kind.word())?;
     write_description(out, service)?;
     out.push_str(STYLE)?;

@@ -7,12 +7,12 @@ ghost use Rattle.service_drawing.specs.Layout.{IsWhole};
 use crate::description::{Description, Exchange, Message, Segment, segments};
 use crate::layout::{MessageLayout, Part};
 use crate::sentences::{Row, opener_sentence, rows, write_memory};
-use crate::settings::Settings;
+use crate::settings::row;
 use arrayvec::ArrayVec;
 use iox2_config::config::Config;
-use iox2_config::hash::{PatternKind, ServiceHash};
+use iox2_config::hash::ServiceHash;
 use iox2_config::types::TypeDetail;
-use iox2_texts::attribute::{Attribute, AttributeVerifier};
+use iox2_texts::attribute::Attribute;
 use iox2_texts::bounded::SemanticStringError;
 use iox2_texts::paths::{FileName, FilePath};
 use std::alloc::AllocError;
@@ -41,7 +41,7 @@ pub(crate) fn write_text(out: &mut String, service: &Description) -> Result<(), 
     writeln!(out, "pattern    {}", service.kind.word())?;
     writeln!(out, "hash text  {}", service.hash.as_str())?;
     write_files(out, service)?;
-    write_all_settings(out, service)?;
+    write_settings(out, service)?;
     write_exchange(out, service)?;
     write_attributes(out, service)
 }
@@ -106,39 +106,19 @@ fn write_port_files(out: &mut String, service: &Description) -> Result<(), Alloc
     Ok(())
 }
 
-/// Appends the settings of the service's pattern.
-fn write_all_settings(out: &mut String, service: &Description) -> Result<(), AllocError> {
-    let settings = &service.config.defaults;
-    let usual = Config::default().defaults;
+/// Appends the settings of the service's pattern, each beside its default where it differs from
+/// that.
+fn write_settings(out: &mut String, service: &Description) -> Result<(), AllocError> {
     writeln!(
         out,
         "\nsettings, with ! where they differ from the defaults"
     )?;
-    match service.kind {
-        PatternKind::PublishSubscribe => write_settings(
-            out,
-            &settings.publish_subscribe,
-            &usual.publish_subscribe,
-        ),
-        PatternKind::Event => write_settings(out, &settings.event, &usual.event),
-        PatternKind::RequestResponse => write_settings(
-            out,
-            &settings.request_response,
-            &usual.request_response,
-        ),
-        PatternKind::Blackboard => write_settings(out, &settings.blackboard, &usual.blackboard),
-    }
-}
-
-/// Appends the settings, each beside its default where it differs from that.
-fn write_settings<S: Settings>(
-    out: &mut String,
-    settings: &S,
-    usual: &S,
-) -> Result<(), AllocError> {
+    let usual = Config::default().defaults;
     for index in 0..32 {
-        let (Some((name, value)), Some((_, default))) = (settings.row(index), usual.row(index))
-        else {
+        let (Some((name, value)), Some((_, default))) = (
+            row(&service.config.defaults, service.kind, index),
+            row(&usual, service.kind, index),
+        ) else {
             return Ok(());
         };
         if value == default {
@@ -176,7 +156,9 @@ fn write_attributes(out: &mut String, service: &Description) -> Result<(), Alloc
     write_pairs(out, service.attributes.as_slice())?;
     writeln!(out, "\nrequired by an opener")?;
     write_pairs(out, service.required.required_attributes().as_slice())?;
-    write_keys(out, &service.required)?;
+    for key in service.required.required_keys() {
+        writeln!(out, "  {key}")?;
+    }
     match service.required.verify_requirements(&service.attributes) {
         Ok(()) => writeln!(out, "  verified"),
         Err(fault) => writeln!(out, "  refused: {fault}"),
@@ -187,14 +169,6 @@ fn write_attributes(out: &mut String, service: &Description) -> Result<(), Alloc
 fn write_pairs(out: &mut String, attributes: &[Attribute]) -> Result<(), AllocError> {
     for attribute in attributes {
         writeln!(out, "  {} = {}", attribute.key(), attribute.value())?;
-    }
-    Ok(())
-}
-
-/// Appends a line for each key that an opener requires.
-fn write_keys(out: &mut String, required: &AttributeVerifier) -> Result<(), AllocError> {
-    for key in required.required_keys() {
-        writeln!(out, "  {key}")?;
     }
     Ok(())
 }

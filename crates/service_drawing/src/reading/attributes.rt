@@ -51,8 +51,9 @@ pub(super) fn attributes_before(bytes: &[u8]) -> Result<(AttributeSet, &[u8]), E
     let mut attributes = AttributeSet::new();
     let mut rest = bytes;
     while let Some((text, tail)) = line_after(rest, "", "attribute ") {
-        let expected = Expected::plain(
+        let expected = Expected::prefixed(
             rest,
+            "",
             "attribute KEY VALUE: 1 to 64 bytes without a space, and 1 to 256 bytes, at most 16 times",
         );
         let Some((key, value)) = pair_in(text) else {
@@ -75,8 +76,9 @@ pub(super) fn required_before(bytes: &[u8]) -> Result<(AttributeVerifier, &[u8])
     let mut required = AttributeVerifier::new();
     let mut rest = bytes;
     while let Some((text, tail)) = line_after(rest, "", "require") {
-        let expected = Expected::plain(
+        let expected = Expected::prefixed(
             rest,
+            "",
             "require KEY VALUE or require-key KEY: 1 to 64 bytes without a space, and 1 to 256 bytes, at most 16 times",
         );
         let Some(more) = requiring(required, text) else {

@@ -113,14 +113,6 @@ pub(crate) struct Expected<'a> {
 impl<'a> Expected<'a> {
     ghost use Rattle.service_drawing.specs.declared.reading.cause.Reason.TheVariants.{OtherForm};
 
-    /// A line of another form, which begins without a prefix.
-    pub(super) fn plain(rest: &'a [u8], form: &'static str) -> Self
-        ensures place { result.rest.now ≡ rest.now }
-        ensures reason { result.reason ≡ OtherForm }
-    {
-        Expected::prefixed(rest, "", form)
-    }
-
     /// A line of another form, which begins with this prefix.
     pub(super) fn prefixed(rest: &'a [u8], prefix: &'static str, form: &'static str) -> Self
         ensures place { result.rest.now ≡ rest.now }

@@ -84,8 +84,9 @@ pub(super) fn service_before(bytes: &[u8]) -> Result<(Service, &[u8]), Expected<
     ensures place { IfErr result (λ expected. expected.rest.now ≡ bytes.now) }
     ensures reason { IfErr result (λ expected. IsServiceReason expected.reason bytes.now) }
 {
-    let expected = Expected::plain(
+    let expected = Expected::prefixed(
         bytes,
+        "",
         "PATTERN NAME: publish-subscribe, event, request-response or blackboard, and the name of a service, 1 to 255 bytes",
     );
     let Some((line, rest)) = next_line(bytes) else {

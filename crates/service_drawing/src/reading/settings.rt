@@ -3,12 +3,15 @@ ghost use Rattle.std.specs.Prelude.{◌≡◌, ◌<◌, ◌↔◌, ℕ, IsTrue, 
 ghost use Rattle.std.specs.Prelude.{slice_get};
 ghost use Rattle.service_drawing.specs.Lines.{StopsAt};
 ghost use Rattle.service_drawing.specs.Descriptions.{IsSettingReason};
-ghost use Rattle.service_drawing.specs.Settings.{HasName, HasSettings, IsDashed, IsNamed, IsNotSet};
-ghost use Rattle.service_drawing.specs.Settings.{IsSetting, Sets, dash_for};
+ghost use Rattle.service_drawing.specs.Settings.{HasConfiguration, HasName, IsDashed, IsNamed, IsNotSet};
+ghost use Rattle.service_drawing.specs.Settings.{IsSetting, Sets, dash_for, restored};
+ghost use Rattle.service_drawing.specs.Settings.{setting_names, setting_values};
 
 use super::cause::{Expected, Reason};
 use super::words::line_after;
-use crate::settings::{Settings, Value};
+use crate::settings::{Value, all_names, row, set_value};
+use iox2_config::config::{Config, Defaults};
+use iox2_config::hash::PatternKind;
 use line_streams::before_byte;
 
 /// The byte, or a dash instead of an underscore.
@@ -42,15 +45,14 @@ fn is_named(word: &[u8], name: &str) -> bool
 }
 
 /// The number and the value of the setting of this name, if there is one.
-#[tactic(auto, using(crate::proofs::SettingLines::not_named, crate::proofs::SettingLines::none_named))]
-fn find<S: Settings>(settings: &S, word: &[u8]) -> Option<(usize, Value)>
-    ensures name { MatchOption result ((index : ℕ) → ¬ HasName S.names index word.now)
-        (λ found. IsSetting S.names found.0 word.now) }
-    ensures value { IfSome result (λ found.
-        (found.0 < 32) × (slice_get (S.values settings.now) found.0 ≡ Some found.1)) }
+fn find(defaults: &Defaults, kind: PatternKind, word: &[u8]) -> Option<(usize, Value)>
+    ensures name { MatchOption result ((index : ℕ) → ¬ HasName (setting_names kind) index word.now)
+        (λ found. IsSetting (setting_names kind) found.0 word.now) }
+    ensures value { IfSome result (λ found. (found.0 < 32)
+        × (slice_get (setting_values kind defaults.now) found.0 ≡ Some found.1)) }
 {
     let mut index = 0;
-    while let Some((name, value)) = settings.row(index) {
+    while let Some((name, value)) = row(defaults, kind, index) {
         if is_named(word, name) {
             return Some((index, value));
         }
@@ -61,24 +63,31 @@ fn find<S: Settings>(settings: &S, word: &[u8]) -> Option<(usize, Value)>
 
 /// Sets the setting with the name and the value of the text, and marks it as set, or returns why it
 /// does not.
-fn set<S: Settings>(settings: &mut S, given: &mut [bool; 32], text: &[u8]) -> Result<(), Reason>
-    ensures set { IfOk result (λ done. Sets S.names (S.values settings.old) given.old text.now
-        (S.values settings.new) given.new) }
-    ensures kept { IfErr result (λ reason. settings.new ≡ settings.old) }
-    ensures refused { IfErr result (λ reason.
-        IsNotSet S.names (S.values settings.old) given.old text.now reason) }
+#[tactic(auto, using(crate::proofs::SettingLines::restored_same))]
+fn set(
+    defaults: &mut Defaults,
+    kind: PatternKind,
+    given: &mut [bool; 32],
+    text: &[u8],
+) -> Result<(), Reason>
+    ensures set { IfOk result (λ done. Sets (setting_names kind) (setting_values kind defaults.old)
+        given.old text.now (setting_values kind defaults.new) given.new) }
+    ensures others { restored kind defaults.old defaults.new ≡ defaults.old }
+    ensures kept { IfErr result (λ reason. defaults.new ≡ defaults.old) }
+    ensures refused { IfErr result (λ reason. IsNotSet (setting_names kind)
+        (setting_values kind defaults.old) given.old text.now reason) }
 {
     let Some((word, text)) = before_byte(text, b' ') else {
         return Err(Reason::OtherForm);
     };
-    let Some((index, value)) = find(settings, word) else {
+    let Some((index, value)) = find(defaults, kind, word) else {
         return Err(Reason::UnknownSetting);
     };
     if given[index] {
         return Err(Reason::SetTwice);
     }
     match value.of_kind(text) {
-        Some(value) if settings.set(index, value) => {
+        Some(value) if set_value(defaults, kind, index, value) => {
             given[index] = true;
             Ok(())
         }
@@ -87,12 +96,12 @@ fn set<S: Settings>(settings: &mut S, given: &mut [bool; 32], text: &[u8]) -> Re
 }
 
 /// What was expected instead of a line that sets nothing.
-fn expected<S: Settings>(bytes: &[u8], reason: Reason) -> Expected<'_>
+fn expected(kind: PatternKind, bytes: &[u8], reason: Reason) -> Expected<'_>
     ensures place { result.rest.now ≡ bytes.now }
     ensures reason { result.reason ≡ reason }
 {
     let (prefix, form) = match reason {
-        Reason::UnknownSetting => ("set NAME VALUE with one of the names ", S::all_names()),
+        Reason::UnknownSetting => ("set NAME VALUE with one of the names ", all_names(kind)),
         Reason::SetTwice => ("each setting once", ""),
         _ => ("set NAME VALUE with a value that the setting may have", ""),
     };
@@ -104,25 +113,24 @@ fn expected<S: Settings>(bytes: &[u8], reason: Reason) -> Expected<'_>
     }
 }
 
-/// The lines of the settings.
-pub(super) fn settings_before<'a, S: Settings>(
+/// The lines of the settings of a pattern, with which the configuration is changed.
+pub(super) fn settings_before<'a>(
     bytes: &'a [u8],
-    settings: &mut S,
+    kind: PatternKind,
+    config: &mut Config,
 ) -> Result<&'a [u8], Expected<'a>>
     ensures { MatchResult result
-        (λ rest. HasSettings S.names (S.values settings.old) (S.values settings.new) rest.now
-        bytes.now)
-        (λ expected. StopsAt (λ s. HasSettings S.names (S.values settings.old) (S.values s))
-        expected.rest.now bytes.now
-        × IsSettingReason S.names (S.values settings.old) expected.reason expected.rest.now
-        bytes.now) }
+        (λ rest. HasConfiguration config.old kind config.new rest.now bytes.now)
+        (λ expected. StopsAt (HasConfiguration config.old kind) expected.rest.now bytes.now
+        × IsSettingReason (setting_names kind) (setting_values kind config.old.defaults)
+        expected.reason expected.rest.now bytes.now) }
 {
     let mut given = [false; 32];
     let mut rest = bytes;
     while let Some((text, tail)) = line_after(rest, "", "set ") {
-        match set(settings, &mut given, text) {
+        match set(&mut config.defaults, kind, &mut given, text) {
             Ok(()) => rest = tail,
-            Err(reason) => return Err(expected::<S>(rest, reason)),
+            Err(reason) => return Err(expected(kind, rest, reason)),
         }
     }
     Ok(rest)

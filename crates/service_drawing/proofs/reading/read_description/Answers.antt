@@ -14,11 +14,11 @@ returns-in_err-service c =
           bad.ensures.reason,
     )
 
-pub returns-in_err-config : goal.returns-in_err-config
-returns-in_err-config c =
+pub returns-in_err-rest : goal.returns-in_err-rest
+returns-in_err-rest c =
     let s = c.in_ok-service in
-    let bad = c.in_err-config in
-    handed_on _ _ _ _ c.from_residual-in_err-config.ensures (
+    let bad = c.in_err-rest in
+    handed_on _ _ _ _ c.from_residual-in_err-rest.ensures (
       stops_behind_service c.args.base s.service.kind s.service.name _ s.rest.now c.args.bytes.now
           s.ensures.spelled (inl (inl bad.ensures.0)),
       reason_in_settings c.args.base bad.field-0.0.reason s.service.kind s.service.name _ s.rest.now
@@ -29,37 +29,37 @@ pub returns-in_err-exchange : goal.returns-in_err-exchange
 returns-in_err-exchange c =
     let bad = c.in_err-exchange.ensures in
     handed_on _ _ _ _ c.from_residual-in_err-exchange.ensures
-    (stops_behind_settings _ _ _ _ c.in_ok-config.config _ _ _ _ bad.1
-    c.in_ok-service.ensures.spelled c.in_ok-config.ensures
+    (stops_behind_settings _ _ _ _ c.settings_before.new.config _ _ _ _ bad.1
+    c.in_ok-service.ensures.spelled c.in_ok-rest.ensures
     (inl (inl bad.0)))
 
 pub returns-in_err-attributes : goal.returns-in_err-attributes
 returns-in_err-attributes c =
     let bad = c.in_err-attributes.ensures in
     handed_on _ _ _ _ c.from_residual-in_err-attributes.ensures
-    (stops_behind_settings _ _ _ _ c.in_ok-config.config _ _ _ _ bad.1
-    c.in_ok-service.ensures.spelled c.in_ok-config.ensures
+    (stops_behind_settings _ _ _ _ c.settings_before.new.config _ _ _ _ bad.1
+    c.in_ok-service.ensures.spelled c.in_ok-rest.ensures
     (inl (inr (_, _, c.in_ok-exchange.ensures, inl bad.0))))
 
 pub returns-in_err-required : goal.returns-in_err-required
 returns-in_err-required c =
     let bad = c.in_err-required.ensures in
     handed_on _ _ _ _ c.from_residual-in_err-required.ensures
-    (stops_behind_settings _ _ _ _ c.in_ok-config.config _ _ _ _ bad.1
-    c.in_ok-service.ensures.spelled c.in_ok-config.ensures
+    (stops_behind_settings _ _ _ _ c.settings_before.new.config _ _ _ _ bad.1
+    c.in_ok-service.ensures.spelled c.in_ok-rest.ensures
     (inl (inr (_, _, c.in_ok-exchange.ensures, inr (_, _, c.in_ok-attributes.ensures, bad.0)))))
 
 pub returns-then-not-is_empty : goal.returns-then-not-is_empty
 returns-then-not-is_empty c =
     let left : Breaks (after_settings c.in_ok-service.service.kind) c.in_ok-required.rest.now
-    c.in_ok-config.rest.now = inr (
+    c.in_ok-rest.rest.now = inr (
       (_, (_, _)),
       (_, c.in_ok-exchange.ensures, (_, c.in_ok-attributes.ensures, c.in_ok-required.ensures)),
       c.if-not-is_empty.ensures,
     ) in
-    rw c.plain.ensures.place
-    (stops_behind_settings _ _ _ _ c.in_ok-config.config _ _ _ _ c.plain.ensures.reason
-    c.in_ok-service.ensures.spelled c.in_ok-config.ensures left)
+    rw c.prefixed.ensures.place
+    (stops_behind_settings _ _ _ _ c.settings_before.new.config _ _ _ _ c.prefixed.ensures.reason
+    c.in_ok-service.ensures.spelled c.in_ok-rest.ensures left)
 
 pub returns : goal.returns
 returns c =
@@ -71,5 +71,5 @@ returns c =
       rest = c.in_ok-service.rest.now;
       service = c.in_ok-service.ensures.spelled;
       hash = c.in_ok-service.ensures.hash;
-      lines = (_, c.in_ok-config.ensures, (_, exchange, (_, attributes, required)));
+      lines = (_, c.in_ok-rest.ensures, (_, exchange, (_, attributes, required)));
     }

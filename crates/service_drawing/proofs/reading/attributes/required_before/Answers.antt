@@ -4,7 +4,7 @@ use Rattle.service_drawing.proofs.reading.attributes.required_before.Goals as go
 
 pub returns-in_default-requiring : goal.returns-in_default-requiring
 returns-in_default-requiring c =
-    let expected = c.plain-expected.ensures in
+    let expected = c.prefixed-expected.ensures in
     let stops = stops_at_required _ _ _ c.in-Some.text.now c.in-Some.tail.now
     c.loop-text.invariant (search rules) c.in_default-requiring.ensures in
     (rw expected.place stops, expected.reason)

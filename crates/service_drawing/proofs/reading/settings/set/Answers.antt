@@ -1,22 +1,22 @@
 use Rattle.std.proofs.Common.{◌≡◌, false, refl, inl, inr, rules}
-use Rattle.service_drawing.specs.Settings.{word_of}
+use Rattle.service_drawing.specs.Settings.{setting_names, word_of}
 use Rattle.service_drawing.proofs.SettingLines.{as_word, marked_at, spaced, no_value_follows, not_a_value}
 use Rattle.service_drawing.proofs.reading.settings.set.Goals as goal
 
 pub returns-in_default-clause-refused : goal.returns-in_default-clause-refused
-returns-in_default-clause-refused g c =
+returns-in_default-clause-refused c =
     let none : word_of c.args.text.now ≡ c.args.text.now = search rules in
-    (inl none, no_value_follows g.S.Settings.names _ c.args.text.now none)
+    (inl none, no_value_follows (setting_names c.args.kind) _ c.args.text.now none)
 
 pub returns-in_default-find-clause-refused : goal.returns-in_default-find-clause-refused
-returns-in_default-find-clause-refused g c =
+returns-in_default-find-clause-refused c =
     let word : word_of c.args.text.now ≡ c.in-Some.word.now = search rules in (
       spaced c.args.text.now c.in-Some.word.now c.in-Some.text.now word (search rules),
       λ index h. c.in_default-find.ensures.name index (rw word at h),
     )
 
 pub returns-then-given-index-clause-refused : goal.returns-then-given-index-clause-refused
-returns-then-given-index-clause-refused g c = (
+returns-then-given-index-clause-refused c = (
   spaced c.args.text.now c.in-Some.word.now c.in-Some.text.now (search rules) (search rules),
   record {
     index = c.in-Some-find.index;
@@ -26,11 +26,11 @@ returns-then-given-index-clause-refused g c = (
 )
 
 pub returns-in-Some-of_kind-clause-set : goal.returns-in-Some-of_kind-clause-set
-returns-in-Some-of_kind-clause-set g c = record {
+returns-in-Some-of_kind-clause-set c = record {
   set = record { index = c.in-Some-find.index; value = c.in-Some-of_kind.value };
   gives = record {
     old = c.in-Some-find.value;
-    setting = as_word g.S.Settings.names c.in-Some-find.index c.in-Some.word.now
+    setting = as_word (setting_names c.args.kind) c.in-Some-find.index c.in-Some.word.now
         (word_of c.args.text.now) (search rules) (search rules);
     spelled = search rules;
     stands = search rules;
@@ -43,11 +43,11 @@ returns-in-Some-of_kind-clause-set g c = record {
 }
 
 pub returns-in_default-of_kind-clause-refused : goal.returns-in_default-of_kind-clause-refused
-returns-in_default-of_kind-clause-refused g c = absurd (search (rules, c.if-set.ensures.refused))
+returns-in_default-of_kind-clause-refused c = absurd (search (rules, c.if-set_value.ensures.refused))
 
 pub returns-in_default-of_kind-2-clause-refused : goal.returns-in_default-of_kind-2-clause-refused
-returns-in_default-of_kind-2-clause-refused g c =
-    let named = as_word g.S.Settings.names c.in-Some-find.index c.in-Some.word.now
+returns-in_default-of_kind-2-clause-refused c =
+    let named = as_word (setting_names c.args.kind) c.in-Some-find.index c.in-Some.word.now
     (word_of c.args.text.now) (search rules) (search rules) in (
       inr (record {
         index = c.in-Some-find.index;
@@ -55,6 +55,6 @@ returns-in_default-of_kind-2-clause-refused g c =
         marked = marked_at c.args.given.now c.in-Some-find.index false
             (search rules) c.if-given-index.false;
       }),
-      not_a_value g.S.Settings.names _ c.in-Some-find.index c.in-Some-find.value c.args.text.now
+      not_a_value (setting_names c.args.kind) _ c.in-Some-find.index c.in-Some-find.value c.args.text.now
           c.in-Some.text.now named (search rules) (search rules) c.in_default-of_kind.ensures,
     )
