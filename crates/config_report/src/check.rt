@@ -37,11 +37,8 @@ use toml_positions::{Position, position_after};
 pub fn check_file(alloc: Global, bytes: &[u8]) -> Result<Findings, AllocError>
     ensures { IfOk result (Checks bytes.now) }
 {
-    match text_of(alloc, bytes) {
-        Ok(text) => match contents_of(alloc, text) {
-            Ok(contents) => list_all(alloc, text, contents),
-            Err(unread) => alone(alloc, unread),
-        },
+    match parse_file(alloc, bytes) {
+        Ok((text, contents)) => list_all(alloc, text, contents),
         Err(unread) => alone(alloc, unread),
     }
 }
@@ -182,6 +179,21 @@ pub fn contents_of(alloc: Global, text: &str) -> Result<FileContents, Unread>
         Ok(contents) => Ok(contents),
         Err(ConfigFileError::Syntax(error)) => Err(no_toml(alloc, text, &error)),
         Err(ConfigFileError::NoMemory(error)) => Err(Unread::NoMemory(error)),
+    }
+}
+
+/// The text that bytes are and all that it says, or why they are no file of settings.
+pub fn parse_file(alloc: Global, bytes: &[u8]) -> Result<(&str, FileContents), Unread>
+    ensures ok { IfOk result (λ file.
+        (file.0.now ≡ bytes.now) × IsText bytes.now × ReadsAll bytes.now file.1) }
+    ensures err { IfErr result (IsUnread bytes.now) }
+{
+    match text_of(alloc, bytes) {
+        Ok(text) => match contents_of(alloc, text) {
+            Ok(contents) => Ok((text, contents)),
+            Err(unread) => Err(unread),
+        },
+        Err(unread) => Err(unread),
     }
 }
 

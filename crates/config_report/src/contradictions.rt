@@ -272,15 +272,15 @@ fn add_events(
     Ok(())
 }
 
-/// A limit of this value.
-fn limit_of(section: Section, key: &'static str, value: usize) -> Limit
-    ensures { limit_view result ≡ (section, key.now, value) }
-{
-    Limit {
-        section,
-        key,
-        value,
-    }
+/// Limits, each a table, a key of it, and the value.
+macro_rules! limit_rows {
+    ($($section:ident, $key:literal, $value:expr;)*) => {
+        [$(Limit {
+            section: Section::$section,
+            key: $key,
+            value: $value,
+        }),*]
+    };
 }
 
 /// The limits without which a pattern cannot be used.
@@ -291,52 +291,25 @@ fn limits(settings: &Defaults) -> [Limit; 16]
     let event = &settings.event;
     let request = &settings.request_response;
     let board = &settings.blackboard;
-    [
-        limit_of(
-            Section::PublishSubscribe,
-            "max-subscribers",
-            samples.max_subscribers,
-        ),
-        limit_of(
-            Section::PublishSubscribe,
-            "max-publishers",
-            samples.max_publishers,
-        ),
-        limit_of(Section::PublishSubscribe, "max-nodes", samples.max_nodes),
-        limit_of(
-            Section::PublishSubscribe,
-            "subscriber-max-buffer-size",
-            samples.subscriber_max_buffer_size,
-        ),
-        limit_of(
-            Section::PublishSubscribe,
-            "subscriber-max-borrowed-samples",
-            samples.subscriber_max_borrowed_samples,
-        ),
-        limit_of(
-            Section::PublishSubscribe,
-            "publisher-max-loaned-samples",
-            samples.publisher_max_loaned_samples,
-        ),
-        limit_of(Section::Event, "max-listeners", event.max_listeners),
-        limit_of(Section::Event, "max-notifiers", event.max_notifiers),
-        limit_of(Section::Event, "max-nodes", event.max_nodes),
-        limit_of(
-            Section::RequestResponse,
-            "max-active-requests-per-client",
-            request.max_active_requests_per_client,
-        ),
-        limit_of(Section::RequestResponse, "max-servers", request.max_servers),
-        limit_of(Section::RequestResponse, "max-clients", request.max_clients),
-        limit_of(Section::RequestResponse, "max-nodes", request.max_nodes),
-        limit_of(
-            Section::RequestResponse,
-            "max-loaned-requests",
-            request.max_loaned_requests,
-        ),
-        limit_of(Section::Blackboard, "max-readers", board.max_readers),
-        limit_of(Section::Blackboard, "max-nodes", board.max_nodes),
-    ]
+    limit_rows!(
+        PublishSubscribe, "max-subscribers", samples.max_subscribers;
+        PublishSubscribe, "max-publishers", samples.max_publishers;
+        PublishSubscribe, "max-nodes", samples.max_nodes;
+        PublishSubscribe, "subscriber-max-buffer-size", samples.subscriber_max_buffer_size;
+        PublishSubscribe, "subscriber-max-borrowed-samples",
+            samples.subscriber_max_borrowed_samples;
+        PublishSubscribe, "publisher-max-loaned-samples", samples.publisher_max_loaned_samples;
+        Event, "max-listeners", event.max_listeners;
+        Event, "max-notifiers", event.max_notifiers;
+        Event, "max-nodes", event.max_nodes;
+        RequestResponse, "max-active-requests-per-client", request.max_active_requests_per_client;
+        RequestResponse, "max-servers", request.max_servers;
+        RequestResponse, "max-clients", request.max_clients;
+        RequestResponse, "max-nodes", request.max_nodes;
+        RequestResponse, "max-loaned-requests", request.max_loaned_requests;
+        Blackboard, "max-readers", board.max_readers;
+        Blackboard, "max-nodes", board.max_nodes;
+    )
 }
 
 /// Adds each of some limits that is 0.

@@ -13,8 +13,8 @@ pub mod laws;
 mod text;
 
 pub use check::{
-    FileConfig, Report, ReportError, Unread, check_file, contents_of, default_file, read_file,
-    report_file, settings_text, text_of,
+    FileConfig, Report, ReportError, Unread, check_file, contents_of, default_file, parse_file,
+    read_file, report_file, settings_text, text_of,
 };
 pub use finding::{
     Finding, Findings, Severity, Subject, fault_positions, position_at, unknown_positions,

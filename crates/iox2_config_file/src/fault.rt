@@ -1,9 +1,8 @@
 //! What the value of a key may be, and which values of a file are not allowed.
-ghost use Rattle.std.specs.Prelude.{◌≡◌, Some, ◌++◌, map, flat_map, option_map, OnOk, IfOk};
+ghost use Rattle.std.specs.Prelude.{◌≡◌, Some, ◌++◌, map, option_map, OnOk, IfOk};
 ghost use Rattle.iox2_config_file.specs.Read.{kind_text, no_file_name_text, no_path_text};
 ghost use Rattle.iox2_config_file.specs.Read.{reason_text, type_text, located_text, fault_view};
 ghost use Rattle.iox2_config_file.specs.Read.{row_fault, row_view, section_faults, faults_in};
-ghost use Rattle.std.specs.List.{filter_map};
 ghost use Rattle.toml.specs.Data.{no_members};
 ghost use Rattle.toml.specs.View.{table_view};
 ghost use Rattle.iox2_config.specs.declared.config.Config.{Config};
@@ -190,28 +189,9 @@ fn fault_of(section: Section, table: &Table, row: &Row) -> Option<SettingFault>
     })
 }
 
-/// Adds the faults of a table's values.
-fn add_faults(
-    faults: &mut Vec<SettingFault>,
-    section: Section,
-    table: &Table,
-    rows: &[Row],
-) -> Result<(), AllocError>
-    ensures { OnOk result (map fault_view faults.new.items
-        ≡ map fault_view faults.old.items
-        ++ filter_map (row_fault section (table_view table.now)) (map row_view rows.now)) }
-{
-    for row in rows {
-        if let Some(fault) = fault_of(section, table, row) {
-            faults.push(fault)?;
-        }
-    }
-    Ok(())
-}
-
 /// Adds the faults of the values in a table of the file.
 #[tactic(auto, unfolding(crate::specs::Read::section_faults))]
-fn add_section(
+fn add_faults(
     faults: &mut Vec<SettingFault>,
     section: Section,
     file: &Table,
@@ -221,28 +201,12 @@ fn add_section(
     ensures { OnOk result ((c : Config) → map fault_view faults.new.items
         ≡ map fault_view faults.old.items ++ section_faults c (table_view file.now) section) }
 {
-    add_faults(
-        faults,
-        section,
-        section_table(file, section, empty),
-        rows(section),
-    )
-}
-
-/// Adds the faults of the values in some tables of the file.
-fn add_sections(
-    faults: &mut Vec<SettingFault>,
-    sections: &[Section],
-    file: &Table,
-    empty: &Table,
-) -> Result<(), AllocError>
-    requires { table_view empty.now ≡ no_members }
-    ensures { OnOk result ((c : Config) → map fault_view faults.new.items
-        ≡ map fault_view faults.old.items
-        ++ flat_map (section_faults c (table_view file.now)) sections.now) }
-{
-    for section in sections {
-        add_section(faults, *section, file, empty)?;
+    let table = section_table(file, section, empty);
+    let rows = rows(section);
+    for row in rows {
+        if let Some(fault) = fault_of(section, table, row) {
+            faults.push(fault)?;
+        }
     }
     Ok(())
 }
@@ -259,6 +223,9 @@ pub(crate) fn file_faults(
         → map fault_view faults.items ≡ faults_in c (table_view file.now)) }
 {
     let mut faults = Vec::new(alloc);
-    add_sections(&mut faults, &SECTIONS, file, empty)?;
+    let sections = &SECTIONS;
+    for section in sections {
+        add_faults(&mut faults, *section, file, empty)?;
+    }
     Ok(faults)
 }

@@ -1,5 +1,5 @@
 //! The keys of a file that no setting has.
-ghost use Rattle.std.specs.Prelude.{◌≡◌, ◌++◌, Some, map, flat_map, option_map, OnOk, IfOk};
+ghost use Rattle.std.specs.Prelude.{◌≡◌, ◌++◌, Some, map, option_map, OnOk, IfOk};
 ghost use Rattle.iox2_config.specs.declared.config.Config.{Config};
 ghost use Rattle.iox2_config_file.specs.Read.{row_view};
 ghost use Rattle.iox2_config_file.specs.Unknown.{is_known, unknown_view, unknown_at, unknown_among};
@@ -86,25 +86,6 @@ fn add_section(
     add_unknown(alloc, unknown, section, section_table(file, section, empty))
 }
 
-/// Adds the unknown keys of some tables of the file.
-fn add_sections(
-    alloc: Global,
-    unknown: &mut Vec<UnknownKey>,
-    sections: &[Section],
-    file: &Table,
-    empty: &Table,
-) -> Result<(), AllocError>
-    requires { table_view empty.now ≡ no_members }
-    ensures { OnOk result ((c : Config) → map unknown_view unknown.new.items
-        ≡ map unknown_view unknown.old.items
-        ++ flat_map (section_unknown c (table_view file.now)) sections.now) }
-{
-    for section in sections {
-        add_section(alloc, unknown, *section, file, empty)?;
-    }
-    Ok(())
-}
-
 /// The unknown keys of a file, in the order of its tables and of the keys in each.
 #[tactic(auto, unfolding(crate::specs::Unknown::unknown_in))]
 pub(crate) fn unknown_keys(
@@ -117,6 +98,9 @@ pub(crate) fn unknown_keys(
         → map unknown_view unknown.items ≡ unknown_in c (table_view file.now)) }
 {
     let mut unknown = Vec::new(alloc);
-    add_sections(alloc, &mut unknown, &SECTIONS, file, empty)?;
+    let sections = &SECTIONS;
+    for section in sections {
+        add_section(alloc, &mut unknown, *section, file, empty)?;
+    }
     Ok(unknown)
 }

@@ -18,10 +18,7 @@ use crate::section::{Section, get, member_count, node_settings, service_settings
 use crate::{
     blackboard_settings, event_settings, publish_subscribe_settings, request_response_settings,
 };
-use iox2_config::config::{
-    AllocationStrategy, BackpressureStrategy, Blackboard, Config, Event, Global, Node,
-    PublishSubscribe, RequestResonse, Service,
-};
+use iox2_config::config::{AllocationStrategy, BackpressureStrategy, Config};
 use iox2_texts::bounded::SemanticStringError;
 use iox2_texts::paths::{FileName, Path};
 use std::fmt;
@@ -377,7 +374,7 @@ fn file_name(bytes: &[u8]) -> Result<FileName, SemanticStringError>
 
 /// What the field of this number holds, among some settings.
 macro_rules! value_in {
-    ($settings:ident, $index:ident, $(
+    (($settings:expr), $index:ident, $(
         $number:literal => $field:ident: $key:literal, $kind:ident $($optional:ident)?,
             $about:literal;
     )*) => {
@@ -395,73 +392,21 @@ pub fn value_at(config: &Config, section: Section, index: usize) -> Option<Setti
 {
     match section {
         Section::Root | Section::Defaults => None,
-        Section::Global => global(&config.global, index),
-        Section::Service => service(&config.global.service, index),
-        Section::Node => node(&config.global.node, index),
-        Section::PublishSubscribe => publish_subscribe(&config.defaults.publish_subscribe, index),
-        Section::Event => event(&config.defaults.event, index),
-        Section::RequestResponse => request_response(&config.defaults.request_response, index),
-        Section::Blackboard => blackboard(&config.defaults.blackboard, index),
+        Section::Global => match index {
+            0 => Some(config.global.root_path().to_value()),
+            1 => Some(config.global.prefix.to_value()),
+            2 => Some(config.global.creation_timeout.to_value()),
+            _ => None,
+        },
+        Section::Service => service_settings!(value_in(config.global.service), index,),
+        Section::Node => node_settings!(value_in(config.global.node), index,),
+        Section::PublishSubscribe => {
+            publish_subscribe_settings!(value_in(config.defaults.publish_subscribe), index,)
+        }
+        Section::Event => event_settings!(value_in(config.defaults.event), index,),
+        Section::RequestResponse => {
+            request_response_settings!(value_in(config.defaults.request_response), index,)
+        }
+        Section::Blackboard => blackboard_settings!(value_in(config.defaults.blackboard), index,),
     }
-}
-
-/// The settings of a whole system, by the numbers of their rows.
-fn global(settings: &Global, index: usize) -> Option<SettingValue<'_>>
-    ensures { option_map value_view result
-        ≡ table_of.held_at (table_of.global_settings settings.now) index }
-{
-    match index {
-        0 => Some(settings.root_path().to_value()),
-        1 => Some(settings.prefix.to_value()),
-        2 => Some(settings.creation_timeout.to_value()),
-        _ => None,
-    }
-}
-
-/// The settings of services' files.
-fn service(settings: &Service, index: usize) -> Option<SettingValue<'_>>
-    ensures { option_map value_view result
-        ≡ table_of.held_at (table_of.service_settings settings.now) index }
-{
-    service_settings!(value_in settings, index,)
-}
-
-/// The settings of nodes' files.
-fn node(settings: &Node, index: usize) -> Option<SettingValue<'_>>
-    ensures { option_map value_view result
-        ≡ table_of.held_at (table_of.node_settings settings.now) index }
-{
-    node_settings!(value_in settings, index,)
-}
-
-/// The settings of publish-subscribe services.
-fn publish_subscribe(settings: &PublishSubscribe, index: usize) -> Option<SettingValue<'_>>
-    ensures { option_map value_view result
-        ≡ table_of.held_at (table_of.publish_subscribe_settings settings.now) index }
-{
-    publish_subscribe_settings!(value_in settings, index,)
-}
-
-/// The settings of event services.
-fn event(settings: &Event, index: usize) -> Option<SettingValue<'_>>
-    ensures { option_map value_view result
-        ≡ table_of.held_at (table_of.event_settings settings.now) index }
-{
-    event_settings!(value_in settings, index,)
-}
-
-/// The settings of request-response services.
-fn request_response(settings: &RequestResonse, index: usize) -> Option<SettingValue<'_>>
-    ensures { option_map value_view result
-        ≡ table_of.held_at (table_of.request_response_settings settings.now) index }
-{
-    request_response_settings!(value_in settings, index,)
-}
-
-/// The settings of blackboard services.
-fn blackboard(settings: &Blackboard, index: usize) -> Option<SettingValue<'_>>
-    ensures { option_map value_view result
-        ≡ table_of.held_at (table_of.blackboard_settings settings.now) index }
-{
-    blackboard_settings!(value_in settings, index,)
 }

@@ -41,7 +41,7 @@ const REPORTED: [(&[u8], &str); 15] = [
     ),
     (
         b"[global.service]\n[defaults]\nservice.x = 1\n[global]\nservices = 2\n",
-        "3:1: warning: defaults.service: this table has no such key, it belongs to [global]\n\
+        "3:1: warning: defaults.service: this table has no such key, [global.service] may be meant\n\
          5:1: warning: global.services: this table has no such key, global.service may be meant\n",
     ),
     (

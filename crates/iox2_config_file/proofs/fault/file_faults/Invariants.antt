@@ -2,12 +2,11 @@ use Rattle.std.proofs.Common.{◌≡◌, ◌++◌, drop}
 use Rattle.std.specs.Prelude.{map, flat_map}
 use Rattle.toml.specs.View.{table_view}
 use Rattle.iox2_config.specs.declared.config.Config.{Config}
-use Rattle.iox2_config_file.specs.Read.{fault_view, section_faults}
-use Rattle.iox2_config_file.proofs.fault.add_sections.Given as goal
+use Rattle.iox2_config_file.specs.Read.{fault_view, section_faults, sections}
+use Rattle.iox2_config_file.proofs.fault.file_faults.Given as goal
 
 abbrev pub invariant-loop-section : goal.invariant-loop-section
 invariant-loop-section l =
     (c : Config)
     → (let found = flat_map (section_faults c (table_view l.file)) in
-    map fault_view l.faults.items ++ found (drop l.section-index l.sections)
-    ≡ map fault_view l.initial.faults.items ++ found l.sections)
+    map fault_view l.faults.items ++ found (drop l.section-index sections) ≡ found sections)

@@ -2,12 +2,12 @@ use Rattle.std.proofs.Common.{◌≡◌, ◌++◌, drop}
 use Rattle.std.specs.Prelude.{map, flat_map}
 use Rattle.toml.specs.View.{table_view}
 use Rattle.iox2_config.specs.declared.config.Config.{Config}
+use Rattle.iox2_config_file.specs.Read.{sections}
 use Rattle.iox2_config_file.specs.Unknown.{unknown_view, section_unknown}
-use Rattle.iox2_config_file.proofs.unknown.add_sections.Given as goal
+use Rattle.iox2_config_file.proofs.unknown.unknown_keys.Given as goal
 
 abbrev pub invariant-loop-section : goal.invariant-loop-section
 invariant-loop-section l =
     (c : Config)
     → (let found = flat_map (section_unknown c (table_view l.file)) in
-    map unknown_view l.unknown.items ++ found (drop l.section-index l.sections)
-    ≡ map unknown_view l.initial.unknown.items ++ found l.sections)
+    map unknown_view l.unknown.items ++ found (drop l.section-index sections) ≡ found sections)
