@@ -1,6 +1,8 @@
 -- What the library is, and what its statuses say.
-use Rattle.std.specs.Prelude.{◌≡◌, ℕ, Option, Some, None, List}
-use Rattle.iox2sd.specs.Prelude.{text_answer, Written, ReadsStatus, status_text, Status}
+use Rattle.std.specs.Prelude.{ℕ, Option, List}
+use Rattle.std.specs.Option.{ok_or, option_map}
+use Rattle.iox2sd.specs.Prelude.{ReadsStatus, status_text, Status}
+use Rattle.iox2sd_common.specs.Answers.{TellsText}
 use Rattle.iox2sd_common.specs.declared.answers.TextAnswer.{TextAnswer}
 use Rattle.iox2sd_common.specs.declared.status.Status.TheVariants as status
 
@@ -8,12 +10,8 @@ use Rattle.iox2sd_common.specs.declared.status.Status.TheVariants as status
 abbrev pub the_abi : ℕ
 the_abi = 2
 
--- what a status says was written, where there is one
-abbrev pub Says : Option Status → List ℕ → TextAnswer → List ℕ → Type 0
-Says (Some s) old answer new = Written (status_text s) old answer new
-Says None old answer new = (answer ≡ text_answer status.UnknownStatus 0) × (new ≡ old)
-
--- the same for the number of a status
+-- what the status of this number says was written, where there is one
 abbrev pub TellsStatus : ℕ → List ℕ → TextAnswer → List ℕ → Type 0
 TellsStatus number old answer new =
-    (read : Option Status) × ReadsStatus number read × Says read old answer new
+    (read : Option Status) × ReadsStatus number read
+    × TellsText (ok_or (option_map status_text read) status.UnknownStatus) old answer new

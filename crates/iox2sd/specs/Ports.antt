@@ -1,5 +1,5 @@
 -- Handles and ports as C sees them.
-use Rattle.std.specs.Prelude.{◌≡◌, ◌≢◌, ℕ, Option, Some, None, Bool, true, false, Result, Ok, Err, ◌⊎◌}
+use Rattle.std.specs.Prelude.{◌≡◌, ℕ, Option, Some, None, Bool, true, false, Result, Ok, Err, ◌⊎◌}
 use Rattle.iox2sd.specs.Prelude.{Role, Handle, port_value, PortDetails, role_of, node_of, port_of, HasRole, AttachStep, number_of, id_of, ReadsNode, Port, Status}
 use Rattle.iox2_container.specs.Handle.{Handle as Named}
 use Rattle.iox2_container.specs.declared.container.role.Role.TheVariants as role
@@ -8,6 +8,7 @@ use Rattle.iox2_config.specs.declared.config.choices.DataSegmentType.TheVariants
 use Rattle.iox2_dynamic.specs.declared.dynamic_config.answers.AttachError.TheVariants as attach
 use Rattle.iox2_dynamic.specs.declared.dynamic_config.port_details.PortDetails.TheVariants as of
 use Rattle.iox2_dynamic.specs.Service.{Service as Held}
+use Rattle.iox2sd_common.specs.Status.{OfNumber}
 use Rattle.iox2sd_common.specs.declared.status.Status.TheVariants as status
 
 -- the number of a role
@@ -24,8 +25,7 @@ role_number role.Writer = 8
 
 -- the role of a number
 abbrev pub ReadsRole : ℕ → Option Role → Type 0
-ReadsRole number (Some role) = role_number role ≡ number
-ReadsRole number None = (role : Role) → role_number role ≢ number
+ReadsRole number read = OfNumber role_number number read
 
 -- the handle as C sees it
 abbrev pub c_handle : Named → Handle
@@ -56,8 +56,7 @@ segment_number Static = 1
 
 -- the kind of data segment of a number
 abbrev pub ReadsSegment : ℕ → Option DataSegmentType → Type 0
-ReadsSegment number (Some s) = segment_number s ≡ number
-ReadsSegment number None = (s : DataSegmentType) → ¬ (segment_number s ≡ number)
+ReadsSegment number read = OfNumber segment_number number read
 
 -- each field that its kind alone has is the one that the caller gave
 abbrev pub ShowsFields : Port → PortDetails → Type 0

@@ -10,6 +10,7 @@ use Rattle.iox2sd.specs.declared.service.making.Capacities.{Capacities}
 use Rattle.iox2sd_common.specs.declared.status.Status.TheVariants as status
 use Rattle.iox2_container.specs.ServiceNumbers.{ReturnsNumber}
 use Rattle.iox2sd.specs.Answers.{number_answer}
+use Rattle.iox2sd_common.specs.Answers.{Told}
 use Rattle.iox2sd.specs.declared.service_numbers.ServiceNumbers.{ServiceNumbers}
 
 -- how many ports of the two kinds of a pattern there may be
@@ -28,18 +29,16 @@ MakesNew pattern number c tickets status.NoMemory new =
 MakesNew pattern number c tickets _ new = ⊥
 
 -- making a service at an object: one that holds a service keeps it
-abbrev pub Makes : ℕ → ℕ → Capacities → ℕ → Option Held → ℕ → Option Held → Type 0
-Makes pattern number c tickets (Some old) answer new = (answer ≡ code status.HasService)
-    × (new ≡ Some old)
-Makes pattern number c tickets None answer new =
-    (s : Status) × (answer ≡ code s) × MakesNew pattern number c tickets s new
+abbrev pub Makes : ℕ → ℕ → Capacities → ℕ → Option Held → Status → Option Held → Type 0
+Makes pattern number c tickets (Some old) s new = (s ≡ status.HasService) × (new ≡ Some old)
+Makes pattern number c tickets None s new = MakesNew pattern number c tickets s new
 
 -- the same at an object that may be NULL
 abbrev pub MakesAt : ℕ → ℕ → Capacities → ℕ → List Service → ℕ → List Service → Type 0
 MakesAt pattern number c tickets [] answer new = (answer ≡ code status.Null) × (new ≡ [])
 MakesAt pattern number c tickets (object ∷ others) answer new =
     (left : Service) × (new ≡ left ∷ others) × IsSoundObject left
-    × Makes pattern number c tickets (held object) answer (held left)
+    × Told code (λ s. Makes pattern number c tickets (held object) s (held left)) answer
 
 -- freeing what is held, and telling whether something was
 abbrev pub Frees : Option Held → ℕ → Option Held → Type 0

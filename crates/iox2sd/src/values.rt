@@ -461,7 +461,11 @@ impl DeathAnswer {
         match death {
             Death::Open(gone) => DeathAnswer::new(Status::Done, gone),
             Death::Locked(gone) => DeathAnswer::new(Status::DoneLocked, gone),
-            Death::Refused(status) => DeathAnswer::new(status, Counts::none()),
+            Death::Refused(status) => DeathAnswer {
+                status: status.code(),
+                first: 0,
+                second: 0,
+            },
         }
     }
 }

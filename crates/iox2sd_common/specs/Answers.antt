@@ -1,5 +1,5 @@
 -- What exports answer beside a status.
-use Rattle.std.specs.Prelude.{◌≡◌, ℕ, ◌<◌, ◌≤◌, Bool, true, false, if◌then◌else◌, List, ◌++◌, Result, Ok, Err, drop, length, replicate}
+use Rattle.std.specs.Prelude.{◌≡◌, ℕ, ◌<◌, ◌≤◌, Bool, true, false, if◌then◌else◌, List, [], ◌∷◌, ◌++◌, MatchResult, Result, Ok, Err, drop, length, replicate}
 use Rattle.iox2sd_common.specs.Status.{code}
 use Rattle.iox2sd_common.specs.declared.answers.CountAnswer.{CountAnswer}
 use Rattle.iox2sd_common.specs.declared.answers.FlagAnswer.{FlagAnswer}
@@ -29,6 +29,19 @@ flag_answer (Err s) = record { status = code s; yes = false }
 -- the status with the length of a text
 abbrev pub text_answer : Status → ℕ → TextAnswer
 text_answer s n = record { status = code s; cause = 0; length = n }
+
+-- the answer tells what is so
+abbrev pub Told : {M R : Type 0} → (M → R) → (M → Type 0) → R → Type 0
+Told {M} tell IsSo answer = (made : M) × IsSo made × (answer ≡ tell made)
+
+-- what is said of the struct that the caller gave, or this answer where it gave NULL
+abbrev pub OfGiven : {S R : Type 0} → R → (S → R → Type 0) → List S → R → Type 0
+OfGiven null Says [] answer = answer ≡ null
+OfGiven null Says (given ∷ others) answer = Says given answer
+
+-- what is said of the error that comes of this, or else of what was made
+abbrev pub Reading : {A E : Type 0} → (Result A E → Type 0) → (E → Type 0) → (A → Type 0) → Type 0
+Reading {A} {E} Reads Wrong Made = (read : Result A E) × Reads read × MatchResult read Made Wrong
 
 -- the text at the front of so many bytes, and zeros after it
 abbrev pub zero_padded : ℕ → List ℕ → List ℕ

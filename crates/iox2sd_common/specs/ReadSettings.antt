@@ -1,7 +1,7 @@
 -- Settings that a caller filled, as the layer has them, or the first field that is invalid.
-use Rattle.std.specs.Prelude.{◌≡◌, ◌≢◌, ℕ, ◌+◌, ◌*◌, ◌<◌, ◌≤◌, true, false, Option, Some, None, Result, Ok, Err}
+use Rattle.std.specs.Prelude.{◌≡◌, ℕ, ◌+◌, ◌*◌, ◌<◌, ◌≤◌, true, false, Option, Some, None, Result, Ok, Err}
 use Rattle.iox2sd_common.specs.Settings.{AllocationStrategy, BackpressureStrategy, Blackboard, BlackboardSettings, Duration, Event, EventSettings, OptionalDuration, OptionalEventId, PlainDuration, PublishSubscribe, PublishSubscribeSettings, RequestResonse, RequestResponseSettings, allocation_number, as_nanos, backpressure_number, c_blackboard, c_publish_subscribe, c_request_response}
-use Rattle.iox2sd_common.specs.Status.{code}
+use Rattle.iox2sd_common.specs.Status.{OfNumber, code}
 use Rattle.iox2sd_common.specs.declared.read_settings.Field.{Field}
 use Rattle.iox2sd_common.specs.declared.read_settings.Field.TheVariants as field
 use Rattle.iox2sd_common.specs.declared.read_settings.FieldAnswer.{FieldAnswer}
@@ -43,14 +43,11 @@ refusal_answer (refusal.Invalid f) = field_answer f
 
 -- the strategy of a number
 abbrev pub ReadsBackpressure : ℕ → Option BackpressureStrategy → Type 0
-ReadsBackpressure number (Some strategy) = backpressure_number strategy ≡ number
-ReadsBackpressure number None = (strategy : BackpressureStrategy)
-    → backpressure_number strategy ≢ number
+ReadsBackpressure number read = OfNumber backpressure_number number read
 
 -- the same of how room grows
 abbrev pub ReadsAllocation : ℕ → Option AllocationStrategy → Type 0
-ReadsAllocation number (Some strategy) = allocation_number strategy ≡ number
-ReadsAllocation number None = (strategy : AllocationStrategy) → allocation_number strategy ≢ number
+ReadsAllocation number read = OfNumber allocation_number number read
 
 -- the number is that of a strategy
 abbrev pub IsBackpressure : ℕ → Type 0

@@ -78,10 +78,14 @@ code status.NoNewline = 100
 code status.CarriageReturn = 101
 code status.NoStateLine = 102
 
+-- the one that has this number, or that none has it
+abbrev pub OfNumber : {A : Type 0} → (A → ℕ) → ℕ → Option A → Type 0
+OfNumber number_of number (Some one) = number_of one ≡ number
+OfNumber {A} number_of number None = (one : A) → number_of one ≢ number
+
 -- the status of a number
 abbrev pub ReadsStatus : ℕ → Option Status → Type 0
-ReadsStatus number (Some s) = code s ≡ number
-ReadsStatus number None = (s : Status) → code s ≢ number
+ReadsStatus number read = OfNumber code number read
 
 -- what a status says
 abbrev pub status_text : Status → List ℕ

@@ -194,10 +194,7 @@ fn read_deadline(given: &OptionalDuration) -> Result<Option<Duration>, Field>
         seconds: given.seconds,
         nanoseconds: given.nanoseconds,
     };
-    match read_duration(span) {
-        Some(duration) => Ok(Some(duration)),
-        None => Err(Field::Deadline),
-    }
+    Ok(Some(read_duration(span).ok_or(Field::Deadline)?))
 }
 
 /// The number of the event, if there is one.

@@ -29,7 +29,7 @@ fn make(
     number: u64,
     capacities: Capacities,
     tickets: u64,
-) -> u32
+) -> Status
     requires { IsSoundObject object.old }
     ensures sound { IsSoundObject object.new }
     ensures made { Makes pattern number capacities tickets (held object.old) result
@@ -37,21 +37,21 @@ fn make(
 {
     if let Some(held) = object.take(alloc) {
         object.put(held);
-        return Status::HasService.code();
+        return Status::HasService;
     }
     let Some(kind) = pattern_of(pattern) else {
-        return Status::UnknownPattern.code();
+        return Status::UnknownPattern;
     };
     let settings = MessagingPatternSettings::new(kind, capacities.first, capacities.second);
     let Ok(made) = DynamicConfig::with_tickets(alloc, &settings, capacities.nodes, number, tickets)
     else {
-        return Status::NoMemory.code();
+        return Status::NoMemory;
     };
     let Ok(made) = Box::new(alloc, made) else {
-        return Status::NoMemory.code();
+        return Status::NoMemory;
     };
     object.put(made);
-    Status::Done.code()
+    Status::Done
 }
 
 /// Makes a service with nothing attached. Its number is part of its handles. It has so many tickets
@@ -73,7 +73,7 @@ pub extern "C" fn iox2sd_service_create_at(
 {
     match objects {
         [] => Status::Null.code(),
-        [object, ..] => make(alloc, object, pattern, number, capacities, tickets),
+        [object, ..] => make(alloc, object, pattern, number, capacities, tickets).code(),
     }
 }
 

@@ -19,17 +19,6 @@ use iox2sd_common::answers::{CountAnswer, FlagAnswer};
 use iox2sd_common::id::Id;
 use iox2sd_common::status::Status;
 
-/// The roles of the pattern's ports.
-fn roles_of(service: &DynamicConfig) -> Roles
-    ensures { result ≡ roles_in service.now }
-{
-    let (first, second) = service.kind().port_roles();
-    Roles {
-        first: role_number(first),
-        second: role_number(second),
-    }
-}
-
 /// Whether the pattern has ports of the role of this number.
 fn has_role(service: &DynamicConfig, role: u64) -> Result<bool, Status>
     ensures { RoleAnswer role service.now result }
@@ -59,7 +48,11 @@ pub extern "C" fn iox2sd_port_roles_at(objects: &mut [Service]) -> RolesAnswer
     ensures unchanged { objects.new ≡ objects.old }
 {
     let service = lent_or_return!(objects, status => RolesAnswer::of(Err(status)));
-    RolesAnswer::of(Ok(roles_of(service)))
+    let (first, second) = service.kind().port_roles();
+    RolesAnswer::of(Ok(Roles {
+        first: role_number(first),
+        second: role_number(second),
+    }))
 }
 
 /// The service's number, which each of its handles has. Errors, in this order: NULL, an object

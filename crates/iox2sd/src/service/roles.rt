@@ -27,16 +27,6 @@ fn count(service: &DynamicConfig, role: Role) -> usize
 }
 
 impl Counts {
-    /// No port of either kind.
-    pub(crate) fn none() -> Counts
-        ensures { result ≡ record { first = 0; second = 0 } }
-    {
-        Counts {
-            first: 0,
-            second: 0,
-        }
-    }
-
     /// How many ports of each kind there are.
     #[tactic(auto, using(crate::proofs::Roles::counts))]
     pub(crate) fn of(service: &DynamicConfig) -> Counts
