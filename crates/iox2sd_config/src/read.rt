@@ -1,11 +1,10 @@
 //! The text of a file of settings: its settings, or what is wrong with it.
-ghost use Rattle.std.specs.Prelude.{◌≡◌, ◌<◌, ℕ, List, IfOk, IsSome, OnOk, Some, length, map};
+ghost use Rattle.std.specs.Prelude.{◌≡◌, ◌<◌, ℕ, List, IfOk, IsSome, Some, length, map};
 ghost use Rattle.std.specs.Prelude.{slice_get};
 ghost use Rattle.config_report.specs.Notes.{fault_position};
-ghost use Rattle.config_report.specs.Findings.{IsText};
 ghost use Rattle.iox2_config_file.specs.Answers.{ReadsAll};
 ghost use Rattle.iox2_config_file.specs.Read.{fault_view};
-ghost use Rattle.iox2sd_config.specs.Faults.{known_of, c_fault, IsInOrder};
+ghost use Rattle.iox2sd_config.specs.Faults.{known_of, c_fault};
 ghost use Rattle.iox2sd_config.specs.Files.{Answers, ListsFaults, PutsFaults, PutsListed};
 ghost use Rattle.iox2sd_config.specs.Files.{ReadsContents, ReadsInto, ReportsFile, TellsFirst};
 ghost use Rattle.iox2sd_config.specs.Files.{fault_place, known_answer, read_answer, refused_answer};
@@ -13,7 +12,7 @@ ghost use Rattle.toml.specs.Parse.{parse_document};
 
 use crate::config::{PlainConfig, config_of};
 use crate::fault::{PlainFault, place_at, plain_fault, plain_unread, unread_status};
-use config_report::{contents_of, fault_positions, position_at, text_of};
+use config_report::{fault_positions, parse_file, position_at};
 use iox2_config_file::{FileContents, SettingFault};
 use iox2sd_common::answers::{CountAnswer, count, put};
 use iox2sd_common::status::Status;
@@ -84,14 +83,6 @@ fn plain_faults(
     Ok(plain)
 }
 
-/// Puts faults in the order of the file.
-fn put_in_order(faults: &mut Vec<PlainFault>) -> Result<(), AllocError>
-    ensures { OnOk result (IsInOrder fault_place faults.old.items faults.new.items) }
-{
-    faults.sort_by_key(|fault| place(fault))?;
-    Ok(())
-}
-
 /// Some faults of a text as plain values, in the order of the file.
 fn listed_faults(
     alloc: Global,
@@ -103,7 +94,7 @@ fn listed_faults(
 {
     let positions = fault_positions(alloc, text, faults)?;
     let mut plain = plain_faults(alloc, faults, positions.as_slice())?;
-    put_in_order(&mut plain)?;
+    plain.sort_by_key(|fault| place(fault))?;
     Ok(plain)
 }
 
@@ -147,24 +138,13 @@ fn read_contents(
     }
 }
 
-/// Reads a text into a struct.
-fn read_text(alloc: Global, text: &str, place: &mut PlainConfig) -> ConfigAnswer
-    requires { IsText text.now }
-    ensures { ReadsInto text.now place.old (known_answer result) place.new }
-{
-    match contents_of(alloc, text) {
-        Ok(contents) => read_contents(alloc, text, &contents, place),
-        Err(unread) => ConfigAnswer::refused(plain_unread(&unread)),
-    }
-}
-
 /// Reads a file into a struct.
 fn read_into(alloc: Global, bytes: &[u8], place: &mut PlainConfig) -> ConfigAnswer
     ensures { ReadsInto bytes.now place.old (known_answer result) place.new }
 {
-    match text_of(alloc, bytes) {
-        Ok(text) => read_text(alloc, text, place),
-        Err(no_text) => ConfigAnswer::refused(plain_unread(&no_text)),
+    match parse_file(alloc, bytes) {
+        Ok((text, contents)) => read_contents(alloc, text, &contents, place),
+        Err(unread) => ConfigAnswer::refused(plain_unread(&unread)),
     }
 }
 
@@ -216,17 +196,6 @@ fn put_listed(
     }
 }
 
-/// Writes all faults of a text, where they fit.
-fn report_faults(alloc: Global, text: &str, out: &mut [PlainFault]) -> CountAnswer
-    requires { IsText text.now }
-    ensures { ReportsFile text.now out.old result out.new }
-{
-    match contents_of(alloc, text) {
-        Ok(contents) => put_listed(alloc, text, contents.faults.as_slice(), out),
-        Err(unread) => count(unread_status(&unread), 0),
-    }
-}
-
 /// Writes all faults of a file to the front of the array, in the order of the file, where they fit,
 /// and returns how many there are; the other elements stay as they were.
 ///
@@ -241,8 +210,8 @@ pub extern "C" fn iox2sd_config_faults_at(
 ) -> CountAnswer
     ensures { ReportsFile text.now out.old result out.new }
 {
-    match text_of(alloc, text) {
-        Ok(text) => report_faults(alloc, text, out),
-        Err(no_text) => count(unread_status(&no_text), 0),
+    match parse_file(alloc, text) {
+        Ok((text, contents)) => put_listed(alloc, text, contents.faults.as_slice(), out),
+        Err(unread) => count(unread_status(&unread), 0),
     }
 }

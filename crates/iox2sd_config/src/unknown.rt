@@ -1,10 +1,8 @@
 //! The keys of a file that no setting has.
-ghost use Rattle.std.specs.Prelude.{◌≡◌, ℕ, List, IfOk, IsSome, OnOk, map, option_map};
+ghost use Rattle.std.specs.Prelude.{◌≡◌, ℕ, List, IfOk, IsSome, map, option_map};
 ghost use Rattle.std.specs.Prelude.{string_bytes};
 ghost use Rattle.config_report.specs.Notes.{finding_view, unknown_position};
-ghost use Rattle.config_report.specs.Findings.{IsText};
 ghost use Rattle.iox2_config_file.specs.Unknown.{proposal_view, unknown_view};
-ghost use Rattle.iox2sd_config.specs.Faults.{IsInOrder};
 ghost use Rattle.iox2sd_config.specs.Unknown.{likeness_number, meant_number, meant_path};
 ghost use Rattle.iox2sd_config.specs.Unknown.{named_place, named_view, paths_of, plain_of, c_key};
 ghost use Rattle.iox2sd_config.specs.Unknown.{c_key_at, c_unknown, unknown_answer, ListsKeys};
@@ -14,7 +12,7 @@ ghost use Rattle.toml.specs.Parse.{parse_document};
 use crate::fault::{
     column_of, cut, key_of, key_path, line_of, place_at, section_number, unread_status,
 };
-use config_report::{Finding, Subject, contents_of, position_at, text_of, unknown_positions};
+use config_report::{Finding, Subject, parse_file, position_at, unknown_positions};
 use iox2_config_file::{Likeness, Proposal, UnknownKey};
 use iox2sd_common::answers::put;
 use iox2sd_common::status::Status;
@@ -175,14 +173,6 @@ fn named_keys(
     Ok(named)
 }
 
-/// Puts unknown keys in the order of the file.
-fn put_in_order(keys: &mut Vec<NamedKey>) -> Result<(), AllocError>
-    ensures { OnOk result (IsInOrder named_place keys.old.items keys.new.items) }
-{
-    keys.sort_by_key(|key| place(key))?;
-    Ok(())
-}
-
 /// Some unknown keys of a text, in the order of the file.
 fn listed_keys(alloc: Global, text: &str, keys: &[UnknownKey]) -> Result<Vec<NamedKey>, AllocError>
     requires { IsSome (parse_document text.now) }
@@ -190,7 +180,7 @@ fn listed_keys(alloc: Global, text: &str, keys: &[UnknownKey]) -> Result<Vec<Nam
 {
     let positions = unknown_positions(alloc, text, keys)?;
     let mut named = named_keys(alloc, keys, positions.as_slice())?;
-    put_in_order(&mut named)?;
+    named.sort_by_key(|key| place(key))?;
     Ok(named)
 }
 
@@ -255,22 +245,6 @@ fn put_unknown(
     put_keys(plain.as_slice(), names.as_str(), out, paths)
 }
 
-/// Writes the unknown keys of a text, where they and their paths fit.
-fn list_unknown(
-    alloc: Global,
-    text: &str,
-    out: &mut [PlainUnknown],
-    paths: &mut [u8],
-) -> UnknownAnswer
-    requires { IsText text.now }
-    ensures { ListsUnknown text.now out.old paths.old result out.new paths.new }
-{
-    match contents_of(alloc, text) {
-        Ok(contents) => put_unknown(alloc, text, contents.unknown.as_slice(), out, paths),
-        Err(unread) => answer(unread_status(&unread), 0, 0),
-    }
-}
-
 /// Writes the keys of a file that no setting has to the front of an array, in the order of the
 /// file, and their paths, one after the other, to the front of a buffer, where all of them fit. It
 /// does so whether values are allowed or not.
@@ -287,8 +261,10 @@ pub extern "C" fn iox2sd_config_unknown_at(
 ) -> UnknownAnswer
     ensures { ListsUnknown text.now out.old paths.old result out.new paths.new }
 {
-    match text_of(alloc, text) {
-        Ok(text) => list_unknown(alloc, text, out, paths),
-        Err(no_text) => answer(unread_status(&no_text), 0, 0),
+    match parse_file(alloc, text) {
+        Ok((text, contents)) => {
+            put_unknown(alloc, text, contents.unknown.as_slice(), out, paths)
+        }
+        Err(unread) => answer(unread_status(&unread), 0, 0),
     }
 }

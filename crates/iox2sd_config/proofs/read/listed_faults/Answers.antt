@@ -1,7 +1,9 @@
-use Rattle.std.proofs.Common.{◌≡◌, ◌∙◌}
+use Rattle.std.proofs.Common.{◌≡◌, ◌∙◌, rules}
 use Rattle.std.specs.Prelude.{map}
+use Rattle.std.proofs.lemmas.List.Sorted.{answers_always}
 use Rattle.config_report.specs.Notes.{fault_position}
 use Rattle.iox2_config_file.specs.Read.{fault_view}
+use Rattle.iox2sd_config.specs.Files.{fault_place}
 use Rattle.iox2sd_config.proofs.read.listed_faults.Goals as goal
 
 pub returns : goal.returns
@@ -10,4 +12,12 @@ returns c =
     let at : c.as_slice.result.now
     ≡ map (fault_position text) (map fault_view c.args.faults.now) =
     c.as_slice.ensures.value ∙ c.in_ok-positions.ensures in
-    (c.in_ok-plain.plain.items, c.in_ok-plain.ensures text at, c.in_ok-put_in_order.ensures)
+    let sorted = c.in_ok-sort_by_key.ensures in (
+      c.in_ok-plain.plain.items,
+      c.in_ok-plain.ensures text at,
+      (
+        sorted.permutation,
+        sorted.sorted fault_place (answers_always _ _ _ (λ f a r q k. search rules)),
+        sorted.stable fault_place (answers_always _ _ _ (λ f a r q k. search rules)),
+      ),
+    )

@@ -1,17 +1,26 @@
-use Rattle.std.proofs.Common.{◌∙◌, ap, inr, refl}
-use Rattle.iox2sd_config.specs.Files.{refused_answer}
+use Rattle.std.proofs.Common.{◌∙◌, ap, inl, inr, refl, subst}
+use Rattle.iox2sd_config.specs.Files.{ReadsContents, known_answer, refused_answer}
 use Rattle.iox2sd_config.proofs.read.read_into.Goals as goal
 
-pub returns-in-Ok : goal.returns-in-Ok
-returns-in-Ok c = rw c.in-Ok.ensures.same at c.read_text.ensures
+pub read_contents-requires : goal.read_contents-requires
+read_contents-requires c = rw c.in-Ok.ensures.ok.0 c.in-Ok.ensures.ok.2
 
-pub read_text-requires : goal.read_text-requires
-read_text-requires c = rw c.in-Ok.ensures.same c.in-Ok.ensures.ok
+pub returns-in-Ok : goal.returns-in-Ok
+returns-in-Ok c =
+    let answer = known_answer c.read_contents.result in
+    let place = c.read_contents.new.place in
+    inl (
+      c.in-Ok.ensures.ok.1,
+      c.in-Ok.contents,
+      c.in-Ok.ensures.ok.2,
+      subst (λ t. ReadsContents t c.in-Ok.contents c.args.place.now answer place)
+          c.in-Ok.ensures.ok.0 c.read_contents.ensures,
+    )
 
 pub returns-in-Err : goal.returns-in-Err
 returns-in-Err c =
     inr (
-      c.in-Err.no_text,
+      c.in-Err.unread,
       c.in-Err.ensures.err,
       (c.refused.ensures ∙ ap (λ k. refused_answer k) c.plain_unread.ensures, refl),
     )
