@@ -7,7 +7,7 @@ use Rattle.std.proofs.lemmas.Grind.{flat_map-append}
 use Rattle.std.proofs.lemmas.List.{append-nil, map_push, append_cancel_left}
 use Rattle.std.proofs.lemmas.List.Elements.{All-push}
 use Rattle.line_streams.specs.Spelling.{HasNo}
-use Rattle.history_drawing.specs.Calls.{texts, BeginsIn, IsAlone, IsElsewhere, Says, is_begin, is_call, is_reply, is_service, text_above, text_at, EndsIn}
+use Rattle.history_drawing.specs.Calls.{texts, BeginsIn, IsAlone, IsElsewhere, Says, text_above, text_at, EndsIn}
 use Rattle.history_drawing.specs.Drawings.{with_newline}
 use Rattle.line_streams.specs.OneWay.{before_one}
 use Rattle.line_streams.proofs.Places.{has_one}
@@ -61,24 +61,6 @@ pub behind_first : (byte : ℕ) (text one a two b : List ℕ) → HasNo byte one
 behind_first byte text one a two b lacks none is same =
     ((before_one byte).same (one, a) (two, b) lacks none (sym is ∙ same)).1
 
-unlike_begin : (l : Line) (n : Option ℕ) (x : List ℕ) (c : Begun) → is_begin l ≡ false
-    → ¬ IsAlike l (begin n x c)
-unlike_begin (begin m y d) n x c none alike = absurd (cc)
-unlike_begin _ n x c none alike = alike
-
-unlike_reply : (l : Line) (ws : List ℕ) → is_reply l ≡ false → ¬ IsAlike l (reply ws)
-unlike_reply (reply vs) ws none alike = absurd (cc)
-unlike_reply _ ws none alike = alike
-
-unlike_call : (l : Line) (n : Option ℕ) (c : NamedCommand) → is_call l ≡ false
-    → ¬ IsAlike l (call n c)
-unlike_call (call m d) n c none alike = absurd (cc)
-unlike_call _ n c none alike = alike
-
-unlike_service : (l : Line) (s : ServiceLine) → is_service l ≡ false → ¬ IsAlike l (service s)
-unlike_service (service t) s none alike = absurd (cc)
-unlike_service _ s none alike = alike
-
 -- what follows from there being none
 pub where_none : {X P Q : Type 0} (o : Option X) → (P → Q) → IfNone o P → IfNone o Q
 where_none None f h = f h
@@ -97,13 +79,14 @@ module _ (lines : List (Bor (List ℕ))) (k : ℕ) where
   no_line last none seen (inr a) = none (reply a.words.now) a.says.0 a.says.1
 
   -- nor does another line than a begin and a reply
-  pub no_call : (last : ℕ) (l : Line) → Says lines k l → is_begin l ≡ false
-      → is_reply l ≡ false → (seen : LogCall) → BeginsIn lines k last seen → ⊥
+  pub no_call : (last : ℕ) (l : Line) → Says lines k l
+      → ((n : Option ℕ) (x : List ℕ) (b : Begun) → ¬ IsAlike l (begin n x b))
+      → ((words : List ℕ) → ¬ IsAlike l (reply words))
+      → (seen : LogCall) → BeginsIn lines k last seen → ⊥
   no_call last l says b r seen (inl h) =
-      unlike_begin l seen.service seen.caller.now h.begun b
-      (one_line l (begin seen.service seen.caller.now h.begun) says h.says)
+      b _ _ h.begun (one_line l (begin seen.service seen.caller.now h.begun) says h.says)
   no_call last l says b r seen (inr h) =
-      unlike_reply l h.words.now r (one_line l (reply h.words.now) says h.says)
+      r h.words.now (one_line l (reply h.words.now) says h.says)
 
   -- a reply begins no call but one that is alone
   pub no_begin : (last : ℕ) (words : List ℕ) → Says lines k (reply words)
@@ -120,15 +103,15 @@ module _ (lines : List (Bor (List ℕ))) (k : ℕ) where
 
   -- above it stands another line than a call
   pub other_above : (l : Line) → IsLine l → text_above lines k ≡ line_text l
-      → is_call l ≡ false → (seen : LogCall) → IsAlone lines k seen → ⊥
+      → ((n : Option ℕ) (c : NamedCommand) → ¬ IsAlike l (call n c))
+      → (seen : LogCall) → IsAlone lines k seen → ⊥
   other_above l p is o seen a =
-      unlike_call l seen.service a.command o
-      (one_way l (call seen.service a.command) p a.is (sym is ∙ a.above))
+      o _ _ (one_way l (call seen.service a.command) p a.is (sym is ∙ a.above))
 
   -- another line than that of a service names none
-  pub no_service : (l : Line) → Says lines k l → is_service l ≡ false → (s : ServiceLine)
-      → Says lines k (service s) → ⊥
-  no_service l says o s other = unlike_service l s o (one_line l (service s) says other)
+  pub no_service : (l : Line) → Says lines k l → ((s : ServiceLine) → ¬ IsAlike l (service s))
+      → (s : ServiceLine) → Says lines k (service s) → ⊥
+  no_service l says o s other = o s (one_line l (service s) says other)
 
   -- a line begins calls on one service
   pub same_service : (last : ℕ) (one other : LogCall) → BeginsIn lines k last one

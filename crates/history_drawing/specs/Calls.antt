@@ -19,26 +19,6 @@ texts lines = map (λ (line : Bor (List ℕ)). line.now) lines
 abbrev pub text_at : List (Bor (List ℕ)) → ℕ → List ℕ
 text_at lines k = get_or (texts lines) k []
 
--- whether a line begins a caller's call
-abbrev pub is_begin : Line → Bool
-is_begin (begin number caller begun) = true
-is_begin _ = false
-
--- whether a line is the reply to a call alone
-abbrev pub is_reply : Line → Bool
-is_reply (reply words) = true
-is_reply _ = false
-
--- whether a line is a call alone
-abbrev pub is_call : Line → Bool
-is_call (call number command) = true
-is_call _ = false
-
--- whether a line is that of a service
-abbrev pub is_service : Line → Bool
-is_service (service line) = true
-is_service _ = false
-
 -- the line of this number is this one
 abbrev pub Says : List (Bor (List ℕ)) → ℕ → Line → Type 0
 Says lines k line = IsLine line × (text_at lines k ≡ line_text line)

@@ -1,11 +1,11 @@
 //! The lines of a log, and its calls by them.
-ghost use Rattle.std.specs.Prelude.{◌≡◌, ◌<◌, IfNone, IfOk, IfSome, drop, false};
+ghost use Rattle.std.specs.Prelude.{◌≡◌, ◌<◌, ℕ, IfNone, IfOk, IfSome, List, Option, drop};
 ghost use Rattle.log_lines.specs.Commands.{Begun, NamedCommand};
+ghost use Rattle.log_lines.specs.Laws.{IsAlike};
 ghost use Rattle.log_lines.specs.Lines.{line_seen};
 ghost use Rattle.log_lines.specs.Lines.Line.{begin, call, reply, service};
 ghost use Rattle.history_drawing.specs.Calls.{BeginsIn, EndsFrom, EndsIn, IsAlone, IsBehind, IsFirstService};
-ghost use Rattle.history_drawing.specs.Calls.{Says, is_begin, is_call, is_reply, is_service, text_above};
-ghost use Rattle.history_drawing.specs.Calls.{text_at};
+ghost use Rattle.history_drawing.specs.Calls.{Says, text_above, text_at};
 ghost use Rattle.service_descriptions.specs.declared.replay.lines.service_line.ServiceLine.{ServiceLine};
 ghost use Rattle.history_drawing.specs.declared.calls.LogCall.{LogCall};
 ghost use Rattle.history_drawing.specs.declared.timeline.BarEnd.{BarEnd};
@@ -124,7 +124,8 @@ fn end_from<'a>(lines: &[&'a [u8]], caller: &[u8], first: usize, last: usize) ->
 fn begun<'a>(read: &LogLine<'a>) -> Option<(Option<u64>, &'a [u8])>
     ensures some { IfSome result (λ found. (b : Begun)
         × (line_seen read.now ≡ begin found.0 found.1.now b)) }
-    ensures none { IfNone result (is_begin (line_seen read.now) ≡ false) }
+    ensures none { IfNone result ((number : Option ℕ) (caller : List ℕ) (b : Begun)
+        → ¬ IsAlike (line_seen read.now) (begin number caller b)) }
 {
     match read {
         LogLine::Begin(service, caller, _) => Some((*service, caller)),
@@ -135,7 +136,8 @@ fn begun<'a>(read: &LogLine<'a>) -> Option<(Option<u64>, &'a [u8])>
 /// The words of a line that is a reply.
 fn replied<'a>(read: &LogLine<'a>) -> Option<&'a [u8]>
     ensures some { IfSome result (λ words. line_seen read.now ≡ reply words.now) }
-    ensures none { IfNone result (is_reply (line_seen read.now) ≡ false) }
+    ensures none { IfNone result ((words : List ℕ)
+        → ¬ IsAlike (line_seen read.now) (reply words)) }
 {
     match read {
         LogLine::Reply(words) => Some(words),
@@ -147,7 +149,8 @@ fn replied<'a>(read: &LogLine<'a>) -> Option<&'a [u8]>
 fn called(read: &LogLine<'_>) -> Option<Option<u64>>
     ensures some { IfSome result (λ number. (c : NamedCommand)
         × (line_seen read.now ≡ call number c)) }
-    ensures none { IfNone result (is_call (line_seen read.now) ≡ false) }
+    ensures none { IfNone result ((number : Option ℕ) (c : NamedCommand)
+        → ¬ IsAlike (line_seen read.now) (call number c)) }
 {
     match read {
         LogLine::Call(service, _) => Some(*service),
@@ -218,7 +221,8 @@ pub(crate) fn call_at<'a>(
 fn named(read: &LogLine<'_>) -> Option<u64>
     ensures some { IfSome result (λ number. (s : ServiceLine)
         × (line_seen read.now ≡ service s) × (s.number ≡ number)) }
-    ensures none { IfNone result (is_service (line_seen read.now) ≡ false) }
+    ensures none { IfNone result ((s : ServiceLine)
+        → ¬ IsAlike (line_seen read.now) (service s)) }
 {
     match read {
         LogLine::Service(service) => Some(service.number),
