@@ -269,10 +269,16 @@ fn syntax_words(alloc: Global, error: &toml::de::Error, text: &str) -> Result<St
     }
 }
 
-/// What stands before the `=` of the pair, or in the brackets of the header, that a text begins
-/// with.
+/// The key that a text begins with: what stands in its quotes, before the `=` of the pair, or in the
+/// brackets of the header.
 fn first_key(text: &str) -> &str {
-    let text = text.trim_start_matches('[');
+    let text = text.trim_start_matches('[').trim_start();
+    for quote in ['"', '\''] {
+        if let Some(quoted) = text.strip_prefix(quote) {
+            let (key, _) = quoted.split_once(quote).unwrap_or((quoted, ""));
+            return key;
+        }
+    }
     let (key, _) = text
         .split_once(|c| c == '=' || c == ']')
         .unwrap_or((text, ""));

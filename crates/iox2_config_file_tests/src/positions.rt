@@ -6,7 +6,7 @@ use std::process::Abort;
 use std::test::Fail;
 
 /// A file, and what is reported of it.
-const REPORTED: [(&[u8], &str); 15] = [
+const REPORTED: [(&[u8], &str); 16] = [
     (
         b"# two faults\n[global]\nprefix = 1\n[defaults.event]\n\t\"max-nodes\" = -1\n",
         "3:1: error: global.prefix: is an integer, and a string with the name of a file is wanted\n\
@@ -65,6 +65,7 @@ const REPORTED: [(&[u8], &str); 15] = [
     ),
     (b"a = 1\na = 2\n", "2:1: error: duplicate key `a`\n"),
     (b"[ global ]\n\n[ global ]\n", "3:1: error: duplicate key `global`\n"),
+    (b"'a=b' = 1\n'a=b' = 2\n", "2:1: error: duplicate key `a=b`\n"),
 ];
 
 /// What is reported of a file.
