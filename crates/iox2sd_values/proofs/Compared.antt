@@ -1,6 +1,7 @@
 -- A comparison of services has one answer.
-use Rattle.std.proofs.Common.{◌≡◌, ◌∙◌, ◌≤◌, ℕ, Bool, true, true≢false, Option, Some, None, List, [], ◌∷◌, Result, Ok, Err, ap, refl, sym, arith}
+use Rattle.std.proofs.Common.{◌≡◌, ◌∙◌, ◌≤◌, ℕ, true, true≢false, Option, Some, None, [], ◌∷◌, Result, Ok, Err, ap, refl, sym, arith}
 use Rattle.std.specs.Prelude.{nat_eq}
+use Rattle.iox2sd_common.specs.Answers.{Reading}
 use Rattle.std.specs.Duration.{as_nanos}
 use Rattle.std.specs.Option.{option_eq, option_map}
 use Rattle.std.specs.declared.time.Duration.{Duration}
@@ -22,7 +23,7 @@ use Rattle.iox2sd_common.specs.declared.settings.OptionalEventId.{OptionalEventI
 use Rattle.iox2sd_values.specs.Prelude.{BlackboardConfig, EventConfig, EventSettings, Field, FieldAnswer, PublishSubscribeConfig, RequestResponseConfig}
 use Rattle.iox2sd_values.specs.Descriptions.{c_publish_subscribe, c_request_response, c_blackboard}
 use Rattle.iox2sd_values.specs.Laws.{HasOneAnswer}
-use Rattle.iox2sd_values.specs.Satisfies.{ComparesEvents, ComparesPlain, ReadsFixed, SatisfiesBy, SatisfiesBlackboard, SatisfiesEvent, SatisfiesPublishSubscribe, SatisfiesRequestResponse, ThenRequires, ThenService, satisfied, settings_of}
+use Rattle.iox2sd_values.specs.Satisfies.{ComparesEvents, ComparesPlain, ReadsFixed, SatisfiesBy, SatisfiesBlackboard, SatisfiesEvent, SatisfiesPublishSubscribe, SatisfiesRequestResponse, satisfied, settings_of}
 
 -- where both are given, and one comparison of two has one answer
 where_given : {C : Type 0} (Compares : C → C → FieldAnswer → Type 0)
@@ -143,8 +144,8 @@ by_length (Some a) (Some b) = refl
 -- deadlines of one length are required alike
 as_long : (s r : Settings) (d e : Option Duration) → length_of d ≡ length_of s.deadline
     → length_of e ≡ length_of r.deadline
-    → event_requirements (event_of (record s { deadline = d })) (event_of (record r { deadline = e }))
-    ≡ event_requirements (event_of s) (event_of r)
+    → event_requirements (event_of (record s { deadline = d }))
+    (event_of (record r { deadline = e })) ≡ event_requirements (event_of s) (event_of r)
 unfolding event_requirements
 as_long s r d e is also =
     let same =
@@ -152,16 +153,17 @@ as_long s r d e is also =
     ∙ ap (option_eq nat_eq (length_of s.deadline)) also ∙ sym (by_length s.deadline r.deadline) in
     rw same refl
 
-required_alike : (s r : EventSettings) (a b c d : Settings) → ReadsEventAs s a → ReadsEventAs s b
-    → ReadsEventAs r c → ReadsEventAs r d
-    → event_requirements (event_of a) (event_of c) ≡ event_requirements (event_of b) (event_of d)
-required_alike s r a b c d is_a is_b is_c is_d =
-    ap (λ x. event_requirements (event_of x) (event_of c)) (but_for_deadlines s a b is_a is_b)
-    ∙ ap (λ x. event_requirements (event_of (record b { deadline = a.deadline })) (event_of x))
-    (but_for_deadlines r c d is_c is_d)
-    ∙ as_long b d a.deadline c.deadline
-    (one_length s.deadline a.deadline b.deadline is_a.deadline is_b.deadline)
-    (one_length r.deadline c.deadline d.deadline is_c.deadline is_d.deadline)
+required_alike : (s r : EventConfig) (a b c d : Event) → ReadsFixed s (Ok a) → ReadsFixed s (Ok b)
+    → ReadsFixed r (Ok c) → ReadsFixed r (Ok d) → event_requirements a c ≡ event_requirements b d
+required_alike s r a b c d (x, is_x, at_x) (y, is_y, at_y) (z, is_z, at_z) (w, is_w, at_w) =
+    rw (at_x, at_y, at_z, at_w)
+    (ap (λ v. event_requirements (event_of v) (event_of z))
+    (but_for_deadlines (settings_of s) x y is_x is_y)
+    ∙ ap (λ v. event_requirements (event_of (record y { deadline = x.deadline })) (event_of v))
+    (but_for_deadlines (settings_of r) z w is_z is_w)
+    ∙ as_long y w x.deadline z.deadline
+    (one_length s.deadline x.deadline y.deadline is_x.deadline is_y.deadline)
+    (one_length r.deadline z.deadline w.deadline is_z.deadline is_w.deadline))
 
 -- an invalid field is the deadline, which has no length then
 bad_deadline : (given : OptionalDuration) (f : Field) → ReadsDeadline given (Err f)
@@ -169,45 +171,44 @@ bad_deadline : (given : OptionalDuration) (f : Field) → ReadsDeadline given (E
 bad_deadline given field.Deadline bad = (refl, bad.0, bad.1)
 bad_deadline given _ bad = absurd bad
 
-one_field : (given : OptionalDuration) (f g : Field) → ReadsDeadline given (Err f)
-    → ReadsDeadline given (Err g) → f ≡ g
-one_field given f g is also = (bad_deadline given f is).0 ∙ sym (bad_deadline given g also).0
+one_field : (c : EventConfig) (f g : Field) → ReadsFixed c (Err f) → ReadsFixed c (Err g) → f ≡ g
+one_field c f g is also =
+    (bad_deadline c.deadline f is).0 ∙ sym (bad_deadline c.deadline g also).0
 
 not_both : (given : OptionalDuration) (d : Option Duration) (f : Field)
     → ReadsDeadline given (Ok d) → ReadsDeadline given (Err f) → ⊥
 not_both given None f is bad = true≢false (sym (bad_deadline given f bad).1 ∙ is)
 not_both given (Some d) f is bad = omega (arith, is.1.0, (bad_deadline given f bad).2)
 
-on_required : (s r : EventConfig) (x y : Settings) → ReadsEventAs (settings_of s) x
-    → ReadsEventAs (settings_of s) y → (c d : Result Event Field) → ReadsFixed r c
-    → ReadsFixed r d → (one other : FieldAnswer) → ThenRequires (event_of x) c one
-    → ThenRequires (event_of y) d other → one ≡ other
-on_required s r x y is_x is_y (Ok c) (Ok d) (z, is_z, at_z) (w, is_w, at_w) one other is also =
-    is ∙ ap (λ rs. satisfied (first_unmet rs))
-    (ap (event_requirements (event_of x)) at_z
-    ∙ required_alike (settings_of s) (settings_of r) x y z w is_x is_y is_z is_w
-    ∙ sym (ap (event_requirements (event_of y)) at_w))
-    ∙ sym also
-on_required s r x y is_x is_y (Ok c) (Err g) (z, is_z, at_z) bad one other is also =
-    absurd (not_both r.deadline z.deadline g is_z.deadline bad)
-on_required s r x y is_x is_y (Err f) (Ok d) bad (w, is_w, at_w) one other is also =
-    absurd (not_both r.deadline w.deadline f is_w.deadline bad)
-on_required s r x y is_x is_y (Err f) (Err g) bad worse one other is also =
-    is ∙ ap field_answer (one_field r.deadline f g bad worse) ∙ sym also
+-- a reading that gives one thing or has one error, and not both, leads to one answer
+one_reading : {A E : Type 0} (Reads : Result A E → Type 0) (tell : E → FieldAnswer)
+    (one other : FieldAnswer) (Is Also : A → Type 0)
+    → ((a : A) (e : E) → Reads (Ok a) → Reads (Err e) → ⊥)
+    → ((e f : E) → Reads (Err e) → Reads (Err f) → e ≡ f)
+    → ((a b : A) → Reads (Ok a) → Reads (Ok b) → Is a → Also b → one ≡ other)
+    → Reading Reads (λ e. one ≡ tell e) Is → Reading Reads (λ e. other ≡ tell e) Also → one ≡ other
+one_reading Reads tell one other Is Also apart error same (Ok a, on_a, is) (Ok b, on_b, also) =
+    same a b on_a on_b is also
+one_reading Reads tell one other Is Also apart error same (Ok a, on_a, is) (Err f, on_f, also) =
+    absurd (apart a f on_a on_f)
+one_reading Reads tell one other Is Also apart error same (Err e, on_e, is) (Ok b, on_b, also) =
+    absurd (apart b e on_b on_e)
+one_reading Reads tell one other Is Also apart error same (Err e, on_e, is) (Err f, on_f, also) =
+    is ∙ ap tell (error e f on_e on_f) ∙ sym also
 
-on_service : (s r : EventConfig) (a b : Result Event Field) → ReadsFixed s a → ReadsFixed s b
-    → (one other : FieldAnswer) → ThenService a r one → ThenService b r other → one ≡ other
-on_service s r (Ok a) (Ok b) (x, is_x, at_x) (y, is_y, at_y) one other is also =
-    let (c, on_c, is_c) = rw at_x at is in let (d, on_d, is_d) = rw at_y at also in
-    on_required s r x y is_x is_y c d on_c on_d one other is_c is_d
-on_service s r (Ok a) (Err g) (x, is_x, at_x) bad one other is also =
-    absurd (not_both s.deadline x.deadline g is_x.deadline bad)
-on_service s r (Err f) (Ok b) bad (y, is_y, at_y) one other is also =
-    absurd (not_both s.deadline y.deadline f is_y.deadline bad)
-on_service s r (Err f) (Err g) bad worse one other is also =
-    is ∙ ap field_answer (one_field s.deadline f g bad worse) ∙ sym also
+of_fixed : (c : EventConfig) (one other : FieldAnswer) (Is Also : Event → Type 0)
+    → ((a b : Event) → ReadsFixed c (Ok a) → ReadsFixed c (Ok b) → Is a → Also b → one ≡ other)
+    → Reading (ReadsFixed c) (λ f. one ≡ field_answer f) Is
+    → Reading (ReadsFixed c) (λ f. other ≡ field_answer f) Also → one ≡ other
+of_fixed c one other Is Also =
+    one_reading (ReadsFixed c) field_answer one other Is Also
+    (λ a f is bad. not_both c.deadline is.0.deadline f is.1.deadline bad) (one_field c)
 
 pub events : HasOneAnswer SatisfiesEvent
 events =
     where_given ComparesEvents
-    (λ s r one other is also. on_service s r is.0 also.0 is.1 also.1 one other is.2 also.2)
+    (λ s r one other. of_fixed s one other _ _
+    (λ a b on_a on_b. of_fixed r one other _ _
+    (λ c d on_c on_d is also. is
+    ∙ ap (λ rs. satisfied (first_unmet rs)) (required_alike s r a b c d on_a on_b on_c on_d)
+    ∙ sym also)))

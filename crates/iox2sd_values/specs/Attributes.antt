@@ -1,13 +1,14 @@
 -- A caller's arrays of keys and values, and what a caller requires of a set of attributes.
-use Rattle.std.specs.Prelude.{◌≡◌, ℕ, ◌+◌, ◌≤◌, List, Option, Some, None, Result, Ok, Err, map, take, length, slice_get, All, IsPermutation, IsSorted}
-use Rattle.iox2sd_values.specs.Prelude.{Attribute, CountAnswer, IsName, Key, MakesName, PlaceAnswer, SemanticStringError, Status, TextAnswer}
+use Rattle.std.specs.Prelude.{◌≡◌, ℕ, ◌+◌, ◌≤◌, List, Some, Result, Ok, Err, map, take, length, slice_get, All, IsPermutation, IsSorted}
+use Rattle.std.specs.Option.{ok_or}
+use Rattle.iox2sd_values.specs.Prelude.{Attribute, CountAnswer, IsName, Key, MakesName, PlaceAnswer, Status, TextAnswer}
 use Rattle.iox2_texts.specs.Attribute.{IsListing, values_of}
 use Rattle.iox2_texts.specs.Pair.{Pair, pair_cmp}
 use Rattle.iox2_texts.specs.Verify.{IsFirst}
 use Rattle.iox2_texts.specs.VerifyErrors.{Verifies}
 use Rattle.iox2_texts.specs.declared.attribute.verifier.AttributeVerificationError.{AttributeVerificationError}
 use Rattle.iox2_texts.specs.declared.attribute.verifier.AttributeVerificationError.TheVariants.{NonExistingKey, IncompatibleAttribute}
-use Rattle.iox2sd_common.specs.Answers.{count_answer, place_answer, text_answer, Written}
+use Rattle.iox2sd_common.specs.Answers.{count_answer, place_answer, Reading, TellsText, Told}
 use Rattle.iox2sd_common.specs.declared.status.Status.TheVariants as status
 use Rattle.iox2sd_values.specs.declared.attributes.Fault.{Fault}
 use Rattle.iox2sd_values.specs.declared.attributes.Fault.TheVariants as fault
@@ -34,10 +35,10 @@ abbrev pub FailsAt : {A : Type 0} → (A → Type 0) → (A → Type 0) → List
 FailsAt {A} Passes Fails xs i =
     (bad : A) × (slice_get xs i ≡ Some bad) × All Passes (take i xs) × Fails bad
 
--- the pairs are legal and at most sixteen, or the first that is not is at the place
-abbrev pub ChecksPairs : List Attribute → Result (Unit {0}) Fault → ℕ → Type 0
-ChecksPairs pairs (Ok _) at = All IsLegal pairs × (length pairs ≤ 16)
-ChecksPairs pairs (Err fault) at = (at ≤ 16) × FailsAt IsLegal (HasFault fault at) pairs at
+-- the pairs are legal and at most sixteen, or the first that is not has the fault at its place
+abbrev pub ChecksPairs : List Attribute → Result (Unit {0}) (Fault × ℕ) → Type 0
+ChecksPairs pairs (Ok _) = All IsLegal pairs × (length pairs ≤ 16)
+ChecksPairs pairs (Err (fault, at)) = (at ≤ 16) × FailsAt IsLegal (HasFault fault at) pairs at
 
 -- the status that tells the fault of a pair of a set, and of a required pair
 abbrev pub set_fault : Fault → Status
@@ -51,77 +52,43 @@ required_fault fault.Value = status.BadRequiredValue
 required_fault fault.Number = status.TooManyRequired
 
 -- the answer on pairs that are a set, or on the first that is wrong
-abbrev pub set_answer : Result (Unit {0}) Fault → ℕ → PlaceAnswer
-set_answer (Ok _) at = place_answer status.Done 0
-set_answer (Err fault) at = place_answer (set_fault fault) at
+abbrev pub set_answer : Result (Unit {0}) (Fault × ℕ) → PlaceAnswer
+set_answer (Ok _) = place_answer status.Done 0
+set_answer (Err (fault, at)) = place_answer (set_fault fault) at
 
 -- the answer tells whether the pairs are a set
 abbrev pub TellsSet : List Attribute → PlaceAnswer → Type 0
-TellsSet pairs answer =
-    (checked : Result (Unit {0}) Fault) × (at : ℕ) × ChecksPairs pairs checked at
-    × (answer ≡ set_answer checked at)
+TellsSet pairs answer = Told set_answer (ChecksPairs pairs) answer
 
 -- the caller's pairs after sorting: the same in rising order, or as they were where they are no set
-abbrev pub Sorts : Result (Unit {0}) Fault → List Attribute → List Attribute → Type 0
+abbrev pub Sorts : Result (Unit {0}) (Fault × ℕ) → List Attribute → List Attribute → Type 0
 Sorts (Ok _) old new = IsPermutation old new
     × IsSorted (λ a b. pair_cmp (pair_of a) (pair_of b)) new
-Sorts (Err fault) old new = new ≡ old
+Sorts (Err wrong) old new = new ≡ old
 
 -- the same, with the answer that tells whether they are a set
 abbrev pub SortsSet : List Attribute → PlaceAnswer → List Attribute → Type 0
 SortsSet old answer new =
-    (checked : Result (Unit {0}) Fault) × (at : ℕ) × ChecksPairs old checked at
-    × Sorts checked old new × (answer ≡ set_answer checked at)
+    Told set_answer (λ checked. ChecksPairs old checked × Sorts checked old new) answer
 
--- this holds of the set that the layer makes of the pairs
+-- this holds of the set that the layer makes of the pairs, which make one (`MakesOneSet`)
 abbrev pub OfSet : List Attribute → (List Pair → Type 0) → Type 0
 OfSet pairs Says = (set : List Pair) → IsListing (map pair_of pairs) set → Says set
 
--- how many values the key has in the set
-abbrev pub counted_in : List Pair → Result (List ℕ) SemanticStringError → CountAnswer
-counted_in set (Ok key) = count_answer status.Done (length (values_of set key))
-counted_in set (Err error) = count_answer status.BadAskedKey 0
-
--- how many values the key has, where the pairs are a set
-abbrev pub CountsIn : Result (Unit {0}) Fault → List Attribute → List ℕ → CountAnswer → Type 0
-CountsIn (Ok _) pairs key answer =
-    (asked : Result (List ℕ) SemanticStringError) × MakesName 64 key asked
-    × OfSet pairs (λ set. answer ≡ counted_in set asked)
-CountsIn (Err fault) pairs key answer = answer ≡ count_answer (set_fault fault) 0
-
--- how many values the key has in the pairs
+-- how many values the key has in the set of the pairs: the pairs are looked at first
 abbrev pub CountsValues : List Attribute → List ℕ → CountAnswer → Type 0
 CountsValues pairs key answer =
-    (checked : Result (Unit {0}) Fault) × (at : ℕ) × ChecksPairs pairs checked at
-    × CountsIn checked pairs key answer
+    Reading (ChecksPairs pairs) (λ wrong. answer ≡ count_answer (set_fault wrong.0) 0) (λ _.
+    Reading (MakesName 64 key) (λ _. answer ≡ count_answer status.BadAskedKey 0) (λ asked.
+    OfSet pairs (λ set. answer ≡ count_answer status.Done (length (values_of set asked)))))
 
--- a value that is there is written
-abbrev pub WritesValue : Option (List ℕ) → List ℕ → TextAnswer → List ℕ → Type 0
-WritesValue (Some value) old answer new = Written value old answer new
-WritesValue None old answer new = (answer ≡ text_answer status.NoSuchValue 0) × (new ≡ old)
-
--- the value at the index of a legal key is written
-abbrev pub WritesOf : List Attribute → Result (List ℕ) SemanticStringError → ℕ → List ℕ
-    → TextAnswer → List ℕ → Type 0
-WritesOf pairs (Ok key) index old answer new = OfSet pairs
-    (λ set. WritesValue (slice_get (values_of set key) index) old answer new)
-WritesOf pairs (Err error) index old answer new = (answer ≡ text_answer status.BadAskedKey 0)
-    × (new ≡ old)
-
--- the value at the index of the key is written, where the pairs are a set
-abbrev pub WritesIn : Result (Unit {0}) Fault → List Attribute → List ℕ → ℕ → List ℕ → TextAnswer
-    → List ℕ → Type 0
-WritesIn (Ok _) pairs key index old answer new =
-    (asked : Result (List ℕ) SemanticStringError) × MakesName 64 key asked
-    × WritesOf pairs asked index old answer new
-WritesIn (Err fault) pairs key index old answer new =
-    (answer ≡ text_answer (set_fault fault) 0) × (new ≡ old)
-
--- the value at the index of those that the key has in the pairs is written
+-- the value at the index of those that the key has in the set is written, if there is one
 abbrev pub TellsValue : List Attribute → List ℕ → ℕ → List ℕ → TextAnswer → List ℕ → Type 0
 TellsValue pairs key index old answer new =
-    (checked : Result (Unit {0}) Fault) × (at : ℕ) × ChecksPairs pairs checked at
-    × WritesIn checked pairs key index old answer new
+    Reading (ChecksPairs pairs) (λ wrong. TellsText (Err (set_fault wrong.0)) old answer new) (λ _.
+    Reading (MakesName 64 key) (λ _. TellsText (Err status.BadAskedKey) old answer new) (λ asked.
+    OfSet pairs (λ set. TellsText (ok_or (slice_get (values_of set asked) index) status.NoSuchValue)
+    old answer new)))
 
 -- the key is legal
 abbrev pub HasText : Key → Type 0
@@ -133,11 +100,11 @@ HasKeyFault status.BadAskedKey before k = ¬ (HasText k)
 HasKeyFault status.TooManyRequired before k = HasText k × (before ≡ 16)
 HasKeyFault _ before k = ⊥
 
--- the keys are legal and at most sixteen with so many pairs, or the first that is not is at the
--- place
-abbrev pub ChecksKeys : ℕ → List Key → Result (Unit {0}) Status → ℕ → Type 0
-ChecksKeys pairs keys (Ok _) at = All HasText keys × (pairs + length keys ≤ 16)
-ChecksKeys pairs keys (Err s) at =
+-- the keys are legal and at most sixteen with so many pairs, or the first that is not has the fault
+-- of the status at its place
+abbrev pub ChecksKeys : ℕ → List Key → Result (Unit {0}) (Status × ℕ) → Type 0
+ChecksKeys pairs keys (Ok _) = All HasText keys × (pairs + length keys ≤ 16)
+ChecksKeys pairs keys (Err (s, at)) =
     (pairs + at ≤ 16) × FailsAt HasText (HasKeyFault s (pairs + at)) keys at
 
 -- the answer on a verdict: of what the set lacks, the first place in the caller's array
@@ -162,30 +129,13 @@ abbrev pub Judges : List Attribute → List Attribute → List Key → PlaceAnsw
 Judges pairs required keys answer =
     OfSet pairs (λ set. OfSet required (λ wanted. TellsOf set wanted required keys answer))
 
--- the same where the keys may be required
-abbrev pub JudgesKeys : Result (Unit {0}) Status → ℕ → List Attribute → List Attribute → List Key
-    → PlaceAnswer → Type 0
-JudgesKeys (Ok _) at pairs required keys answer = Judges pairs required keys answer
-JudgesKeys (Err s) at pairs required keys answer = answer ≡ place_answer s at
-
--- the same where the pairs may be required
-abbrev pub JudgesBy : Result (Unit {0}) Fault → ℕ → List Attribute → List Attribute → List Key
-    → PlaceAnswer → Type 0
-JudgesBy (Ok _) at pairs required keys answer =
-    (checked : Result (Unit {0}) Status) × (i : ℕ) × ChecksKeys (length required) keys checked i
-    × JudgesKeys checked i pairs required keys answer
-JudgesBy (Err fault) at pairs required keys answer = answer ≡ place_answer (required_fault fault) at
-
--- the same where the pairs are a set
-abbrev pub JudgesIn : Result (Unit {0}) Fault → ℕ → List Attribute → List Attribute → List Key
-    → PlaceAnswer → Type 0
-JudgesIn (Ok _) at pairs required keys answer =
-    (checked : Result (Unit {0}) Fault) × (i : ℕ) × ChecksPairs required checked i
-    × JudgesBy checked i pairs required keys answer
-JudgesIn (Err fault) at pairs required keys answer = answer ≡ set_answer (Err fault) at
-
--- whether the pairs are a set that has what the other pairs and the keys require
+-- whether the pairs are a set that has what the other pairs and the keys require: the pairs are
+-- looked at first, then those that are required, and then the keys
 abbrev pub VerifiesSet : List Attribute → List Attribute → List Key → PlaceAnswer → Type 0
 VerifiesSet pairs required keys answer =
-    (checked : Result (Unit {0}) Fault) × (at : ℕ) × ChecksPairs pairs checked at
-    × JudgesIn checked at pairs required keys answer
+    Reading (ChecksPairs pairs) (λ wrong. answer ≡ place_answer (set_fault wrong.0) wrong.1) (λ _.
+    Reading (ChecksPairs required)
+    (λ wrong. answer ≡ place_answer (required_fault wrong.0) wrong.1) (λ _.
+    Reading (ChecksKeys (length required) keys)
+    (λ wrong. answer ≡ place_answer wrong.0 wrong.1) (λ _.
+    Judges pairs required keys answer)))

@@ -1,11 +1,11 @@
 -- How many chunks the data segment of a port needs.
-use Rattle.std.specs.Prelude.{◌≡◌, ℕ, List, Option, Some, None, false}
+use Rattle.std.specs.Prelude.{ℕ, List, Option, Some, None, false}
 use Rattle.iox2_static.specs.declared.static_config.publish_subscribe.StaticConfig.{StaticConfig as PublishSubscribe}
 use Rattle.iox2_static.specs.declared.static_config.request_response.StaticConfig.{StaticConfig as RequestResponse}
 use Rattle.iox2sd_values.specs.Prelude.{CountAnswer}
 use Rattle.iox2_config.specs.DefaultTypes.{default_details}
 use Rattle.iox2_static.specs.Chunks.{TellsGreatest}
-use Rattle.iox2sd_common.specs.Answers.{count_answer}
+use Rattle.iox2sd_common.specs.Answers.{count_answer, Told}
 use Rattle.iox2sd_common.specs.declared.status.Status.TheVariants as status
 
 -- the answer for a number of chunks, or for one that is too large
@@ -15,7 +15,7 @@ counted None = count_answer status.TooLarge 0
 
 -- the greatest number of chunks in use is told, or that it is too large
 abbrev pub Counts : List ℕ → CountAnswer → Type 0
-Counts limits answer = (count : Option ℕ) × TellsGreatest limits count × (answer ≡ counted count)
+Counts limits answer = Told counted (TellsGreatest limits) answer
 
 -- a publish-subscribe service with these limits for subscribers, and nothing else told
 abbrev pub publish_subscribe : ℕ → ℕ → ℕ → ℕ → PublishSubscribe

@@ -1,5 +1,5 @@
 -- What is fixed of a service, as plain values, from its name and settings.
-use Rattle.std.specs.Prelude.{◌≡◌, ◌↔◌, ℕ, false, IsTrue, Option, Some, None, Err, length, Bool, List, [], ◌∷◌, Result, Ok}
+use Rattle.std.specs.Prelude.{◌≡◌, ◌↔◌, ℕ, IsTrue, Option, Some, None, Err, length, Bool, List, [], ◌∷◌, Result, Ok}
 use Rattle.iox2_static.specs.declared.static_config.publish_subscribe.StaticConfig.{StaticConfig as PublishSubscribe}
 use Rattle.iox2_static.specs.declared.static_config.request_response.StaticConfig.{StaticConfig as RequestResponse}
 use Rattle.iox2sd_values.specs.Prelude.{BlackboardConfig, BlackboardSettings, EventConfig, EventSettings, Field, FieldAnswer, IllegalText, PatternKind, PublishSubscribeConfig, PublishSubscribeSettings, ReadsBlackboard, ReadsEvent, ReadsPattern, ReadsPublishSubscribe, ReadsRequestResponse, RequestResponseConfig, RequestResponseSettings, Status, blackboard_of, code, duration_of, event_of, no_field, pattern_number, refusal_answer, sha1_text}
@@ -18,6 +18,7 @@ use Rattle.iox2_config.specs.declared.hash.service_hash.ServiceHashError.{Servic
 use Rattle.iox2_static.specs.PublishSubscribe.{publish_subscribe_of}
 use Rattle.iox2_static.specs.RequestResponse.{request_response_of}
 use Rattle.iox2sd_common.specs.Ids.{number_of}
+use Rattle.iox2sd_values.specs.Chunks.{publish_subscribe, request_response}
 use Rattle.iox2sd_values.specs.Names.{ReadsAnyName}
 use Rattle.iox2sd_common.specs.declared.read_settings.Refusal.{Refusal}
 use Rattle.iox2sd_common.specs.declared.read_settings.Refusal.TheVariants as refusal
@@ -37,15 +38,7 @@ c_publish_subscribe c = record {
 -- the same of a pattern, or zeros where it is another
 abbrev pub publish_subscribe_config : MessagingPattern → PublishSubscribeConfig
 publish_subscribe_config (pattern.PublishSubscribe c) = c_publish_subscribe c
-publish_subscribe_config _ = record {
-  max_subscribers = 0;
-  max_publishers = 0;
-  max_nodes = 0;
-  history_size = 0;
-  subscriber_max_buffer_size = 0;
-  subscriber_max_borrowed_samples = 0;
-  enable_safe_overflow = false;
-}
+publish_subscribe_config _ = c_publish_subscribe (publish_subscribe 0 0 0 0)
 
 -- what is fixed of an event service, or zeros
 abbrev pub event_config : MessagingPattern → EventConfig
@@ -88,18 +81,7 @@ c_request_response c = record {
 -- the same of a pattern, or zeros where it is another
 abbrev pub request_response_config : MessagingPattern → RequestResponseConfig
 request_response_config (pattern.RequestResponse c) = c_request_response c
-request_response_config _ = record {
-  max_active_requests_per_client = 0;
-  max_loaned_requests = 0;
-  max_response_buffer_size = 0;
-  max_servers = 0;
-  max_clients = 0;
-  max_nodes = 0;
-  max_borrowed_responses_per_pending_response = 0;
-  enable_safe_overflow_for_requests = false;
-  enable_safe_overflow_for_responses = false;
-  enable_fire_and_forget_requests = false;
-}
+request_response_config _ = c_request_response (request_response 0 0 0 0 0)
 
 -- what is fixed of a blackboard service, beside the type of its keys
 abbrev pub c_blackboard : Blackboard → BlackboardConfig
@@ -182,12 +164,10 @@ FillsNamed Makes (s ∷ others) internal bytes id old answer new =
     (read : Result MessagingPattern Field) × Makes s read
     × FillsOf read internal bytes id old answer new
 
--- the pattern of settings that are read so, or the field that is invalid
-abbrev pub ReadsAs : {A : Type 0} → (Result A Field → Type 0) → (A → MessagingPattern)
-    → Result MessagingPattern Field → Type 0
-ReadsAs {A} Reads pattern_of (Ok p) =
-    (settings : A) × Reads (Ok settings) × (p ≡ pattern_of settings)
-ReadsAs Reads pattern_of (Err f) = Reads (Err f)
+-- what is made so of settings that are read so, or the field that is invalid
+abbrev pub ReadsAs : {A B : Type 0} → (Result A Field → Type 0) → (A → B) → Result B Field → Type 0
+ReadsAs {A} Reads make (Ok made) = (settings : A) × Reads (Ok settings) × (made ≡ make settings)
+ReadsAs Reads make (Err f) = Reads (Err f)
 
 -- of settings of each pattern
 abbrev pub MakesPublishSubscribe : PublishSubscribeSettings → Result MessagingPattern Field → Type 0

@@ -1,6 +1,8 @@
 -- What a caller says of the parts of a message, where they lie, and which openers may use them.
-use Rattle.std.specs.Prelude.{◌≡◌, ◌≢◌, ℕ, List, [], ◌∷◌, Option, Some, None, Result, Ok, Err, IsTrue, IsUtf8, ◌^◌, ◌<◌, ◌≤◌}
+use Rattle.std.specs.Prelude.{◌≡◌, ℕ, List, [], Option, Some, None, Result, Ok, Err, IsTrue, IsUtf8, ◌^◌, ◌<◌, ◌≤◌}
 use Rattle.std.specs.Int.{is_power_of_two}
+use Rattle.iox2sd_common.specs.Answers.{OfGiven, Reading, Told}
+use Rattle.iox2sd_common.specs.Status.{OfNumber}
 use Rattle.iox2sd_values.specs.Prelude.{Status, code, end_code}
 use Rattle.iox2_config.specs.TypeDetails.{detail, message, MakesDetail}
 use Rattle.iox2_config.specs.TypeDetailParts.{TypeDetailParts}
@@ -35,8 +37,7 @@ variant_number Dynamic = 1
 
 -- the variant of a number
 abbrev pub ReadsVariant : ℕ → Option TypeVariant → Type 0
-ReadsVariant number (Some variant) = variant_number variant ≡ number
-ReadsVariant number None = (variant : TypeVariant) → variant_number variant ≢ number
+ReadsVariant number read = OfNumber variant_number number read
 
 -- the type of a part whose variant is this
 abbrev pub part_facts : Part → TypeVariant → TypeDetailParts
@@ -68,9 +69,8 @@ ReadsPart part (Err _) = ⊥
 
 -- whether the type of a part is valid, where there is a part
 abbrev pub ChecksPart : List Part → ℕ → Type 0
-ChecksPart [] answer = answer ≡ code status.Null
-ChecksPart (part ∷ others) answer =
-    (made : Result TypeDetailParts Status) × ReadsPart part made × (answer ≡ end_code made)
+ChecksPart parts answer =
+    OfGiven (code status.Null) (λ part. Told end_code (ReadsPart part)) parts answer
 
 -- the parts before the one that is wrong are types
 abbrev pub FailsIn : Details → Which → Status → Type 0
@@ -137,9 +137,8 @@ LaysOut d n (Err _) = ⊥
 
 -- the answer with the room, where there are details
 abbrev pub TellsLayout : List Details → ℕ → LayoutAnswer → Type 0
-TellsLayout [] n answer = answer ≡ layout_answer (Err status.Null)
-TellsLayout (d ∷ others) n answer =
-    (made : Result SampleLayoutParts Status) × LaysOut d n made × (answer ≡ layout_answer made)
+TellsLayout details n answer =
+    OfGiven (layout_answer (Err status.Null)) (λ d. Told layout_answer (LaysOut d n)) details answer
 
 -- the answer with these places, or with the cause for which there are none
 abbrev pub places_answer : Result Places Status → PlacesAnswer
@@ -158,9 +157,9 @@ PlacesOf d header (Err _) = ⊥
 
 -- the answer with the places, where there are details
 abbrev pub TellsPlaces : List Details → ℕ → PlacesAnswer → Type 0
-TellsPlaces [] header answer = answer ≡ places_answer (Err status.Null)
-TellsPlaces (d ∷ others) header answer =
-    (made : Result Places Status) × PlacesOf d header made × (answer ≡ places_answer made)
+TellsPlaces details header answer =
+    OfGiven (places_answer (Err status.Null)) (λ d. Told places_answer (PlacesOf d header))
+    details answer
 
 -- the number of a part
 abbrev pub part_number : Which → ℕ
@@ -203,29 +202,17 @@ compared (Some first) = part_answer (fault_of first) 0
 
 -- the answer on details of an opener and of a service
 abbrev pub Compares : MessageTypeDetails → MessageTypeDetails → PartAnswer → Type 0
-Compares opener service answer =
-    (first : Option Incompatibility) × FindsIncompatibility opener service first
-    × (answer ≡ compared first)
+Compares opener service answer = Told compared (FindsIncompatibility opener service) answer
 
--- the answer where the opener has details, on those of the service
-abbrev pub ThenCompares : MessageTypeDetails → Result MessageTypeDetails Fault → PartAnswer → Type 0
-ThenCompares opener (Ok service) answer = Compares opener service answer
-ThenCompares opener (Err fault) answer = answer ≡ part_answer fault 1
-
--- the answer on the details of the opener, before those of the service
-abbrev pub ThenService : Result MessageTypeDetails Fault → Details → PartAnswer → Type 0
-ThenService (Ok opener) s answer =
-    (service : Result MessageTypeDetails Fault) × ReadsDetails s service
-    × ThenCompares opener service answer
-ThenService (Err fault) s answer = answer ≡ part_answer fault 0
-
--- the answer on both
-abbrev pub ThenReads : Details → Details → PartAnswer → Type 0
-ThenReads o s answer =
-    (opener : Result MessageTypeDetails Fault) × ReadsDetails o opener × ThenService opener s answer
+-- the answer on both details: those of the opener are looked at first
+abbrev pub ComparesDetails : Details → Details → PartAnswer → Type 0
+ComparesDetails o s answer =
+    Reading (ReadsDetails o) (λ fault. answer ≡ part_answer fault 0) (λ opener.
+    Reading (ReadsDetails s) (λ fault. answer ≡ part_answer fault 1) (λ service.
+    Compares opener service answer))
 
 -- the answer where both are given
 abbrev pub TellsCompatible : List Details → List Details → PartAnswer → Type 0
-TellsCompatible [] services answer = answer ≡ null_answer 0
-TellsCompatible (o ∷ openers) [] answer = answer ≡ null_answer 1
-TellsCompatible (o ∷ openers) (s ∷ services) answer = ThenReads o s answer
+TellsCompatible openers services answer =
+    OfGiven (null_answer 0) (λ o. OfGiven (null_answer 1) (ComparesDetails o) services) openers
+    answer

@@ -1,10 +1,10 @@
 -- The names of services, and their hash texts.
-use Rattle.std.specs.Prelude.{◌≡◌, ℕ, Bool, false, true, List, ◌++◌, Option, Some, None, Result, Ok, Err, IsUtf8}
+use Rattle.std.specs.Prelude.{◌≡◌, ℕ, Bool, false, true, List, ◌++◌, MatchOption, Option, Result, Ok, Err, IsUtf8}
 use lib.Chars.{codes}
 use Rattle.iox2sd_values.specs.Prelude.{IllegalText, MakesHash, MakesPublicName, MakesServiceName, PatternKind, ReadsPattern, Status, TextAnswer, hash_input, sha1_text}
 use Rattle.iox2_texts.specs.declared.service_name.ServiceNameError.{ServiceNameError}
 use Rattle.iox2_texts.specs.declared.service_name.ServiceNameError.TheVariants as error
-use Rattle.iox2sd_common.specs.Answers.{TellsText}
+use Rattle.iox2sd_common.specs.Answers.{Reading, TellsText}
 use Rattle.iox2sd_common.specs.declared.status.Status.TheVariants as status
 
 -- what making a name of bytes answers: what is no UTF-8 is told first
@@ -37,8 +37,8 @@ Prefixes bytes (Err _) = ⊥
 
 -- the name is written, or the answer tells why there is none
 abbrev pub TellsPrefixed : List ℕ → List ℕ → TextAnswer → List ℕ → Type 0
-TellsPrefixed bytes old answer new = (made : Result (List ℕ) Status) × Prefixes bytes made
-    × TellsText made old answer new
+TellsPrefixed bytes old answer new =
+    (made : Result (List ℕ) Status) × Prefixes bytes made × TellsText made old answer new
 
 -- what making the hash text of a pattern and a name answers, by SHA-1, which refuses no input
 abbrev pub MakesText : PatternKind → List ℕ → Result (List ℕ) Status → Type 0
@@ -48,31 +48,16 @@ MakesText kind name (Err status.IllegalHash) =
     MakesHash sha1_text (λ input. ⊥) (hash_input kind name) (Err IllegalText)
 MakesText kind name (Err _) = ⊥
 
--- the same where there is a name
-abbrev pub HashesName : PatternKind → Result (List ℕ) Status → Result (List ℕ) Status → Type 0
-HashesName kind (Ok name) made = MakesText kind name made
-HashesName kind (Err cause) made = made ≡ Err cause
-
--- the same of bytes that are read as a name, where there is a pattern
-abbrev pub HashesBytes : Option PatternKind → Bool → List ℕ → Result (List ℕ) Status → Type 0
-HashesBytes (Some kind) internal bytes made =
-    (name : Result (List ℕ) Status) × ReadsAnyName internal bytes name × HashesName kind name made
-HashesBytes None internal bytes made = made ≡ Err status.UnknownPattern
-
--- the same of the number of a pattern
+-- the same of the number of a pattern and of bytes, which are read as a name
 abbrev pub Hashes : Bool → ℕ → List ℕ → Result (List ℕ) Status → Type 0
 Hashes internal pattern bytes made =
-    (kind : Option PatternKind) × ReadsPattern pattern kind × HashesBytes kind internal bytes made
+    (kind : Option PatternKind) × ReadsPattern pattern kind
+    × MatchOption kind (made ≡ Err status.UnknownPattern) (λ kind.
+    Reading (ReadsAnyName internal bytes) (λ cause. made ≡ Err cause) (λ name.
+    MakesText kind name made))
 
 -- the hash text is written, or the answer tells why there is none
-abbrev pub TellsAnyHash : Bool → ℕ → List ℕ → List ℕ → TextAnswer → List ℕ → Type 0
-TellsAnyHash internal pattern bytes old answer new =
+abbrev pub TellsHash : Bool → ℕ → List ℕ → List ℕ → TextAnswer → List ℕ → Type 0
+TellsHash internal pattern bytes old answer new =
     (made : Result (List ℕ) Status) × Hashes internal pattern bytes made
     × TellsText made old answer new
-
--- of a user's name, and of any name
-abbrev pub TellsHash : ℕ → List ℕ → List ℕ → TextAnswer → List ℕ → Type 0
-TellsHash pattern bytes old answer new = TellsAnyHash false pattern bytes old answer new
-
-abbrev pub TellsInternalHash : ℕ → List ℕ → List ℕ → TextAnswer → List ℕ → Type 0
-TellsInternalHash pattern bytes old answer new = TellsAnyHash true pattern bytes old answer new

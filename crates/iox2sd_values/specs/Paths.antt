@@ -1,10 +1,11 @@
 -- Paths that are joined, where the system's files lie, and how they are called, where nothing else
 -- is said.
-use Rattle.std.specs.Prelude.{◌≡◌, ℕ, List, [], ◌∷◌, Option, Some, None, Result, Ok, Err, slice_get}
+use Rattle.std.specs.Prelude.{◌≡◌, ℕ, List, [], ◌∷◌, Result, Ok, Err, slice_get}
+use Rattle.std.specs.Option.{ok_or}
 use lib.Chars.{codes}
 use Rattle.iox2sd_values.specs.Prelude.{MakesJoined, SemanticStringError, Status, TextAnswer, default_node, default_service}
-use Rattle.iox2sd_common.specs.Answers.{text_answer, TellsText, Written}
-use Rattle.iox2sd_values.specs.Texts.{MakesPath, MakesFileName}
+use Rattle.iox2sd_common.specs.Answers.{TellsText}
+use Rattle.iox2sd_values.specs.Texts.{MakesPath}
 use Rattle.iox2sd_common.specs.declared.status.Status.TheVariants as status
 
 -- what joining to a path answers: the path is looked at first, then the entry, and then the length
@@ -21,23 +22,15 @@ Joins Makes path entry (Err status.TooLong) =
     × MakesJoined p e (Err error)
 Joins Makes path entry (Err _) = ⊥
 
--- of a path and a path
-abbrev pub JoinsPaths : List ℕ → List ℕ → Result (List ℕ) Status → Type 0
-JoinsPaths path entry made = Joins MakesPath path entry made
-
--- of a path and the name of a file
-abbrev pub JoinsFile : List ℕ → List ℕ → Result (List ℕ) Status → Type 0
-JoinsFile path file made = Joins MakesFileName path file made
+-- an entry that is legal as it is
+abbrev pub IsLegal : List ℕ → Result (List ℕ) SemanticStringError → Type 0
+IsLegal entry read = read ≡ Ok entry
 
 -- the joined path is written, or the answer tells why there is none
-abbrev pub TellsPath : List ℕ → List ℕ → List ℕ → TextAnswer → List ℕ → Type 0
-TellsPath path entry old answer new =
-    (made : Result (List ℕ) Status) × JoinsPaths path entry made × TellsText made old answer new
-
--- the same for the path of a file
-abbrev pub TellsFile : List ℕ → List ℕ → List ℕ → TextAnswer → List ℕ → Type 0
-TellsFile path file old answer new =
-    (made : Result (List ℕ) Status) × JoinsFile path file made × TellsText made old answer new
+abbrev pub TellsJoined : (List ℕ → Result (List ℕ) SemanticStringError → Type 0) → List ℕ → List ℕ
+    → List ℕ → TextAnswer → List ℕ → Type 0
+TellsJoined Makes path entry old answer new =
+    (made : Result (List ℕ) Status) × Joins Makes path entry made × TellsText made old answer new
 
 -- the texts of the configuration by their numbers, from 0 on
 abbrev pub named : List (List ℕ)
@@ -64,19 +57,7 @@ named =
     ∷ codes "iceoryx2/iceoryx2.toml"
     ∷ []
 
--- the text is written, where there is one
-abbrev pub WritesNamed : Option (List ℕ) → List ℕ → TextAnswer → List ℕ → Type 0
-WritesNamed (Some text) old answer new = Written text old answer new
-WritesNamed None old answer new = (answer ≡ text_answer status.UnknownText 0) × (new ≡ old)
-
--- the text of the number is written
+-- the text of the number is written, where there is one
 abbrev pub TellsNamed : ℕ → List ℕ → TextAnswer → List ℕ → Type 0
-TellsNamed number old answer new = WritesNamed (slice_get named number) old answer new
-
--- the directory below the root path is written, or the answer tells why there is none
-abbrev pub JoinsBelow : List ℕ → List ℕ → Result (List ℕ) Status → Type 0
-JoinsBelow root directory made = Joins (λ entry read. read ≡ Ok entry) root directory made
-
-abbrev pub TellsBelow : List ℕ → List ℕ → List ℕ → TextAnswer → List ℕ → Type 0
-TellsBelow root directory old answer new =
-    (made : Result (List ℕ) Status) × JoinsBelow root directory made × TellsText made old answer new
+TellsNamed number old answer new =
+    TellsText (ok_or (slice_get named number) status.UnknownText) old answer new

@@ -1,14 +1,14 @@
 -- Whether a service meets what an opener requires, told by the first setting that it does not meet.
-use Rattle.std.specs.Prelude.{◌≡◌, ℕ, List, [], ◌∷◌, Option, Some, None, Result, Ok, Err}
+use Rattle.std.specs.Prelude.{◌≡◌, ℕ, List, Option, Some, None, Result}
 use Rattle.iox2sd_values.specs.Prelude.{BlackboardConfig, EventConfig, EventSettings, Field, FieldAnswer, PublishSubscribeConfig, ReadsEvent, RequestResponseConfig, code, event_of, field_answer, no_field}
-use Rattle.iox2_config.specs.declared.config.event.Event.{Event as Settings}
 use Rattle.iox2_static.specs.Requirements.{first_unmet}
 use Rattle.iox2_static.specs.Satisfies.{publish_subscribe_requirements, event_requirements, request_response_requirements, blackboard_requirements}
 use Rattle.iox2_static.specs.declared.static_config.event.StaticConfig.{StaticConfig as Event}
 use Rattle.iox2_static.specs.declared.static_config.setting.Setting.{Setting}
 use Rattle.iox2_static.specs.declared.static_config.setting.Setting.TheVariants as setting
+use Rattle.iox2sd_common.specs.Answers.{OfGiven, Reading}
 use Rattle.iox2sd_common.specs.declared.status.Status.TheVariants as status
-use Rattle.iox2sd_values.specs.Descriptions.{c_publish_subscribe, c_request_response, c_blackboard}
+use Rattle.iox2sd_values.specs.Descriptions.{ReadsAs, c_publish_subscribe, c_request_response, c_blackboard}
 
 -- the number of a setting, which no field has that may be invalid, but for the deadline
 abbrev pub setting_number : Setting → ℕ
@@ -59,35 +59,24 @@ settings_of c = record {
 
 -- what is fixed of an event service, or the field that is invalid
 abbrev pub ReadsFixed : EventConfig → Result Event Field → Type 0
-ReadsFixed c (Ok made) =
-    (settings : Settings) × ReadsEvent (settings_of c) (Ok settings) × (made ≡ event_of settings)
-ReadsFixed c (Err f) = ReadsEvent (settings_of c) (Err f)
+ReadsFixed c made = ReadsAs (ReadsEvent (settings_of c)) event_of made
 
--- the answer on a service, and on what an opener requires
-abbrev pub ThenRequires : Event → Result Event Field → FieldAnswer → Type 0
-ThenRequires service (Ok required) answer =
-    answer ≡ satisfied (first_unmet (event_requirements service required))
-ThenRequires service (Err f) answer = answer ≡ field_answer f
-
--- the answer on what is fixed of the service, which is read before what the opener requires
-abbrev pub ThenService : Result Event Field → EventConfig → FieldAnswer → Type 0
-ThenService (Ok service) r answer =
-    (required : Result Event Field) × ReadsFixed r required × ThenRequires service required answer
-ThenService (Err f) r answer = answer ≡ field_answer f
-
--- the answer on both
+-- the answer on both: the service is read before what the opener requires
 abbrev pub ComparesEvents : EventConfig → EventConfig → FieldAnswer → Type 0
 ComparesEvents s r answer =
-    (service : Result Event Field) × ReadsFixed s service × ThenService service r answer
+    Reading (ReadsFixed s) (λ f. answer ≡ field_answer f) (λ service.
+    Reading (ReadsFixed r) (λ f. answer ≡ field_answer f) (λ required.
+    answer ≡ satisfied (first_unmet (event_requirements service required))))
 
 -- the answer where both are given
 abbrev pub SatisfiesBy : {C : Type 0} → (C → C → FieldAnswer → Type 0) → List C → List C
     → FieldAnswer → Type 0
-SatisfiesBy Compares [] required answer = answer ≡ no_field status.Null
-SatisfiesBy Compares (s ∷ others) [] answer = answer ≡ no_field status.Null
-SatisfiesBy Compares (s ∷ others) (r ∷ more) answer = Compares s r answer
+SatisfiesBy Compares services required answer =
+    OfGiven (no_field status.Null) (λ s. OfGiven (no_field status.Null) (Compares s) required)
+    services answer
 
--- the answer on some configurations of the layer of which these are the plain values
+-- the answer on some configurations of the layer of which these are the plain values: it is that on
+-- all (`HasOneAnswer`)
 abbrev pub ComparesPlain : {C L : Type 0} → (L → C) → (L → L → Option Setting) → C → C
     → FieldAnswer → Type 0
 ComparesPlain {C} {L} plain unmet s r answer =
@@ -97,24 +86,21 @@ ComparesPlain {C} {L} plain unmet s r answer =
 -- of publish-subscribe services
 abbrev pub SatisfiesPublishSubscribe : List PublishSubscribeConfig → List PublishSubscribeConfig
     → FieldAnswer → Type 0
-SatisfiesPublishSubscribe services required answer = SatisfiesBy
+SatisfiesPublishSubscribe = SatisfiesBy
     (ComparesPlain c_publish_subscribe (λ s r. first_unmet (publish_subscribe_requirements s r)))
-    services required answer
 
 -- of event services
 abbrev pub SatisfiesEvent : List EventConfig → List EventConfig → FieldAnswer → Type 0
-SatisfiesEvent services required answer = SatisfiesBy ComparesEvents services required answer
+SatisfiesEvent = SatisfiesBy ComparesEvents
 
 -- of request-response services
 abbrev pub SatisfiesRequestResponse : List RequestResponseConfig → List RequestResponseConfig
     → FieldAnswer → Type 0
-SatisfiesRequestResponse services required answer = SatisfiesBy
+SatisfiesRequestResponse = SatisfiesBy
     (ComparesPlain c_request_response (λ s r. first_unmet (request_response_requirements s r)))
-    services required answer
 
 -- of blackboard services
 abbrev pub SatisfiesBlackboard : List BlackboardConfig → List BlackboardConfig → FieldAnswer
     → Type 0
-SatisfiesBlackboard services required answer = SatisfiesBy
+SatisfiesBlackboard = SatisfiesBy
     (ComparesPlain c_blackboard (λ s r. first_unmet (blackboard_requirements s r)))
-    services required answer

@@ -1,13 +1,15 @@
 //! Attributes without handles: a caller's arrays of keys and values.
 ghost use Rattle.std.specs.Prelude.{◌≡◌, ◌≤◌, [], map, take, length, slice_get};
-ghost use Rattle.std.specs.Option.{option_copied};
+ghost use Rattle.std.specs.Option.{ok_or, option_copied};
 ghost use Rattle.iox2_texts.specs.Attribute.{IsListing, values_of};
 ghost use Rattle.iox2sd_values.specs.Attributes.{TellsSet, SortsSet, CountsValues, TellsValue};
 ghost use Rattle.iox2sd_values.specs.Attributes.{pair_of, text_of, set_fault, required_fault};
-ghost use Rattle.iox2sd_values.specs.Attributes.{ChecksPairs, ChecksKeys, OfSet, WritesValue};
+ghost use Rattle.iox2sd_values.specs.Attributes.{ChecksPairs, ChecksKeys, OfSet};
 ghost use Rattle.iox2sd_values.specs.Attributes.{Judges, VerifiesSet};
 ghost use Rattle.iox2sd_values.specs.Causes.{PlaceBut, CountBut, TextBut, SetCause, AskedCause};
 ghost use Rattle.iox2sd_values.specs.Causes.{RequiredCause};
+ghost use Rattle.iox2sd_common.specs.Answers.{TellsText};
+ghost use Rattle.iox2sd_common.specs.declared.status.Status.TheVariants as status;
 
 use super::causes::{asked_cause, required_cause, set_cause};
 use super::texts::is_name;
@@ -73,23 +75,21 @@ impl Fault {
     }
 }
 
-/// Whether the pairs are legal and sixteen at most; the index of the first that is not is written.
+/// Whether the pairs are legal and sixteen at most, or the fault of the first that is not, and its
+/// index.
 #[tactic(auto, using(crate::proofs::Legal::searched))]
-fn check_pairs(pairs: &[Attribute<'_>], at: &mut usize) -> Result<(), Fault>
-    ensures { ChecksPairs pairs.now result at.new }
+fn check_pairs(pairs: &[Attribute<'_>]) -> Result<(), (Fault, usize)>
+    ensures { ChecksPairs pairs.now result }
 {
     for (i, pair) in pairs.iter().enumerate() {
         if !is_name(pair.key, MAX_ATTRIBUTE_KEY_LENGTH) {
-            *at = i;
-            return Err(Fault::Key);
+            return Err((Fault::Key, i));
         }
         if !is_name(pair.value, MAX_ATTRIBUTE_VALUE_LENGTH) {
-            *at = i;
-            return Err(Fault::Value);
+            return Err((Fault::Value, i));
         }
         if i == MAX_ATTRIBUTES {
-            *at = i;
-            return Err(Fault::Number);
+            return Err((Fault::Number, i));
         }
     }
     Ok(())
@@ -99,10 +99,9 @@ fn check_pairs(pairs: &[Attribute<'_>], at: &mut usize) -> Result<(), Fault>
 fn tell_set(pairs: &[Attribute<'_>]) -> PlaceAnswer
     ensures { TellsSet pairs.now result }
 {
-    let mut at = 0;
-    match check_pairs(pairs, &mut at) {
+    match check_pairs(pairs) {
         Ok(()) => position(Status::Done, 0),
-        Err(fault) => position(fault.of_set(), at),
+        Err((fault, at)) => position(fault.of_set(), at),
     }
 }
 
@@ -127,13 +126,12 @@ pub extern "C" fn iox2sd_attributes_check_at(pairs: &[Attribute<'_>]) -> PlaceAn
 fn sort_set(pairs: &mut [Attribute<'_>]) -> PlaceAnswer
     ensures { SortsSet pairs.old result pairs.new }
 {
-    let mut at = 0;
-    match check_pairs(pairs, &mut at) {
+    match check_pairs(pairs) {
         Ok(()) => {
             pairs.sort_unstable();
             position(Status::Done, 0)
         }
-        Err(fault) => position(fault.of_set(), at),
+        Err((fault, at)) => position(fault.of_set(), at),
     }
 }
 
@@ -196,7 +194,8 @@ fn sorted<'a>(pairs: &[Attribute<'a>]) -> [Attribute<'a>; MAX_ATTRIBUTES]
 /// least.
 fn write_value(pairs: &[Attribute<'_>], key: &[u8], index: usize, out: &mut [u8]) -> TextAnswer
     requires { length pairs.now ≤ 16 }
-    ensures { OfSet pairs.now (λ set. WritesValue (slice_get (values_of set key.now) index)
+    ensures { OfSet pairs.now (λ set. TellsText
+        (ok_or (slice_get (values_of set key.now) index) status.NoSuchValue)
         out.old result out.new) }
 {
     let copies = sorted(pairs);
@@ -211,13 +210,12 @@ fn write_value(pairs: &[Attribute<'_>], key: &[u8], index: usize, out: &mut [u8]
 fn count_of(pairs: &[Attribute<'_>], key: &[u8]) -> CountAnswer
     ensures { CountsValues pairs.now key.now result }
 {
-    let mut at = 0;
-    match check_pairs(pairs, &mut at) {
+    match check_pairs(pairs) {
         Ok(()) => match AttributeKey::new(key) {
             Ok(_) => count(Status::Done, count_values(pairs, key)),
             Err(_) => count(Status::BadAskedKey, 0),
         },
-        Err(fault) => count(fault.of_set(), 0),
+        Err((fault, _)) => count(fault.of_set(), 0),
     }
 }
 
@@ -244,13 +242,12 @@ pub extern "C" fn iox2sd_attributes_number_of_key_values_at(
 fn write_of(pairs: &[Attribute<'_>], key: &[u8], index: usize, out: &mut [u8]) -> TextAnswer
     ensures { TellsValue pairs.now key.now index out.old result out.new }
 {
-    let mut at = 0;
-    match check_pairs(pairs, &mut at) {
+    match check_pairs(pairs) {
         Ok(()) => match AttributeKey::new(key) {
             Ok(_) => write_value(pairs, key, index, out),
             Err(_) => no_text(Status::BadAskedKey),
         },
-        Err(fault) => no_text(fault.of_set()),
+        Err((fault, _)) => no_text(fault.of_set()),
     }
 }
 
@@ -278,21 +275,19 @@ pub extern "C" fn iox2sd_attributes_key_value_at(
     }
 }
 
-/// Whether the keys may be required beside so many pairs, or why not; the index of the key that is
-/// wrong is written.
+/// Whether the keys may be required beside so many pairs, or why the first that is wrong may not,
+/// and its index.
 #[tactic(auto, using(crate::proofs::Legal::searched))]
-fn check_keys(keys: &[Key<'_>], pairs: usize, at: &mut usize) -> Result<(), Status>
+fn check_keys(keys: &[Key<'_>], pairs: usize) -> Result<(), (Status, usize)>
     requires { pairs ≤ 16 }
-    ensures { ChecksKeys pairs keys.now result at.new }
+    ensures { ChecksKeys pairs keys.now result }
 {
     for (i, key) in keys.iter().enumerate() {
         if !is_name(key.text, MAX_ATTRIBUTE_KEY_LENGTH) {
-            *at = i;
-            return Err(Status::BadAskedKey);
+            return Err((Status::BadAskedKey, i));
         }
         if pairs + i == MAX_ATTRIBUTES {
-            *at = i;
-            return Err(Status::TooManyRequired);
+            return Err((Status::TooManyRequired, i));
         }
     }
     Ok(())
@@ -339,14 +334,13 @@ fn verify(set: &[Attribute<'_>], required: &[Attribute<'_>], keys: &[Key<'_>]) -
 fn judge(pairs: &[Attribute<'_>], required: &[Attribute<'_>], keys: &[Key<'_>]) -> PlaceAnswer
     ensures { VerifiesSet pairs.now required.now keys.now result }
 {
-    let mut at = 0;
-    if let Err(fault) = check_pairs(pairs, &mut at) {
+    if let Err((fault, at)) = check_pairs(pairs) {
         return position(fault.of_set(), at);
     }
-    if let Err(fault) = check_pairs(required, &mut at) {
+    if let Err((fault, at)) = check_pairs(required) {
         return position(fault.of_required(), at);
     }
-    if let Err(status) = check_keys(keys, required.len(), &mut at) {
+    if let Err((status, at)) = check_keys(keys, required.len()) {
         return position(status, at);
     }
     verify(pairs, required, keys)

@@ -1,6 +1,7 @@
 //! How many nodes and ports a service can have at a time.
-ghost use Rattle.iox2sd_values.specs.Settings.{PublishSubscribeCapacitiesOf, EventCapacitiesOf};
-ghost use Rattle.iox2sd_values.specs.Settings.{RequestResponseCapacitiesOf, BlackboardCapacitiesOf};
+ghost use Rattle.iox2sd_values.specs.Settings.{CapacitiesBy, publish_subscribe_capacities};
+ghost use Rattle.iox2sd_values.specs.Settings.{event_capacities, request_response_capacities};
+ghost use Rattle.iox2sd_values.specs.Settings.{blackboard_capacities};
 
 use iox2_static::static_config::blackboard;
 use iox2sd_common::read_settings::read_blackboard;
@@ -61,7 +62,8 @@ pub struct BlackboardCapacities {
 pub extern "C" fn iox2sd_publish_subscribe_capacities_of_settings_at(
     settings: &[PublishSubscribeSettings],
 ) -> PublishSubscribeCapacities
-    ensures { PublishSubscribeCapacitiesOf settings.now result }
+    ensures { CapacitiesBy publish_subscribe_capacities
+        (record { nodes = 0; publishers = 0; subscribers = 0 }) settings.now result }
 {
     let [settings, ..] = settings else {
         return PublishSubscribeCapacities::default();
@@ -78,7 +80,8 @@ pub extern "C" fn iox2sd_publish_subscribe_capacities_of_settings_at(
 pub extern "C" fn iox2sd_event_capacities_of_settings_at(
     settings: &[EventSettings],
 ) -> EventCapacities
-    ensures { EventCapacitiesOf settings.now result }
+    ensures { CapacitiesBy event_capacities (record { nodes = 0; listeners = 0; notifiers = 0 })
+        settings.now result }
 {
     let [settings, ..] = settings else {
         return EventCapacities::default();
@@ -95,7 +98,8 @@ pub extern "C" fn iox2sd_event_capacities_of_settings_at(
 pub extern "C" fn iox2sd_request_response_capacities_of_settings_at(
     settings: &[RequestResponseSettings],
 ) -> RequestResponseCapacities
-    ensures { RequestResponseCapacitiesOf settings.now result }
+    ensures { CapacitiesBy request_response_capacities
+        (record { nodes = 0; servers = 0; clients = 0 }) settings.now result }
 {
     let [settings, ..] = settings else {
         return RequestResponseCapacities::default();
@@ -112,7 +116,8 @@ pub extern "C" fn iox2sd_request_response_capacities_of_settings_at(
 pub extern "C" fn iox2sd_blackboard_capacities_of_settings_at(
     settings: &[BlackboardSettings],
 ) -> BlackboardCapacities
-    ensures { BlackboardCapacitiesOf settings.now result }
+    ensures { CapacitiesBy blackboard_capacities (record { nodes = 0; readers = 0; writers = 0 })
+        settings.now result }
 {
     let [settings, ..] = settings else {
         return BlackboardCapacities::default();

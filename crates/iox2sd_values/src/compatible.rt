@@ -1,7 +1,7 @@
 //! Which openers may use the messages of a service.
 ghost use Rattle.std.specs.Prelude.{◌≡◌};
 ghost use Rattle.iox2sd_values.specs.Messages.{part_number, part_answer, other, unsuited, fault_of};
-ghost use Rattle.iox2sd_values.specs.Messages.{null_answer, Compares, ThenReads, TellsCompatible};
+ghost use Rattle.iox2sd_values.specs.Messages.{null_answer, Compares, ComparesDetails, TellsCompatible};
 
 use super::details::{Details, Fault, Which, read_details};
 use iox2_config::types::{Difference, Incompatibility, MessageTypeDetails};
@@ -99,7 +99,7 @@ fn compare(opener: &MessageTypeDetails, service: &MessageTypeDetails) -> PartAns
 
 /// The answer on two details that were given.
 fn judge(opener: &Details<'_>, service: &Details<'_>) -> PartAnswer
-    ensures { ThenReads opener.now service.now result }
+    ensures { ComparesDetails opener.now service.now result }
 {
     let opener = match read_details(opener) {
         Ok(opener) => opener,

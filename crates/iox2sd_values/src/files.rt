@@ -2,9 +2,10 @@
 ghost use Rattle.std.specs.Prelude.{◌≡◌};
 ghost use Rattle.iox2_config.specs.Defaults.{default_service, default_node};
 ghost use Rattle.iox2sd_values.specs.Causes.{TextBut, RootCause};
-ghost use Rattle.iox2sd_values.specs.Paths.{TellsNamed, JoinsBelow, TellsBelow};
+ghost use Rattle.iox2sd_values.specs.Paths.{IsLegal, Joins, TellsJoined, TellsNamed};
 
 use super::causes::root_cause;
+use super::paths::tell_path;
 use iox2_config::config::{Config, Node, Service};
 use iox2_texts::paths::Path;
 use iox2sd_common::answers::{TextAnswer, no_text, write};
@@ -53,35 +54,22 @@ pub extern "C" fn iox2sd_default_text_at(which: u32, out: &mut [u8]) -> TextAnsw
 
 /// A directory below a root path.
 fn below(root: &[u8], directory: &Path) -> Result<Path, Status>
-    ensures { JoinsBelow root.now directory.now result }
+    ensures { Joins IsLegal root.now directory.now result }
 {
-    let Ok(root) = Path::new(root) else {
-        return Err(Status::BadPath);
-    };
-    let mut joined = root;
-    match joined.add_path_entry(directory) {
-        Ok(()) => Ok(joined),
-        Err(_) => Err(Status::TooLong),
-    }
-}
-
-/// Writes a directory below a root path, or says why there is none.
-fn tell_below(root: &[u8], directory: &Path, out: &mut [u8]) -> TextAnswer
-    ensures { TellsBelow root.now directory.now out.old result out.new }
-{
-    match below(root, directory) {
-        Ok(directory) => write(directory.as_bytes(), out),
-        Err(status) => no_text(status),
-    }
+    let mut joined = Path::new(root).map_err(|_| Status::BadPath)?;
+    joined
+        .add_path_entry(directory)
+        .map_err(|_| Status::TooLong)?;
+    Ok(joined)
 }
 
 /// Writes a directory below a root path, or says why there is none and for what cause.
 fn write_below(root: &[u8], directory: &Path, out: &mut [u8]) -> TextAnswer
-    ensures tells { TextBut (λ reported. TellsBelow root.now directory.now out.old reported out.new)
-        result }
+    ensures tells { TextBut (λ reported. TellsJoined IsLegal root.now directory.now out.old reported
+        out.new) result }
     ensures cause { RootCause root.now result.status result.cause }
 {
-    let reported = tell_below(root, directory, out);
+    let reported = tell_path(below(root, directory), out);
     TextAnswer {
         cause: root_cause(reported.status, root),
         ..reported
@@ -93,8 +81,8 @@ fn write_below(root: &[u8], directory: &Path, out: &mut [u8]) -> TextAnswer
 /// Refused are, in this order, a wrong root path (`BadPath`), and more than 255 bytes (`TooLong`).
 #[unsafe(no_mangle)]
 pub extern "C" fn iox2sd_service_dir_at(root: &[u8], out: &mut [u8]) -> TextAnswer
-    ensures tells { TextBut (λ reported. TellsBelow root.now default_service.directory out.old
-        reported out.new) result }
+    ensures tells { TextBut (λ reported. TellsJoined IsLegal root.now default_service.directory
+        out.old reported out.new) result }
     ensures cause { RootCause root.now result.status result.cause }
 {
     write_below(root, &Service::default().directory, out)
@@ -103,8 +91,8 @@ pub extern "C" fn iox2sd_service_dir_at(root: &[u8], out: &mut [u8]) -> TextAnsw
 /// Writes the directory of nodes below a root path. Refused as that of services is.
 #[unsafe(no_mangle)]
 pub extern "C" fn iox2sd_node_dir_at(root: &[u8], out: &mut [u8]) -> TextAnswer
-    ensures tells { TextBut
-        (λ reported. TellsBelow root.now default_node.directory out.old reported out.new) result }
+    ensures tells { TextBut (λ reported. TellsJoined IsLegal root.now default_node.directory
+        out.old reported out.new) result }
     ensures cause { RootCause root.now result.status result.cause }
 {
     write_below(root, &Node::default().directory, out)

@@ -1,62 +1,46 @@
 //! Paths that are joined.
-ghost use Rattle.std.specs.Prelude.{◌≡◌};
+ghost use Rattle.iox2sd_common.specs.Answers.{TellsText};
 ghost use Rattle.iox2sd_values.specs.Causes.{TextBut, JoinCause, ChecksPath, ChecksFileName};
-ghost use Rattle.iox2sd_values.specs.Paths.{JoinsPaths, JoinsFile, TellsPath, TellsFile};
+ghost use Rattle.iox2sd_values.specs.Paths.{Joins, TellsJoined};
+ghost use Rattle.iox2sd_values.specs.Texts.{MakesPath, MakesFileName};
 
 use super::causes::{entry_cause, file_cause};
+use iox2_texts::bounded::{Content, SemanticString};
 use iox2_texts::paths::{FileName, FilePath, Path};
 use iox2sd_common::answers::{TextAnswer, no_text, write};
 use iox2sd_common::status::Status;
 
 /// The entry joined to the path.
 fn join_paths(path: &[u8], entry: &[u8]) -> Result<Path, Status>
-    ensures { JoinsPaths path.now entry.now result }
+    ensures { Joins MakesPath path.now entry.now result }
 {
-    let Ok(path) = Path::new(path) else {
-        return Err(Status::BadPath);
-    };
-    let Ok(entry) = Path::new(entry) else {
-        return Err(Status::BadEntry);
-    };
-    let mut joined = path;
-    match joined.add_path_entry(&entry) {
-        Ok(()) => Ok(joined),
-        Err(_) => Err(Status::TooLong),
-    }
+    let mut joined = Path::new(path).map_err(|_| Status::BadPath)?;
+    let entry = Path::new(entry).map_err(|_| Status::BadEntry)?;
+    joined.add_path_entry(&entry).map_err(|_| Status::TooLong)?;
+    Ok(joined)
 }
 
 /// The path of the file in the directory.
 fn join_file(path: &[u8], file: &[u8]) -> Result<FilePath, Status>
-    ensures { JoinsFile path.now file.now result }
+    ensures { Joins MakesFileName path.now file.now result }
 {
-    let Ok(path) = Path::new(path) else {
-        return Err(Status::BadPath);
-    };
-    let Ok(file) = FileName::new(file) else {
-        return Err(Status::BadEntry);
-    };
+    let path = Path::new(path).map_err(|_| Status::BadPath)?;
+    let file = FileName::new(file).map_err(|_| Status::BadEntry)?;
     match FilePath::from_path_and_file(&path, &file) {
         Ok(joined) => Ok(joined),
         Err(_) => Err(Status::TooLong),
     }
 }
 
-/// Writes the joined path, or says why there is none.
-fn tell_path(path: &[u8], entry: &[u8], out: &mut [u8]) -> TextAnswer
-    ensures { TellsPath path.now entry.now out.old result out.new }
+/// Writes the path, or says why there is none.
+pub(super) fn tell_path<C: Content>(
+    path: Result<SemanticString<C, 255>, Status>,
+    out: &mut [u8],
+) -> TextAnswer
+    ensures { TellsText path out.old result out.new }
 {
-    match join_paths(path, entry) {
-        Ok(joined) => write(joined.as_bytes(), out),
-        Err(status) => no_text(status),
-    }
-}
-
-/// Writes the path of the file, or says why there is none.
-fn tell_file(path: &[u8], file: &[u8], out: &mut [u8]) -> TextAnswer
-    ensures { TellsFile path.now file.now out.old result out.new }
-{
-    match join_file(path, file) {
-        Ok(joined) => write(joined.as_bytes(), out),
+    match path {
+        Ok(path) => write(path.as_bytes(), out),
         Err(status) => no_text(status),
     }
 }
@@ -72,11 +56,11 @@ pub extern "C" fn iox2sd_path_add_path_entry_at(
     entry: &[u8],
     out: &mut [u8],
 ) -> TextAnswer
-    ensures tells { TextBut (λ reported. TellsPath path.now entry.now out.old reported out.new)
-        result }
+    ensures tells { TextBut (λ reported. TellsJoined MakesPath path.now entry.now out.old reported
+        out.new) result }
     ensures cause { JoinCause (ChecksPath entry.now) path.now result.status result.cause }
 {
-    let reported = tell_path(path, entry, out);
+    let reported = tell_path(join_paths(path, entry), out);
     TextAnswer {
         cause: entry_cause(reported.status, path, entry),
         ..reported
@@ -94,11 +78,11 @@ pub extern "C" fn iox2sd_file_path_from_path_and_file_at(
     file: &[u8],
     out: &mut [u8],
 ) -> TextAnswer
-    ensures tells { TextBut (λ reported. TellsFile path.now file.now out.old reported out.new)
-        result }
+    ensures tells { TextBut (λ reported. TellsJoined MakesFileName path.now file.now out.old
+        reported out.new) result }
     ensures cause { JoinCause (ChecksFileName file.now) path.now result.status result.cause }
 {
-    let reported = tell_file(path, file, out);
+    let reported = tell_path(join_file(path, file), out);
     TextAnswer {
         cause: file_cause(reported.status, path, file),
         ..reported

@@ -5,8 +5,9 @@ ghost use Rattle.iox2_config.specs.Defaults.{default_publish_subscribe, default_
 ghost use Rattle.iox2_config.specs.Defaults.{default_request_response, default_blackboard};
 ghost use Rattle.iox2sd_common.specs.Settings.{c_publish_subscribe, c_event};
 ghost use Rattle.iox2sd_common.specs.Settings.{c_request_response, c_blackboard};
-ghost use Rattle.iox2sd_values.specs.Settings.{TellsGlobalDefaults, checked, ChecksPublishSubscribe};
-ghost use Rattle.iox2sd_values.specs.Settings.{ChecksEvent, ChecksRequestResponse, ChecksGlobal};
+ghost use Rattle.iox2sd_common.specs.ReadSettings.{ReadsPublishSubscribe, ReadsEvent, ReadsGlobal};
+ghost use Rattle.iox2sd_common.specs.ReadSettings.{ReadsRequestResponse};
+ghost use Rattle.iox2sd_values.specs.Settings.{TellsGlobalDefaults, checked, ChecksBy};
 
 use iox2_config::config::{Blackboard, Event, Node, PublishSubscribe, RequestResonse, Service};
 use iox2sd_common::read_settings::{
@@ -84,7 +85,7 @@ fn checked<T: Drop>(read: Result<T, Field>) -> FieldAnswer
 pub extern "C" fn iox2sd_publish_subscribe_settings_check_at(
     settings: &[PublishSubscribeSettings],
 ) -> FieldAnswer
-    ensures { ChecksPublishSubscribe settings.now result }
+    ensures { ChecksBy ReadsPublishSubscribe settings.now result }
 {
     let [settings, ..] = settings else {
         return no_field(Status::Null);
@@ -98,7 +99,7 @@ pub extern "C" fn iox2sd_publish_subscribe_settings_check_at(
 /// (`BadDuration`).
 #[unsafe(no_mangle)]
 pub extern "C" fn iox2sd_event_settings_check_at(settings: &[EventSettings]) -> FieldAnswer
-    ensures { ChecksEvent settings.now result }
+    ensures { ChecksBy ReadsEvent settings.now result }
 {
     let [settings, ..] = settings else {
         return no_field(Status::Null);
@@ -112,7 +113,7 @@ pub extern "C" fn iox2sd_event_settings_check_at(settings: &[EventSettings]) -> 
 pub extern "C" fn iox2sd_request_response_settings_check_at(
     settings: &[RequestResponseSettings],
 ) -> FieldAnswer
-    ensures { ChecksRequestResponse settings.now result }
+    ensures { ChecksBy ReadsRequestResponse settings.now result }
 {
     let [settings, ..] = settings else {
         return no_field(Status::Null);
@@ -126,7 +127,7 @@ pub extern "C" fn iox2sd_request_response_settings_check_at(
 /// or more (`BadDuration`).
 #[unsafe(no_mangle)]
 pub extern "C" fn iox2sd_global_settings_check_at(settings: &[GlobalSettings]) -> FieldAnswer
-    ensures { ChecksGlobal settings.now result }
+    ensures { ChecksBy ReadsGlobal settings.now result }
 {
     let [settings, ..] = settings else {
         return no_field(Status::Null);
