@@ -11,7 +11,7 @@ use Rattle.iox2_config.specs.declared.config.Config.{Config}
 use Rattle.config_report.specs.Findings.{HasDefaults}
 use Rattle.config_report.specs.Text.{IsReportText}
 use Rattle.settings_check.specs.Found.{AreAllDifferences, Said, Seen, AreFound}
-use Rattle.settings_check.specs.Lines.{lines_in, counts_text, errors_in, warnings_in, unread_line, style_of}
+use Rattle.settings_check.specs.Lines.{lines_in, end_text, errors_in, warnings_in, unread_line, style_of}
 use Rattle.settings_check.specs.Schema.{IsSchema}
 use Rattle.settings_check.specs.Words.{Requests, texts_of}
 use Rattle.settings_check.specs.declared.answer.Answer.{Answer}
@@ -40,19 +40,13 @@ status_of strict seen =
     else (if nat_lt 0 (errors_in seen.said) || (strict && nat_lt 0 (warnings_in seen.said))
     then Faulty else Good)
 
--- the last line, which counts the findings: there is none among objects of JSON
-abbrev pub end_text : Style → Seen → List ℕ
-end_text style.Plain seen = counts_text seen.said
-end_text style.Coloured seen = counts_text seen.said
-end_text style.Json seen = []
-
 -- the lines of the files that cannot be read
 abbrev pub unread_text : Seen → List ℕ
 unread_text seen = flat_map unread_line seen.unread
 
 -- what was found is reported: to the output, and the files that cannot be read to the errors
 pub record IsChecked (way : Style) (strict : Bool) (seen : Seen) (answer : Answer) : Type 0 where
-  pub output : string_bytes answer.output ≡ lines_in way seen.said ++ end_text way seen
+  pub output : string_bytes answer.output ≡ lines_in way seen.said ++ end_text way seen.said
   pub errors : string_bytes answer.errors ≡ unread_text seen
   pub status : answer.status ≡ status_of strict seen
 

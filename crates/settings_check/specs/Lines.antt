@@ -116,6 +116,12 @@ counts_text said =
     ++ (codes ", " ++ (decimal (warnings_in said) ++ (codes " warning"
     ++ (plural (warnings_in said) ++ (unsought (errors_in said) ++ codes "\n")))))))
 
+-- the last line, which counts the findings: there is none among objects of JSON
+abbrev pub end_text : Style → List Said → List ℕ
+end_text style.Plain said = counts_text said
+end_text style.Coloured said = counts_text said
+end_text style.Json said = []
+
 -- the line of a file that cannot be read
 abbrev pub unread_line : List ℕ × FileError → List ℕ
 unread_line (file, why) = printable (file ++ (codes ": " ++ why_text why)) ++ codes "\n"

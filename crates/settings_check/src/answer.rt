@@ -4,18 +4,16 @@ ghost use Rattle.std.specs.Prelude.{string_bytes};
 ghost use Rattle.std.specs.Io.KnownBytes.{IsAtEnd};
 ghost use Rattle.line_streams.specs.Filters.{status_number};
 ghost use Rattle.line_streams.specs.Streams.{Fails, IsFlushed, ReadFails};
-ghost use Rattle.settings_check.specs.Answer.{status_of, end_text, IsChecked, IsTextOf, IsShown};
+ghost use Rattle.settings_check.specs.Answer.{status_of, IsChecked, IsTextOf, IsShown};
 ghost use Rattle.settings_check.specs.Answer.{AreCompared, AddsCompared, AnswersFiles};
 ghost use Rattle.settings_check.specs.Answer.{IsDefaultAnswer, IsRefusedAnswer, IsSchemaAnswer, IsTextAnswer, Answers};
-ghost use Rattle.settings_check.specs.Answer.{IsInput, reads_input, input_is_read, AnswersArguments, Reported};
+ghost use Rattle.settings_check.specs.Answer.{reads_input, input_is_read, AnswersArguments, Reported};
 ghost use Rattle.settings_check.specs.Answer.{Ends, RefusesMemory};
 ghost use Rattle.settings_check.specs.Found.{Said, found_view, reports_of};
 
 use crate::arguments::{Request, RequestError, Task, request_of};
 use crate::found::{Files, Found, Report, add_differences, find_in};
-use crate::lines::{
-    Style, errors_in, style_of, warnings_in, write_counts, write_lines, write_unread,
-};
+use crate::lines::{Style, errors_in, style_of, warnings_in, write_end, write_lines, write_unread};
 use crate::schema::schema;
 use config_report::{default_file, settings_text};
 use iox2_config::config::Config;
@@ -100,17 +98,6 @@ fn status_of(strict: bool, found: &Found<'_>) -> Status
     }
 }
 
-/// Appends how many errors and warnings there are, for a person.
-fn write_end(out: &mut String, style: Style, found: &Found<'_>) -> Result<(), AllocError>
-    ensures { OnOk result (string_bytes out.new
-        ≡ string_bytes out.old ++ end_text style (found_view found.now)) }
-{
-    match style {
-        Style::Plain | Style::Coloured => write_counts(out, found.reports.as_slice()),
-        Style::Json => Ok(()),
-    }
-}
-
 /// What was found is reported.
 fn checked(
     alloc: Global,
@@ -123,7 +110,7 @@ fn checked(
     let mut output = String::new(alloc);
     let mut errors = String::new(alloc);
     write_lines(alloc, &mut output, style, found.reports.as_slice())?;
-    write_end(&mut output, style, found)?;
+    write_end(&mut output, style, found.reports.as_slice())?;
     write_unread(alloc, &mut errors, found.unread.as_slice())?;
     Ok(Answer {
         output,
@@ -297,26 +284,7 @@ fn reads(asked: &Result<Request, RequestError>) -> bool
     }
 }
 
-/// The standard input where it is one of the files, and else no bytes.
-fn input_for<R: Source>(
-    alloc: Global,
-    asked: &Result<Request, RequestError>,
-    input: &mut R,
-) -> io::Result<Result<Vec<u8>, AllocError>>
-    ensures given { IfOk result (λ read. IfOk read (λ bytes.
-        IsInput asked.now (R.remaining input.old) bytes.items)) }
-    ensures read { IfOk result (λ read. OnOk read
-        (input_is_read asked.now ≡ true → IsAtEnd (R.remaining input.new))) }
-    ensures failed { IfErr result (ReadFails R.FailsBy input.new) }
-{
-    if reads(asked) {
-        read_all(alloc, input)
-    } else {
-        Ok(Ok(Vec::new(alloc)))
-    }
-}
-
-/// What is answered to the arguments.
+/// What is answered to the arguments. The standard input is read only where it is one of the files.
 fn answered<R: Source, F: Files>(
     alloc: Global,
     coloured: bool,
@@ -330,7 +298,10 @@ fn answered<R: Source, F: Files>(
         (input_is_read asked.now ≡ true → IsAtEnd (R.remaining input.new))) }
     ensures failed { IfErr result (ReadFails R.FailsBy input.new) }
 {
-    match input_for(alloc, asked, input)? {
+    if !reads(asked) {
+        return Ok(respond(alloc, coloured, files, &[], asked));
+    }
+    match read_all(alloc, input)? {
         Ok(bytes) => Ok(respond(alloc, coloured, files, &bytes, asked)),
         Err(refused) => Ok(Err(refused)),
     }

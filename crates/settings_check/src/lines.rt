@@ -4,7 +4,7 @@ ghost use Rattle.serde_json.specs.View.{view};
 ghost use Rattle.settings_check.specs.Found.{report_of, reports_of, unread_of};
 ghost use Rattle.settings_check.specs.Lines.{style_of, colour_of, text_of, line_in, lines_in};
 ghost use Rattle.settings_check.specs.Lines.{note_data, number_data, key_data, is_error, errors_in};
-ghost use Rattle.settings_check.specs.Lines.{warnings_in, plural, counts_text, unread_line};
+ghost use Rattle.settings_check.specs.Lines.{warnings_in, plural, end_text, unread_line};
 ghost use Rattle.settings_check.specs.Lines.{unsought, printable, printable_char};
 
 use crate::arguments::Format;
@@ -222,20 +222,29 @@ fn unsought(errors: usize) -> &'static str
     }
 }
 
-/// Appends how many errors and warnings there are.
-pub(crate) fn write_counts(out: &mut String, reports: &[Report<'_>]) -> Result<(), AllocError>
+/// Appends how many errors and warnings there are, for a person.
+pub(crate) fn write_end(
+    out: &mut String,
+    style: Style,
+    reports: &[Report<'_>],
+) -> Result<(), AllocError>
     ensures { OnOk result
-        (string_bytes out.new ≡ string_bytes out.old ++ counts_text (reports_of reports.now)) }
+        (string_bytes out.new ≡ string_bytes out.old ++ end_text style (reports_of reports.now)) }
 {
-    let errors = errors_in(reports);
-    let warnings = warnings_in(reports);
-    let more_errors = plural(errors);
-    let more_warnings = plural(warnings);
-    let unsought = unsought(errors);
-    write!(
-        out,
-        "{errors} error{more_errors}, {warnings} warning{more_warnings}{unsought}\n"
-    )
+    match style {
+        Style::Json => Ok(()),
+        Style::Plain | Style::Coloured => {
+            let errors = errors_in(reports);
+            let warnings = warnings_in(reports);
+            let more_errors = plural(errors);
+            let more_warnings = plural(warnings);
+            let unsought = unsought(errors);
+            write!(
+                out,
+                "{errors} error{more_errors}, {warnings} warning{more_warnings}{unsought}\n"
+            )
+        }
+    }
 }
 
 /// Appends that a file cannot be read, and why.
