@@ -43,7 +43,8 @@ returns-in-Some-of_kind-clause-set c = record {
 }
 
 pub returns-in_default-of_kind-clause-refused : goal.returns-in_default-of_kind-clause-refused
-returns-in_default-of_kind-clause-refused c = absurd (search (rules, c.if-set_value.ensures.refused))
+returns-in_default-of_kind-clause-refused c =
+    absurd (search (rules, c.if-set_value.ensures.refused))
 
 pub returns-in_default-of_kind-2-clause-refused : goal.returns-in_default-of_kind-2-clause-refused
 returns-in_default-of_kind-2-clause-refused c =
@@ -55,6 +56,7 @@ returns-in_default-of_kind-2-clause-refused c =
         marked = marked_at c.args.given.now c.in-Some-find.index false
             (search rules) c.if-given-index.false;
       }),
-      not_a_value (setting_names c.args.kind) _ c.in-Some-find.index c.in-Some-find.value c.args.text.now
-          c.in-Some.text.now named (search rules) (search rules) c.in_default-of_kind.ensures,
+      not_a_value (setting_names c.args.kind) _ c.in-Some-find.index c.in-Some-find.value
+          c.args.text.now c.in-Some.text.now named (search rules) (search rules)
+          c.in_default-of_kind.ensures,
     )
