@@ -64,7 +64,10 @@ const REPORTED: [(&[u8], &str); 15] = [
         "1:8: error: the file is no UTF-8\n",
     ),
     (b"a = 1\na = 2\n", "2:1: error: duplicate key `a`\n"),
-    (b"[ global ]\n\n[ global ]\n", "3:1: error: duplicate key `global`\n"),
+    (
+        b"[ global ]\n\n[ global ]\n",
+        "3:1: error: duplicate key `global`\n",
+    ),
 ];
 
 /// What is reported of a file.
