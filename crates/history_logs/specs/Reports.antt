@@ -98,6 +98,10 @@ expected_text expected.State = codes ": a state of the service is expected" ++ 1
 expected_text expected.NoCarriageReturn =
     codes ": no carriage return is expected before the newline" ++ 10 ∷ []
 
+-- the words between the numbers of the line of calls that conform
+abbrev pub calls_text : ℕ → List ℕ
+calls_text n = if n == 1 then codes " call on " else codes " calls on "
+
 -- the last word of the line of calls that conform, on so many services
 abbrev pub services_text : ℕ → List ℕ
 services_text n = if n == 1 then codes " service" else codes " services"
@@ -106,7 +110,7 @@ services_text n = if n == 1 then codes " service" else codes " services"
 abbrev pub conforms_text : ℕ → ℕ → List ℕ
 conforms_text n m =
     (codes "conforms, " ++ decimal n)
-    ++ ((codes " calls on " ++ decimal m) ++ (services_text m ++ 10 ∷ []))
+    ++ ((calls_text n ++ decimal m) ++ (services_text m ++ 10 ∷ []))
 
 -- a line with what is told of it
 abbrev pub line_reported : ℕ → List ℕ → List ℕ

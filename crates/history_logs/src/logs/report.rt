@@ -1,8 +1,8 @@
 //! The texts of verdicts.
 ghost use Rattle.std.specs.Prelude.{◌≡◌, ◌++◌, OnOk, codes, decimal};
 ghost use Rattle.std.specs.List.{flat_map};
-ghost use Rattle.history_logs.specs.Reports.{attached_text, choice_text, config_text, conforms_text};
-ghost use Rattle.history_logs.specs.Reports.{expected_text, lists_text, number_word};
+ghost use Rattle.history_logs.specs.Reports.{attached_text, calls_text, choice_text, config_text};
+ghost use Rattle.history_logs.specs.Reports.{conforms_text, expected_text, lists_text, number_word};
 ghost use Rattle.history_logs.specs.Reports.{line_of, made_text, next_text, order_text};
 ghost use Rattle.history_logs.specs.Reports.{possible_text, refusal_text, report_text, services_text};
 ghost use Rattle.history_logs.specs.Reports.{window_text};
@@ -238,6 +238,17 @@ fn expected_text(expected: Expected) -> &'static [u8]
     }
 }
 
+/// The words between the numbers of the report on calls that conform.
+fn calls_text(calls: usize) -> &'static [u8]
+    ensures { result.now ≡ calls_text calls }
+{
+    if calls == 1 {
+        b" call on "
+    } else {
+        b" calls on "
+    }
+}
+
 /// The last word of the report on calls that conform.
 fn services_text(services: usize) -> &'static [u8]
     ensures { result.now ≡ services_text services }
@@ -254,7 +265,7 @@ fn append_conforms(calls: usize, services: usize, out: &mut Vec<u8>) -> Result<(
     ensures { OnOk result (out.new.items ≡ out.old.items ++ conforms_text calls services) }
 {
     append_number(b"conforms, ", calls as u64, out)?;
-    append_number(b" calls on ", services as u64, out)?;
+    append_number(calls_text(calls), services as u64, out)?;
     out.extend_from_slice(services_text(services))?;
     out.push(b'\n')?;
     Ok(())
