@@ -1,5 +1,5 @@
 -- What the lines of a log are.
-use Rattle.std.specs.Prelude.{◌≡◌, ◌≢◌, ◌⊎◌, ℕ, ◌+◌, ◌<◌, ◌≤◌, List, [], ◌∷◌, ◌++◌, All, Option, Some, None, IsTrue, length, slice_get}
+use Rattle.std.specs.Prelude.{◌≡◌, ◌≢◌, ◌⊎◌, ℕ, ◌+◌, ◌<◌, List, [], ◌∷◌, ◌++◌, All, Option, Some, None, IsTrue, length, slice_get}
 use Rattle.std.specs.List.{slice_set}
 use Rattle.iox2_dynamic.specs.Service as dynamic
 use Rattle.line_streams.specs.Spelling.{HasNo}
