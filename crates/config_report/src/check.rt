@@ -269,8 +269,8 @@ fn syntax_words(alloc: Global, error: &toml::de::Error, text: &str) -> Result<St
     }
 }
 
-/// The key that a text begins with: what stands in its quotes, before the `=` of the pair, or in the
-/// brackets of the header.
+/// The key that a text begins with: what stands in its quotes, or before the `=` of the pair or the
+/// bracket that ends the header.
 fn first_key(text: &str) -> &str {
     let text = text.trim_start_matches('[').trim_start();
     for quote in ['"', '\''] {
