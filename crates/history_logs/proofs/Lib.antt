@@ -3,7 +3,7 @@ pub mod Empty
 pub mod Above
 pub mod Alone
 pub mod AtIndex
-mod Answered
+pub mod Answered
 pub mod Answering
 pub mod Callers
 pub mod Counts
