@@ -79,7 +79,7 @@ refuses_argument() { ! "$prefix/bin/$1" what < /dev/null; }
 has_witness() {
     printf 'service event 7 1 0 0\nnodes\n= list\n' |
         "$prefix/bin/iox2-conform" --progress --witness 2>&1 |
-        diff - <(printf 'conforms, 1 calls on 1 service\nservice 7\n3\n')
+        diff - <(printf 'conforms, 1 call on 1 service\nservice 7\n3\n')
 }
 # A program with these words has status 3 where what it writes goes nowhere.
 fails_to_write() { "$prefix/bin/iox2-$1" "${@:3}" < "$2" > /dev/full; [ $? = 3 ]; }

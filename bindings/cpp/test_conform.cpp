@@ -32,7 +32,7 @@ Configuration only(const LogVerdict& found) {
 
 void conforming() {
     const LogVerdict one = check_log(service + "register 1.0.0.1\n= handle 199 0\n");
-    CHECK(is(one, Status::Done, 0, 1, "conforms, 1 calls on 1 service\n") && has_no_parts(one));
+    CHECK(is(one, Status::Done, 0, 1, "conforms, 1 call on 1 service\n") && has_no_parts(one));
     const LogVerdict none = check_log(service);
     CHECK(is(none, Status::Done, 0, 0, "conforms, 0 calls on 1 service\n"));
 }

@@ -64,7 +64,7 @@ fn ends(
 /// A good log, whose verdict is written in two pieces.
 const GOOD: &str = "service event 7 2 0 1\nregister 1.0.0.1\n= handle 1 0\n";
 
-const CONFORMS: &str = "conforms, 1 calls on 1 service\n";
+const CONFORMS: &str = "conforms, 1 call on 1 service\n";
 
 /// Logs, with the status, the output and the errors of each.
 static VERDICTS: [(&str, u8, &str, &str); 16] = [
@@ -175,7 +175,7 @@ fn streams_that_fail(rt: HostRuntime) {
         &rt,
         GOOD,
         [None, Some(1), None],
-        (3, "conforms, 1 calls on", reported),
+        (3, "conforms, 1 call on ", reported),
     );
     ends(&rt, GOOD, [None, Some(2), None], (3, CONFORMS, reported));
     ends(&rt, GOOD, [None, None, Some(0)], (3, CONFORMS, reported));
