@@ -109,8 +109,8 @@ fn serve_both<T: Attached + Copy, A: Registry<T>, B: Registry<T>>(
     replies_b.reserve(1)?;
     let one = serve(alloc, a, replies_a, call)?;
     let other = serve(alloc, b, replies_b, call)?;
-    replies_a.push(one)?;
-    replies_b.push(other)?;
+    replies_a.push_reserved(one);
+    replies_b.push_reserved(other);
     Ok(())
 }
 
