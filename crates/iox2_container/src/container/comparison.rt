@@ -30,6 +30,7 @@ fn given<T: Copy>(earlier: &[RegistryReply<T>], k: usize) -> Option<ContainerHan
 }
 
 /// Recovers the entries of the dead node but those with these keys.
+#[tactic(auto, using(crate::proofs::Callable::callbacks))]
 fn recover_but<T: Attached + Copy, R: Registry<T>>(
     registry: &mut R,
     dead: &UniqueNodeId,
