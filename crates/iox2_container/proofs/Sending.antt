@@ -19,7 +19,6 @@ use Rattle.iox2_container.specs.contracts.container.header.RegistryHeader as Reg
 use Rattle.iox2_container.specs.contracts.container.slot_map.SlotMap as SlotMap
 use Rattle.iox2_container.specs.contracts.container.slot_map.SlotMap.TheInside as SlotMapInside
 use Rattle.iox2_container.specs.contracts.container.counted_map.CountedMap.TheInside as Inside
-use Rattle.iox2_container.specs.contracts.container.slot_map.places.PeekedPlaces.TheInside as PeekedInside
 use Rattle.iox2_container.specs.contracts.container.slot_map.places.Places as Places
 use Rattle.iox2_container.specs.contracts.container.slot_map.places.Places.TheInside as PlacesInside
 use Rattle.iox2_container.specs.contracts.container.slots.Slots as Slots
@@ -43,16 +42,12 @@ Cell-send T N t n =
     recorded_send (Enum (enum.shape (Cell.the_type T N))) _ _ ((Cell.the_type T N).to_one)
     (enum_send (enum.shape (Cell.the_type T N)) ((n, tt), ((search sendable, (t, tt)), tt)))
 
--- what changes see of places, and what queries see
+-- places
 module _ (T N : RattleType) where
   Places-send : IsSend T → IsSend N → IsSend (Places.the_row T N)
   Places-send t n =
       view_send (PlacesInside.the_row T N) _ _ _ _
-      (declared_send (PlacesInside.the_type T N) (
-        view_send (PeekedInside.the_row T N) _ _ _ _
-            (declared_send (PeekedInside.the_type T N) (Slots-send _ (Cell-send T N t n), tt)),
-        tt,
-      ))
+      (declared_send (PlacesInside.the_type T N) (Slots-send _ (Cell-send T N t n), tt))
 
 -- any slot map
 module _ (T S N : RattleType) (slots : SlotAllocatorGhosts S.Denot T.Denot N.Denot)

@@ -1,6 +1,6 @@
 //! Containers of what is attached to a service: bounded registries that issue a new handle for each
 //! entry.
-#![tactic(auto, using(crate::proofs::Callable::callbacks))]
+#![tactic(auto)]
 
 pub mod container;
 pub mod laws;

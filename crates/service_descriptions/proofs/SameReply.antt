@@ -63,4 +63,4 @@ replies_decide (reply.Places a b) (reply.Places c d) =
     (Decides-and _ _ (unsigned_Decides a c) (unsigned_Decides b d))
 replies_decide (reply.Compatible one) (reply.Compatible other) =
     Decides-like _ (ap reply.Compatible) (λ e. cc) (booleans_Decides one other)
-replies_decide _ _ = search rules
+replies_decide _ _ = grind rules

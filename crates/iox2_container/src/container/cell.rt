@@ -29,7 +29,7 @@ fn is_same(one: u128, other: u128) -> bool
 }
 
 /// The entry of a slot: details and ticket.
-#[derive(Clone, Copy, Debug)]
+#[derive(Clone, Copy)]
 pub struct Occupant<T: Copy> {
     pub(crate) ticket: u64,
     pub(crate) details: T,

@@ -30,6 +30,7 @@ fn given<T: Copy>(earlier: &[RegistryReply<T>], k: usize) -> Option<ContainerHan
 }
 
 /// Recovers the entries of the dead node but those with these keys.
+#[tactic(auto, using(crate::proofs::Callable::callbacks))]
 fn recover_but<T: Attached + Copy, R: Registry<T>>(
     registry: &mut R,
     dead: &UniqueNodeId,
@@ -109,8 +110,8 @@ fn serve_both<T: Attached + Copy, A: Registry<T>, B: Registry<T>>(
     replies_b.reserve(1)?;
     let one = serve(alloc, a, replies_a, call)?;
     let other = serve(alloc, b, replies_b, call)?;
-    replies_a.push(one)?;
-    replies_b.push(other)?;
+    replies_a.push_reserved(one);
+    replies_b.push_reserved(other);
     Ok(())
 }
 

@@ -24,7 +24,7 @@ pub(super) fn ask<T: Copy, R, F: FnMut(&T) -> R>(details: T, f: &mut F) -> R
 }
 
 /// An entry that a search found, and where.
-#[derive(Clone, Copy, Debug)]
+#[derive(Clone, Copy)]
 struct Found<T: Copy> {
     slot: usize,
     details: T,

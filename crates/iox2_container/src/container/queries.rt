@@ -14,7 +14,7 @@ use super::cell::{Occupant, with_ticket};
 use super::handle::ContainerHandle;
 use super::passes::ask;
 use super::slot_map::Looks;
-use super::slot_map::places::PeekedPlaces;
+use super::slot_map::places::Places;
 use iox2_ids::identifiers::UniqueNodeId;
 use iox2_texts::bounded::CallbackProgression;
 
@@ -35,7 +35,7 @@ fn show<T: Copy, F: FnMut(&T) -> CallbackProgression>(
 /// Calls the callback with each entry in turn, until it stops. No slot from the end on has an
 /// entry. It looks at each slot at most once.
 pub(super) fn visit<T: Copy, N: Copy, F: FnMut(&T) -> CallbackProgression>(
-    places: &PeekedPlaces<T, N>,
+    places: &Places<T, N>,
     end: usize,
     f: &mut F,
     looks: &mut Looks,
@@ -56,7 +56,7 @@ pub(super) fn visit<T: Copy, N: Copy, F: FnMut(&T) -> CallbackProgression>(
 
 /// The details in the handle's slot, if they have its ticket. It looks at that slot alone, once.
 pub(super) fn find<T: Copy, N: Copy>(
-    places: &PeekedPlaces<T, N>,
+    places: &Places<T, N>,
     handle: ContainerHandle,
     looks: &mut Looks,
 ) -> Option<T>
@@ -70,7 +70,7 @@ pub(super) fn find<T: Copy, N: Copy>(
 /// Whether some slot from one on and before the end has an entry of the node. It looks at them from
 /// the last one down to the first that has, each once, and at no other.
 fn has_between<T: Attached + Copy, N: Copy>(
-    places: &PeekedPlaces<T, N>,
+    places: &Places<T, N>,
     start: usize,
     end: usize,
     node: &UniqueNodeId,
@@ -99,7 +99,7 @@ fn has_between<T: Attached + Copy, N: Copy>(
 /// before `newest_end` has an entry of the node, it looks at no other.
 #[inline(always)]
 pub(super) fn has_entry<T: Attached + Copy, N: Copy>(
-    places: &PeekedPlaces<T, N>,
+    places: &Places<T, N>,
     newest_end: usize,
     end: usize,
     node: &UniqueNodeId,
@@ -132,7 +132,7 @@ fn belongs_to<T: Attached + Copy>(cell: Option<Occupant<T>>, node: &UniqueNodeId
 /// How many entries are those of the node. No slot from the end on has an entry. It looks at each
 /// slot at most once.
 pub(super) fn count_of<T: Attached + Copy, N: Copy>(
-    places: &PeekedPlaces<T, N>,
+    places: &Places<T, N>,
     end: usize,
     node: &UniqueNodeId,
     looks: &mut Looks,

@@ -21,7 +21,7 @@ use std::marker::Model;
 
 /// A count for proofs of how often a call that changes nothing read slots. It takes no bytes. The
 /// calls of a registry alone begin a count.
-#[derive(Debug, Drop)]
+#[derive(Drop)]
 pub(crate) struct Looks {
     touches: Touches,
 }
@@ -130,7 +130,7 @@ impl<T: Attached + Copy, S: SlotAllocator<T>> Registry<T> for SlotMap<T, S> {
     fn for_each<F: FnMut(&T) -> CallbackProgression>(&self, f: &mut F) {
         if self.map.header.count > 0 {
             let end = self.map.free.end(&self.map.places);
-            visit(self.map.places.peeked(), end, f, &mut Looks::none());
+            visit(&self.map.places, end, f, &mut Looks::none());
         }
     }
 
@@ -138,7 +138,7 @@ impl<T: Attached + Copy, S: SlotAllocator<T>> Registry<T> for SlotMap<T, S> {
         if !self.map.header.may_have(handle, self.map.places.len()) {
             return None;
         }
-        find(self.map.places.peeked(), handle, &mut Looks::none())
+        find(&self.map.places, handle, &mut Looks::none())
     }
 
     fn entries_of(&self, node: &UniqueNodeId) -> usize {
@@ -146,7 +146,7 @@ impl<T: Attached + Copy, S: SlotAllocator<T>> Registry<T> for SlotMap<T, S> {
             return 0;
         }
         let end = self.map.free.end(&self.map.places);
-        count_of(self.map.places.peeked(), end, node, &mut Looks::none())
+        count_of(&self.map.places, end, node, &mut Looks::none())
     }
 
     fn has_entry_of(&self, node: &UniqueNodeId) -> bool {
@@ -155,7 +155,7 @@ impl<T: Attached + Copy, S: SlotAllocator<T>> Registry<T> for SlotMap<T, S> {
         }
         let end = self.map.free.end(&self.map.places);
         has_entry(
-            self.map.places.peeked(),
+            &self.map.places,
             self.map.newest_end,
             end,
             node,

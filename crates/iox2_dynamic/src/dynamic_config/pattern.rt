@@ -383,6 +383,14 @@ impl MessagingPattern {
         of_any_pattern!(self, ports => ports.has_ports_of(id))
     }
 
+    /// Whether a port of the role would be added.
+    pub(super) fn has_room(&self, role: Role) -> bool
+        ensures { IsTrue result ↔ TakesIn (first_role (kind_of_service self.now))
+            (second_role (kind_of_service self.now)) (ports_of self.now) role }
+    {
+        of_any_pattern!(self, ports => ports.has_room(role))
+    }
+
     /// Attaches a port to a service with these nodes; `None` where the pattern has no such ports.
     pub(super) fn attach(
         &mut self,

@@ -74,10 +74,7 @@ impl DynamicConfig {
         ensures room { IsTrue result ↔ TakesPort self.now role }
         ensures kept { IsService self.now }
     {
-        if self.nodes.is_locked() {
-            return false;
-        }
-        of_any_pattern!(&self.pattern, ports => ports.has_room(role))
+        !self.nodes.is_locked() && self.pattern.has_room(role)
     }
 
     /// The node that was registered with this handle and

@@ -44,6 +44,7 @@ pub(super) fn recover_ports<T: PortKind, F: FnMut(UniquePortId) -> PortCleanupAc
 }
 
 /// Removes each entry of the node.
+#[tactic(auto, using(iox2_container::proofs::Callable::callbacks))]
 pub(super) fn recover_nodes(
     nodes: &mut ServiceRegistry<UniqueNodeId>,
     dead: &UniqueNodeId,

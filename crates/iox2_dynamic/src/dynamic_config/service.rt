@@ -109,8 +109,8 @@ impl DynamicConfig {
             c ≡ fresh_service (capacities_in settings.now) max_nodes service_number tickets) }
         ensures kept { IfOk result IsService }
     {
-        let pattern = MessagingPattern::with_tickets(alloc, settings, service_number, tickets)?;
         let nodes = ServiceRegistry::new(alloc, service_number, Role::Node, max_nodes, tickets)?;
+        let pattern = MessagingPattern::with_tickets(alloc, settings, service_number, tickets)?;
         Ok(DynamicConfig { pattern, nodes })
     }
 

@@ -1,4 +1,4 @@
-//! The slots of a container: what changes see of them, and what queries see.
+//! The slots of a container: changes touch them, and queries look at them.
 ghost use Rattle.std.specs.Prelude.{◌≡◌, ◌+◌, ◌<◌, Some, IfOk, MatchOption};
 ghost use Rattle.std.specs.Prelude.{false, length, map, replicate, slice_get, slice_set};
 ghost use Rattle.iox2_container.specs.declared.container.cell.Cell.TheVariants.{Free};
@@ -13,51 +13,11 @@ use iox2_ids::identifiers::UniqueNodeId;
 use std::alloc::{AllocError, Global};
 use std::marker::Model;
 
-/// Slots with entries, as queries see them: nothing changes, and each call is a look.
-#[derive(Debug, Drop)]
-pub struct PeekedPlaces<T: Copy, N: Copy> {
-    slots: Slots<Cell<T, N>>,
-}
-
-impl<T: Copy, N: Copy> Model for PeekedPlaces<T, N> {
-    ghost use Rattle.iox2_container.specs.declared.container.cell.Cell.{Cell};
-    ghost use Rattle.iox2_container.specs.Cells.{Cells};
-
-    ghost Value = { Cells (Cell T N) };
-
-    ghost view = { λ p. p.slots };
-}
-
-impl<T: Copy, N: Copy> PeekedPlaces<T, N> {
-    /// The entry of a slot. This is a look.
-    pub(crate) fn peek_at(&self, slot: usize, looks: &mut Looks) -> Option<Occupant<T>>
-        requires { slot < length self.now.cells }
-        ensures cell { slice_get (map shown self.now.cells) slot ≡ Some result }
-        ensures looks { looks.new.touches.count ≡ looks.old.touches.count + 1 }
-    {
-        looks.count();
-        self.slots.peek(slot).occupant()
-    }
-}
-
-impl<T: Attached + Copy, N: Copy> PeekedPlaces<T, N> {
-    /// Whether the entry in a slot is the node's. This is a look.
-    #[inline(always)]
-    pub(crate) fn has_at(&self, slot: usize, node: &UniqueNodeId, looks: &mut Looks) -> bool
-        requires { slot < length self.now.cells }
-        ensures has { PlaceIsOf T.node node.now (map shown self.now.cells) slot result }
-        ensures looks { looks.new.touches.count ≡ looks.old.touches.count + 1 }
-    {
-        looks.count();
-        self.slots.peek_is_of(slot, node)
-    }
-}
-
-/// Slots with entries, each with its ticket, as changes see them: each call but `len` is a touch.
-/// A free slot keeps an `N`.
+/// Slots with entries, each with its ticket. A free slot keeps an `N`. Each call but `len` is a
+/// touch, or, where it takes [`Looks`], a look.
 #[derive(Debug, Drop)]
 pub struct Places<T: Copy, N: Copy> {
-    peeked: PeekedPlaces<T, N>,
+    slots: Slots<Cell<T, N>>,
 }
 
 impl<T: Copy, N: Copy> Model for Places<T, N> {
@@ -66,7 +26,7 @@ impl<T: Copy, N: Copy> Model for Places<T, N> {
 
     ghost Value = { Cells (Cell T N) };
 
-    ghost view = { λ p. p.peeked };
+    ghost view = { λ p. p.slots };
 }
 
 impl<T: Copy, N: Copy> Places<T, N> {
@@ -77,23 +37,14 @@ impl<T: Copy, N: Copy> Places<T, N> {
         ensures touches { IfOk result (λ p. p.touches ≡ 0) }
     {
         let slots = Slots::new(alloc, capacity, Cell::Free(next))?;
-        Ok(Places {
-            peeked: PeekedPlaces { slots },
-        })
-    }
-
-    /// What queries see of them. No change can name this.
-    pub(super) fn peeked(&self) -> &PeekedPlaces<T, N>
-        ensures { result.now ≡ self.now }
-    {
-        &self.peeked
+        Ok(Places { slots })
     }
 
     /// How many slots there are.
     pub(crate) fn len(&self) -> usize
         ensures { result ≡ length self.now.cells }
     {
-        self.peeked.slots.len()
+        self.slots.len()
     }
 
     /// The cell in a slot. This is a touch.
@@ -103,7 +54,7 @@ impl<T: Copy, N: Copy> Places<T, N> {
         ensures cells { self.new.cells ≡ self.old.cells }
         ensures touches { self.new.touches ≡ self.old.touches + 1 }
     {
-        self.peeked.slots.read(slot)
+        self.slots.read(slot)
     }
 
     /// The entry of a slot. This is a touch.
@@ -122,7 +73,17 @@ impl<T: Copy, N: Copy> Places<T, N> {
         ensures cells { self.new.cells ≡ slice_set self.old.cells slot cell }
         ensures touches { self.new.touches ≡ self.old.touches + 1 }
     {
-        self.peeked.slots.write(slot, cell);
+        self.slots.write(slot, cell);
+    }
+
+    /// The entry of a slot. This is a look.
+    pub(crate) fn peek_at(&self, slot: usize, looks: &mut Looks) -> Option<Occupant<T>>
+        requires { slot < length self.now.cells }
+        ensures cell { slice_get (map shown self.now.cells) slot ≡ Some result }
+        ensures looks { looks.new.touches.count ≡ looks.old.touches.count + 1 }
+    {
+        looks.count();
+        self.slots.peek(slot).occupant()
     }
 }
 
@@ -137,6 +98,17 @@ impl<T: Attached + Copy, N: Copy> Places<T, N> {
             (PlaceIsOf T.node node.now (map shown self.old.cells) slot false)
             (IsAt T.node node.now (map shown self.old.cells) slot) }
     {
-        self.peeked.slots.look_for(slot, node)
+        self.slots.look_for(slot, node)
+    }
+
+    /// Whether the entry in a slot is the node's. This is a look.
+    #[inline(always)]
+    pub(crate) fn has_at(&self, slot: usize, node: &UniqueNodeId, looks: &mut Looks) -> bool
+        requires { slot < length self.now.cells }
+        ensures has { PlaceIsOf T.node node.now (map shown self.now.cells) slot result }
+        ensures looks { looks.new.touches.count ≡ looks.old.touches.count + 1 }
+    {
+        looks.count();
+        self.slots.peek_is_of(slot, node)
     }
 }

@@ -244,6 +244,7 @@ fn put_id(id: u128, out: &mut Vec<u8>, done: &mut Result<(), AllocError>) -> Cal
 }
 
 /// Appends the ids of the nodes, up to the first that memory is refused for.
+#[tactic(auto, using(iox2_dynamic::proofs::Callbacks::callbacks))]
 fn put_nodes(service: &DynamicConfig, out: &mut Vec<u8>, done: &mut Result<(), AllocError>)
     ensures { PutsText (flat_map id_word (listed service.now.nodes.registry))
         (out.old.items, done.old) (out.new.items, done.new) }
@@ -258,6 +259,7 @@ fn put_nodes(service: &DynamicConfig, out: &mut Vec<u8>, done: &mut Result<(), A
 }
 
 /// Appends the ids of the ports of the first kind, up to the first that memory is refused for.
+#[tactic(auto, using(iox2_dynamic::proofs::Callbacks::callbacks))]
 fn put_first<A: PortKind, B: PortKind>(
     ports: &PortRegistries<A, B>,
     out: &mut Vec<u8>,
@@ -276,6 +278,7 @@ fn put_first<A: PortKind, B: PortKind>(
 }
 
 /// Appends the ids of the ports of the second kind, up to the first that memory is refused for.
+#[tactic(auto, using(iox2_dynamic::proofs::Callbacks::callbacks))]
 fn put_second<A: PortKind, B: PortKind>(
     ports: &PortRegistries<A, B>,
     out: &mut Vec<u8>,

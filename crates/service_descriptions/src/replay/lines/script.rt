@@ -120,6 +120,7 @@ pub fn run_script(alloc: Global, script: &[u8], out: &mut Vec<u8>) -> Result<(),
     let settings = MessagingPatternSettings::new(service.pattern, service.first, service.second);
     // Memory for what lines and replies are likely to need; more is taken bit by bit.
     let commands = lines.len() / BYTES_OF_LINE;
+    out.reserve(lines.len() / BYTES_FOR_REPLY)?;
     let mut session = Session::new(
         alloc,
         &settings,
@@ -127,7 +128,6 @@ pub fn run_script(alloc: Global, script: &[u8], out: &mut Vec<u8>) -> Result<(),
         service.number,
         commands,
     )?;
-    out.reserve(lines.len() / BYTES_FOR_REPLY)?;
     run_lines(alloc, &mut session, lines, out)
 }
 

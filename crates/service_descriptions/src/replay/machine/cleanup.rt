@@ -23,6 +23,7 @@ fn answer_by_port(kept: &Kept<'_>, port: &UniquePortId) -> PortCleanupAction
 
 /// Removes a dead node, with decisions in order.
 #[inline(always)]
+#[tactic(auto, using(iox2_dynamic::proofs::Callbacks::callbacks))]
 pub(super) fn by_order(
     service: &mut DynamicConfig,
     dead: &UniqueNodeId,
@@ -50,6 +51,7 @@ pub(super) fn by_order(
 
 /// Removes a dead node, with decisions by the value of the port.
 #[inline(always)]
+#[tactic(auto, using(iox2_dynamic::proofs::Callbacks::callbacks))]
 pub(super) fn by_port(
     service: &mut DynamicConfig,
     dead: &UniqueNodeId,

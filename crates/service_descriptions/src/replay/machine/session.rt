@@ -30,7 +30,7 @@ use std::marker::Model;
 use std::mem::size_of;
 
 /// What is kept of the reply to an earlier command: 24 bytes.
-#[derive(Clone, Copy, Debug)]
+#[derive(Clone, Copy)]
 enum Earlier {
     /// A reply without a handle.
     Nothing,
@@ -104,10 +104,11 @@ impl Session {
         ensures { IfOk result (λ s.
             s ≡ new_state (capacities_in settings.now) max_nodes service_number) }
     {
+        let earlier = Vec::with_capacity(alloc, commands)?;
         Ok(Session {
             service: DynamicConfig::new(alloc, settings, max_nodes, service_number)?,
             number: service_number,
-            earlier: Vec::with_capacity(alloc, commands)?,
+            earlier,
         })
     }
 

@@ -9,4 +9,4 @@ returns-clause-details g c =
     let map_is = c.self-inside.inside.0.0 in
     rw (← c.self.view_is, ← c.self-inside.view_is)
     (names map_is.header (map shown map_is.places.cells) c.args.handle
-    c.find.result parts.0 parts.1 (rw c.peeked.ensures at c.find.ensures.found))
+    c.find.result parts.0 parts.1 c.find.ensures.found)

@@ -1,6 +1,10 @@
-use Rattle.std.proofs.Common.{◌≡◌, rules, length, take, vec_len}
+use Rattle.std.proofs.Common.{◌≡◌, arith, rules, length, take, vec_len}
+use Rattle.std.proofs.lemmas.Grind.{common_steps}
 use Rattle.service_descriptions.proofs.Appending.{front_stays}
 use Rattle.service_descriptions.proofs.replay.lines.reply_line.append_node_ids.Goals as goal
+
+pub loop-id-preserved : goal.loop-id-preserved
+loop-id-preserved c = grind (arith, common_steps)
 
 pub returns-in_err-append_id-clause-err : goal.returns-in_err-append_id-clause-err
 returns-in_err-append_id-clause-err c =
