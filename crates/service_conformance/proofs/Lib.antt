@@ -15,7 +15,6 @@ pub mod Following
 pub mod Words
 pub mod Dying
 pub mod DeadSteps
-pub mod IdTexts
 pub mod Seen
 pub mod Calls
 pub mod Looking

@@ -90,8 +90,3 @@ printed_id = record {
   Fits = λ front. IsIdNumber front.0 × EndsWord front.1;
   text = λ front. hexadecimal front.0 ++ front.1;
 }
-
--- the number of an id that a text is, or that it is that of none
-abbrev pub ReadsId : List ℕ → Option ℕ → Type 0
-ReadsId text (Some id) = (hexadecimal id ≡ text) × IsIdNumber id
-ReadsId text None = (id : ℕ) → IsIdNumber id → hexadecimal id ≢ text
