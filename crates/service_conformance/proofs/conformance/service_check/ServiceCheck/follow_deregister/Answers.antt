@@ -18,7 +18,7 @@ pub returns : goal.returns
 returns c =
     rw (← c.self.view_is, c.in-Some.is)
     (deregister_goes (service_of c.self.inside) c.in-Some.handle (reply_in c.args.reply.now)
-    c.remove.new.self (search rules) c.remove.ensures.gone)
+    c.remove.new.self (search rules) c.remove.ensures)
 
 pub invariant_of-self : goal.invariant_of-self
 invariant_of-self c =

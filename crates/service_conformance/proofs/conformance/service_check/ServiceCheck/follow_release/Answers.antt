@@ -24,7 +24,7 @@ returns-then-first c =
     let p = (goal.at.returns-then-first c).In-Some-side in
     rw (← c.self.view_is, c.in-Some.is)
     (release_goes (service_of c.self.inside) c.in-Some.handle First
-    (rw c.if-first.true at (role_is p)) c.remove.new.self c.remove.ensures.gone
+    (rw c.if-first.true at (role_is p)) c.remove.new.self c.remove.ensures
     (reply_in c.args.reply.now)
     (search rules))
 
@@ -38,7 +38,7 @@ returns c =
     let p = (goal.at.returns c).In-Some-side in
     rw (← c.self.view_is, c.in-Some.is)
     (release_goes (service_of c.self.inside) c.in-Some.handle Second
-    (rw c.if-first.false at (role_is p)) c.remove-2.new.self c.remove-2.ensures.gone
+    (rw c.if-first.false at (role_is p)) c.remove-2.new.self c.remove-2.ensures
     (reply_in c.args.reply.now) (search rules))
 
 pub invariant_of-self-2 : goal.invariant_of-self-2

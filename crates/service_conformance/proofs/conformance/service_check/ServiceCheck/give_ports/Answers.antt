@@ -15,14 +15,14 @@ pub invariant_of-self : goal.invariant_of-self
 invariant_of-self c =
     (gives_ports (service_of c.self.inside) c.self.invariant First c.args.role c.args.used
     c.give_used.result c.give_used.new.self (rw c.if-first.true at c.in-Some.ensures.some)
-    c.give_used.ensures.gives).1
+    c.give_used.ensures).1
 
 pub returns-then-first-clause-gives : goal.returns-then-first-clause-gives
 returns-then-first-clause-gives c =
     rw (← c.self.view_is)
     (gives_ports (service_of c.self.inside) c.self.invariant First c.args.role c.args.used
     c.give_used.result c.give_used.new.self (rw c.if-first.true at c.in-Some.ensures.some)
-    c.give_used.ensures.gives).0
+    c.give_used.ensures).0
 
 pub returns-then-first-clause-kept : goal.returns-then-first-clause-kept
 returns-then-first-clause-kept c = invariant_of-self c
@@ -31,14 +31,14 @@ pub invariant_of-self-2 : goal.invariant_of-self-2
 invariant_of-self-2 c =
     (gives_ports (service_of c.self.inside) c.self.invariant Second c.args.role c.args.used
     c.give_used-2.result c.give_used-2.new.self (rw c.if-first.false at c.in-Some.ensures.some)
-    c.give_used-2.ensures.gives).1
+    c.give_used-2.ensures).1
 
 pub returns-clause-gives : goal.returns-clause-gives
 returns-clause-gives c =
     rw (← c.self.view_is)
     (gives_ports (service_of c.self.inside) c.self.invariant Second c.args.role c.args.used
     c.give_used-2.result c.give_used-2.new.self (rw c.if-first.false at c.in-Some.ensures.some)
-    c.give_used-2.ensures.gives).0
+    c.give_used-2.ensures).0
 
 pub returns-clause-kept : goal.returns-clause-kept
 returns-clause-kept c = invariant_of-self-2 c
