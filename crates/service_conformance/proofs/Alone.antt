@@ -1,13 +1,14 @@
 -- Calls that overlap nothing are runs.
-use Rattle.service_conformance.proofs.Prelude.{AllByRecursion, Contains, List, None, Option, Some, [], ap, arith, length, map, range_with_len, refl, slice_get, subst, suc, sym, zero, ℕ, ◌++◌, ◌+◌, ◌<◌, ◌^◌, ◌↔◌, ◌∙◌, ◌∷◌, ◌≡◌}
-use Rattle.service_conformance.proofs.Names.{Answered, Call, CallStep, Command, First, Gives, Handle, IsBare, IsBounded, IsBoundedRegistry, IsExplained, IsRegistry, IsService, Judged, JudgedStep, KeepsHandles, Leads, MayGive, PortDetails, RegistryState, Reply, Role, Run, Second, Serves, ServesDeregister, ServesRelease, Service, ServiceStep, Side, State, Watched, WindowStep, added_role, answered, at_first, call, call_of, calls_alone, calls_of, cons_same, handle_for, handle_in, handle_named, handle_words, judged_of, named, ports_at, quiet, quiet_state, role_at, role_of, text_of, unwatched}
+use Rattle.service_conformance.proofs.Prelude.{AllByRecursion, List, None, Option, Some, [], ap, arith, length, map, range_with_len, refl, slice_get, subst, suc, sym, zero, ℕ, ◌++◌, ◌+◌, ◌<◌, ◌^◌, ◌↔◌, ◌∙◌, ◌∷◌, ◌≡◌, same_Some}
+use Rattle.service_conformance.proofs.Names.{Answered, Call, CallStep, Command, First, Gives, Handle, IsBare, IsBounded, IsBoundedRegistry, IsExplained, IsRegistry, IsService, Judged, JudgedStep, KeepsHandles, Leads, MayGive, PortDetails, RegistryState, Reply, Run, Second, Serves, ServesDeregister, ServesRelease, Service, ServiceStep, Side, State, Watched, WindowStep, added_role, answered, at_first, call, call_of, calls_alone, calls_of, cons_same, handle_for, handle_in, handle_named, handle_words, judged_of, named, ports_at, quiet, quiet_state, role_at, role_of, text_of, unwatched}
 use Rattle.histories.specs.Laws.{in_order}
 use Rattle.histories.proofs.Alone.{calls_alone_are_runs}
+use Rattle.histories.proofs.Places.{only}
+use Rattle.iox2_container.proofs.Growing.{Grows}
 use Rattle.service_descriptions.specs.declared.replay.machine.command.Command.TheVariants as command
 use Rattle.service_descriptions.specs.declared.replay.machine.reply.Reply.TheVariants as reply
 use Rattle.service_descriptions.proofs.Moves.{moves}
 use Rattle.service_descriptions.proofs.Serving.{keeps}
-use Rattle.service_conformance.proofs.Fixed.{stays_bounded}
 use Rattle.service_conformance.proofs.Following.{attach_may, register_may}
 use Rattle.service_conformance.proofs.Quiet.{run_quiet, serves_quiet, service_quiet}
 use Rattle.service_conformance.proofs.Seen.{is_handle, no_handle_text}
@@ -72,21 +73,14 @@ module _ (s mid : Service) (i : IsService s) (kept : IsService mid) (b : IsBound
   own_given handles (command.List role) h so = absurd so.0
   own_given handles (command.Count role) h so = absurd so.0
   own_given handles (command.Dead dead cleanup) h so = absurd so
-  own_given handles (command.Verify required) h so = absurd (let z = so.0 in cc)
-  own_given handles (command.Layout part n) h so = absurd (let z = so.0 in cc)
-  own_given handles (command.Places part header) h so = absurd (let z = so.0 in cc)
-  own_given handles (command.Compatible part opener) h so = absurd (let z = so.0 in cc)
+  own_given handles _ h so = absurd (let z = so.0 in cc)
 
 same_handle : (h k : Handle) → h.service ≡ k.service → h.role ≡ k.role → h.slot ≡ k.slot
     → h.ticket ≡ k.ticket → h ≡ k
 same_handle h k a b c d =
-    let make : ℕ → Role → ℕ → ℕ → Handle =
-    λ service role slot ticket.
-    record { service = service; role = role; slot = slot; ticket = ticket } in
-    ap (λ x. make x h.role h.slot h.ticket) a
-    ∙ (ap (λ x. make k.service x h.slot h.ticket) b
-    ∙ (ap (λ x. make k.service k.role x h.ticket) c
-    ∙ ap (λ x. make k.service k.role k.slot x) d))
+    let same : h ≡ record { service = k.service; role = k.role; slot = k.slot; ticket = k.ticket } =
+    rw (← a, ← b, ← c, ← d) refl in
+    same
 
 -- the handle that a reply gives is that which its words give
 module _ (s mid : Service) (i : IsService s) (kept : IsService mid) (b : IsBounded s)
@@ -144,6 +138,14 @@ record IsNextStep (old : State) (a : Answered) (mid : Service) (r : Reply) : Typ
   pub bare : IsBare (next old mid a.given)
   pub number : mid.nodes.registry.service ≡ old.service.nodes.registry.service
 
+-- slots and tickets stay numbers of 64 bits
+stays_bounded : {T : Type 0} (old new : RegistryState T) → Grows old new → IsBoundedRegistry old
+    → IsBoundedRegistry new
+stays_bounded old new g b = record {
+  slots = subst (λ n. n < 2 ^ 64) (sym g.slots) b.slots;
+  tickets = subst (λ n. n < 2 ^ 64) (sym g.tickets) b.tickets;
+}
+
 module _ (old : State) (a : Answered) (bare : IsBare old)
     (gives : Gives old.service.nodes.registry.service a.command a.words a.given) where
   next_step : (mid : Service) (r : Reply) → text_of r ≡ a.words → IsService mid
@@ -166,11 +168,16 @@ module _ (old : State) (a : Answered) (bare : IsBare old)
         bare = record {
           is_service = is;
           keeps = kept;
-          bounded = stays_bounded old.service mid old.handles a.command r so bare.bounded;
+          bounded =
+              record {
+                nodes = stays_bounded _ _ move.nodes bare.bounded.nodes;
+                first = stays_bounded _ _ move.first bare.bounded.first;
+                second = stays_bounded _ _ move.second bare.bounded.second;
+              };
           bare = bare.bare;
           rest = rest;
         };
-        number = move.number;
+        number = move.nodes.service;
       }
 
   there_step : (mid : Service) → CallStep (call_for old.handles a) old.service mid
@@ -278,9 +285,6 @@ back (a ∷ reported) old bare gives (r ∷ rs) e last run =
       (quiet mid.service, back_step old a bare gives.0 r mid both.0 run.1, rest.1),
     )
 
-some_judged : (a b : Judged) → Some a ≡ Some b → a ≡ b
-some_judged a b e = cc
-
 abbrev as_judged : List Call → List Judged
 as_judged calls = map (λ (c : Call). call c) calls
 
@@ -297,7 +301,7 @@ module _ (all : List Judged) where
       let has = step.1 in
       let at : has.0 ≡ k + 0 = omega (arith, has.1) in
       let is : step.0 ≡ call c =
-      some_judged step.0 (call c) (sym has.2 ∙ (ap (slice_get all) at ∙ sym (same 0))) in
+      same_Some step.0 (call c) (sym has.2 ∙ (ap (slice_get all) at ∙ sym (same 0))) in
       let made : JudgedStep k (call c) (unwatched old) leads.0 =
       subst (λ x. JudgedStep k x (unwatched old) leads.0) is step.2 in (
         leads.0.service,
@@ -344,10 +348,6 @@ calls_length (a ∷ reported) handles = ap suc (calls_length reported (handles +
 same_places : (calls : List Judged) (n : ℕ) → slice_get calls n ≡ slice_get calls (0 + n)
 same_places calls n = (let e : n ≡ 0 + n = omega arith in ap (slice_get calls) e)
 
-first_only : (x y : Watched) → Contains (x ∷ []) y → x ≡ y
-first_only x y (zero, within, is) = is
-first_only x y (suc k, within, is) = absurd (omega (arith, within))
-
 pub alone : (old : State) (reported : List Answered) → IsBare old
     → AllByRecursion (λ a. Gives old.service.nodes.registry.service a.command a.words a.given)
     reported
@@ -365,13 +365,13 @@ alone old reported bare gives =
       λ explained.
           let from = explained.0 in
           let new = explained.2 in
-          let is = first_only start from explained.3 in
+          let is = only start from explained.3 in
           let leads = ((calls_alone_are_runs Step (length reported) from new explained.1).0
           explained.4).1 in
           there reported old bare gives new.service
           (leads_there all calls 0 (same_places all) old.service new
           (subst (λ l. Leads Step start l new) order
-          (subst (λ s. Leads Step s (in_order (length reported)) new) (sym is) leads))),
+          (subst (λ s. Leads Step s (in_order (length reported)) new) is leads))),
       λ run.
           let found = back reported old bare gives run.0 run.1 run.2.0 run.2.1 in
           let leads = subst (λ l. Leads Step start l (unwatched found.0)) (sym order)

@@ -1,5 +1,5 @@
 -- The one state that the recovery of a dead node leaves, where ports of some values stay.
-use Rattle.service_conformance.proofs.Prelude.{Bool, List, Vec, [], ap, false, filter, if◌then◌else◌, length, map, not, refl, true, ℕ, ◌&&◌, ◌∙◌, ◌∷◌, ◌≡◌}
+use Rattle.service_conformance.proofs.Prelude.{Bool, List, Vec, [], ap, false, filter, if◌then◌else◌, length, map, not, refl, true, ℕ, ◌&&◌, ◌∙◌, ◌∷◌, ◌≡◌, and-true}
 use Rattle.service_conformance.proofs.Names.{Asked, AskedToGo, ByPort, CleanedUp, Cleans, ContainerState, Default, DeregisterNodeState, Entry, LeadsTo, LockIfLastIndex, NodesAfter, PortCleanupAction, PortDetails, RecoverStep, RegistryState, ReleaseState, RemovePort, Reply, ServesDead, Service, SkipPort, after_dead, asked_about, at_rest, has_ports_of, is_kept, is_of, lock_after, marks_of, node_of, nodes_if, port_of, ports_at_rest, quiet, removes, state_of, staying, with_left, without_node, without_ports}
 use Rattle.iox2_container.proofs.Leaving.{staying_by}
 use Rattle.iox2_dynamic.specs.declared.dynamic_config.answers.DeregisterNodeState.TheVariants as nodes
@@ -44,10 +44,6 @@ all_go f g [] (m ∷ ms) s = absurd s
 all_go f g (d ∷ ds) [] s = absurd s
 all_go f g (d ∷ ds) (m ∷ ms) s = rw (s.1, all_go s.0 g ds ms s.2) refl
 
-pub and_true : (b : Bool) → (b && true) ≡ b
-and_true true = refl
-and_true false = refl
-
 pub node_left : (dead : ℕ) (old new : RegistryState ℕ) (state : ReleaseState)
     → RecoverStep {F = Unit {0}} (λ _ _ goes _. goes ≡ true) (is_of (λ i. i) dead) old tt
     LockIfLastIndex state new tt
@@ -62,7 +58,7 @@ node_left dead old new state s =
     (ap (λ (r : RegistryState ℕ). length r.entries) s.recovers.0) in
     let same : ◌≡◌ {A = Entry ℕ → Bool} (λ e. not (is_dead e.details && true))
     (λ e. not (is_dead e.details)) =
-    λ i e. not (and_true (is_dead e.details) i) in
+    λ i e. not (and-true (is_dead e.details) i) in
     let those : left ≡ filter (λ e. not (is_dead e.details)) old.entries =
     staying_by is_dead (λ d. true) s.marked old.entries
     (all_go tt tt (asked_about is_dead old) (marks_of is_dead s.marked old.entries) s.asked)

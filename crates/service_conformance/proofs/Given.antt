@@ -1,5 +1,5 @@
 -- What is given of a service that was in use.
-use Rattle.service_conformance.proofs.Prelude.{All, All-cons, All-head, All-nil, All-push, All-weaker, AllPairs, Bool, IfOk, List, OnErr, [], all_pairs_push, ap, arith, false, filter-append, length, length-append, refl, subst, sym, true, ℕ, ◌++◌, ◌<◌, ◌∙◌, ◌∷◌, ◌≡◌, ◌≢◌, ◌≤◌}
+use Rattle.service_conformance.proofs.Prelude.{All, All-cons, All-head, All-nil, All-push, All-weaker, AllPairs, Bool, IfOk, List, OnErr, [], all_pairs_push, ap, arith, false, filter-append, length, length-append, refl, subst, sym, true, ℕ, ◌++◌, ◌<◌, ◌∙◌, ◌∷◌, ◌≡◌, ◌≢◌, ◌≤◌, false_from_ne_true}
 use Rattle.service_conformance.proofs.Names.{Becomes, Entry, First, GivesNode, GivesNodes, GivesPort, GivesPorts, IsBefore, IsNeither, IsPortRegistry, IsRegistry, IsService, IsUnused, MayStand, PortDetails, Registered, RegistryState, Role, Second, Service, Side, StandsLast, UsedSo, candidates, entries_of_node, first_role, is_of, node_of, ports_at, role_at, role_of, second_role, slot_entry, with_last, with_nodes, with_ports, with_used}
 use Rattle.std.specs.Prelude.{Result, Ok, Err}
 use Rattle.iox2_container.proofs.Gaining.{All-back, AllPairs-head, AllPairs-tail}
@@ -58,7 +58,7 @@ pub stands_only : {T : Type 0} (r : RegistryState T) (slot ticket : ℕ) (detail
 stands_only {T} r slot ticket details k =
     let x : Entry T = slot_entry slot ticket details in
     record {
-      is_open = unlocked r.locked refl;
+      is_open = false_from_ne_true r.locked (λ e. push_some r.entries x (k.locked_is_empty e));
       fits = All-head (λ (e : Entry T). e.slot < r.capacity) x []
           (All-back (λ (e : Entry T). e.slot < r.capacity) r.entries (x ∷ []) k.slots_below);
       used = All-head (λ (e : Entry T). e.ticket < r.used) x []
@@ -67,11 +67,6 @@ stands_only {T} r slot ticket details k =
           (all_last (λ (a b : Entry T). a.slot < b.slot) r.entries x k.slots_rise)
           (all_last (λ (a b : Entry T). a.ticket ≢ b.ticket) r.entries x k.tickets_differ);
     }
-  where
-    unlocked : (b : Bool) → r.locked ≡ b → r.locked ≡ false
-    unlocked true e = absurd (push_some r.entries (slot_entry slot ticket details)
-        (k.locked_is_empty e))
-    unlocked false e = e
 
 -- the registry with one more entry, by the fields
 pub last_is : {T : Type 0} (s r : RegistryState T) (e : Entry T) (l : List (Entry T)) → s ≡ r

@@ -19,7 +19,6 @@ pub mod Seen
 pub mod Calls
 pub mod Looking
 pub mod Judged
-pub mod Fixed
 pub mod Alone
 pub mod Given
 pub mod WeakListings

@@ -1,11 +1,11 @@
 -- Calls that can be made before others, by two changes of which the second is made first.
-use Rattle.service_conformance.proofs.Prelude.{IsTrue, List, ap, arith, cases_order, eq-eqb, false, inl, inr, not, refl, subst, sym, true, ℕ, ◌<◌, ◌==◌, ◌∙◌, ◌≡◌, ◌≢◌, ◌⊎◌}
+use Rattle.service_conformance.proofs.Prelude.{IsTrue, List, ap, eq-eqb, false, inl, inr, not, refl, subst, sym, true, ℕ, ◌<◌, ◌==◌, ◌∙◌, ◌≡◌, ◌≢◌, cases_eq}
 use Rattle.service_conformance.proofs.Names.{Call, CallStep, Change, ChangesAt, Handle, HasEntry, HasNumber, IsOpenFor, IsService, Judged, JudgedStep, Look, MovesBefore, MovesBeforeCall, MovesBeforeChange, PortDetails, RegistryState, Role, Service, Watched, WindowStep, call, entries_of_node, is_last_of_ports, looks_after, node_of, role_of, watched}
 use Rattle.service_conformance.specs.declared.conformance.mover.Change.TheVariants as change
 use Rattle.service_conformance.proofs.Judged.{one_call}
 use Rattle.service_conformance.proofs.Looking.{watched_is}
 use Rattle.service_conformance.proofs.MovingLooks.{looks_between}
-use Rattle.service_conformance.proofs.MovingNodes.{GainsNode, LosesNode, node_losses_swap, NodeAddition, NodeRemoval, apart, fewer_ports, loses_again, not_its_last, opened_before, opened_before_loss, opens_more}
+use Rattle.service_conformance.proofs.MovingNodes.{GainsNode, LosesNode, node_losses_swap, NodeAddition, NodeRemoval, fewer_ports, loses_again, not_its_last, opened_before, opened_before_loss, opens_more}
 use Rattle.service_conformance.proofs.MovingParts.{Exchange, exchanged, nodes_first, nodes_stay, others_first, ports_first, with_nodes}
 use Rattle.service_conformance.proofs.MovingPorts.{GainsPort, LosesPort, port_losses_swap, PortAddition, PortRemoval, others_stay, ports_fewer}
 use Rattle.service_conformance.proofs.MovingSteps.{Does, adds_port, leaves_service, registers_node, removes_node, removes_port}
@@ -126,13 +126,13 @@ module _ (h k : Handle) (old mid new : Service) where
         let stay = nodes_stay (role_of d) (PortAddition d k) old w.between w.before in
         let more : (id : ℕ) → is_last_of_ports id old ≡ false → HasEntry old.nodes.registry h id
         → is_last_of_ports id w.between ≡ false =
-        λ id last has. elim (cases_order (node_of d) id) [
+        λ id last has. elim (cases_eq (node_of d) id) [
           | inl v ↦
               not_its_last old w.between n id h i a.changes.step has
               (subst (λ q. 0 < entries_of_node q n) v opens.1) stay
           | inr v ↦
               fewer_ports old w.between id stay
-              (λ t. sym (others_stay d k old w.between before id (apart (node_of d) id v)) ∙ t) last
+              (λ t. sym (others_stay d k old w.between before id v) ∙ t) last
         ] in
         exchanged w before (loses_again h old mid a w.between new stay more w.after)
 

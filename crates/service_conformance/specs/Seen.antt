@@ -1,5 +1,5 @@
 -- What the words of replies say.
-use Rattle.std.specs.Prelude.{◌++◌, ◌<◌, ◌^◌, ◌≡◌, ◌≢◌, All, Bool, List, None, Option, Some, codes, false, get_or, true, ℕ}
+use Rattle.std.specs.Prelude.{◌++◌, ◌<◌, ◌^◌, ◌≡◌, All, Bool, List, None, Option, Some, codes, false, get_or, true, ℕ}
 use Rattle.service_conformance.specs.Prelude.{Reply, Spelling, decimal, flat_map, hexadecimal, id_word, port_of, port_value, text_of}
 use Rattle.service_descriptions.specs.declared.replay.machine.reply.Reply.TheVariants as reply
 use Rattle.service_conformance.specs.declared.conformance.seen_reply.ReplyWord.{ReplyWord}
