@@ -17,7 +17,8 @@ without_second : {T : Type 0} (a b c d : List (Entry T)) (x y : Entry T) → a +
     → WithoutSecond (a ++ x ∷ b) (c ++ d) x y
 without_second {T} [] b c d x y e = record {
   rest = x ∷ (c ++ d);
-  whole_has = gains_later (c ++ d) b y x (record { before = c; after = d; old_is = refl; new_is = e });
+  whole_has =
+      gains_later (c ++ d) b y x (record { before = c; after = d; old_is = refl; new_is = e });
   rest_has = record { before = []; after = c ++ d; old_is = refl; new_is = refl };
 }
 without_second {T} (z ∷ a) b [] d x y e =

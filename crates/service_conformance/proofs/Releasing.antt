@@ -63,7 +63,8 @@ module _ (s : Service) (h : Handle) where
         → ServesRelease s (Some h) r new → reply.NotOwned ≡ r
     unknown_only u reply.Released new so =
         let gone = (removes_at (Ok so.0) new so.1).step.0 in
-        absurd (not_foreign (ports_at s side).registry h gone.0.details (gone.0, gone.1, refl, (_, gone.2)) u)
+        absurd (not_foreign (ports_at s side).registry h gone.0.details
+        (gone.0, gone.1, refl, (_, gone.2)) u)
     unknown_only u reply.NotOwned new so = refl
     unknown_only u _ new so = absurd so
 
