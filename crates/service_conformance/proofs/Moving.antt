@@ -1,6 +1,6 @@
 -- Calls that can be made before others, by two changes of which the second is made first.
-use Rattle.service_conformance.proofs.Prelude.{IsTrue, List, ap, arith, cases_order, eq-eqb, false, inl, inr, not, refl, subst, sym, true, ℕ, ◌<◌, ◌==◌, ◌∙◌, ◌≡◌, ◌≢◌, ◌⊎◌, cases_eq}
-use Rattle.service_conformance.proofs.Names.{Call, CallStep, Change, ChangesAt, Handle, HasEntry, HasNumber, HasWords, IsChange, IsOpenFor, IsService, Judged, JudgedStep, Look, MovesBefore, MovesBeforeCall, MovesBeforeChange, PortDetails, RegistryState, Role, Service, Watched, WindowStep, call, entries_of_node, is_last_of_ports, looks_after, node_of, role_of, watched}
+use Rattle.service_conformance.proofs.Prelude.{IsTrue, List, ap, eq-eqb, false, inl, inr, not, refl, subst, sym, true, ℕ, ◌<◌, ◌==◌, ◌∙◌, ◌≡◌, ◌≢◌, cases_eq}
+use Rattle.service_conformance.proofs.Names.{Call, CallStep, Change, ChangesAt, Handle, HasEntry, HasNumber, HasWords, IsChange, IsOpenFor, IsService, Judged, JudgedStep, Look, MovesBefore, MovesBeforeCall, MovesBeforeChange, RegistryState, Role, Service, Watched, WindowStep, call, entries_of_node, is_last_of_ports, looks_after, node_of, role_of, watched}
 use Rattle.service_descriptions.specs.declared.replay.machine.reply.Reply.TheVariants as reply
 use Rattle.service_conformance.specs.declared.conformance.mover.Change.TheVariants as change
 use Rattle.service_conformance.proofs.Judged.{one_call}

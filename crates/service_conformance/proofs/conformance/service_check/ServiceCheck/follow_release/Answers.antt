@@ -1,23 +1,12 @@
-use Rattle.service_conformance.proofs.Prelude.{refl, rules, sym, ◌∙◌, ◌≡◌}
+use Rattle.service_conformance.proofs.Prelude.{rules, sym, ◌∙◌, ◌≡◌}
 use Rattle.service_conformance.proofs.Names.{First, Second, ServesRelease, reply_in, role_at, service_of, side_of}
-use Rattle.service_conformance.proofs.Following.{one_kept, release_goes, release_none, release_stays}
+use Rattle.service_conformance.proofs.Following.{one_kept, release_goes}
 use Rattle.service_conformance.proofs.conformance.service_check.ServiceCheck.follow_release.Goals.{In-Some-side}
 use Rattle.service_conformance.proofs.conformance.service_check.ServiceCheck.follow_release.Goals as goal
 
 role_is : (c : In-Some-side)
     → c.in-Some.handle.role ≡ role_at c.self.inside.pattern (side_of c.in-Some-side.first)
 role_is c = sym c.role.ensures ∙ c.in-Some-side.ensures.some
-
-pub returns-in_default : goal.returns-in_default
-returns-in_default c =
-    rw (← c.self.view_is, c.in_default.is)
-    (release_none (service_of c.self.inside) refl (reply_in c.args.reply.now))
-
-pub returns-then-not-is_removal : goal.returns-then-not-is_removal
-returns-then-not-is_removal c =
-    rw (← c.self.view_is, c.in-Some.is)
-    (release_stays (service_of c.self.inside) c.in-Some.handle refl (reply_in c.args.reply.now)
-    (search rules))
 
 pub returns-then-first : goal.returns-then-first
 returns-then-first c =

@@ -1,6 +1,6 @@
 use Rattle.service_conformance.proofs.Prelude.{refl, rules, sym, ◌∙◌}
 use Rattle.service_conformance.proofs.Names.{First, IsService, Second, node_of, ports_at, service_of, with_ports}
-use Rattle.service_conformance.proofs.Given.{err_by, gives_port, has_moved, if_ok, kept_by, no_node, no_side}
+use Rattle.service_conformance.proofs.Given.{gives_port, has_moved, if_ok, kept_by, no_node}
 use Rattle.service_conformance.proofs.conformance.service_check.ServiceCheck.give_port.Goals as goal
 
 pub returns-then-not-has_node-clause-gives : goal.returns-then-not-has_node-clause-gives
@@ -15,15 +15,6 @@ returns-then-not-has_node-clause-gives c =
           c.node_id.result c.self.view_is (sym c.node_id.ensures) h) in
           let f = c.if-not-has_node.true in
           absurd (cc)),
-      refl,
-    )
-
-pub returns-in_default-clause-gives : goal.returns-in_default-clause-gives
-returns-in_default-clause-gives c =
-    rw (← c.self.view_is) (
-      λ new g.
-          no_side (service_of c.self.inside) c.role.result c.in_default.ensures.none g.0
-          (c.role.ensures ∙ g.1),
       refl,
     )
 
@@ -49,14 +40,6 @@ returns-then-first-clause-gives c =
     (has_moved c.args.self.now s c.node_id.result (node_of c.args.details)
     (sym c.self.view_is) c.node_id.ensures (c.has_node.ensures.yes (search rules))) b).0))
 
-pub returns-then-first-clause-err : goal.returns-then-first-clause-err
-returns-then-first-clause-err c =
-    let s = service_of c.self.inside in
-    rw (← c.self.view_is)
-    (err_by (λ r. with_ports First s r) c.give_entry.result (ports_at s First).registry
-    c.give_entry.new.self
-    c.give_entry.ensures.err)
-
 pub returns-then-first-clause-kept : goal.returns-then-first-clause-kept
 returns-then-first-clause-kept c = invariant_of-self c
 
@@ -81,14 +64,6 @@ returns-clause-gives c =
     c.give_entry-2.new.self (sym c.role.ensures ∙ rw c.if-first.false at c.in-Some.ensures.some)
     (has_moved c.args.self.now s c.node_id.result (node_of c.args.details)
     (sym c.self.view_is) c.node_id.ensures (c.has_node.ensures.yes (search rules))) b).0))
-
-pub returns-clause-err : goal.returns-clause-err
-returns-clause-err c =
-    let s = service_of c.self.inside in
-    rw (← c.self.view_is)
-    (err_by (λ r. with_ports Second s r) c.give_entry-2.result (ports_at s Second).registry
-    c.give_entry-2.new.self
-    c.give_entry-2.ensures.err)
 
 pub returns-clause-kept : goal.returns-clause-kept
 returns-clause-kept c = invariant_of-self-2 c
