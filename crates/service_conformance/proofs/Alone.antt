@@ -12,6 +12,7 @@ use Rattle.service_descriptions.proofs.Serving.{keeps}
 use Rattle.service_conformance.proofs.Following.{attach_may, register_may}
 use Rattle.service_conformance.proofs.Quiet.{run_quiet, serves_quiet, service_quiet}
 use Rattle.service_conformance.proofs.Seen.{is_handle, no_handle_text}
+use Rattle.service_conformance.proofs.Sides.{ports_are}
 use Rattle.service_conformance.proofs.Words.{neither, parts_same}
 
 -- a handle that the service may give to a command
@@ -24,35 +25,24 @@ record IsOwn (s : Service) (c : Command) (h : Handle) : Type 0 where
 own_of : {T : Type 0} (s : Service) (c : Command) (r : RegistryState T) (h : Handle)
     → IsRegistry r → IsBoundedRegistry r → r.service ≡ s.nodes.registry.service
     → r.role ≡ added_role c → MayGive r h → IsOwn s c h
-own_of s c r h i b number role may =
-    let used = i.budget_kept in
-    let tickets = b.tickets in
-    let slots = b.slots in
-    let fits = may.fits in
-    record {
-      slot = omega (arith, fits, slots);
-      ticket = omega (arith, may.ticket, used, tickets);
-      service = may.service ∙ number;
-      role = may.role ∙ role;
-    }
+own_of s c r h i b number role may = record {
+  slot = omega (arith, may.fits, b.slots);
+  ticket = omega (arith, may.ticket, i.budget_kept, b.tickets);
+  service = may.service ∙ number;
+  role = may.role ∙ role;
+}
 
 module _ (s mid : Service) (i : IsService s) (kept : IsService mid) (b : IsBounded s) where
-  own_port : (d : PortDetails) (h : Handle) (side : Side)
-      → role_of d ≡ (ports_at s side).registry.role → MayGive (ports_at s side).registry h
-      → IsOwn s (command.Add d) h
-  own_port d h First role may =
-      let ports = i.ports_are.first in
-      own_of s (command.Add d) s.ports.first.registry h ports.is_registry b.first ports.number_is
-      (sym role) may
-  own_port d h Second role may =
-      let ports = i.ports_are.second in
-      own_of s (command.Add d) s.ports.second.registry h ports.is_registry b.second
-      ports.number_is (sym role) may
+  bounded : (side : Side) → IsBoundedRegistry (ports_at s side).registry
+  bounded First = b.first
+  bounded Second = b.second
 
-  role_at_side : (side : Side) (d : PortDetails)
-      → role_of d ≡ role_at s.pattern side → role_of d ≡ (ports_at s side).registry.role
-  role_at_side First d e = e ∙ sym i.ports_are.first.role_is
-  role_at_side Second d e = e ∙ sym i.ports_are.second.role_is
+  own_port : (d : PortDetails) (h : Handle) (side : Side) → role_of d ≡ role_at s.pattern side
+      → MayGive (ports_at s side).registry h → IsOwn s (command.Add d) h
+  own_port d h side role may =
+      let p = ports_are s side i in
+      own_of s (command.Add d) (ports_at s side).registry h p.is_registry (bounded side)
+      p.number_is (p.role_is ∙ sym role) may
 
   own_given : (handles : List (Option Handle)) (c : Command) (h : Handle)
       → Serves s None handles c (reply.Handle h) mid → IsOwn s c h
@@ -61,7 +51,7 @@ module _ (s mid : Service) (i : IsService s) (kept : IsService mid) (b : IsBound
       (register_may s id h (mid, so, kept)).1
   own_given handles (command.Add d) h so =
       let a = so.1.1.0 in
-      own_port d h a.side (role_at_side a.side d a.role_is)
+      own_port d h a.side a.role_is
       (attach_may s d a.side h a.role_is (mid, so, kept)).1
   own_given handles (command.Deregister k) h so =
       absurd (neither (λ x. ServesDeregister s x (reply.Handle h) mid) (λ n. n) (λ x n. n)
@@ -86,25 +76,25 @@ same_handle h k a b c d =
 module _ (s mid : Service) (i : IsService s) (kept : IsService mid) (b : IsBounded s)
     (handles : List (Option Handle)) (c : Command) (r : Reply)
     (so : Serves s None handles c r mid) where
+  own_is : (h : Handle) → r ≡ reply.Handle h → IsOwn s c h
+  own_is h is =
+      own_given s mid i kept b handles c h (subst (λ q. Serves s None handles c q mid) is so)
+
   given_is : (found : Option Handle) → handle_in r ≡ found → (g : Option Handle)
       → Gives s.nodes.registry.service c (text_of r) g → found ≡ g
   given_is None e None gives = refl
   given_is None e (Some k) gives = absurd (no_handle_text r e k.slot k.ticket gives.0)
-  given_is (Some h) e g gives =
+  given_is (Some h) e None gives =
       let is = is_handle r h e in
-      let own =
-      own_given s mid i kept b handles c h (subst (λ q. Serves s None handles c q mid) is so) in
-      by_words h own (ap text_of is) g gives
-    where
-      by_words : (h : Handle) → IsOwn s c h → text_of r ≡ handle_words h.slot h.ticket
-          → (g : Option Handle) → Gives s.nodes.registry.service c (text_of r) g → Some h ≡ g
-      by_words h own text None gives = absurd (gives h.slot h.ticket own.slot own.ticket (sym text))
-      by_words h own text (Some k) gives =
-          let parts =
-          parts_same h.slot h.ticket k.slot k.ticket own.slot own.ticket gives.1 gives.2
-          (sym text ∙ gives.0) in
-          ap Some (same_handle h k (own.service ∙ sym gives.3) (own.role ∙ sym gives.4) parts.0
-          parts.1)
+      let own = own_is h is in
+      absurd (gives h.slot h.ticket own.slot own.ticket (sym (ap text_of is)))
+  given_is (Some h) e (Some k) gives =
+      let is = is_handle r h e in
+      let own = own_is h is in
+      let parts =
+      parts_same h.slot h.ticket k.slot k.ticket own.slot own.ticket gives.1 gives.2
+      (sym (ap text_of is) ∙ gives.0) in
+      ap Some (same_handle h k (own.service ∙ sym gives.3) (own.role ∙ sym gives.4) parts.0 parts.1)
 
   pub given_same : (words : List ℕ) (g : Option Handle) → text_of r ≡ words
       → Gives s.nodes.registry.service c words g → handle_in r ≡ g

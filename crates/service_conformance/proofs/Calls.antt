@@ -1,5 +1,5 @@
 -- What calls that were seen do.
-use Rattle.service_conformance.proofs.Prelude.{All-push, All-weaker, AllocError, Contains, Contains-append_left, Contains-push, IfOk, List, None, Option, Result, Some, Vec, [], ap, arith, false, get_or, inl, inr, length, refl, subst, suc, sym, true, zero, ℕ, ◌++◌, ◌+◌, ◌<◌, ◌∙◌, ◌∷◌, ◌≡◌, ◌⊎◌, cases_lt, IfOk-weaker}
+use Rattle.service_conformance.proofs.Prelude.{All-push, All-weaker, AllocError, Contains, Contains-append_left, Contains-push, IfOk, List, None, Option, Result, Some, Vec, [], ap, arith, false, get_or, inl, inr, length, refl, subst, suc, sym, true, zero, ℕ, ◌++◌, ◌+◌, ◌<◌, ◌∙◌, ◌∷◌, ◌≡◌, ◌⊎◌, cases_lt, IfOk-weaker, All-cons, All-nil}
 use Rattle.service_conformance.proofs.Names.{AreAll, ArePossible, ArePossibleWords, AreRepliesOf, ByPort, Call, CallStep, CanServe, ChangesNothing, Command, GivesBelow, Handle, IsCovered, IsIdleCall, IsSameReply, IsService, LeadsOn, LeadsTo, LineReply, MayGiveIn, Part, Possible, PossibleReplies, Reply, SeenReply, Serves, ServesCall, ServesDead, ServesDeregister, ServesRelease, Service, Tells, changes_nothing, handle_in, is_removal, named, quiet, reply_in, seen_text, text_of}
 use Rattle.service_descriptions.specs.declared.replay.machine.command.Command.TheVariants as command
 use Rattle.service_descriptions.specs.declared.replay.machine.reply.Reply.TheVariants as reply
@@ -9,19 +9,13 @@ use Rattle.service_conformance.proofs.Following.{attach_stays, deregister_none, 
 use Rattle.service_conformance.proofs.Seen.{reported_nothing}
 use Rattle.service_conformance.proofs.Words.{same_handle, same_reply, same_step}
 
-one_only : {S : Type 0} (Fact : S → Type 0) (x : S) → Fact x → (k : ℕ) (d : S)
-    → k < length (x ∷ []) → Fact (get_or (x ∷ []) k d)
-one_only Fact x is zero d h = is
-one_only Fact x is (suc k) d h = absurd (omega arith)
-
 pub all_of_one : {S : Type 0} (Fact : S → Type 0) (x : S) → Fact x
     → ((other : S) → Fact other → other ≡ x) → AreAll Fact (x ∷ [])
 all_of_one {S} Fact x is alone =
-    (one_only Fact x is, λ value holds. (0, omega arith, sym (alone value holds)))
+    (All-cons Fact x [] is (All-nil Fact), λ value holds. (0, omega arith, sym (alone value holds)))
 
 pub all_of_none : {S : Type 0} (Fact : S → Type 0) → ((x : S) → ¬ (Fact x)) → AreAll Fact []
-all_of_none Fact none =
-    (λ k d h. absurd (omega arith), λ value holds. absurd (none value holds))
+all_of_none Fact none = (All-nil Fact, λ value holds. absurd (none value holds))
 
 pub all_as : {S : Type 0} (Fact Other : S → Type 0) (xs : List S) → ((x : S) → Fact x → Other x)
     → ((x : S) → Other x → Fact x) → AreAll Fact xs → AreAll Other xs

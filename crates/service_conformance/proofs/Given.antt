@@ -118,19 +118,6 @@ nodes_is s r i k number role more = record {
           registered = more (ports_at s side).registry.entries p.registered;
         }
 
-pub nodes_used : (s : Service) (used : ℕ) (locked : Bool) → IsService s
-    → IsRegistry (with_used s.nodes.registry used locked)
-    → IsService (with_nodes s (with_used s.nodes.registry used locked))
-nodes_used s used locked i k =
-    nodes_is s (with_used s.nodes.registry used locked) i k refl refl (λ ports all. all)
-
-pub node_last : (s : Service) (x : Entry ℕ) → IsService s
-    → IsRegistry (with_last s.nodes.registry x)
-    → IsService (with_nodes s (with_last s.nodes.registry x))
-node_last s x i k =
-    nodes_is s (with_last s.nodes.registry x) i k refl refl
-    (registered_more s.nodes.registry x)
-
 -- other ports of one kind
 pub ports_is : (s : Service) (side : Side) (r : RegistryState PortDetails) → IsService s
     → IsPortRegistry s.nodes.registry (role_at s.pattern side) r
@@ -209,7 +196,8 @@ module _ (s : Service) (i : IsService s) where
       (λ r u.
       let is = ap (λ (x : RegistryState ℕ). with_nodes s x) u.1 in
       let kept = subst IsService (sym is)
-      (nodes_used s used locked i (subst (λ (x : RegistryState ℕ). IsRegistry x) u.1 u.2)) in
+      (nodes_is s (with_used s.nodes.registry used locked) i
+      (subst (λ (x : RegistryState ℕ). IsRegistry x) u.1 u.2) refl refl (λ ports all. all)) in
       ((u.0, is, kept), kept))
       (λ new g. (
         with_used s.nodes.registry used locked,
@@ -226,7 +214,9 @@ module _ (s : Service) (i : IsService s) where
       (λ r u.
       let is = ap (λ (x : RegistryState ℕ). with_nodes s x) u.0 in
       let kept = subst IsService (sym is)
-      (node_last s x i (subst (λ (x : RegistryState ℕ). IsRegistry x) u.0 u.1)) in
+      (nodes_is s (with_last s.nodes.registry x) i
+      (subst (λ (x : RegistryState ℕ). IsRegistry x) u.0 u.1) refl refl
+      (registered_more s.nodes.registry x)) in
       ((is, kept), kept))
       (λ new g. (
         with_last s.nodes.registry x,
@@ -302,13 +292,7 @@ module _ (s : Service) (i : IsService s) where
       (ports_at s g.0).registry.entries (x ∷ []) p.registered) in
       none has
 
--- where something holds of what was returned, so does another thing
-pub if_ok : {A E : Type 0} (P Q : A → Type 0) (r : Result A E) → IfOk r P
-    → ((v : A) → P v → Q v) → IfOk r Q
-if_ok P Q (Ok v) h f = f v h
-if_ok P Q (Err e) h f = h
-
--- so it is also where memory was refused, and nothing has changed
+-- what holds where memory was given, and where it was refused and nothing has changed
 pub kept_by : {A E T : Type 0} (P : A → Type 0) (Is : T → Type 0) (result : Result A E) (old new
     : T)
     → IfOk result P → OnErr result (new ≡ old) → ((v : A) → P v → Is new) → Is old → Is new

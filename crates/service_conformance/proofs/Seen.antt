@@ -1,5 +1,5 @@
 -- What the words of replies say.
-use Rattle.service_conformance.proofs.Prelude.{All-cons, All-head, All-map, All-nil, All-tail, Bool, List, None, Option, Some, [], ap, append-nil, append_cancel_left, arith, codes, cond, decimal, decimal_injective, eq-or-lt_of_le, false, flat_map, get_or, get_or-map, inl, inr, length, length-map, map, refl, subst, suc, sym, take, take-suc, take_all, true, zero, ℕ, ◌++◌, ◌+◌, ◌<◌, ◌^◌, ◌↔◌, ◌∙◌, ◌∷◌, ◌≡◌, ◌≢◌, ◌≤◌, nil_from_length, same_Some}
+use Rattle.service_conformance.proofs.Prelude.{All-cons, All-head, All-map, All-nil, All-tail, Bool, List, None, Option, Some, [], ap, append-nil, append_cancel_left, arith, codes, cond, decimal, decimal_injective, eq-or-lt_of_le, false, flat_map, get_or, get_or-map, inl, inr, length, length-map, map, refl, subst, suc, sym, take, take-suc, take_all, true, zero, ℕ, ◌++◌, ◌+◌, ◌<◌, ◌^◌, ◌↔◌, ◌∙◌, ◌∷◌, ◌≡◌, ◌≢◌, ◌≤◌, nil_from_length, same_Some, take_more}
 use Rattle.service_conformance.proofs.Names.{Bytes, EndsNumber, EndsWord, Handle, IsIdNumber, IsSeen, IsToLine, OthersFit, PortDetails, Reads, Reply, ReplyWord, SeenReply, Spelling, after, apart, changes_nothing, cons_same, count_words, handle_in, handle_words, has_no_space, hexadecimal, id_word, is_removal, line_end, list_words, listed_one, number, others_text, port_of, port_value, port_word, printed_id, printed_one, reply_named, same_id, seen_text, sequence, text_of, word_of, word_text}
 use Rattle.std.proofs.Common.{◌&&◌, All, ◌==◌}
 use Rattle.line_streams.specs.Spelling.{listed}
@@ -272,10 +272,6 @@ same_length (a ∷ xs) (b ∷ ys) (suc i) p q t end e =
     (e ∙ ap (λ x. id_word x ++ flat_map id_word ys) (sym both.0))) in
     ap suc rest
 
-take_next : (xs ys : List ℕ) (i : ℕ) → i < length xs → i < length ys → take i xs ≡ take i ys
-    → get_or xs i 0 ≡ get_or ys i 0 → take (suc i) xs ≡ take (suc i) ys
-take_next xs ys i p q t e = rw (take-suc xs i 0 p, take-suc ys i 0 q, t, e) refl
-
 -- the ids of items, and others
 module _ {A : Type 0} (id : A → ℕ) where
   module _ (xs : List A) (ids : List ℕ) (i : ℕ) where
@@ -298,10 +294,8 @@ module _ {A : Type 0} (id : A → ℕ) where
 
       pub ids_go_on : value ≡ get_or ids i 0 → take (i + 1) (map id xs) ≡ take (i + 1) ids
       ids_go_on e =
-          let next : suc i ≡ i + 1 = omega arith in
-          ap (λ n. take n (map id xs)) (sym next)
-          ∙ (take_next (map id xs) ids i within q same (its_id ∙ sym has ∙ e)
-          ∙ ap (λ n. take n ids) next)
+          let here : get_or (map id xs) i 0 ≡ get_or ids i 0 = its_id ∙ (sym has ∙ e) in
+          rw (take_more (map id xs) i 0 within, take_more ids i 0 q, same, here) refl
 
     pub ids_alike : i ≤ length xs → i ≤ length ids → take i (map id xs) ≡ take i ids
         → (i < length xs → i < length ids → ⊥)
