@@ -1,6 +1,6 @@
 -- Calls that overlap nothing are runs.
 use Rattle.service_conformance.proofs.Prelude.{AllByRecursion, List, None, Option, Some, [], ap, arith, length, map, range_with_len, refl, slice_get, subst, suc, sym, zero, ℕ, ◌++◌, ◌+◌, ◌<◌, ◌^◌, ◌↔◌, ◌∙◌, ◌∷◌, ◌≡◌, same_Some}
-use Rattle.service_conformance.proofs.Names.{Answered, Call, CallStep, Command, First, Gives, Handle, IsBare, IsBounded, IsBoundedRegistry, IsExplained, IsRegistry, IsService, Judged, JudgedStep, KeepsHandles, Leads, MayGive, PortDetails, RegistryState, Reply, Run, Second, Serves, ServesDeregister, ServesRelease, Service, ServiceStep, Side, State, Watched, WindowStep, added_role, answered, at_first, call, call_of, calls_alone, calls_of, cons_same, handle_for, handle_in, handle_named, handle_words, judged_of, named, ports_at, quiet, quiet_state, role_at, role_of, text_of, unwatched}
+use Rattle.service_conformance.proofs.Names.{Answered, Call, CallStep, Command, First, Gives, Handle, IsBare, IsBounded, IsBoundedRegistry, IsExplained, IsRegistry, IsService, Judged, JudgedStep, KeepsHandles, Leads, MayGive, PortDetails, RegistryState, Reply, Run, Second, Serves, ServesDeregister, ServesRelease, Service, ServiceStep, Side, State, Watched, WindowStep, added_role, answered, at_first, call, call_of, calls_alone, calls_of, cons_same, handle_for, handle_in, handle_named, judged_of, named, ports_at, quiet, quiet_state, role_at, role_of, text_of, unwatched}
 use Rattle.histories.specs.Laws.{in_order}
 use Rattle.histories.proofs.Alone.{calls_alone_are_runs}
 use Rattle.histories.proofs.Places.{only}

@@ -1,5 +1,5 @@
 -- What calls that were seen do.
-use Rattle.service_conformance.proofs.Prelude.{All-push, All-weaker, AllocError, Contains, Contains-append_left, Contains-push, IfOk, List, None, Option, Result, Some, Vec, [], ap, arith, false, get_or, inl, inr, length, refl, subst, suc, sym, true, zero, ℕ, ◌++◌, ◌+◌, ◌<◌, ◌∙◌, ◌∷◌, ◌≡◌, ◌⊎◌, cases_lt, IfOk-weaker, All-cons, All-nil}
+use Rattle.service_conformance.proofs.Prelude.{All-push, All-weaker, AllocError, Contains, Contains-append_left, Contains-push, IfOk, List, None, Option, Result, Some, Vec, [], ap, arith, false, inl, inr, refl, subst, sym, true, ℕ, ◌++◌, ◌+◌, ◌<◌, ◌∙◌, ◌∷◌, ◌≡◌, ◌⊎◌, cases_lt, IfOk-weaker, All-cons, All-nil}
 use Rattle.service_conformance.proofs.Names.{AreAll, ArePossible, ArePossibleWords, AreRepliesOf, ByPort, Call, CallStep, CanServe, ChangesNothing, Command, GivesBelow, Handle, IsCovered, IsIdleCall, IsSameReply, IsService, LeadsOn, LeadsTo, LineReply, MayGiveIn, Part, Possible, PossibleReplies, Reply, SeenReply, Serves, ServesCall, ServesDead, ServesDeregister, ServesRelease, Service, Tells, changes_nothing, handle_in, is_removal, named, quiet, reply_in, seen_text, text_of}
 use Rattle.service_descriptions.specs.declared.replay.machine.command.Command.TheVariants as command
 use Rattle.service_descriptions.specs.declared.replay.machine.reply.Reply.TheVariants as reply

@@ -1,5 +1,5 @@
 -- What the words of replies say.
-use Rattle.service_conformance.proofs.Prelude.{All-cons, All-head, All-map, All-nil, All-tail, Bool, List, None, Option, Some, [], ap, append-nil, append_cancel_left, arith, codes, cond, decimal, decimal_injective, eq-or-lt_of_le, false, flat_map, get_or, get_or-map, inl, inr, length, length-map, map, refl, subst, suc, sym, take, take-suc, take_all, true, zero, ℕ, ◌++◌, ◌+◌, ◌<◌, ◌^◌, ◌↔◌, ◌∙◌, ◌∷◌, ◌≡◌, ◌≢◌, ◌≤◌, nil_from_length, same_Some, take_more}
+use Rattle.service_conformance.proofs.Prelude.{All-cons, All-head, All-map, All-nil, All-tail, Bool, List, None, Option, Some, [], ap, append-nil, append_cancel_left, arith, codes, cond, decimal, decimal_injective, eq-or-lt_of_le, false, flat_map, get_or, get_or-map, inl, inr, length, length-map, map, refl, subst, suc, sym, take, take_all, true, zero, ℕ, ◌++◌, ◌+◌, ◌<◌, ◌^◌, ◌↔◌, ◌∙◌, ◌∷◌, ◌≡◌, ◌≢◌, ◌≤◌, nil_from_length, same_Some, take_more}
 use Rattle.service_conformance.proofs.Names.{Bytes, EndsNumber, EndsWord, Handle, IsIdNumber, IsSeen, IsToLine, OthersFit, PortDetails, Reads, Reply, ReplyWord, SeenReply, Spelling, after, apart, changes_nothing, cons_same, count_words, handle_in, handle_words, has_no_space, hexadecimal, id_word, is_removal, line_end, list_words, listed_one, number, others_text, port_of, port_value, port_word, printed_id, printed_one, reply_named, same_id, seen_text, sequence, text_of, word_of, word_text}
 use Rattle.std.proofs.Common.{◌&&◌, All, ◌==◌}
 use Rattle.line_streams.specs.Spelling.{listed}

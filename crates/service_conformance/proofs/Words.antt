@@ -1,5 +1,5 @@
 -- What words tell.
-use Rattle.service_conformance.proofs.Prelude.{All-cons, All-head, All-map, All-nil, All-tail, List, None, Option, Some, Vec, [], ap, append-nil, append_assoc, append_cancel_left, arith, codes, decimal, decimal_injective, map, refl, subst, sym, ℕ, ◌++◌, ◌+◌, ◌<◌, ◌^◌, ◌∙◌, ◌∷◌, ◌≡◌, ◌≢◌, get_or-map, length-map}
+use Rattle.service_conformance.proofs.Prelude.{All-map, List, None, Option, Some, Vec, [], ap, append-nil, append_assoc, append_cancel_left, arith, codes, decimal, decimal_injective, map, refl, subst, sym, ℕ, ◌++◌, ◌+◌, ◌<◌, ◌^◌, ◌∙◌, ◌∷◌, ◌≡◌, ◌≢◌, get_or-map, length-map}
 use Rattle.service_conformance.proofs.Names.{AllowsWords, ArePossible, ArePossibleWords, ByPort, Bytes, Command, EndsNumber, Entry, Handle, IsCovered, IsNextHandle, IsNextIn, IsSameReply, LineReply, MayGive, MayGiveIn, NextHandle, Part, PortDetails, RegistryState, Reply, Request, Serves, ServesDeregister, ServesRelease, Service, Spelling, Tells, TellsHandle, after, cons_same, handle_words, line_end, named, number_one, reply_in, request_command, sequence, text_of}
 use Rattle.std.proofs.Common.{All}
 use Rattle.service_descriptions.specs.declared.replay.machine.command.Command.TheVariants as command
