@@ -4,10 +4,12 @@ use Rattle.iox2_container.specs.Prelude.{AddStep, Adding, Change, ChangeStep, Co
 use Rattle.iox2_container.proofs.Members.{Among, DifferBy, among_contained, among_less, among_more, contains_among, gained, moved, other_differs}
 use Rattle.iox2_container.proofs.Leaving.{leaves_among, stays_among, stays_apart, stays_or_leaves}
 
--- number and role stay, used tickets rise, and a new entry has the next ticket
+-- number, role, slots and tickets stay, used tickets rise, and a new entry has the next ticket
 pub record Grows {T : Type 0} (old new : RegistryState T) : Type 0 where
   pub service : new.service ≡ old.service
   pub role : new.role ≡ old.role
+  pub slots : new.capacity ≡ old.capacity
+  pub tickets : new.budget ≡ old.budget
   pub used : old.used ≤ new.used
   pub entries : (x : Entry T) → Among x new.entries → Among x old.entries ⊎ (x.ticket ≡ old.used)
 
@@ -68,6 +70,8 @@ edits {T} old (Adding d (Ok key)) new s =
       grows = record {
         service = refl;
         role = refl;
+        slots = refl;
+        tickets = refl;
         used = omega arith;
         entries = λ x a. elim (less x n.2 a) [ inl m ↦ inl m | inr e ↦ inr (ap (λ z. z.ticket) e) ];
       };
@@ -85,6 +89,8 @@ edits {T} old (Removing key mode (Ok state)) new s =
       grows = record {
         service = refl;
         role = refl;
+        slots = refl;
+        tickets = refl;
         used = omega arith;
         entries = λ x a. inl (more x l.2 a);
       };
@@ -109,6 +115,8 @@ edits {T} old (Recovering is_dead marked went mode state) new s =
       grows = record {
         service = refl;
         role = refl;
+        slots = refl;
+        tickets = refl;
         used = omega arith;
         entries = λ x a. inl (stays_among is_dead marked old.entries x a);
       };

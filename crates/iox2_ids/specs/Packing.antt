@@ -1,5 +1,5 @@
 -- The four parts of an id in one number, and how the number is written.
-use Rattle.std.specs.Prelude.{ℕ, ◌+◌, ◌*◌, ◌/◌, ◌%◌, ◌^◌, false, List}
+use Rattle.std.specs.Prelude.{◌≡◌, ◌≢◌, ℕ, ◌+◌, ◌*◌, ◌/◌, ◌%◌, ◌^◌, ◌<◌, false, List, Option, Some, None}
 use Rattle.std.specs.Fmt.{digits}
 use Rattle.iox2_ids.specs.Time.{Moment}
 
@@ -35,3 +35,8 @@ owner_of id = process_of id * 2 ^ 32 + counter_of id
 -- a number in lower-case hexadecimal digits without leading zeros
 abbrev pub hexadecimal : ℕ → List ℕ
 hexadecimal n = digits 16 false n
+
+-- the number below 2^128 that a text writes in hexadecimal, or that it writes none
+abbrev pub ReadsNumber : List ℕ → Option ℕ → Type 0
+ReadsNumber text (Some n) = (hexadecimal n ≡ text) × (n < 2 ^ 128)
+ReadsNumber text None = (n : ℕ) → n < 2 ^ 128 → hexadecimal n ≢ text

@@ -17,7 +17,8 @@ fn node_ids_have_parts_and_a_text(rt: HostRuntime) {
             id.creation_time(),
             id.owner_id(),
             text_of(&rt, &id).as_str(),
-            Hexadecimal::new(id.value()).as_bytes()
+            Hexadecimal::new(id.value()).as_bytes(),
+            Hexadecimal::parse(b"1000000020000000300000004"),
         ),
         (
             0x1_00000002_00000003_00000004u128,
@@ -26,6 +27,7 @@ fn node_ids_have_parts_and_a_text(rt: HostRuntime) {
             4294967300,
             "1000000020000000300000004",
             b"1000000020000000300000004".as_slice(),
+            Some(0x1_00000002_00000003_00000004),
         )
     );
     let most = u32::MAX;

@@ -1,6 +1,6 @@
 -- Ids as C sees them.
-use Rattle.std.specs.Prelude.{◌≡◌, ◌≢◌, ℕ, ◌+◌, ◌^◌, ◌<◌, ◌≤◌, List, length, Option, Some, None, Result, Ok, Err}
-use Rattle.iox2_ids.specs.Packing.{packed, process_of, seconds_of, nanoseconds_of, counter_of, hexadecimal}
+use Rattle.std.specs.Prelude.{◌≡◌, ◌≢◌, ℕ, ◌+◌, ◌<◌, ◌≤◌, List, length, Option, Some, None, Result, Ok, Err}
+use Rattle.iox2_ids.specs.Packing.{ReadsNumber, packed, process_of, seconds_of, nanoseconds_of, counter_of, hexadecimal}
 use Rattle.iox2sd_common.specs.declared.id.Id.{Id}
 use Rattle.iox2sd_common.specs.declared.status.Status.{Status}
 use Rattle.iox2sd_common.specs.declared.status.Status.TheVariants as status
@@ -23,11 +23,6 @@ id_of n =
 abbrev pub ReadsNode : Id → Option ℕ → Type 0
 ReadsNode id (Some node) = (id.process + id.counter ≢ 0) × (node ≡ number_of id)
 ReadsNode id None = id.process + id.counter ≡ 0
-
--- the number below 2^128 that a text writes in hexadecimal, or that it writes none
-abbrev pub ReadsNumber : List ℕ → Option ℕ → Type 0
-ReadsNumber text (Some n) = hexadecimal n ≡ text
-ReadsNumber text None = (n : ℕ) → n < 2 ^ 128 → hexadecimal n ≢ text
 
 -- the id whose number a text writes, or why it writes that of none: its length is looked at first
 abbrev pub ReadsText : List ℕ → Result Id Status → Type 0

@@ -1,10 +1,9 @@
 //! Ids as plain values.
 ghost use Rattle.std.specs.Prelude.{◌≡◌, ◌+◌, ◌*◌, ◌/◌, ◌%◌, ◌^◌};
-ghost use Rattle.iox2sd_common.specs.Ids.{number_of, id_of, ReadsNode, ReadsNumber, ReadsText};
+ghost use Rattle.iox2sd_common.specs.Ids.{number_of, id_of, ReadsNode, ReadsText};
 
 use super::status::Status;
 use iox2_ids::identifiers::{Hexadecimal, UniqueId, UniqueNodeId, UniqueServiceId};
-use std::str;
 
 /// The id of a node, of a port or of a service. It has no padding, so C may compare its bytes.
 #[repr(C)]
@@ -79,26 +78,9 @@ impl Id {
         if text.len() > 32 {
             return Err(Status::TooLong);
         }
-        match read_number(text) {
+        match Hexadecimal::parse(text) {
             Some(value) => Ok(Id::of_number(value)),
             None => Err(Status::IllegalByte),
         }
-    }
-}
-
-/// The number that a text writes in lower-case hexadecimal digits without leading zeros.
-fn read_number(text: &[u8]) -> Option<u128>
-    ensures { ReadsNumber text.now result }
-{
-    let Ok(digits) = str::from_utf8(text) else {
-        return None;
-    };
-    let Ok(value) = u128::from_str_radix(digits, 16) else {
-        return None;
-    };
-    if Hexadecimal::new(value).as_bytes() == text {
-        Some(value)
-    } else {
-        None
     }
 }

@@ -1,16 +1,18 @@
 -- Calls that overlap nothing are runs.
-use Rattle.service_conformance.proofs.Prelude.{AllByRecursion, Contains, List, None, Option, Some, [], ap, arith, length, map, range_with_len, refl, slice_get, subst, suc, sym, zero, ℕ, ◌++◌, ◌+◌, ◌<◌, ◌^◌, ◌↔◌, ◌∙◌, ◌∷◌, ◌≡◌}
-use Rattle.service_conformance.proofs.Names.{Answered, Call, CallStep, Command, First, Gives, Handle, IsBare, IsBounded, IsBoundedRegistry, IsExplained, IsRegistry, IsService, Judged, JudgedStep, KeepsHandles, Leads, MayGive, PortDetails, RegistryState, Reply, Role, Run, Second, Serves, ServesDeregister, ServesRelease, Service, ServiceStep, Side, State, Watched, WindowStep, added_role, answered, at_first, call, call_of, calls_alone, calls_of, cons_same, handle_for, handle_in, handle_named, handle_words, judged_of, named, ports_at, quiet, quiet_state, role_at, role_of, text_of, unwatched}
+use Rattle.service_conformance.proofs.Prelude.{AllByRecursion, List, None, Option, Some, [], ap, arith, length, map, range_with_len, refl, slice_get, subst, suc, sym, zero, ℕ, ◌++◌, ◌+◌, ◌<◌, ◌^◌, ◌↔◌, ◌∙◌, ◌∷◌, ◌≡◌, same_Some}
+use Rattle.service_conformance.proofs.Names.{Answered, Call, CallStep, Command, First, Gives, Handle, IsBare, IsBounded, IsBoundedRegistry, IsExplained, IsRegistry, IsService, Judged, JudgedStep, KeepsHandles, Leads, MayGive, PortDetails, RegistryState, Reply, Run, Second, Serves, ServesDeregister, ServesRelease, Service, ServiceStep, Side, State, Watched, WindowStep, added_role, answered, at_first, call, call_of, calls_alone, calls_of, cons_same, handle_for, handle_in, handle_named, judged_of, named, ports_at, quiet, quiet_state, role_at, role_of, text_of, unwatched}
 use Rattle.histories.specs.Laws.{in_order}
 use Rattle.histories.proofs.Alone.{calls_alone_are_runs}
+use Rattle.histories.proofs.Places.{only}
+use Rattle.iox2_container.proofs.Growing.{Grows}
 use Rattle.service_descriptions.specs.declared.replay.machine.command.Command.TheVariants as command
 use Rattle.service_descriptions.specs.declared.replay.machine.reply.Reply.TheVariants as reply
 use Rattle.service_descriptions.proofs.Moves.{moves}
 use Rattle.service_descriptions.proofs.Serving.{keeps}
-use Rattle.service_conformance.proofs.Fixed.{stays_bounded}
 use Rattle.service_conformance.proofs.Following.{attach_may, register_may}
 use Rattle.service_conformance.proofs.Quiet.{run_quiet, serves_quiet, service_quiet}
 use Rattle.service_conformance.proofs.Seen.{is_handle, no_handle_text}
+use Rattle.service_conformance.proofs.Sides.{ports_are}
 use Rattle.service_conformance.proofs.Words.{neither, parts_same}
 
 -- a handle that the service may give to a command
@@ -23,35 +25,24 @@ record IsOwn (s : Service) (c : Command) (h : Handle) : Type 0 where
 own_of : {T : Type 0} (s : Service) (c : Command) (r : RegistryState T) (h : Handle)
     → IsRegistry r → IsBoundedRegistry r → r.service ≡ s.nodes.registry.service
     → r.role ≡ added_role c → MayGive r h → IsOwn s c h
-own_of s c r h i b number role may =
-    let used = i.budget_kept in
-    let tickets = b.tickets in
-    let slots = b.slots in
-    let fits = may.fits in
-    record {
-      slot = omega (arith, fits, slots);
-      ticket = omega (arith, may.ticket, used, tickets);
-      service = may.service ∙ number;
-      role = may.role ∙ role;
-    }
+own_of s c r h i b number role may = record {
+  slot = omega (arith, may.fits, b.slots);
+  ticket = omega (arith, may.ticket, i.budget_kept, b.tickets);
+  service = may.service ∙ number;
+  role = may.role ∙ role;
+}
 
 module _ (s mid : Service) (i : IsService s) (kept : IsService mid) (b : IsBounded s) where
-  own_port : (d : PortDetails) (h : Handle) (side : Side)
-      → role_of d ≡ (ports_at s side).registry.role → MayGive (ports_at s side).registry h
-      → IsOwn s (command.Add d) h
-  own_port d h First role may =
-      let ports = i.ports_are.first in
-      own_of s (command.Add d) s.ports.first.registry h ports.is_registry b.first ports.number_is
-      (sym role) may
-  own_port d h Second role may =
-      let ports = i.ports_are.second in
-      own_of s (command.Add d) s.ports.second.registry h ports.is_registry b.second
-      ports.number_is (sym role) may
+  bounded : (side : Side) → IsBoundedRegistry (ports_at s side).registry
+  bounded First = b.first
+  bounded Second = b.second
 
-  role_at_side : (side : Side) (d : PortDetails)
-      → role_of d ≡ role_at s.pattern side → role_of d ≡ (ports_at s side).registry.role
-  role_at_side First d e = e ∙ sym i.ports_are.first.role_is
-  role_at_side Second d e = e ∙ sym i.ports_are.second.role_is
+  own_port : (d : PortDetails) (h : Handle) (side : Side) → role_of d ≡ role_at s.pattern side
+      → MayGive (ports_at s side).registry h → IsOwn s (command.Add d) h
+  own_port d h side role may =
+      let p = ports_are s side i in
+      own_of s (command.Add d) (ports_at s side).registry h p.is_registry (bounded side)
+      p.number_is (p.role_is ∙ sym role) may
 
   own_given : (handles : List (Option Handle)) (c : Command) (h : Handle)
       → Serves s None handles c (reply.Handle h) mid → IsOwn s c h
@@ -60,7 +51,7 @@ module _ (s mid : Service) (i : IsService s) (kept : IsService mid) (b : IsBound
       (register_may s id h (mid, so, kept)).1
   own_given handles (command.Add d) h so =
       let a = so.1.1.0 in
-      own_port d h a.side (role_at_side a.side d a.role_is)
+      own_port d h a.side a.role_is
       (attach_may s d a.side h a.role_is (mid, so, kept)).1
   own_given handles (command.Deregister k) h so =
       absurd (neither (λ x. ServesDeregister s x (reply.Handle h) mid) (λ n. n) (λ x n. n)
@@ -72,45 +63,38 @@ module _ (s mid : Service) (i : IsService s) (kept : IsService mid) (b : IsBound
   own_given handles (command.List role) h so = absurd so.0
   own_given handles (command.Count role) h so = absurd so.0
   own_given handles (command.Dead dead cleanup) h so = absurd so
-  own_given handles (command.Verify required) h so = absurd (let z = so.0 in cc)
-  own_given handles (command.Layout part n) h so = absurd (let z = so.0 in cc)
-  own_given handles (command.Places part header) h so = absurd (let z = so.0 in cc)
-  own_given handles (command.Compatible part opener) h so = absurd (let z = so.0 in cc)
+  own_given handles _ h so = absurd (let z = so.0 in cc)
 
 same_handle : (h k : Handle) → h.service ≡ k.service → h.role ≡ k.role → h.slot ≡ k.slot
     → h.ticket ≡ k.ticket → h ≡ k
 same_handle h k a b c d =
-    let make : ℕ → Role → ℕ → ℕ → Handle =
-    λ service role slot ticket.
-    record { service = service; role = role; slot = slot; ticket = ticket } in
-    ap (λ x. make x h.role h.slot h.ticket) a
-    ∙ (ap (λ x. make k.service x h.slot h.ticket) b
-    ∙ (ap (λ x. make k.service k.role x h.ticket) c
-    ∙ ap (λ x. make k.service k.role k.slot x) d))
+    let same : h ≡ record { service = k.service; role = k.role; slot = k.slot; ticket = k.ticket } =
+    rw (← a, ← b, ← c, ← d) refl in
+    same
 
 -- the handle that a reply gives is that which its words give
 module _ (s mid : Service) (i : IsService s) (kept : IsService mid) (b : IsBounded s)
     (handles : List (Option Handle)) (c : Command) (r : Reply)
     (so : Serves s None handles c r mid) where
+  own_is : (h : Handle) → r ≡ reply.Handle h → IsOwn s c h
+  own_is h is =
+      own_given s mid i kept b handles c h (subst (λ q. Serves s None handles c q mid) is so)
+
   given_is : (found : Option Handle) → handle_in r ≡ found → (g : Option Handle)
       → Gives s.nodes.registry.service c (text_of r) g → found ≡ g
   given_is None e None gives = refl
   given_is None e (Some k) gives = absurd (no_handle_text r e k.slot k.ticket gives.0)
-  given_is (Some h) e g gives =
+  given_is (Some h) e None gives =
       let is = is_handle r h e in
-      let own =
-      own_given s mid i kept b handles c h (subst (λ q. Serves s None handles c q mid) is so) in
-      by_words h own (ap text_of is) g gives
-    where
-      by_words : (h : Handle) → IsOwn s c h → text_of r ≡ handle_words h.slot h.ticket
-          → (g : Option Handle) → Gives s.nodes.registry.service c (text_of r) g → Some h ≡ g
-      by_words h own text None gives = absurd (gives h.slot h.ticket own.slot own.ticket (sym text))
-      by_words h own text (Some k) gives =
-          let parts =
-          parts_same h.slot h.ticket k.slot k.ticket own.slot own.ticket gives.1 gives.2
-          (sym text ∙ gives.0) in
-          ap Some (same_handle h k (own.service ∙ sym gives.3) (own.role ∙ sym gives.4) parts.0
-          parts.1)
+      let own = own_is h is in
+      absurd (gives h.slot h.ticket own.slot own.ticket (sym (ap text_of is)))
+  given_is (Some h) e (Some k) gives =
+      let is = is_handle r h e in
+      let own = own_is h is in
+      let parts =
+      parts_same h.slot h.ticket k.slot k.ticket own.slot own.ticket gives.1 gives.2
+      (sym (ap text_of is) ∙ gives.0) in
+      ap Some (same_handle h k (own.service ∙ sym gives.3) (own.role ∙ sym gives.4) parts.0 parts.1)
 
   pub given_same : (words : List ℕ) (g : Option Handle) → text_of r ≡ words
       → Gives s.nodes.registry.service c words g → handle_in r ≡ g
@@ -144,6 +128,14 @@ record IsNextStep (old : State) (a : Answered) (mid : Service) (r : Reply) : Typ
   pub bare : IsBare (next old mid a.given)
   pub number : mid.nodes.registry.service ≡ old.service.nodes.registry.service
 
+-- slots and tickets stay numbers of 64 bits
+stays_bounded : {T : Type 0} (old new : RegistryState T) → Grows old new → IsBoundedRegistry old
+    → IsBoundedRegistry new
+stays_bounded old new g b = record {
+  slots = subst (λ n. n < 2 ^ 64) (sym g.slots) b.slots;
+  tickets = subst (λ n. n < 2 ^ 64) (sym g.tickets) b.tickets;
+}
+
 module _ (old : State) (a : Answered) (bare : IsBare old)
     (gives : Gives old.service.nodes.registry.service a.command a.words a.given) where
   next_step : (mid : Service) (r : Reply) → text_of r ≡ a.words → IsService mid
@@ -166,11 +158,16 @@ module _ (old : State) (a : Answered) (bare : IsBare old)
         bare = record {
           is_service = is;
           keeps = kept;
-          bounded = stays_bounded old.service mid old.handles a.command r so bare.bounded;
+          bounded =
+              record {
+                nodes = stays_bounded _ _ move.nodes bare.bounded.nodes;
+                first = stays_bounded _ _ move.first bare.bounded.first;
+                second = stays_bounded _ _ move.second bare.bounded.second;
+              };
           bare = bare.bare;
           rest = rest;
         };
-        number = move.number;
+        number = move.nodes.service;
       }
 
   there_step : (mid : Service) → CallStep (call_for old.handles a) old.service mid
@@ -278,9 +275,6 @@ back (a ∷ reported) old bare gives (r ∷ rs) e last run =
       (quiet mid.service, back_step old a bare gives.0 r mid both.0 run.1, rest.1),
     )
 
-some_judged : (a b : Judged) → Some a ≡ Some b → a ≡ b
-some_judged a b e = cc
-
 abbrev as_judged : List Call → List Judged
 as_judged calls = map (λ (c : Call). call c) calls
 
@@ -297,7 +291,7 @@ module _ (all : List Judged) where
       let has = step.1 in
       let at : has.0 ≡ k + 0 = omega (arith, has.1) in
       let is : step.0 ≡ call c =
-      some_judged step.0 (call c) (sym has.2 ∙ (ap (slice_get all) at ∙ sym (same 0))) in
+      same_Some step.0 (call c) (sym has.2 ∙ (ap (slice_get all) at ∙ sym (same 0))) in
       let made : JudgedStep k (call c) (unwatched old) leads.0 =
       subst (λ x. JudgedStep k x (unwatched old) leads.0) is step.2 in (
         leads.0.service,
@@ -344,10 +338,6 @@ calls_length (a ∷ reported) handles = ap suc (calls_length reported (handles +
 same_places : (calls : List Judged) (n : ℕ) → slice_get calls n ≡ slice_get calls (0 + n)
 same_places calls n = (let e : n ≡ 0 + n = omega arith in ap (slice_get calls) e)
 
-first_only : (x y : Watched) → Contains (x ∷ []) y → x ≡ y
-first_only x y (zero, within, is) = is
-first_only x y (suc k, within, is) = absurd (omega (arith, within))
-
 pub alone : (old : State) (reported : List Answered) → IsBare old
     → AllByRecursion (λ a. Gives old.service.nodes.registry.service a.command a.words a.given)
     reported
@@ -365,13 +355,13 @@ alone old reported bare gives =
       λ explained.
           let from = explained.0 in
           let new = explained.2 in
-          let is = first_only start from explained.3 in
+          let is = only start from explained.3 in
           let leads = ((calls_alone_are_runs Step (length reported) from new explained.1).0
           explained.4).1 in
           there reported old bare gives new.service
           (leads_there all calls 0 (same_places all) old.service new
           (subst (λ l. Leads Step start l new) order
-          (subst (λ s. Leads Step s (in_order (length reported)) new) (sym is) leads))),
+          (subst (λ s. Leads Step s (in_order (length reported)) new) is leads))),
       λ run.
           let found = back reported old bare gives run.0 run.1 run.2.0 run.2.1 in
           let leads = subst (λ l. Leads Step start l (unwatched found.0)) (sym order)

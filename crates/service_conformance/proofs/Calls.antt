@@ -1,6 +1,6 @@
 -- What calls that were seen do.
-use Rattle.service_conformance.proofs.Prelude.{All-push, All-weaker, AllocError, Contains, Contains-append_left, Contains-push, Err, IfOk, List, None, Ok, Option, Result, Some, Vec, [], ap, arith, false, get_or, inl, inr, length, refl, subst, suc, sym, true, zero, ℕ, ◌++◌, ◌+◌, ◌<◌, ◌∙◌, ◌∷◌, ◌≡◌, ◌⊎◌}
-use Rattle.service_conformance.proofs.Names.{AreAll, ArePossible, ArePossibleWords, AreRepliesOf, ByPort, Call, CallStep, CanServe, ChangesNothing, Command, GivesBelow, Handle, HasWords, IsCovered, IsIdleCall, IsSameReply, IsService, LeadsOn, LeadsTo, LineReply, MayGiveIn, Part, Possible, PossibleReplies, Reply, SeenReply, Serves, ServesCall, ServesDead, ServesDeregister, ServesRelease, Service, Tells, changes_nothing, handle_in, is_removal, named, quiet, reply_in, seen_text, text_of}
+use Rattle.service_conformance.proofs.Prelude.{All-push, All-weaker, AllocError, Contains, Contains-append_left, Contains-push, IfOk, List, None, Option, Result, Some, Vec, [], ap, arith, false, inl, inr, refl, subst, sym, true, ℕ, ◌++◌, ◌+◌, ◌<◌, ◌∙◌, ◌∷◌, ◌≡◌, ◌⊎◌, cases_lt, IfOk-weaker, All-cons, All-nil}
+use Rattle.service_conformance.proofs.Names.{AreAll, ArePossible, ArePossibleWords, AreRepliesOf, ByPort, Call, CallStep, CanServe, ChangesNothing, Command, GivesBelow, Handle, IsCovered, IsIdleCall, IsSameReply, IsService, LeadsOn, LeadsTo, LineReply, MayGiveIn, Part, Possible, PossibleReplies, Reply, SeenReply, Serves, ServesCall, ServesDead, ServesDeregister, ServesRelease, Service, Tells, changes_nothing, handle_in, is_removal, named, quiet, reply_in, seen_text, text_of}
 use Rattle.service_descriptions.specs.declared.replay.machine.command.Command.TheVariants as command
 use Rattle.service_descriptions.specs.declared.replay.machine.reply.Reply.TheVariants as reply
 use Rattle.service_conformance.specs.declared.conformance.possible.Part.TheVariants as part
@@ -9,19 +9,13 @@ use Rattle.service_conformance.proofs.Following.{attach_stays, deregister_none, 
 use Rattle.service_conformance.proofs.Seen.{reported_nothing}
 use Rattle.service_conformance.proofs.Words.{same_handle, same_reply, same_step}
 
-one_only : {S : Type 0} (Fact : S → Type 0) (x : S) → Fact x → (k : ℕ) (d : S)
-    → k < length (x ∷ []) → Fact (get_or (x ∷ []) k d)
-one_only Fact x is zero d h = is
-one_only Fact x is (suc k) d h = absurd (omega arith)
-
 pub all_of_one : {S : Type 0} (Fact : S → Type 0) (x : S) → Fact x
     → ((other : S) → Fact other → other ≡ x) → AreAll Fact (x ∷ [])
 all_of_one {S} Fact x is alone =
-    (one_only Fact x is, λ value holds. (0, omega arith, sym (alone value holds)))
+    (All-cons Fact x [] is (All-nil Fact), λ value holds. (0, omega arith, sym (alone value holds)))
 
 pub all_of_none : {S : Type 0} (Fact : S → Type 0) → ((x : S) → ¬ (Fact x)) → AreAll Fact []
-all_of_none Fact none =
-    (λ k d h. absurd (omega arith), λ value holds. absurd (none value holds))
+all_of_none Fact none = (All-nil Fact, λ value holds. absurd (none value holds))
 
 pub all_as : {S : Type 0} (Fact Other : S → Type 0) (xs : List S) → ((x : S) → Fact x → Other x)
     → ((x : S) → Other x → Fact x) → AreAll Fact xs → AreAll Other xs
@@ -39,15 +33,6 @@ all_and_one {S} Fact Other xs x there is back all = (
     found : (y : S) → Fact y ⊎ (y ≡ x) → Contains (xs ++ x ∷ []) y
     found y (inl f) = Contains-append_left xs (x ∷ []) y (all.1 y f)
     found y (inr e) = subst (Contains (xs ++ x ∷ [])) (sym e) (Contains-push xs x)
-
-below_next : (a b : ℕ) → a < b + 1 → (a < b) ⊎ (a ≡ b)
-below_next zero zero h = inr refl
-below_next zero (suc b) h = inl (omega arith)
-below_next (suc a) zero h = absurd (omega (arith, h))
-below_next (suc a) (suc b) h = elim (below_next a b (omega (arith, h))) [
-  | inl l ↦ inl (omega (arith, l))
-  | inr e ↦ inr (ap suc e)
-]
 
 -- handles of one slot that a registry may give are the same
 same_given : (s : Service) (p : Part) (h k : Handle) → MayGiveIn s p h → MayGiveIn s p k
@@ -116,9 +101,9 @@ module _ (call : Call) (s : Service) where
         (λ x g. (
           g.0,
           g.1,
-          (elim (below_next g.0.slot slot g.2) [
+          (elim (cases_lt g.0.slot slot) [
             | inl l ↦ l
-            | inr e ↦ absurd (never g.0 e g.1)
+            | inr m ↦ absurd (never g.0 (omega (arith, g.2)) g.1)
           ]),
           g.3,
         ))
@@ -133,10 +118,10 @@ module _ (call : Call) (s : Service) where
         all_and_one (GivesBelow call s p slot) (GivesBelow call s p (slot + 1)) xs next
         (λ x g. (g.0, g.1, omega (arith, g.2), g.3))
         (h, may, omega (arith, at), leads_on (reply.Handle h) next can leads)
-        (λ x g. (elim (below_next g.0.slot slot g.2) [
+        (λ x g. (elim (cases_lt g.0.slot slot) [
           | inl l ↦ inl (g.0, g.1, l, g.3)
-          | inr e ↦ inr (one_next covered (reply.Handle h) (reply.Handle g.0) next x
-              (ap reply.Handle (same_given s p h g.0 may g.1 (at ∙ sym e))) leads g.3)
+          | inr m ↦ inr (one_next covered (reply.Handle h) (reply.Handle g.0) next x
+              (ap reply.Handle (same_given s p h g.0 may g.1 (omega (arith, at, g.2)))) leads g.3)
         ]))
 
     pub all_given : IsService s → quiet s ≡ s → call.words ≡ None
@@ -229,5 +214,5 @@ replies_by_words call s p is rest all words = (
 pub replies_found : (call : Call) (s : Service) (found : Result PossibleReplies AllocError)
     → IsService s → quiet s ≡ s → IfOk found (ArePossibleWords (ServesCall call s))
     → IfOk found (AreRepliesOf s call)
-replies_found call s (Ok p) is rest all = replies_by_words call s p is rest all
-replies_found call s (Err e) is rest all = tt
+replies_found call s found is rest =
+    IfOk-weaker found _ _ (λ p. replies_by_words call s p is rest)

@@ -1,5 +1,5 @@
 -- The recovery of a dead node can be a step, where ports of some values stay.
-use Rattle.service_conformance.proofs.Prelude.{All, All-cons, All-head, All-nil, All-tail, Bool, List, Vec, [], ap, arith, eq-eqb, false, filter, get_or, if◌then◌else◌, map, ne_eqb, not, refl, subst, sym, true, ℕ, ◌<◌, ◌==◌, ◌∙◌, ◌∷◌, ◌≡◌}
+use Rattle.service_conformance.proofs.Prelude.{All, All-cons, All-head, All-nil, All-tail, Bool, List, Vec, [], ap, arith, eq-eqb, false, filter, get_or, if◌then◌else◌, map, ne_eqb, not, refl, subst, sym, true, ℕ, ◌<◌, ◌==◌, ◌∙◌, ◌∷◌, ◌≡◌, and-true}
 use Rattle.service_conformance.proofs.Names.{ArePossible, Asked, ByPort, CleanedUp, Cleans, ContainerState, Default, DeregisterNodeState, Entry, IsRegistry, IsService, LockIfLastIndex, NodesAfter, PortCleanupAction, PortDetails, Ports, RecoverStep, RecoversBoth, RecoversNodes, RecoversPorts, RegistryState, ReleaseState, Reply, ServesDead, Service, action_for, asked_about, candidates, container, has_ports_of, is_kept, is_of, marks_of, node_of, nodes_if, port_of, port_value, ports_after, release_state, reply_in, reply_of_owners, state_of, without_node, without_ports}
 use Rattle.iox2_container.proofs.Gaining.{AllPairs-head, AllPairs-tail}
 use Rattle.iox2_container.proofs.Leaving.{staying_by}
@@ -10,7 +10,7 @@ use Rattle.service_conformance.specs.declared.conformance.line_reply.LineReply.T
 use Rattle.service_conformance.specs.declared.conformance.seen_reply.ReplyWord.TheVariants as word
 use Rattle.service_conformance.specs.declared.conformance.possible.Possible.TheVariants as possible
 use Rattle.service_conformance.proofs.Deregistering.{owned}
-use Rattle.service_conformance.proofs.Dying.{AsksCleanup, and_true, answered, dies, node_left, removed}
+use Rattle.service_conformance.proofs.Dying.{AsksCleanup, answered, dies, node_left, removed}
 use Rattle.service_conformance.proofs.Filters.{kept_filter}
 use Rattle.service_conformance.proofs.Possibles.{alone}
 use Rattle.service_conformance.proofs.Quiet.{untouching}
@@ -109,7 +109,7 @@ nodes_can dead old k =
       asked = asked_all (candidates is_dead r.entries);
       recovers = (
         λ i. record new {
-          entries = filter (λ e. not (sym (and_true (is_dead e.details)) i)) r.entries;
+          entries = filter (λ e. not (sym (and-true (is_dead e.details)) i)) r.entries;
         },
         refl,
       );

@@ -1,8 +1,9 @@
 -- The replies to removing a node's entry.
-use Rattle.service_conformance.proofs.Prelude.{Bool, IsTrue, List, None, Ok, Some, ap, arith, eq-eqb, false, length, nat_eq, ne_eqb, refl, suc, sym, true, zero, ℕ, ◌+◌, ◌∙◌, ◌≡◌}
+use Rattle.service_conformance.proofs.Prelude.{Bool, List, None, Ok, Some, ap, arith, eq-eqb, false, length, nat_eq, ne_eqb, refl, suc, sym, true, zero, ℕ, ◌+◌, ◌∙◌, ◌≡◌, false_from_ne_true}
 use Rattle.service_conformance.proofs.Names.{ArePossible, DeregisterNodeState, Entry, Handle, HasEntry, InsertsOne, IsRegistry, IsService, IsUnknownHandle, LockIfLastIndex, RegistryState, ReleaseState, RemoveStep, Removes, Reply, ServesDeregister, Service, container, is_last_of_ports, lock_after, release_state, reply_in, reply_of_owners, reply_of_state, state_of, with_left}
 use Rattle.iox2_container.specs.declared.container.release.ReleaseState.TheVariants as state
 use Rattle.iox2_container.proofs.Gaining.{length-InsertsOne}
+use Rattle.iox2_container.proofs.Handles.{not_foreign}
 use Rattle.iox2_container.proofs.Members.{one_by_ticket}
 use Rattle.iox2_dynamic.specs.declared.dynamic_config.answers.DeregisterNodeState.TheVariants as nodes
 use Rattle.iox2_dynamic.proofs.Keeping.{leaving_kept}
@@ -12,7 +13,7 @@ use Rattle.service_conformance.specs.declared.conformance.seen_reply.ReplyWord.T
 use Rattle.service_conformance.specs.declared.conformance.possible.Possible.TheVariants as possible
 use Rattle.service_conformance.proofs.Possibles.{alone, not_both}
 use Rattle.service_conformance.proofs.Quiet.{untouching}
-use Rattle.service_conformance.proofs.Removes.{can_remove, known}
+use Rattle.service_conformance.proofs.Removes.{can_remove}
 
 -- without a handle
 nothing_only : (s : Service) (r : Reply) (new : Service) → ServesDeregister s None r new
@@ -38,12 +39,8 @@ one_details {T} r h a b k m n =
 pub was_open : {T : Type 0} (r : RegistryState T) (n : ℕ) → IsRegistry r → length r.entries ≡ n + 1
     → r.locked ≡ false
 was_open r n k e =
-    unlocked r.locked (λ t.
-    (let z : length r.entries ≡ 0 = ap length (k.locked_is_empty t) in absurd (omega arith)))
-  where
-    unlocked : (b : Bool) → (IsTrue b → ⊥) → b ≡ false
-    unlocked true n = absurd (n refl)
-    unlocked false n = refl
+    false_from_ne_true r.locked (λ t.
+    (let z : length r.entries ≡ 0 = ap length (k.locked_is_empty t) in omega arith))
 
 last_locks : (before left : ℕ) (locked : Bool) → before ≡ left + 1 → locked ≡ false
     → lock_after LockIfLastIndex before left locked ≡ nat_eq before 1
@@ -73,9 +70,9 @@ owned false nodes.NoMoreOwners e =
 module _ (s : Service) (h : Handle) where
   unknown_only : IsUnknownHandle s.nodes.registry h → (r : Reply) (new : Service)
       → ServesDeregister s (Some h) r new → reply.NotOwned ≡ r
-  unknown_only u reply.HasOwners new so = absurd (known s.nodes.registry h so.0 so.1 u)
-  unknown_only u reply.NoMoreOwners new so = absurd (known s.nodes.registry h so.0 so.1 u)
-  unknown_only u reply.PortsAttached new so = absurd (known s.nodes.registry h so.0 so.1 u)
+  unknown_only u reply.HasOwners new so = absurd (not_foreign s.nodes.registry h so.0 so.1 u)
+  unknown_only u reply.NoMoreOwners new so = absurd (not_foreign s.nodes.registry h so.0 so.1 u)
+  unknown_only u reply.PortsAttached new so = absurd (not_foreign s.nodes.registry h so.0 so.1 u)
   unknown_only u reply.NotOwned new so = refl
   unknown_only u _ new so = absurd so
 
@@ -98,7 +95,7 @@ module _ (s : Service) (h : Handle) where
     attached_only l reply.HasOwners new so = absurd (not_both _ l (last_is false so.0 so.1 so.2))
     attached_only l reply.NoMoreOwners new so = absurd (not_both _ l (last_is false so.0 so.1 so.2))
     attached_only l reply.PortsAttached new so = refl
-    attached_only l reply.NotOwned new so = absurd (known s.nodes.registry h id has so.0)
+    attached_only l reply.NotOwned new so = absurd (not_foreign s.nodes.registry h id has so.0)
     attached_only l _ new so = absurd so
 
     pub attached : is_last_of_ports id s ≡ true
@@ -126,7 +123,7 @@ module _ (s : Service) (h : Handle) where
         (answered nodes.NoMoreOwners new.nodes.registry so.3.step ∙ ap release_state (sym e))
     owners_only b e l reply.PortsAttached new so =
         absurd (not_both _ (last_is true so.0 so.1 so.2) l)
-    owners_only b e l reply.NotOwned new so = absurd (known s.nodes.registry h id has so.0)
+    owners_only b e l reply.NotOwned new so = absurd (not_foreign s.nodes.registry h id has so.0)
     owners_only b e l _ new so = absurd so
 
     pub leaves : (b : Bool) → b ≡ nat_eq (length s.nodes.registry.entries) 1

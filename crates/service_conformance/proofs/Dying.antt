@@ -1,6 +1,7 @@
 -- The one state that the recovery of a dead node leaves, where ports of some values stay.
-use Rattle.service_conformance.proofs.Prelude.{Bool, List, Vec, [], ap, false, filter, if◌then◌else◌, length, map, not, refl, true, ℕ, ◌&&◌, ◌∙◌, ◌∷◌, ◌≡◌}
+use Rattle.service_conformance.proofs.Prelude.{Bool, List, Vec, ap, false, filter, if◌then◌else◌, length, map, not, refl, true, ℕ, ◌&&◌, ◌∙◌, ◌≡◌, and-true}
 use Rattle.service_conformance.proofs.Names.{Asked, AskedToGo, ByPort, CleanedUp, Cleans, ContainerState, Default, DeregisterNodeState, Entry, LeadsTo, LockIfLastIndex, NodesAfter, PortCleanupAction, PortDetails, RecoverStep, RegistryState, ReleaseState, RemovePort, Reply, ServesDead, Service, SkipPort, after_dead, asked_about, at_rest, has_ports_of, is_kept, is_of, lock_after, marks_of, node_of, nodes_if, port_of, ports_at_rest, quiet, removes, state_of, staying, with_left, without_node, without_ports}
+use Rattle.iox2_container.proofs.Collecting.{answers_by}
 use Rattle.iox2_container.proofs.Leaving.{staying_by}
 use Rattle.iox2_dynamic.specs.declared.dynamic_config.answers.DeregisterNodeState.TheVariants as nodes
 use Rattle.service_descriptions.specs.declared.replay.machine.reply.Reply.TheVariants as reply
@@ -18,13 +19,9 @@ AsksCleanup kept f d goes g = AskedToGo (Cleans (ByPort kept)) f (port_of d) goe
 pub answered : (kept : Vec ℕ) (f g : List PortCleanupAction) (items : List PortDetails)
     (marks : List Bool) → Asked (AsksCleanup kept) f items marks g
     → marks ≡ map (λ d. not (is_kept kept.items d)) items
-answered kept f g [] [] s = refl
-answered kept f g [] (m ∷ ms) s = absurd s
-answered kept f g (d ∷ ds) [] s = absurd s
-answered kept f g (d ∷ ds) (m ∷ ms) s =
-    let one : m ≡ not (is_kept kept.items d) =
-    s.1.2 ∙ (ap removes s.1.1.0 ∙ removed (is_kept kept.items d)) in
-    rw (one, answered kept s.0 g ds ms s.2) refl
+answered kept f g items marks =
+    answers_by {K = Unit {0}} (AsksCleanup kept) (λ _. tt) (λ _ d. not (is_kept kept.items d))
+    (λ q d m v s. (refl, s.2 ∙ (ap removes s.1.0 ∙ removed (is_kept kept.items d)))) f items marks g
 
 ports_left : (kept : Vec ℕ) (dead : ℕ) (old new : RegistryState PortDetails)
     (f g : List PortCleanupAction) (state : ReleaseState)
@@ -39,14 +36,9 @@ ports_left kept dead old new f g state s =
 all_go : (f g : Unit {0}) (items : List ℕ) (marks : List Bool)
     → Asked {F = Unit {0}} (λ _ _ goes _. goes ≡ true) f items marks g
     → marks ≡ map (λ d. true) items
-all_go f g [] [] s = refl
-all_go f g [] (m ∷ ms) s = absurd s
-all_go f g (d ∷ ds) [] s = absurd s
-all_go f g (d ∷ ds) (m ∷ ms) s = rw (s.1, all_go s.0 g ds ms s.2) refl
-
-pub and_true : (b : Bool) → (b && true) ≡ b
-and_true true = refl
-and_true false = refl
+all_go f g items marks =
+    answers_by {F = Unit {0}} {K = Unit {0}} (λ _ _ goes _. goes ≡ true) (λ _. tt) (λ _ d. true)
+    (λ q d m v s. (refl, s)) f items marks g
 
 pub node_left : (dead : ℕ) (old new : RegistryState ℕ) (state : ReleaseState)
     → RecoverStep {F = Unit {0}} (λ _ _ goes _. goes ≡ true) (is_of (λ i. i) dead) old tt
@@ -62,7 +54,7 @@ node_left dead old new state s =
     (ap (λ (r : RegistryState ℕ). length r.entries) s.recovers.0) in
     let same : ◌≡◌ {A = Entry ℕ → Bool} (λ e. not (is_dead e.details && true))
     (λ e. not (is_dead e.details)) =
-    λ i e. not (and_true (is_dead e.details) i) in
+    λ i e. not (and-true (is_dead e.details) i) in
     let those : left ≡ filter (λ e. not (is_dead e.details)) old.entries =
     staying_by is_dead (λ d. true) s.marked old.entries
     (all_go tt tt (asked_about is_dead old) (marks_of is_dead s.marked old.entries) s.asked)

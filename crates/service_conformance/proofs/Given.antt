@@ -1,5 +1,5 @@
 -- What is given of a service that was in use.
-use Rattle.service_conformance.proofs.Prelude.{All, All-cons, All-head, All-nil, All-push, All-weaker, AllPairs, Bool, IfOk, List, OnErr, [], all_pairs_push, ap, arith, false, filter-append, length, length-append, refl, subst, sym, true, ℕ, ◌++◌, ◌<◌, ◌∙◌, ◌∷◌, ◌≡◌, ◌≢◌, ◌≤◌}
+use Rattle.service_conformance.proofs.Prelude.{All, All-cons, All-head, All-nil, All-push, All-weaker, AllPairs, Bool, IfOk, List, OnErr, [], all_pairs_push, ap, arith, false, filter-append, length, length-append, refl, subst, sym, true, ℕ, ◌++◌, ◌<◌, ◌∙◌, ◌∷◌, ◌≡◌, ◌≢◌, ◌≤◌, false_from_ne_true}
 use Rattle.service_conformance.proofs.Names.{Becomes, Entry, First, GivesNode, GivesNodes, GivesPort, GivesPorts, IsBefore, IsNeither, IsPortRegistry, IsRegistry, IsService, IsUnused, MayStand, PortDetails, Registered, RegistryState, Role, Second, Service, Side, StandsLast, UsedSo, candidates, entries_of_node, first_role, is_of, node_of, ports_at, role_at, role_of, second_role, slot_entry, with_last, with_nodes, with_ports, with_used}
 use Rattle.std.specs.Prelude.{Result, Ok, Err}
 use Rattle.iox2_container.proofs.Gaining.{All-back, AllPairs-head, AllPairs-tail}
@@ -58,7 +58,7 @@ pub stands_only : {T : Type 0} (r : RegistryState T) (slot ticket : ℕ) (detail
 stands_only {T} r slot ticket details k =
     let x : Entry T = slot_entry slot ticket details in
     record {
-      is_open = unlocked r.locked refl;
+      is_open = false_from_ne_true r.locked (λ e. push_some r.entries x (k.locked_is_empty e));
       fits = All-head (λ (e : Entry T). e.slot < r.capacity) x []
           (All-back (λ (e : Entry T). e.slot < r.capacity) r.entries (x ∷ []) k.slots_below);
       used = All-head (λ (e : Entry T). e.ticket < r.used) x []
@@ -67,11 +67,6 @@ stands_only {T} r slot ticket details k =
           (all_last (λ (a b : Entry T). a.slot < b.slot) r.entries x k.slots_rise)
           (all_last (λ (a b : Entry T). a.ticket ≢ b.ticket) r.entries x k.tickets_differ);
     }
-  where
-    unlocked : (b : Bool) → r.locked ≡ b → r.locked ≡ false
-    unlocked true e = absurd (push_some r.entries (slot_entry slot ticket details)
-        (k.locked_is_empty e))
-    unlocked false e = e
 
 -- the registry with one more entry, by the fields
 pub last_is : {T : Type 0} (s r : RegistryState T) (e : Entry T) (l : List (Entry T)) → s ≡ r
@@ -122,19 +117,6 @@ nodes_is s r i k number role more = record {
           is_open = p.is_open;
           registered = more (ports_at s side).registry.entries p.registered;
         }
-
-pub nodes_used : (s : Service) (used : ℕ) (locked : Bool) → IsService s
-    → IsRegistry (with_used s.nodes.registry used locked)
-    → IsService (with_nodes s (with_used s.nodes.registry used locked))
-nodes_used s used locked i k =
-    nodes_is s (with_used s.nodes.registry used locked) i k refl refl (λ ports all. all)
-
-pub node_last : (s : Service) (x : Entry ℕ) → IsService s
-    → IsRegistry (with_last s.nodes.registry x)
-    → IsService (with_nodes s (with_last s.nodes.registry x))
-node_last s x i k =
-    nodes_is s (with_last s.nodes.registry x) i k refl refl
-    (registered_more s.nodes.registry x)
 
 -- other ports of one kind
 pub ports_is : (s : Service) (side : Side) (r : RegistryState PortDetails) → IsService s
@@ -214,7 +196,8 @@ module _ (s : Service) (i : IsService s) where
       (λ r u.
       let is = ap (λ (x : RegistryState ℕ). with_nodes s x) u.1 in
       let kept = subst IsService (sym is)
-      (nodes_used s used locked i (subst (λ (x : RegistryState ℕ). IsRegistry x) u.1 u.2)) in
+      (nodes_is s (with_used s.nodes.registry used locked) i
+      (subst (λ (x : RegistryState ℕ). IsRegistry x) u.1 u.2) refl refl (λ ports all. all)) in
       ((u.0, is, kept), kept))
       (λ new g. (
         with_used s.nodes.registry used locked,
@@ -231,7 +214,9 @@ module _ (s : Service) (i : IsService s) where
       (λ r u.
       let is = ap (λ (x : RegistryState ℕ). with_nodes s x) u.0 in
       let kept = subst IsService (sym is)
-      (node_last s x i (subst (λ (x : RegistryState ℕ). IsRegistry x) u.0 u.1)) in
+      (nodes_is s (with_last s.nodes.registry x) i
+      (subst (λ (x : RegistryState ℕ). IsRegistry x) u.0 u.1) refl refl
+      (registered_more s.nodes.registry x)) in
       ((is, kept), kept))
       (λ new g. (
         with_last s.nodes.registry x,
@@ -307,13 +292,7 @@ module _ (s : Service) (i : IsService s) where
       (ports_at s g.0).registry.entries (x ∷ []) p.registered) in
       none has
 
--- where something holds of what was returned, so does another thing
-pub if_ok : {A E : Type 0} (P Q : A → Type 0) (r : Result A E) → IfOk r P
-    → ((v : A) → P v → Q v) → IfOk r Q
-if_ok P Q (Ok v) h f = f v h
-if_ok P Q (Err e) h f = h
-
--- so it is also where memory was refused, and nothing has changed
+-- what holds where memory was given, and where it was refused and nothing has changed
 pub kept_by : {A E T : Type 0} (P : A → Type 0) (Is : T → Type 0) (result : Result A E) (old new
     : T)
     → IfOk result P → OnErr result (new ≡ old) → ((v : A) → P v → Is new) → Is old → Is new

@@ -1,14 +1,8 @@
 -- What is judged leads from one state to another.
-use Rattle.service_conformance.proofs.Prelude.{All-map, All-weaker, AllocError, Bool, Contains, Err, IfOk, List, Ok, Result, Some, [], ap, arith, false, length, map, nat_tests, refl, slice_get, slice_get_within, subst, suc, sym, true, zero, ℕ, ◌+◌, ◌<◌, ◌==◌, ◌↔◌, ◌∙◌, ◌∷◌, ◌≡◌}
+use Rattle.service_conformance.proofs.Prelude.{All-map, All-weaker, AllocError, Bool, Contains, Err, IfOk, List, Ok, Result, [], ap, arith, false, length, map, refl, slice_get, slice_get_within, subst, sym, true, ℕ, ◌+◌, ◌<◌, ◌==◌, ◌↔◌, ◌∙◌, ◌∷◌, ◌≡◌, eqb-true, nil_from_length, same_Some, IfOk-weaker}
 use Rattle.service_conformance.proofs.Names.{AreAll, Call, CallLeaves, CallStep, ChangesNothing, HasNumber, IsIdle, IsIdleCall, IsIdleJudged, IsMade, IsWatched, IsWithin, Judged, JudgedStep, LacksNumber, Left, Look, Service, Watched, WindowStep, states_in, watched}
+use Rattle.histories.proofs.Places.{contains_map_of}
 use Rattle.service_conformance.proofs.Calls.{all_as, all_of_none}
-
-contains_map : {X Y : Type 0} (f : X → Y) (xs : List X) (x : X) → Contains xs x
-    → Contains (map f xs) (f x)
-contains_map f [] x (k, h, is) = absurd (omega (arith, h))
-contains_map f (y ∷ xs) x (zero, h, is) = (0, omega arith, ap f is)
-contains_map f (y ∷ xs) x (suc k, h, is) =
-    let r = contains_map f xs x (k, omega (arith, h), is) in (suc r.0, omega (arith, r.1), r.2)
 
 -- the call leaves these, and the weak listings look at them
 pub call_leaves : (c : Call) (w : Watched) (xs : List Service) → IsWatched w
@@ -20,7 +14,7 @@ call_leaves c w xs is all = (
       (λ s step. (is, step, refl)) xs all.0),
   λ v leaves.
       subst (λ (x : Watched). Contains (map (λ s. watched s w.looks) xs) x) (sym leaves.2)
-      (contains_map (λ s. watched s w.looks) xs v.service (all.1 v.service leaves.1)),
+      (contains_map_of (λ s. watched s w.looks) xs v.service (all.1 v.service leaves.1)),
 )
 
 -- what is left by what the call leaves of the service
@@ -44,11 +38,7 @@ made_leaves c w (Ok false) s is none same =
 made_leaves c w (Err e) s is none all = tt
 
 pub none_of : (looks : List Look) (b : Bool) → b ≡ (length looks == 0) → b ≡ true → looks ≡ []
-none_of [] b is t = refl
-none_of (l ∷ looks) b is t =
-    let said : (length (l ∷ looks) == 0) ≡ true = sym is ∙ t in
-    let none : length (l ∷ looks) ≡ 0 = grind (arith, nat_tests, said) in
-    absurd (omega (arith, none))
+none_of looks b is t = nil_from_length looks (eqb-true (length looks) 0 (sym is ∙ t))
 
 -- a call that changes nothing
 pub changes_none : (c : Call) → ChangesNothing c → (old new : Watched) → CallLeaves c old new
@@ -64,15 +54,12 @@ idle_leaves c w is idle = (
   changes_none c idle.1,
 )
 
-some_same : (a b : Judged) → Some a ≡ Some b → a ≡ b
-some_same a b e = cc
-
 module _ (first : ℕ) (calls : List Judged) (number : ℕ) where
   pub one_call : (a b : Judged) → HasNumber first calls number a → HasNumber first calls number b
       → b ≡ a
   one_call a b p q =
       let at : q.0 ≡ p.0 = omega (arith, p.1, q.1) in
-      some_same b a (sym q.2 ∙ (ap (slice_get calls) at ∙ p.2))
+      same_Some b a (sym q.2 ∙ (ap (slice_get calls) at ∙ p.2))
 
   module _ (call : Judged) (has : HasNumber first calls number call) (s : Watched) where
     window_all : (xs : List Watched) → AreAll (JudgedStep number call s) xs
@@ -85,8 +72,7 @@ module _ (first : ℕ) (calls : List Judged) (number : ℕ) where
     pub window_followed : (found : Result (Left Watched) AllocError)
         → IfOk found (λ left. AreAll (JudgedStep number call s) (states_in left))
         → IfOk found (λ left. AreAll (λ new. WindowStep first calls s number new) (states_in left))
-    window_followed (Ok left) all = window_all (states_in left) all
-    window_followed (Err e) all = tt
+    window_followed found = IfOk-weaker found _ _ (λ left. window_all (states_in left))
 
     pub window_made : (made : Result Bool AllocError) (new : Watched)
         → IfOk made (IsMade (JudgedStep number call s) s new)

@@ -15,12 +15,10 @@ pub mod Following
 pub mod Words
 pub mod Dying
 pub mod DeadSteps
-pub mod IdTexts
 pub mod Seen
 pub mod Calls
 pub mod Looking
 pub mod Judged
-pub mod Fixed
 pub mod Alone
 pub mod Given
 pub mod WeakListings

@@ -1,12 +1,13 @@
 -- The replies to questions.
 use Rattle.service_conformance.proofs.Prelude.{Some, Vec, ap, inl, inr, length, refl, sym, ℕ, ◌∙◌, ◌≡◌}
 use Rattle.service_conformance.proofs.Names.{ArePossible, First, IsNeither, IsSameReply, IsService, LacksRole, OfRole, PatternKind, PortDetails, Ports, RegistryState, Reply, Reports, Role, Second, ServesCount, ServesList, ServesNodes, Service, Side, first_role, listed, of_side, ports_at, role_at, second_role}
+use Rattle.iox2_dynamic.proofs.Rooms.{roles_differ}
 use Rattle.service_descriptions.specs.declared.replay.machine.reply.Reply.TheVariants as reply
 use Rattle.service_conformance.specs.declared.conformance.line_reply.LineReply.TheVariants as line
 use Rattle.service_conformance.specs.declared.conformance.seen_reply.ReplyWord.TheVariants as word
 use Rattle.service_conformance.specs.declared.conformance.possible.Possible.TheVariants as possible
 use Rattle.service_conformance.proofs.Possibles.{alone}
-use Rattle.service_conformance.proofs.Sides.{has_role, lacks, roles_apart}
+use Rattle.service_conformance.proofs.Sides.{has_role, lacks}
 
 -- what is said of the ports of a role is said of those of its side
 at_role : {A : Type 0} (p : PatternKind) (side : Side)
@@ -15,8 +16,8 @@ at_role : {A : Type 0} (p : PatternKind) (side : Side)
     → OfRole says (first_role p) (second_role p) ports role (Some x)
     → says (of_side side ports.first ports.second).registry x
 at_role p First says ports role x e (inl o) = o.1
-at_role p First says ports role x e (inr o) = absurd (roles_apart p (sym e ∙ o.0))
-at_role p Second says ports role x e (inl o) = absurd (roles_apart p (sym o.0 ∙ e))
+at_role p First says ports role x e (inr o) = absurd (roles_differ p (sym e ∙ o.0))
+at_role p Second says ports role x e (inl o) = absurd (roles_differ p (sym o.0 ∙ e))
 at_role p Second says ports role x e (inr o) = o.1
 
 of_role : {A : Type 0} (p : PatternKind) (side : Side)

@@ -1,5 +1,5 @@
 -- What weak listings lack after they have looked.
-use Rattle.service_conformance.proofs.Prelude.{Bool, Err, List, None, Ok, OnOk, Option, Result, Some, [], ap, cases_Bool, false, filter, filter_map-append, get_or, inl, inr, length, not, refl, subst, sym, take, take_more, true, ℕ, ◌&&◌, ◌++◌, ◌+◌, ◌<◌, ◌==◌, ◌∙◌, ◌∷◌, ◌≡◌}
+use Rattle.service_conformance.proofs.Prelude.{Bool, Err, List, None, Ok, OnOk, Option, Result, Some, [], ap, cases_Bool, filter, filter_map-append, get_or, inl, inr, length, not, refl, subst, sym, take, take_more, ℕ, ◌&&◌, ◌++◌, ◌+◌, ◌<◌, ◌==◌, ◌∙◌, ◌∷◌, ◌≡◌, same_Some}
 use Rattle.service_conformance.proofs.Names.{IsWatched, Look, Service, Watched, ids_in, is_among, lacking, look_after, looks_after, watched, without}
 use Rattle.std.proofs.Common.{OnErr}
 
@@ -27,16 +27,12 @@ same_seen there l =
     ) refl
 
 pub lacking_is : (l m : Look) → lacking l ≡ Some m → l ≡ m
-lacking_is l m e = cases (length l.unseen == 0 && length l.lasting == 0) refl
-  where
-    some_look : (a b : Look) → Some a ≡ Some b → a ≡ b
-    some_look a b e = cc
-
-    cases : (b : Bool) → (length l.unseen == 0 && length l.lasting == 0) ≡ b → l ≡ m
-    cases true t =
-        let bars : None ≡ Some m = subst (λ (o : Option Look). o ≡ Some m) (rw t refl) e in
-        absurd (cc)
-    cases false t = some_look l m (subst (λ (o : Option Look). o ≡ Some m) (rw t refl) e)
+lacking_is l m e = elim (cases_Bool (length l.unseen == 0 && length l.lasting == 0)) [
+  | inl t ↦
+      (let bars : None ≡ Some m = subst (λ (o : Option Look). o ≡ Some m) (rw t refl) e in
+      absurd (cc))
+  | inr f ↦ same_Some l m (subst (λ (o : Option Look). o ≡ Some m) (rw f refl) e)
+]
 
 -- what it lacks then stays as it is
 look_twice : (there : List ℕ) (l m : Look) → look_after there l ≡ Some m

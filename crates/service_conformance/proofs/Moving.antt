@@ -1,14 +1,15 @@
 -- Calls that can be made before others, by two changes of which the second is made first.
-use Rattle.service_conformance.proofs.Prelude.{IsTrue, List, ap, arith, cases_order, eq-eqb, false, inl, inr, not, refl, subst, sym, true, ℕ, ◌<◌, ◌==◌, ◌∙◌, ◌≡◌, ◌≢◌, ◌⊎◌}
-use Rattle.service_conformance.proofs.Names.{Call, CallStep, Change, ChangesAt, Handle, HasEntry, HasNumber, IsOpenFor, IsService, Judged, JudgedStep, Look, MovesBefore, MovesBeforeCall, MovesBeforeChange, PortDetails, RegistryState, Role, Service, Watched, WindowStep, call, entries_of_node, is_last_of_ports, looks_after, node_of, role_of, watched}
+use Rattle.service_conformance.proofs.Prelude.{IsTrue, List, ap, eq-eqb, false, inl, inr, not, refl, subst, sym, true, ℕ, ◌<◌, ◌==◌, ◌∙◌, ◌≡◌, ◌≢◌, cases_eq}
+use Rattle.service_conformance.proofs.Names.{Call, CallStep, Change, ChangesAt, Handle, HasEntry, HasNumber, HasWords, IsChange, IsOpenFor, IsService, Judged, JudgedStep, Look, MovesBefore, MovesBeforeCall, MovesBeforeChange, RegistryState, Role, Service, Watched, WindowStep, call, entries_of_node, is_last_of_ports, looks_after, node_of, role_of, watched}
+use Rattle.service_descriptions.specs.declared.replay.machine.reply.Reply.TheVariants as reply
 use Rattle.service_conformance.specs.declared.conformance.mover.Change.TheVariants as change
 use Rattle.service_conformance.proofs.Judged.{one_call}
 use Rattle.service_conformance.proofs.Looking.{watched_is}
 use Rattle.service_conformance.proofs.MovingLooks.{looks_between}
-use Rattle.service_conformance.proofs.MovingNodes.{GainsNode, LosesNode, node_losses_swap, NodeAddition, NodeRemoval, apart, fewer_ports, loses_again, not_its_last, opened_before, opened_before_loss, opens_more}
+use Rattle.service_conformance.proofs.MovingNodes.{GainsNode, LosesNode, node_losses_swap, NodeAddition, NodeRemoval, fewer_ports, loses_again, not_its_last, opened_before, opened_before_loss, opens_more}
 use Rattle.service_conformance.proofs.MovingParts.{Exchange, exchanged, nodes_first, nodes_stay, others_first, ports_first, with_nodes}
 use Rattle.service_conformance.proofs.MovingPorts.{GainsPort, LosesPort, port_losses_swap, PortAddition, PortRemoval, others_stay, ports_fewer}
-use Rattle.service_conformance.proofs.MovingSteps.{Does, adds_port, leaves_service, registers_node, removes_node, removes_port}
+use Rattle.service_conformance.proofs.MovingSteps.{Does, adds_port, leaves_service, of_node, of_port, registers_node, removes_node, removes_port}
 
 -- a service with the same nodes is open for the same ones
 still_open : (x s : Service) (node : ℕ) → x.nodes.registry ≡ s.nodes.registry → IsOpenFor s node
@@ -17,10 +18,44 @@ still_open x s node e opens =
     subst (λ (r : RegistryState ℕ). (r.locked ≡ false) × (0 < entries_of_node node r)) (sym e)
     opens
 
-module _ (h k : Handle) (old mid new : Service) where
-  release_before_deregister : LosesNode h old mid → LosesPort k mid new
-      → Exchange (LosesNode h) (LosesPort k) old mid new
-  release_before_deregister a b =
+-- what a call with a change does, by its handle
+abbrev Made : (x : Change) (c : Call) → IsChange x c → Handle → Service → Service → Type 0
+Made change.NodeRemoved c is = LosesNode
+Made (change.PortRemoved role) c is = LosesPort
+Made (change.NodeRegistered id) c is = GainsNode id
+Made (change.PortAdded role node) c is = GainsPort is.0.0
+
+-- the handles that it may have
+abbrev May : (x : Change) (c : Call) → IsChange x c → Handle → Type 0
+May change.NodeRemoved c is = of_node c is
+May (change.PortRemoved role) c is = of_port c role is
+May _ c is = λ h. HasWords c.words (reply.Handle h)
+
+does : (x : Change) (c : Call) (is : IsChange x c) → Does c (May x c is) (Made x c is)
+does change.NodeRemoved c is = removes_node c is
+does (change.PortRemoved role) c is = removes_port c role is
+does (change.NodeRegistered id) c is = registers_node c id is
+does (change.PortAdded role node) c is = adds_port c role node is
+
+-- what a call with one change does can be done before what one with another change did
+abbrev pub Swaps : Change → Change → Type 0
+Swaps x y =
+    (c other : Call) (is : IsChange x c) (by : IsChange y other) (h k : Handle)
+    → May y other by h → May x c is k → (old mid new : Service) → IsService old
+    → Made y other by h old mid → Made x c is k mid new
+    → Exchange (Made y other by h) (Made x c is k) old mid new
+
+pub deregister_before_deregister : Swaps change.NodeRemoved change.NodeRemoved
+deregister_before_deregister c other is by h k m n old mid new i a b =
+    node_losses_swap h k old mid new i a b
+
+module _ (role : Role) where
+  pub release_before_release : (to : Role) → Swaps (change.PortRemoved role) (change.PortRemoved to)
+  release_before_release to c other is by h k m n old mid new i a b =
+      port_losses_swap h k old mid new i a b
+
+  pub release_before_deregister : Swaps (change.PortRemoved role) change.NodeRemoved
+  release_before_deregister c other is by h k m n old mid new i a b =
       let w = ports_first (NodeRemoval h) k.role (PortRemoval k b.state) old mid new a.changes
       b.changes in
       let before : LosesPort k old w.between = record { state = b.state; changes = w.before } in
@@ -31,62 +66,22 @@ module _ (h k : Handle) (old mid new : Service) where
       (ports_fewer k old w.between before id) last) w.after)
 
   module _ (id : ℕ) where
-    pub release_before_register : GainsNode id h old mid → LosesPort k mid new
-        → Exchange (GainsNode id h) (LosesPort k) old mid new
-    release_before_register a b =
+    pub release_before_register : Swaps (change.PortRemoved role) (change.NodeRegistered id)
+    release_before_register c other is by h k m n old mid new i a b =
         let w = ports_first (NodeAddition id h) k.role (PortRemoval k b.state) old mid new a
         b.changes in
         exchanged w (record { state = b.state; changes = w.before }) w.after
 
-    pub register_before_release : LosesPort h old mid → GainsNode id k mid new
-        → Exchange (LosesPort h) (GainsNode id k) old mid new
-    register_before_release a b =
+    pub register_before_release : Swaps (change.NodeRegistered id) (change.PortRemoved role)
+    register_before_release c other is by h k m n old mid new i a b =
         let w = nodes_first (NodeAddition id k) h.role (PortRemoval h a.state) old mid new a.changes
         b in
         exchanged w w.before (record { state = a.state; changes = w.after })
 
-  module _ (d : PortDetails) where
-    pub release_before_add : role_of d ≢ k.role → GainsPort d h old mid → LosesPort k mid new
-        → Exchange (GainsPort d h) (LosesPort k) old mid new
-    release_before_add differ a b =
-        let w = others_first (role_of d) k.role differ (PortAddition d h) (PortRemoval k b.state)
-        old new mid a.changes b.changes in
-        let stay = nodes_stay k.role (PortRemoval k b.state) old w.between w.before in
-        exchanged w (record { state = b.state; changes = w.before })
-        (record {
-          opens = still_open w.between old (node_of d) stay a.opens;
-          changes = w.after;
-        })
-
-    pub add_before_release : h.role ≢ role_of d → LosesPort h old mid → GainsPort d k mid new
-        → Exchange (LosesPort h) (GainsPort d k) old mid new
-    add_before_release differ a b =
-        let w = others_first h.role (role_of d) differ (PortRemoval h a.state) (PortAddition d k)
-        old new mid a.changes b.changes in
-        let stay = nodes_stay h.role (PortRemoval h a.state) old mid a.changes in
-        exchanged w
-        (record {
-          opens = still_open old mid (node_of d) (sym stay) b.opens;
-          changes = w.before;
-        }) (record { state = a.state; changes = w.after })
-
-    pub add_before_add : (e : PortDetails) → role_of e ≢ role_of d → GainsPort e h old mid
-        → GainsPort d k mid new → Exchange (GainsPort e h) (GainsPort d k) old mid new
-    add_before_add e differ a b =
-        let w = others_first (role_of e) (role_of d) differ (PortAddition e h) (PortAddition d k)
-        old new mid a.changes b.changes in
-        let was = nodes_stay (role_of e) (PortAddition e h) old mid a.changes in
-        let stay = nodes_stay (role_of d) (PortAddition d k) old w.between w.before in
-        exchanged w
-        (record { opens = still_open old mid (node_of d) (sym was) b.opens; changes = w.before })
-        (record {
-          opens = still_open w.between old (node_of e) stay a.opens;
-          changes = w.after;
-        })
-
-    pub register_before_add : (id : ℕ) → GainsPort d h old mid → GainsNode id k mid new
-        → Exchange (GainsPort d h) (GainsNode id k) old mid new
-    register_before_add id a b =
+    pub register_before_add : (node : ℕ) → Swaps (change.NodeRegistered id)
+        (change.PortAdded role node)
+    register_before_add node c other is by h k m n old mid new i a b =
+        let d = by.0.0 in
         let w = nodes_first (NodeAddition id k) (role_of d) (PortAddition d h) old mid new a.changes
         b in
         let opens : IsOpenFor (with_nodes old w.before.nodes) (node_of d) =
@@ -97,56 +92,101 @@ module _ (h k : Handle) (old mid new : Service) where
           changes = w.after;
         })
 
-    pub add_before_register : (id : ℕ) → id ≢ node_of d → GainsNode id h old mid
-        → GainsPort d k mid new → Exchange (GainsNode id h) (GainsPort d k) old mid new
-    add_before_register id other a b =
+    pub add_before_register : (node : ℕ) → node ≢ id
+        → Swaps (change.PortAdded role node) (change.NodeRegistered id)
+    add_before_register node differ c other is by h k m n old mid new i a b =
+        let d = is.0.0 in
         let w = ports_first (NodeAddition id h) (role_of d) (PortAddition d k) old mid new a
         b.changes in
         let opens : IsOpenFor (with_nodes old a.nodes) (node_of d) =
         subst (λ (x : Service). IsOpenFor x (node_of d)) a.left b.opens in
         exchanged w
         (record {
-          opens = opened_before old.nodes.registry a.nodes id (node_of d) h a.step other opens.1;
+          opens = opened_before old.nodes.registry a.nodes id (node_of d) h a.step
+              (λ e. differ (sym is.0.3 ∙ sym e)) opens.1;
           changes = w.before;
         }) w.after
 
-    pub add_before_deregister : IsService old → LosesNode h old mid → GainsPort d k mid new
-        → Exchange (LosesNode h) (GainsPort d k) old mid new
-    add_before_deregister i a b =
-        let n : RegistryState ℕ = a.changes.nodes in
-        let w = ports_first (NodeRemoval h) (role_of d) (PortAddition d k) old mid new a.changes
-        b.changes in
-        let opens : IsOpenFor (with_nodes old n) (node_of d) =
-        subst (λ (x : Service). IsOpenFor x (node_of d)) a.changes.left b.opens in
-        let before : GainsPort d k old w.between = record {
-          opens = opened_before_loss old.nodes.registry n (node_of d) h i.nodes_are a.changes.step
-              opens.1;
-          changes = w.before;
-        } in
-        let stay = nodes_stay (role_of d) (PortAddition d k) old w.between w.before in
-        let more : (id : ℕ) → is_last_of_ports id old ≡ false → HasEntry old.nodes.registry h id
-        → is_last_of_ports id w.between ≡ false =
-        λ id last has. elim (cases_order (node_of d) id) [
-          | inl v ↦
-              not_its_last old w.between n id h i a.changes.step has
-              (subst (λ q. 0 < entries_of_node q n) v opens.1) stay
-          | inr v ↦
-              fewer_ports old w.between id stay
-              (λ t. sym (others_stay d k old w.between before id (apart (node_of d) id v)) ∙ t) last
-        ] in
-        exchanged w before (loses_again h old mid a w.between new stay more w.after)
+  pub add_before_deregister : (node : ℕ) → Swaps (change.PortAdded role node) change.NodeRemoved
+  add_before_deregister node c other is by h k m n old mid new i a b =
+      let d = is.0.0 in
+      let left : RegistryState ℕ = a.changes.nodes in
+      let w = ports_first (NodeRemoval h) (role_of d) (PortAddition d k) old mid new a.changes
+      b.changes in
+      let opens : IsOpenFor (with_nodes old left) (node_of d) =
+      subst (λ (x : Service). IsOpenFor x (node_of d)) a.changes.left b.opens in
+      let before : GainsPort d k old w.between = record {
+        opens = opened_before_loss old.nodes.registry left (node_of d) h i.nodes_are a.changes.step
+            opens.1;
+        changes = w.before;
+      } in
+      let stay = nodes_stay (role_of d) (PortAddition d k) old w.between w.before in
+      let more : (id : ℕ) → is_last_of_ports id old ≡ false → HasEntry old.nodes.registry h id
+      → is_last_of_ports id w.between ≡ false =
+      λ id last has. elim (cases_eq (node_of d) id) [
+        | inl v ↦
+            not_its_last old w.between left id h i a.changes.step has
+            (subst (λ q. 0 < entries_of_node q left) v opens.1) stay
+        | inr v ↦
+            fewer_ports old w.between id stay
+            (λ t. sym (others_stay d k old w.between before id v) ∙ t) last
+      ] in
+      exchanged w before (loses_again h old mid a w.between new stay more w.after)
 
-module _ (c other : Call) {May Other : Handle → Type 0}
-    {First Second : Handle → Service → Service → Type 0} (one : Does other May First)
-    (two : Does c Other Second)
-    (swap : (h k : Handle) → May h → Other k → (old mid new : Service) → IsService old
-    → First h old mid → Second k mid new → Exchange (First h) (Second k) old mid new) where
+  module _ (to : Role) (differ : role ≢ to) where
+    pub release_before_add : (node : ℕ) → Swaps (change.PortRemoved role) (change.PortAdded to node)
+    release_before_add node c other is by h k m n old mid new i a b =
+        let d = by.0.0 in
+        let w =
+        others_first (role_of d) k.role (λ e. differ (sym n.1 ∙ (sym e ∙ by.0.2)))
+        (PortAddition d h) (PortRemoval k b.state) old new mid a.changes b.changes in
+        let stay = nodes_stay k.role (PortRemoval k b.state) old w.between w.before in
+        exchanged w (record { state = b.state; changes = w.before })
+        (record {
+          opens = still_open w.between old (node_of d) stay a.opens;
+          changes = w.after;
+        })
+
+    pub add_before_release : (node : ℕ) → Swaps (change.PortAdded role node) (change.PortRemoved to)
+    add_before_release node c other is by h k m n old mid new i a b =
+        let d = is.0.0 in
+        let w =
+        others_first h.role (role_of d) (λ e. differ (sym is.0.2 ∙ (sym e ∙ m.1)))
+        (PortRemoval h a.state) (PortAddition d k) old new mid a.changes b.changes in
+        let stay = nodes_stay h.role (PortRemoval h a.state) old mid a.changes in
+        exchanged w
+        (record {
+          opens = still_open old mid (node_of d) (sym stay) b.opens;
+          changes = w.before;
+        }) (record { state = a.state; changes = w.after })
+
+    pub add_before_add : (node for : ℕ) → Swaps (change.PortAdded role node)
+        (change.PortAdded to for)
+    add_before_add node for c other is by h k m n old mid new i a b =
+        let d = is.0.0 in
+        let f = by.0.0 in
+        let w =
+        others_first (role_of f) (role_of d) (λ e. differ (sym is.0.2 ∙ (sym e ∙ by.0.2)))
+        (PortAddition f h) (PortAddition d k) old new mid a.changes b.changes in
+        let was = nodes_stay (role_of f) (PortAddition f h) old mid a.changes in
+        let stay = nodes_stay (role_of d) (PortAddition d k) old w.between w.before in
+        exchanged w
+        (record { opens = still_open old mid (node_of d) (sym was) b.opens; changes = w.before })
+        (record {
+          opens = still_open w.between old (node_of f) stay a.opens;
+          changes = w.after;
+        })
+
+module _ (x y : Change) (swap : Swaps x y) (c other : Call) (is : IsChange x c)
+    (by : IsChange y other) where
   both_made : (old mid new : Service) → CallStep other old mid → CallStep c mid new
       → Exchange (CallStep other) (CallStep c) old mid new
   both_made old mid new s t =
+      let one = does y other by in
+      let two = does x c is in
       let a = one.there old mid s in
       let b = two.there mid new t in
-      let w = swap a.0 b.0 a.1 b.1 old mid new s.0 a.2 b.2 in
+      let w = swap c other is by a.0 b.0 a.1 b.1 old mid new s.0 a.2 b.2 in
       let before = two.back b.0 b.1 old w.between s.0 s.1 w.before in
       let left = leaves_service c old w.between before in
       record {
@@ -157,7 +197,7 @@ module _ (c other : Call) {May Other : Handle → Type 0}
         second = w.second;
       }
 
-  moves : MovesBeforeCall c other
+  pub moves : MovesBeforeCall c other
   moves old mid new (io, so, eo) (im, sm, em) =
       let w = both_made old.service mid.service new.service so sm in
       let same : looks_after new.service mid.looks
@@ -173,78 +213,6 @@ module _ (c other : Call) {May Other : Handle → Type 0}
           em ∙ ap (λ (l : List Look). record { service = new.service; looks = l }) same,
         ),
       )
-
-pub node_removal_moves : MovesBeforeChange change.NodeRemoved change.NodeRemoved
-node_removal_moves c other is by =
-    moves c other (removes_node other by) (removes_node c is)
-    (λ h k m n old mid new i a b. node_losses_swap h k old mid new i a b)
-
-module _ (role : Role) where
-  pub release_moves_before_deregister : MovesBeforeChange (change.PortRemoved role)
-      change.NodeRemoved
-  release_moves_before_deregister c other is by =
-      moves c other (removes_node other by) (removes_port c role is)
-      (λ h k m n old mid new i a b. release_before_deregister h k old mid new a b)
-
-  pub release_moves : (to : Role) → MovesBeforeChange (change.PortRemoved role)
-      (change.PortRemoved to)
-  release_moves to c other is by =
-      moves c other (removes_port other to by) (removes_port c role is)
-      (λ h k m n old mid new i a b. port_losses_swap h k old mid new i a b)
-
-  module _ (id : ℕ) where
-    pub release_moves_before_register : MovesBeforeChange (change.PortRemoved role)
-        (change.NodeRegistered id)
-    release_moves_before_register c other is by =
-        moves c other (registers_node other id by) (removes_port c role is)
-        (λ h k m n old mid new i a b. release_before_register h k old mid new id a b)
-
-    pub register_moves_before_release : MovesBeforeChange (change.NodeRegistered id)
-        (change.PortRemoved role)
-    register_moves_before_release c other is by =
-        moves c other (removes_port other role by) (registers_node c id is)
-        (λ h k m n old mid new i a b. register_before_release h k old mid new id a b)
-
-    pub register_moves_before_add : (node : ℕ) → MovesBeforeChange (change.NodeRegistered id)
-        (change.PortAdded role node)
-    register_moves_before_add node c other is by =
-        moves c other (adds_port other role node by) (registers_node c id is)
-        (λ h k m n old mid new i a b. register_before_add h k old mid new by.0.0 id a b)
-
-    pub add_moves_before_register : (node : ℕ) → node ≢ id
-        → MovesBeforeChange (change.PortAdded role node) (change.NodeRegistered id)
-    add_moves_before_register node differ c other is by =
-        moves c other (registers_node other id by) (adds_port c role node is)
-        (λ h k m n old mid new i a b. add_before_register h k old mid new is.0.0 id
-        (λ e. differ (sym is.0.3 ∙ sym e)) a b)
-
-  pub add_moves_before_deregister : (node : ℕ) → MovesBeforeChange (change.PortAdded role node)
-      change.NodeRemoved
-  add_moves_before_deregister node c other is by =
-      moves c other (removes_node other by) (adds_port c role node is)
-      (λ h k m n old mid new i a b. add_before_deregister h k old mid new is.0.0 i a b)
-
-  module _ (to : Role) (differ : role ≢ to) where
-    pub release_moves_before_add : (node : ℕ) → MovesBeforeChange (change.PortRemoved role)
-        (change.PortAdded to node)
-    release_moves_before_add node c other is by =
-        moves c other (adds_port other to node by) (removes_port c role is)
-        (λ h k m n old mid new i a b. release_before_add h k old mid new by.0.0
-        (λ e. differ (sym n.1 ∙ (sym e ∙ by.0.2))) a b)
-
-    pub add_moves_before_release : (node : ℕ) → MovesBeforeChange (change.PortAdded role node)
-        (change.PortRemoved to)
-    add_moves_before_release node c other is by =
-        moves c other (removes_port other to by) (adds_port c role node is)
-        (λ h k m n old mid new i a b. add_before_release h k old mid new is.0.0
-        (λ e. differ (sym is.0.2 ∙ (sym e ∙ m.1))) a b)
-
-    pub add_moves_before_add : (node for : ℕ) → MovesBeforeChange (change.PortAdded role node)
-        (change.PortAdded to for)
-    add_moves_before_add node for c other is by =
-        moves c other (adds_port other to for by) (adds_port c role node is)
-        (λ h k m n old mid new i a b. add_before_add h k old mid new is.0.0 by.0.0
-        (λ e. differ (sym is.0.2 ∙ (sym e ∙ by.0.2))) a b)
 
 pub not_same : (a b : ℕ) → IsTrue (not (a == b)) → a ≢ b
 not_same a b t e = (let z : false ≡ true = sym (ap not (eq-eqb a b e)) ∙ t in cc)

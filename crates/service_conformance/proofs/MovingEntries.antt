@@ -1,8 +1,10 @@
 -- Two entries go in either order.
-use Rattle.service_conformance.proofs.Prelude.{Bool, List, Ok, [], ap, arith, false, length, list_any, refl, subst, sym, true, ℕ, ◌++◌, ◌||◌, ◌∙◌, ◌∷◌, ◌≡◌}
-use Rattle.service_conformance.proofs.Names.{Entry, Handle, InsertsOne, IsRegistry, RegistryState, ReleaseMode, ReleaseState, RemoveStep, handle_of, lock_after, release_state, with_left}
+use Rattle.service_conformance.proofs.Prelude.{Bool, List, Ok, [], ap, arith, length, refl, subst, sym, true, ℕ, ◌++◌, ◌||◌, ◌∙◌, ◌∷◌, ◌≡◌}
+use Rattle.service_conformance.proofs.Names.{Entry, Handle, InsertsOne, IsRegistry, RegistryState, ReleaseMode, ReleaseState, RemoveStep, handle_of, lock_after, release_state, with_left, HasEntry}
+use Rattle.iox2_container.proofs.CellEntries.{gains_later}
 use Rattle.iox2_container.proofs.Gaining.{length-InsertsOne}
 use Rattle.service_conformance.proofs.Removes.{kept_without}
+use Rattle.service_conformance.proofs.WeakListings.{by_cases}
 
 -- the entries without the second alone
 record WithoutSecond {T : Type 0} (whole left : List (Entry T)) (first second : Entry T) : Type 0
@@ -16,50 +18,25 @@ without_second : {T : Type 0} (a b c d : List (Entry T)) (x y : Entry T) → a +
 without_second {T} [] b c d x y e = record {
   rest = x ∷ (c ++ d);
   whole_has =
-      record {
-        before = x ∷ c;
-        after = d;
-        old_is = refl;
-        new_is = ap (λ (l : List (Entry T)). x ∷ l) e;
-      };
+      gains_later (c ++ d) b y x (record { before = c; after = d; old_is = refl; new_is = e });
   rest_has = record { before = []; after = c ++ d; old_is = refl; new_is = refl };
 }
 without_second {T} (z ∷ a) b [] d x y e =
     let first : z ≡ y = cc in
-    let others : a ++ b ≡ d = cc in
-    record {
+    let others : d ≡ a ++ b = cc in
+    rw (first, others) (record {
       rest = a ++ x ∷ b;
-      whole_has =
-          record {
-            before = [];
-            after = a ++ x ∷ b;
-            old_is = refl;
-            new_is = ap (λ (v : Entry T). v ∷ (a ++ x ∷ b)) first;
-          };
-      rest_has = record { before = a; after = b; old_is = sym others; new_is = refl };
-    }
+      whole_has = record { before = []; after = a ++ x ∷ b; old_is = refl; new_is = refl };
+      rest_has = record { before = a; after = b; old_is = refl; new_is = refl };
+    })
 without_second {T} (z ∷ a) b (w ∷ c) d x y e =
     let first : z ≡ w = cc in
-    let others : a ++ b ≡ c ++ y ∷ d = cc in
-    let s = without_second a b c d x y others in
-    record {
-      rest = z ∷ s.rest;
-      whole_has =
-          record {
-            before = z ∷ s.whole_has.before;
-            after = s.whole_has.after;
-            old_is = ap (λ (l : List (Entry T)). z ∷ l) s.whole_has.old_is;
-            new_is = ap (λ (l : List (Entry T)). z ∷ l) s.whole_has.new_is;
-          };
-      rest_has =
-          record {
-            before = z ∷ s.rest_has.before;
-            after = s.rest_has.after;
-            old_is = ap (λ (v : Entry T). v ∷ (c ++ d)) (sym first)
-                ∙ ap (λ (l : List (Entry T)). z ∷ l) s.rest_has.old_is;
-            new_is = ap (λ (l : List (Entry T)). z ∷ l) s.rest_has.new_is;
-          };
-    }
+    let s = without_second a b c d x y (cc) in
+    rw first (record {
+      rest = w ∷ s.rest;
+      whole_has = gains_later _ _ y w s.whole_has;
+      rest_has = gains_later _ _ x w s.rest_has;
+    })
 
 -- the registry without the second entry alone
 pub record RemovesOther {T : Type 0} (r m : RegistryState T) (first second : Handle)
@@ -68,8 +45,10 @@ pub record RemovesOther {T : Type 0} (r m : RegistryState T) (first second : Han
   pub before : RemoveStep r second mode (Ok one) mid
   pub after : RemoveStep mid first mode (Ok two) m
   pub kept : IsRegistry mid
-  pub before_is : before.0.0 ≡ y
-  pub after_is : after.0.0 ≡ x
+  pub has_second : HasEntry r second y.details
+  pub has_first : HasEntry mid first x.details
+  pub whole : InsertsOne mid.entries r.entries y
+  pub rest : InsertsOne m.entries mid.entries x
 
 module _ {T : Type 0} (r n m : RegistryState T) (first second : Handle) (mode : ReleaseMode)
     (one two : ReleaseState) (k : IsRegistry r) (s : RemoveStep r first mode (Ok one) n)
@@ -113,42 +92,22 @@ module _ {T : Type 0} (r n m : RegistryState T) (first second : Handle) (mode : 
         before = ((y, named, whole, refl), s.1 ∙ ap release_state (sym lock));
         after = ((x, s.0.1, left, last), t.1);
         kept = kept_without r mode w.rest y k whole;
-        before_is = refl;
-        after_is = refl;
+        has_second = (y, named, refl, (w.rest, whole));
+        has_first = (x, s.0.1, refl, (m.entries, left));
+        whole = whole;
+        rest = left;
       }
 
--- whether an id is in a list, where an entry more gives one id more
-module _ {T : Type 0} (ids : List (Entry T) → List ℕ) (value : Entry T → ℕ)
-    (each : (x : Entry T) (l : List (Entry T)) → ids (x ∷ l) ≡ value x ∷ ids l)
-    (test : ℕ → Bool) where
-  in_more : (x : Entry T) (l : List (Entry T)) → list_any test (ids l) ≡ true
-      → list_any test (ids (x ∷ l)) ≡ true
-  in_more x l e = rw (each x l) (either (test (value x)) e)
-    where
-      either : (b : Bool) → list_any test (ids l) ≡ true → (b || list_any test (ids l)) ≡ true
-      either true e = refl
-      either false e = e
-
-  in_rest : (x : Entry T) (v w : List (Entry T))
-      → (list_any test (ids v) ≡ true → list_any test (ids w) ≡ true)
-      → list_any test (ids (x ∷ v)) ≡ true → list_any test (ids (x ∷ w)) ≡ true
-  in_rest x v w all e =
-      rw (each x w)
-      (either (test (value x)) (subst (λ (l : List ℕ). list_any test l ≡ true) (each x v) e))
-    where
-      either : (b : Bool) → (b || list_any test (ids v)) ≡ true
-          → (b || list_any test (ids w)) ≡ true
-      either true e = refl
-      either false e = all e
-
-  in_put : (b a : List (Entry T)) (x : Entry T) → list_any test (ids (b ++ a)) ≡ true
-      → list_any test (ids (b ++ x ∷ a)) ≡ true
-  in_put [] a x e = in_more x a e
-  in_put (y ∷ b) a x e = in_rest y (b ++ a) (b ++ x ∷ a) (in_put b a x) e
+-- what holds of some entry of the rest holds of some entry of the whole
+module _ {T : Type 0} (some : List (Entry T) → Bool) (test : Entry T → Bool)
+    (each : (x : Entry T) (l : List (Entry T)) → some (x ∷ l) ≡ (test x || some l)) where
+  in_put : (b a : List (Entry T)) (x : Entry T) → some (b ++ a) ≡ true → some (b ++ x ∷ a) ≡ true
+  in_put [] a x e = by_cases _ (test x) (λ t. each x a ∙ rw t refl) (λ f. each x a ∙ rw f e)
+  in_put (y ∷ b) a x e =
+      by_cases _ (test y) (λ t. each y (b ++ x ∷ a) ∙ rw t refl)
+      (λ f. each y (b ++ x ∷ a) ∙ rw f (in_put b a x (rw f at (sym (each y (b ++ a)) ∙ e))))
 
   pub in_whole : (rest whole : List (Entry T)) (x : Entry T) → InsertsOne rest whole x
-      → list_any test (ids rest) ≡ true → list_any test (ids whole) ≡ true
+      → some rest ≡ true → some whole ≡ true
   in_whole rest whole x g e =
-      subst (λ (l : List (Entry T)). list_any test (ids l) ≡ true) (sym g.new_is)
-      (in_put g.before g.after x
-      (subst (λ (l : List (Entry T)). list_any test (ids l) ≡ true) g.old_is e))
+      ap some g.new_is ∙ in_put g.before g.after x (sym (ap some g.old_is) ∙ e)

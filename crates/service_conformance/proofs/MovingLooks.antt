@@ -1,8 +1,8 @@
 -- Weak listings look at a service between two others.
-use Rattle.service_conformance.proofs.Prelude.{Bool, List, None, Option, Some, [], ap, arith, cons_option, false, filter, inl, inr, length, not, refl, subst, sym, true, ℕ, ◌&&◌, ◌==◌, ◌∙◌, ◌∷◌, ◌≡◌, ◌≤◌, ◌⊎◌}
+use Rattle.service_conformance.proofs.Prelude.{Bool, List, None, Option, Some, [], ap, arith, cons_option, false, filter, inl, inr, length, not, refl, subst, sym, true, ℕ, ◌&&◌, ◌==◌, ◌∙◌, ◌∷◌, ◌≡◌, ◌≤◌, ◌⊎◌, All, All-head, filter_passes, and_parts}
 use Rattle.service_conformance.proofs.Names.{Look, Part, Service, ids_in, is_among, lacking, look_after, looks_after, without}
 use Rattle.service_conformance.proofs.Looking.{lacking_is, same_part, seen_of}
-use Rattle.service_conformance.proofs.WeakListings.{both_true, by_cases, empty_of}
+use Rattle.service_conformance.proofs.WeakListings.{by_cases, empty_of}
 
 -- each id is there in the service between two others as in one of them
 abbrev pub IsBetween : Service → Service → Service → Type 0
@@ -11,21 +11,15 @@ IsBetween old mid new =
     → (is_among (ids_in mid p) id ≡ is_among (ids_in old p) id)
     ⊎ (is_among (ids_in mid p) id ≡ is_among (ids_in new p) id)
 
-filtered_short : {X : Type 0} (p : X → Bool) (xs : List X) → length (filter p xs) ≤ length xs
-filtered_short p [] = omega arith
-filtered_short p (x ∷ xs) =
-    let rest = filtered_short p xs in
-    by_cases _ (p x) (λ t. rw t (omega (arith, rest))) (λ f. rw f (omega (arith, rest)))
-
 -- a list that a test leaves as it is
 all_pass : {X : Type 0} (p : X → Bool) (x : X) (xs : List X) → filter p (x ∷ xs) ≡ x ∷ xs
     → (p x ≡ true) × (filter p xs ≡ xs)
 all_pass {X} p x xs e =
-    by_cases _ (p x) (λ t.
+    let Passes : X → Type 0 = λ y. p y ≡ true in
+    let t : p x ≡ true =
+    All-head Passes x xs (subst (All Passes) e (filter_passes p (x ∷ xs))) in
     let all : x ∷ filter p xs ≡ x ∷ xs = rw t at e in
-    let rest : filter p xs ≡ xs = cc in (t, rest)) (λ f.
-    let all : filter p xs ≡ x ∷ xs = rw f at e in
-    absurd (omega (arith, ap length all, filtered_short p xs)))
+    let rest : filter p xs ≡ xs = cc in (t, rest)
 
 module _ {X : Type 0} (before between after : X → Bool)
     (either : (x : X) → (between x ≡ before x) ⊎ (between x ≡ after x)) where
@@ -48,13 +42,10 @@ module _ {X : Type 0} (before between after : X → Bool)
 none_later : (there : List ℕ) (l : Look) → lacking l ≡ None → look_after there l ≡ None
 none_later there l e =
     by_cases _ (length l.unseen == 0 && length l.lasting == 0) (λ t.
-    let both = both_true (length l.unseen == 0) (length l.lasting == 0) t in
+    let both = and_parts (length l.unseen == 0) (length l.lasting == 0) t in
     rw (empty_of l.unseen both.0, empty_of l.lasting both.1) refl) (λ f.
     let bars : Some l ≡ None = subst (λ (o : Option Look). o ≡ None) (rw f refl) e in
     absurd (cc))
-
-some_same : (l m : Look) → Some l ≡ Some m → l ≡ m
-some_same l m e = cc
 
 after_short : (s : Service) (looks : List Look) → length (looks_after s looks) ≤ length looks
 after_short s [] = omega arith

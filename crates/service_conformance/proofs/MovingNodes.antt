@@ -1,6 +1,6 @@
 -- Nodes that go, and nodes that come.
-use Rattle.service_conformance.proofs.Prelude.{Bool, List, None, Ok, Option, Some, ap, arith, cases_order, eq-eqb, false, inl, inr, length, map, nat_eq, ne_eqb, refl, subst, sym, true, ℕ, ◌&&◌, ◌<◌, ◌==◌, ◌∙◌, ◌≡◌, ◌≢◌, ◌⊎◌}
-use Rattle.service_conformance.proofs.Names.{AddStep, Entry, Handle, HasEntry, InsertsOne, IsRegistry, IsService, LockIfLastIndex, RegistryState, RemoveStep, ServesDeregister, ServesRegister, Service, Unlocked, container, entries_of_node, has_ports_of, is_last_of_ports, is_of, quiet}
+use Rattle.service_conformance.proofs.Prelude.{Bool, List, None, Ok, Option, Some, ap, arith, eq-eqb, false, inl, inr, length, map, nat_eq, ne_eqb, refl, subst, sym, true, ℕ, ◌&&◌, ◌<◌, ◌==◌, ◌∙◌, ◌≡◌, ◌≢◌, cases_eq, ◌+◌}
+use Rattle.service_conformance.proofs.Names.{AddStep, Entry, Handle, HasEntry, InsertsOne, IsRegistry, IsService, LockIfLastIndex, RegistryState, RemoveStep, ServesDeregister, ServesRegister, Service, Unlocked, container, entries_of_node, has_ports_of, is_last_of_ports, is_of, quiet, is_among}
 use Rattle.iox2_container.proofs.Counting.{counted, counted-InsertsOne, one_if}
 use Rattle.iox2_container.proofs.Gaining.{length-InsertsOne}
 use Rattle.iox2_dynamic.proofs.Keeping.{leaving_kept, register_kept}
@@ -99,9 +99,9 @@ module _ (h : Handle) (s t : Service) where
 
   pub loss_loses : LosesNode h s t → LosesIds s t
   loss_loses a part.Nodes id e =
-      in_whole (λ (l : List (Entry ℕ)). map (λ (x : Entry ℕ). x.details) l)
-      (λ (x : Entry ℕ). x.details) (λ x l. refl) (λ k. k == id) a.changes.nodes.entries
-      s.nodes.registry.entries a.changes.step.0.0 a.changes.step.0.2 (rw a.changes.left at e)
+      in_whole (λ (l : List (Entry ℕ)). is_among (map (λ x. x.details) l) id)
+      (λ x. x.details == id) (λ x l. refl) a.changes.nodes.entries s.nodes.registry.entries
+      a.changes.step.0.0 a.changes.step.0.2 (rw a.changes.left at e)
   loss_loses a part.First id e = rw a.changes.left at e
   loss_loses a part.Second id e = rw a.changes.left at e
 
@@ -117,94 +117,82 @@ module _ (h : Handle) (s t : Service) where
     changes = changes;
   }
 
-pub apart : (a b : ℕ) → (a < b) ⊎ (b < a) → a ≢ b
-apart a b (inl l) = λ e. omega arith
-apart a b (inr l) = λ e. omega arith
-
 not_last : (n m : ℕ) (b : Bool) → (n ≡ 1 → m ≡ 1) → (nat_eq m 1 && b) ≡ false
     → (nat_eq n 1 && b) ≡ false
 not_last n m b one e =
-    elim (cases_order n 1) [
+    elim (cases_eq n 1) [
       | inl v ↦ ap (λ q. q && b) (eq-eqb n 1 v ∙ sym (eq-eqb m 1 (one v))) ∙ e
-      | inr v ↦ ap (λ q. q && b) (ne_eqb n 1 (apart n 1 v))
+      | inr v ↦ ap (λ q. q && b) (ne_eqb n 1 v)
     ]
 
 -- an entry of a node counts, and one of another node does not
 counts_one : (x id : ℕ) → x ≡ id → one_if (is_of (λ i. i) id x) ≡ 1
 counts_one x id e = ap one_if (eq-eqb x id e)
 
-counts_none : (x id : ℕ) → (x < id) ⊎ (id < x) → one_if (is_of (λ i. i) id x) ≡ 0
-counts_none x id v = ap one_if (ne_eqb x id (apart x id v))
+counts_none : (x id : ℕ) → x ≢ id → one_if (is_of (λ i. i) id x) ≡ 0
+counts_none x id v = ap one_if (ne_eqb x id v)
 
 -- of two removals the second can be made first
 pub node_losses_swap : (h k : Handle) (s mid t : Service) → IsService s → LosesNode h s mid
     → LosesNode k mid t → Exchange (LosesNode h) (LosesNode k) s mid t
 node_losses_swap h k s mid t i a b0 =
+    let r = s.nodes.registry in
     let n : RegistryState ℕ = a.changes.nodes in
     let b : LosesNode k (with_nodes s n) t =
     subst (λ (x : Service). LosesNode k x t) a.changes.left b0 in
-    let r = s.nodes.registry in
     let m : RegistryState ℕ = b.changes.nodes in
-    let first_step : NodeRemoval h r n = a.changes.step in
-    let second_step : NodeRemoval k n m = b.changes.step in
-    let w = removals_swap r n m h k LockIfLastIndex Unlocked Unlocked i.nodes_are first_step
-    second_step in
-    let x : Entry ℕ = first_step.0.0 in
-    let y : Entry ℕ = second_step.0.0 in
-    let g : InsertsOne n.entries r.entries x = first_step.0.2 in
-    let j : InsertsOne m.entries n.entries y = second_step.0.2 in
-    let whole : InsertsOne w.mid.entries r.entries y =
-    subst (λ (e : Entry ℕ). InsertsOne w.mid.entries r.entries e) w.before_is w.before.0.2 in
-    let rest : InsertsOne m.entries w.mid.entries x =
-    subst (λ (e : Entry ℕ). InsertsOne m.entries w.mid.entries e) w.after_is w.after.0.2 in
-    let of : ℕ → ℕ → Bool = λ id. is_of (λ (q : ℕ). q) id in
+    let one : NodeRemoval h r n = a.changes.step in
+    let two : NodeRemoval k n m = b.changes.step in
+    let w = removals_swap r n m h k LockIfLastIndex Unlocked Unlocked i.nodes_are one two in
+    let x : Entry ℕ = one.0.0 in
+    let y : Entry ℕ = two.0.0 in
+    let count : ℕ → List (Entry ℕ) → ℕ = λ id. counted (is_of (λ (q : ℕ). q) id) in
+    let more : (id : ℕ) (old new : List (Entry ℕ)) (z : Entry ℕ) → InsertsOne old new z
+    → count id new ≡ count id old + one_if (is_of (λ (q : ℕ). q) id z.details) =
+    λ id. counted-InsertsOne (is_of (λ (q : ℕ). q) id) in
     let more_first : is_last_of_ports x.details s ≡ false =
     subst (λ d. is_last_of_ports d s ≡ false)
-    (one_details r h a.id x.details i.nodes_are a.has (has_removed r n h first_step)) a.more in
+    (one_details r h a.id x.details i.nodes_are a.has (has_removed r n h one)) a.more in
     let more_second : is_last_of_ports y.details (with_nodes s n) ≡ false =
     subst (λ d. is_last_of_ports d (with_nodes s n) ≡ false)
-    (one_details n k b.id y.details a.changes.whole b.has (has_removed n m k second_step)) b.more in
+    (one_details n k b.id y.details a.changes.whole b.has (has_removed n m k two)) b.more in
+    let its : one_if (is_of (λ (q : ℕ). q) y.details y.details) ≡ 1 =
+    counts_one y.details y.details refl in
+    let gone = more y.details m.entries n.entries y two.0.2 in
     let first : is_last_of_ports y.details s ≡ false =
-    not_last (counted (of y.details) r.entries) (counted (of y.details) n.entries) _
-    (λ one. omega (
-      arith,
-      one,
-      counted-InsertsOne (of y.details) n.entries r.entries x g,
-      counted-InsertsOne (of y.details) m.entries n.entries y j,
-      counts_one y.details y.details refl,
-    )) more_second in
+    not_last (count y.details r.entries) (count y.details n.entries) _
+    (λ e. omega (arith, e, more y.details n.entries r.entries x one.0.2, gone, its))
+    more_second in
     let last : is_last_of_ports x.details (with_nodes s w.mid) ≡ false =
-    elim (cases_order y.details x.details) [
+    elim (cases_eq y.details x.details) [
       | inl v ↦
-          not_last (counted (of x.details) w.mid.entries) (counted (of x.details) n.entries) _
-          (λ one. omega (
+          not_last (count x.details w.mid.entries) (count x.details n.entries) _
+          (λ e. omega (
             arith,
-            one,
-            counted-InsertsOne (of x.details) m.entries w.mid.entries x rest,
-            counted-InsertsOne (of x.details) m.entries n.entries y j,
+            e,
+            more x.details m.entries w.mid.entries x w.rest,
+            more x.details m.entries n.entries y two.0.2,
             counts_one x.details x.details refl,
             counts_one y.details x.details v,
           )) (subst (λ d. is_last_of_ports d (with_nodes s n) ≡ false) v more_second)
       | inr v ↦
-          not_last (counted (of x.details) w.mid.entries) (counted (of x.details) r.entries) _
-          (λ one. omega (
+          not_last (count x.details w.mid.entries) (count x.details r.entries) _
+          (λ e. omega (
             arith,
-            one,
-            counted-InsertsOne (of x.details) w.mid.entries r.entries y whole,
+            e,
+            more x.details w.mid.entries r.entries y w.whole,
             counts_none y.details x.details v,
           )) more_first
     ] in
     let before : LosesNode k s (with_nodes s w.mid) = record {
       id = y.details;
-      has = subst (λ (e : Entry ℕ). HasEntry r k e.details) w.before_is
-          (has_removed r w.mid k w.before);
+      has = w.has_second;
       more = first;
       changes = record { nodes = w.mid; step = w.before; whole = w.kept; left = refl };
     } in
     let after : LosesNode h (with_nodes s w.mid) t = record {
       id = x.details;
-      has = subst (λ (e : Entry ℕ). HasEntry w.mid h e.details) w.after_is
-          (has_removed w.mid m h w.after);
+      has = w.has_first;
       more = last;
       changes =
           record { nodes = m; step = w.after; whole = b.changes.whole; left = b.changes.left };

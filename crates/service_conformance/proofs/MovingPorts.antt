@@ -1,5 +1,5 @@
 -- Ports that go, and ports that come.
-use Rattle.service_conformance.proofs.Prelude.{Err, List, None, Ok, Option, Result, Some, ap, arith, false, inl, inr, lt-ltb, map, nat_lt, ne_eqb, refl, subst, suc, sym, true, zero, ℕ, ◌==◌, ◌||◌, ◌∙◌, ◌≡◌, ◌≢◌, ◌≤◌, ◌⊎◌}
+use Rattle.service_conformance.proofs.Prelude.{Err, List, None, Ok, Option, Result, Some, ap, arith, inl, inr, lt-ltb, nat_lt, ne_eqb, refl, subst, sym, true, ℕ, ◌==◌, ◌||◌, ◌∙◌, ◌≡◌, ◌≢◌, ◌≤◌, ◌⊎◌, or_cases, or_left, or_right, ltb-true}
 use Rattle.service_conformance.proofs.Names.{AddStep, ContainerHandleNotOwnedByContainer, ContainerRemoveError, Default, Entry, First, Handle, IsOpenFor, IsService, PortDetails, RegistryState, ReleaseState, RemoveStep, RemovesPort, Second, ServesAdd, ServesRelease, Service, Side, has_ports_of, is_among, is_of, node_of, port_ids, port_of, port_value, ports_at, quiet, role_at, role_of}
 use Rattle.iox2_container.proofs.Counting.{counted, counted-InsertsOne, one_if}
 use Rattle.iox2_dynamic.proofs.Moving.{attach_kept, release_kept}
@@ -95,11 +95,9 @@ lost_id : (r m : RegistryState PortDetails) (h : Handle) (state : ReleaseState)
     → PortRemoval h state r m → (id : ℕ) → is_among (port_ids m) id ≡ true
     → is_among (port_ids r) id ≡ true
 lost_id r m h state step id e =
-    in_whole
-    (λ (l : List (Entry PortDetails)).
-    map (λ d. port_value (port_of d)) (map (λ (x : Entry PortDetails). x.details) l))
-    (λ (x : Entry PortDetails). port_value (port_of x.details)) (λ x l. refl) (λ k. k == id)
-    m.entries r.entries step.0.0 step.0.2 e
+    in_whole (λ (l : List (Entry PortDetails)). is_among (port_ids (record r { entries = l })) id)
+    (λ x. port_value (port_of x.details) == id) (λ x l. refl) m.entries r.entries step.0.0
+    step.0.2 e
 
 lost_at : (side : Side) (s : Service) (m : RegistryState PortDetails) (h : Handle)
     (state : ReleaseState) → PortRemoval h state (ports_at s side).registry m
@@ -207,12 +205,12 @@ module _ (h k : Handle) (s mid t : Service) (i : IsService s) (a : LosesPort h s
 -- whether some port has a node, where others had it before
 more_some : (a before b more : ℕ) → a ≤ before → b ≤ more → (nat_lt 0 a || nat_lt 0 b) ≡ true
     → (nat_lt 0 before || nat_lt 0 more) ≡ true
-more_some (suc a) before b more l m e =
-    ap (λ q. q || nat_lt 0 more) (lt-ltb 0 before (omega (arith, l)))
-more_some zero before zero more l m e = absurd (let z : false ≡ true = e in cc)
-more_some zero zero (suc b) more l m e = lt-ltb 0 more (omega (arith, m))
-more_some zero (suc before) (suc b) more l m e =
-    ap (λ q. q || nat_lt 0 more) (lt-ltb 0 (suc before) (omega arith))
+more_some a before b more l m e = elim (or_cases (nat_lt 0 a) (nat_lt 0 b) e) [
+  | inl t ↦ or_left (nat_lt 0 before) (nat_lt 0 more)
+      (lt-ltb 0 before (omega (arith, l, ltb-true 0 a t)))
+  | inr t ↦ or_right (nat_lt 0 before) (nat_lt 0 more)
+      (lt-ltb 0 more (omega (arith, m, ltb-true 0 b t)))
+]
 
 abbrev of_node : ℕ → RegistryState PortDetails → ℕ
 of_node id r = counted (is_of node_of id) r.entries

@@ -1,5 +1,5 @@
 -- What calls that were answered do.
-use Rattle.service_conformance.proofs.Prelude.{None, Option, Some, [], ap, refl, subst, suc, sym, zero, ℕ, ◌∙◌, ◌∷◌, ◌≡◌}
+use Rattle.service_conformance.proofs.Prelude.{None, Option, Some, [], ap, refl, subst, suc, sym, zero, ℕ, ◌∙◌, ◌∷◌, ◌≡◌, same_Some}
 use Rattle.service_conformance.proofs.Names.{Call, CallStep, Command, Handle, HasWords, IsChange, IsService, LeadsOn, Reply, ReplyWord, Role, Serves, ServesDeregister, ServesRelease, Service, handle_in, handle_words, named, quiet, reply_named, text_of, word_text}
 use Rattle.service_descriptions.specs.declared.replay.machine.command.Command.TheVariants as command
 use Rattle.service_descriptions.specs.declared.replay.machine.reply.Reply.TheVariants as reply
@@ -8,7 +8,7 @@ use Rattle.service_conformance.specs.declared.conformance.seen_reply.ReplyWord.T
 use Rattle.service_conformance.proofs.MovingNodes.{GainsNode, LosesNode, NodeAddition, NodeRemoval, gain_kept, gains_node, loses_node, loss_kept, nodes_after, serves_gain, serves_loss}
 use Rattle.service_conformance.proofs.MovingPorts.{GainsPort, LosesPort, add_left, added_kept, gains_port, loses_port, release_left, released_kept, serves_add, serves_release, service_after, service_with}
 use Rattle.service_conformance.proofs.Quiet.{service_quiet}
-use Rattle.service_conformance.proofs.Seen.{is_handle, is_named, no_handle_text, some_handle}
+use Rattle.service_conformance.proofs.Seen.{is_handle, is_named, no_handle_text}
 
 -- The call does this, with one of these handles, and nothing else.
 pub record Does (c : Call) (May : Handle → Type 0)
@@ -137,7 +137,7 @@ module _ (c : Call) where
     named_role : (k : ℕ) (o : Option Handle) (h : Handle) → named (o ∷ []) k ≡ Some h
         → ((x : Handle) × (o ≡ Some x) × (x.role ≡ role)) → h.role ≡ role
     named_role zero o h e x =
-        let same : x.0 ≡ h = some_handle x.0 h (sym x.1 ∙ e) in
+        let same : x.0 ≡ h = same_Some x.0 h (sym x.1 ∙ e) in
         ap (λ (q : Handle). q.role) (sym same) ∙ x.2
     named_role (suc k) o h e x = absurd (let z : ◌≡◌ {A = Option Handle} None (Some h) = e in cc)
 

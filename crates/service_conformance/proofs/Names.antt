@@ -43,7 +43,7 @@ pub use Rattle.service_conformance.specs.Calls.{AreRepliesOf, Call, CallStep, Ch
 pub use Rattle.service_conformance.specs.Dead.{after_dead, goes, is_kept, nodes_if, ports_after, stays, without_node, without_ports}
 pub use Rattle.service_conformance.specs.Entries.{HasAt, IsAt, IsFreePosition, MayGive, Refuses, StandsAt, entry_at, with_left}
 pub use Rattle.service_conformance.specs.Given.{Becomes, GivesNode, GivesNodes, GivesPort, GivesPorts, IsBefore, IsUnused, MayStand, StandsLast, UsedSo, slot_entry, with_last, with_nodes, with_ports, with_used}
-pub use Rattle.service_conformance.specs.IdWords.{apart, has_no_space, id_numeral, printed_one, same_id}
+pub use Rattle.service_conformance.specs.IdWords.{apart, has_no_space, printed_one, same_id}
 pub use Rattle.service_conformance.specs.Judged.{AreJudgedReplies, CallLeaves, IsIdleJudged, IsWithin, Judged, JudgedStep, WindowStep}
 pub use Rattle.service_conformance.specs.Judged.Judged.{call, stops}
 pub use Rattle.service_conformance.specs.Laws.{IsThere, WeakListingsSeeEnough, looks_through}

@@ -143,10 +143,7 @@ serves_quiet old about handles (command.Count role) (reply.Count n) new s = (s.0
 serves_quiet old about handles (command.Count role) reply.WrongPattern new s = (s.0, ap quiet s.1)
 serves_quiet old about handles (command.Count role) _ new s = absurd s.0
 serves_quiet old about handles (command.Dead dead cleanup) r new s = cleans old new dead cleanup r s
-serves_quiet old about handles (command.Verify required) r new s = (s.0, ap quiet s.1)
-serves_quiet old about handles (command.Layout part n) r new s = (s.0, ap quiet s.1)
-serves_quiet old about handles (command.Places part header) r new s = (s.0, ap quiet s.1)
-serves_quiet old about handles (command.Compatible part opener) r new s = (s.0, ap quiet s.1)
+serves_quiet old about handles _ r new s = (s.0, ap quiet s.1)
 
 pub service_quiet : (s : Service) → IsService s → IsService (quiet s)
 service_quiet s i = record {

@@ -1,6 +1,7 @@
 -- The replies to releasing a port.
 use Rattle.service_conformance.proofs.Prelude.{Err, None, Ok, Result, Some, inl, inr, refl, ◌≡◌}
 use Rattle.service_conformance.proofs.Names.{ArePossible, ContainerHandleNotOwnedByContainer, ContainerRemoveError, Default, Handle, HasEntry, IsNeither, IsService, IsUnknownHandle, PortDetails, Ports, ReleaseState, Removes, RemovesFrom, RemovesPort, Reply, ServesRelease, Service, Side, container, first_role, of_side, ports_at, release_state, role_at, second_role, with_left, with_ports_at}
+use Rattle.iox2_container.proofs.Handles.{not_foreign}
 use Rattle.iox2_dynamic.proofs.Moving.{release_kept}
 use Rattle.service_descriptions.specs.declared.replay.machine.reply.Reply.TheVariants as reply
 use Rattle.service_conformance.specs.declared.conformance.line_reply.LineReply.TheVariants as line
@@ -8,7 +9,7 @@ use Rattle.service_conformance.specs.declared.conformance.seen_reply.ReplyWord.T
 use Rattle.service_conformance.specs.declared.conformance.possible.Possible.TheVariants as possible
 use Rattle.service_conformance.proofs.Possibles.{alone}
 use Rattle.service_conformance.proofs.Quiet.{untouching}
-use Rattle.service_conformance.proofs.Removes.{can_remove, known, not_unknown}
+use Rattle.service_conformance.proofs.Removes.{can_remove}
 use Rattle.service_conformance.proofs.Sides.{has_role, lacks, ports_are, step_at, steps_at}
 
 nothing_only : (s : Service) (r : Reply) (new : Service) → ServesRelease s None r new
@@ -62,7 +63,8 @@ module _ (s : Service) (h : Handle) where
         → ServesRelease s (Some h) r new → reply.NotOwned ≡ r
     unknown_only u reply.Released new so =
         let gone = (removes_at (Ok so.0) new so.1).step.0 in
-        absurd (not_unknown (ports_at s side).registry h _ gone.0 gone.1 gone.2 u)
+        absurd (not_foreign (ports_at s side).registry h gone.0.details
+        (gone.0, gone.1, refl, (_, gone.2)) u)
     unknown_only u reply.NotOwned new so = refl
     unknown_only u _ new so = absurd so
 
@@ -85,7 +87,7 @@ module _ (s : Service) (h : Handle) where
           → reply.Released ≡ r
       released_only reply.Released new so = refl
       released_only reply.NotOwned new so =
-          absurd (known (ports_at s side).registry h d has
+          absurd (not_foreign (ports_at s side).registry h d has
           (removes_at (Err ContainerHandleNotOwnedByContainer) new so).step.0)
       released_only _ new so = absurd so
 

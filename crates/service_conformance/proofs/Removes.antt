@@ -1,8 +1,8 @@
 -- Removals of a given entry.
-use Rattle.service_conformance.proofs.Prelude.{All, All-head, All-weaker, Bool, List, Ok, Some, ap, arith, drop, get_or, get_or_from_slice_get, length, refl, remove, slice_get_within, split_at, subst, suc, sym, take, ℕ, ◌++◌, ◌+◌, ◌<◌, ◌∙◌, ◌∷◌, ◌≡◌, ◌≢◌}
+use Rattle.service_conformance.proofs.Prelude.{All, All-weaker, Bool, List, Ok, Some, ap, arith, drop, get_or, get_or_from_slice_get, length, refl, remove, slice_get_within, split_at, subst, suc, sym, take, ℕ, ◌++◌, ◌+◌, ◌<◌, ◌∙◌, ◌∷◌, ◌≡◌, ◌≢◌}
 use Rattle.service_conformance.proofs.Names.{Entry, Handle, HasAt, HasEntry, InsertsOne, IsAt, IsRegistry, IsUnknownHandle, RegistryState, ReleaseMode, ReleaseState, RemoveStep, StandsAt, handle_of, lock_after, release_state, with_left}
 use Rattle.std.specs.Prelude.{slice_get}
-use Rattle.iox2_container.proofs.Gaining.{All-back, length-InsertsOne}
+use Rattle.iox2_container.proofs.Gaining.{length-InsertsOne}
 use Rattle.iox2_container.proofs.Keeping.{kept_remove, All-loss}
 use Rattle.iox2_container.proofs.Removing.{nothing_left, locks_empty}
 use Rattle.service_conformance.proofs.Rising.{one_gone}
@@ -46,19 +46,6 @@ pub stands : {T : Type 0} (r : RegistryState T) (handle : Handle) (position : �
     (s : StandsAt r handle position) → HasEntry r handle s.0.details
 stands r handle position s =
     (s.0, s.2, refl, (remove r.entries position, gone r.entries position s.0 s.1))
-
--- what has an entry is not unknown
-pub not_unknown : {T : Type 0} (r : RegistryState T) (handle : Handle) (rest : List (Entry T))
-    (x : Entry T)
-    → handle ≡ handle_of r x → InsertsOne rest r.entries x → IsUnknownHandle r handle → ⊥
-not_unknown {T} r handle rest x e g f =
-    let P : Entry T → Type 0 = λ y. handle ≢ handle_of r y in
-    All-head P x g.after
-    (All-back P g.before (x ∷ g.after) (subst (λ (l : List (Entry T)). All P l) g.new_is f)) e
-
-pub known : {T : Type 0} (r : RegistryState T) (handle : Handle) (details : T)
-    → HasEntry r handle details → IsUnknownHandle r handle → ⊥
-known r handle details has = not_unknown r handle has.3.0 has.0 has.1 has.3.1
 
 -- one removal leaves one registry, whatever it answers
 pub remove_once : {T : Type 0} (r n m : RegistryState T) (handle : Handle) (mode : ReleaseMode)

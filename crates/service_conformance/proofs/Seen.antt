@@ -1,5 +1,5 @@
 -- What the words of replies say.
-use Rattle.service_conformance.proofs.Prelude.{All-cons, All-head, All-map, All-nil, All-tail, Bool, List, None, Option, Some, [], ap, append-nil, append_cancel_left, arith, codes, cond, decimal, decimal_injective, eq-or-lt_of_le, false, flat_map, get_or, get_or-map, inl, inr, length, length-map, map, refl, subst, suc, sym, take, take-suc, take_all, true, zero, ℕ, ◌++◌, ◌+◌, ◌<◌, ◌^◌, ◌↔◌, ◌∙◌, ◌∷◌, ◌≡◌, ◌≢◌, ◌≤◌, ◌⊎◌}
+use Rattle.service_conformance.proofs.Prelude.{All-cons, All-head, All-map, All-nil, All-tail, Bool, List, None, Option, Some, [], ap, append-nil, append_cancel_left, arith, codes, cond, decimal, decimal_injective, eq-or-lt_of_le, false, flat_map, get_or, get_or-map, inl, inr, length, length-map, map, refl, subst, suc, sym, take, take_all, true, zero, ℕ, ◌++◌, ◌+◌, ◌<◌, ◌^◌, ◌↔◌, ◌∙◌, ◌∷◌, ◌≡◌, ◌≢◌, ◌≤◌, nil_from_length, same_Some, take_more}
 use Rattle.service_conformance.proofs.Names.{Bytes, EndsNumber, EndsWord, Handle, IsIdNumber, IsSeen, IsToLine, OthersFit, PortDetails, Reads, Reply, ReplyWord, SeenReply, Spelling, after, apart, changes_nothing, cons_same, count_words, handle_in, handle_words, has_no_space, hexadecimal, id_word, is_removal, line_end, list_words, listed_one, number, others_text, port_of, port_value, port_word, printed_id, printed_one, reply_named, same_id, seen_text, sequence, text_of, word_of, word_text}
 use Rattle.std.proofs.Common.{◌&&◌, All, ◌==◌}
 use Rattle.line_streams.specs.Spelling.{listed}
@@ -43,10 +43,6 @@ pub listed_small : (ids rest : List ℕ) → ids_phrase.Fits (ids, rest) → All
 listed_small [] rest f = All-nil IsIdNumber
 listed_small (id ∷ ids) rest f = others_small (id ∷ ids) rest f
 
-empty : (xs : List ℕ) → length xs ≡ 0 → xs ≡ []
-empty [] e = refl
-empty (x ∷ xs) e = absurd (omega (arith, e))
-
 module _ (words rest : List ℕ) (follows : words ≡ codes "list" ++ rest) where
   -- no ids follow the word
   pub no_ids : ((a : List ℕ × List ℕ) → ids_phrase.Fits a → rest ≢ ids_phrase.text a)
@@ -69,7 +65,7 @@ module _ (words rest : List ℕ) (follows : words ≡ codes "list" ++ rest) wher
         ∙ sym (listed_is others)))).1
 
     pub ids_found : length left ≡ 0 → (list_words ids ≡ words) × All IsIdNumber ids
-    ids_found none = let end = empty left none in (
+    ids_found none = let end = nil_from_length left none in (
       ap (λ (l : List ℕ). codes "list" ++ l)
           (ap (flat_map id_word) (sym same) ∙ (sym (listed_is found)
           ∙ (ap (λ (l : List ℕ). ids_phrase.text (found, l)) (sym end) ∙ sym read.1)))
@@ -166,15 +162,7 @@ of_reply _ = refl
 
 of_word : (w : ReplyWord) → by_text (word_text w) ≡ Some w
 of_word word.Locked = refl
-of_word word.Full = refl
-of_word word.NotRegistered = refl
-of_word word.HasOwners = refl
-of_word word.NoMoreOwners = refl
-of_word word.PortsAttached = refl
-of_word word.Released = refl
-of_word word.NotOwned = refl
-of_word word.NoHandle = refl
-of_word word.WrongPattern = refl
+of_word _ = refl
 
 -- the reply, by its name if it has one
 abbrev by_word : Reply → Option ReplyWord → Reply
@@ -183,15 +171,6 @@ by_word r (Some w) = reply_named w
 
 by_its_word : (r : Reply) → by_word r (word_of r) ≡ r
 by_its_word reply.Locked = refl
-by_its_word reply.Full = refl
-by_its_word reply.NotRegistered = refl
-by_its_word reply.HasOwners = refl
-by_its_word reply.NoMoreOwners = refl
-by_its_word reply.PortsAttached = refl
-by_its_word reply.Released = refl
-by_its_word reply.NotOwned = refl
-by_its_word reply.NoHandle = refl
-by_its_word reply.WrongPattern = refl
 by_its_word _ = refl
 
 has_word : (r : Reply) (w : ReplyWord) → text_of r ≡ word_text w → word_of r ≡ Some w
@@ -231,11 +210,8 @@ pub no_handle_text : (r : Reply) → handle_in r ≡ None → (slot ticket : ℕ
 no_handle_text r none slot ticket =
     differs (text_of r) (handle_words slot ticket) 104 110 (handle_begins r none) refl
 
-pub some_handle : (h k : Handle) → Some h ≡ Some k → h ≡ k
-some_handle h k e = cc
-
 pub is_handle : (r : Reply) (h : Handle) → handle_in r ≡ Some h → r ≡ reply.Handle h
-is_handle (reply.Handle k) h e = ap reply.Handle (some_handle k h e)
+is_handle (reply.Handle k) h e = ap reply.Handle (same_Some k h e)
 is_handle _ h e = absurd (let z : ◌≡◌ {A = Option Handle} None (Some h) = e in cc)
 
 pub same_count : (m n : ℕ) → m < 2 ^ 64 → n < 2 ^ 64 → (m ≡ n) ↔ (count_words m ≡ count_words n)
@@ -296,10 +272,6 @@ same_length (a ∷ xs) (b ∷ ys) (suc i) p q t end e =
     (e ∙ ap (λ x. id_word x ++ flat_map id_word ys) (sym both.0))) in
     ap suc rest
 
-take_next : (xs ys : List ℕ) (i : ℕ) → i < length xs → i < length ys → take i xs ≡ take i ys
-    → get_or xs i 0 ≡ get_or ys i 0 → take (suc i) xs ≡ take (suc i) ys
-take_next xs ys i p q t e = rw (take-suc xs i 0 p, take-suc ys i 0 q, t, e) refl
-
 -- the ids of items, and others
 module _ {A : Type 0} (id : A → ℕ) where
   module _ (xs : List A) (ids : List ℕ) (i : ℕ) where
@@ -322,10 +294,8 @@ module _ {A : Type 0} (id : A → ℕ) where
 
       pub ids_go_on : value ≡ get_or ids i 0 → take (i + 1) (map id xs) ≡ take (i + 1) ids
       ids_go_on e =
-          let next : suc i ≡ i + 1 = omega arith in
-          ap (λ n. take n (map id xs)) (sym next)
-          ∙ (take_next (map id xs) ids i within q same (its_id ∙ sym has ∙ e)
-          ∙ ap (λ n. take n ids) next)
+          let here : get_or (map id xs) i 0 ≡ get_or ids i 0 = its_id ∙ (sym has ∙ e) in
+          rw (take_more (map id xs) i 0 within, take_more ids i 0 q, same, here) refl
 
     pub ids_alike : i ≤ length xs → i ≤ length ids → take i (map id xs) ≡ take i ids
         → (i < length xs → i < length ids → ⊥)

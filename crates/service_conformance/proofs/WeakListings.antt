@@ -1,15 +1,13 @@
 -- Weak listings lack nothing where their replies see enough.
-use Rattle.service_conformance.proofs.Prelude.{AllByRecursion, Bool, Contains, List, [], ap, arith, false, filter, if◌then◌else◌, inl, inr, length, list_any, nat_tests, not, refl, subst, suc, sym, true, zero, ℕ, ◌&&◌, ◌==◌, ◌∙◌, ◌∷◌, ◌≡◌, ◌⊎◌}
+use Rattle.service_conformance.proofs.Prelude.{AllByRecursion, Bool, Contains, List, [], ap, arith, false, filter, if◌then◌else◌, inl, inr, length, list_any, not, refl, subst, suc, sym, true, zero, ℕ, ◌&&◌, ◌==◌, ◌∙◌, ◌∷◌, ◌≡◌, ◌⊎◌, not-not, eqb-true, nil_from_length, Any-from_list_any, list_any-from_Any, and_parts}
 use Rattle.service_conformance.proofs.Names.{IsThere, Look, Part, Service, WeakListingsSeeEnough, ids_in, is_among, look_of, looks_after, looks_through, without}
+use Rattle.std.proofs.lemmas.Map.Views.{any-filter_same}
 use Rattle.service_conformance.proofs.Looking.{seen_of}
+use Rattle.service_conformance.proofs.Possibles.{not_both}
 
 pub by_cases : (P : Type 0) (b : Bool) → (b ≡ true → P) → (b ≡ false → P) → P
 by_cases P true then_so else_so = then_so refl
 by_cases P false then_so else_so = else_so refl
-
-not_true : (b : Bool) → b ≡ true → not b ≡ true → ⊥
-not_true true t n = absurd (cc)
-not_true false t n = absurd (cc)
 
 -- a service at which an id is settled
 abbrev Settles : (Service → ℕ → Bool) → List Service → ℕ → Type 0
@@ -38,21 +36,13 @@ module _ (Test : Service → ℕ → Bool) where
 
   settled_by : (services : List Service) (id : ℕ) → settled services id ≡ true
       → Settles Test services id
-  settled_by [] id e = absurd (cc)
-  settled_by (s ∷ services) id e =
-      by_cases _ (Test s id) (λ t. (s, (0, omega arith, refl), t)) (λ f.
-      let rest : settled services id ≡ true = rw f at e in
-      let r = settled_by services id rest in
-      (r.0, (suc r.1.0, omega (arith, r.1.1), r.1.2), r.2))
+  settled_by services id e =
+      let a = Any-from_list_any (λ s. Test s id) services e in (a.1, (a.0, a.2, a.3), a.4)
 
   settled_one : (services : List Service) (id : ℕ) → Settles Test services id
       → settled services id ≡ true
-  settled_one [] id (s, (k, h, is), t) = absurd (omega (arith, h))
-  settled_one (x ∷ services) id (s, (zero, h, is), t) =
-      let first : Test x id ≡ true = subst (λ y. Test y id ≡ true) (sym is) t in rw first refl
-  settled_one (x ∷ services) id (s, (suc k, h, is), t) =
-      let rest = settled_one services id (s, (k, omega (arith, h), is), t) in
-      by_cases _ (Test x id) (λ first. rw first refl) (λ none. rw none rest)
+  settled_one services id (s, (k, h, is), t) =
+      list_any-from_Any (λ s. Test s id) services (k, s, h, is, t)
 
   -- none is left exactly where each is settled
   none_left : (services : List Service) (ids : List ℕ) → left services ids ≡ []
@@ -83,10 +73,7 @@ was_away p s id = not (is_among (ids_in s p) id)
 
 twice_not : (test : ℕ → Bool) (ids : List ℕ)
     → filter test ids ≡ filter (λ i. not (not (test i))) ids
-twice_not test [] = refl
-twice_not test (id ∷ ids) =
-    let rest = twice_not test ids in
-    by_cases _ (test id) (λ t. rw t (ap (λ (l : List ℕ). id ∷ l) rest)) (λ f. rw f rest)
+twice_not test ids = λ i. filter (λ id. sym (not-not (test id)) i) ids
 
 looks_none : (services : List Service) → looks_through services [] ≡ []
 looks_none [] = refl
@@ -98,15 +85,7 @@ record NoneLeft (l : Look) (services : List Service) : Type 0 where
   pub lasting : left (was_away l.part) services l.lasting ≡ []
 
 pub empty_of : (ids : List ℕ) → (length ids == 0) ≡ true → ids ≡ []
-empty_of [] e = refl
-empty_of (id ∷ ids) e =
-    let none : length (id ∷ ids) ≡ 0 = grind (arith, nat_tests, e) in
-    absurd (omega (arith, none))
-
-pub both_true : (a b : Bool) → (a && b) ≡ true → (a ≡ true) × (b ≡ true)
-both_true true true e = (refl, refl)
-both_true true false e = absurd (cc)
-both_true false b e = absurd (cc)
+empty_of ids e = nil_from_length ids (eqb-true (length ids) 0 e)
 
 module _ (s : Service) (l : Look) where
   abbrev next : Look
@@ -131,7 +110,7 @@ module _ (s : Service) (l : Look) where
 
   over_left : (services : List Service) → is_over ≡ true → NoneLeft next services
   over_left services t =
-      let both = both_true (length next.unseen == 0) (length next.lasting == 0) t in
+      let both = and_parts (length next.unseen == 0) (length next.lasting == 0) t in
       record {
         unseen = ap (left (was_there l.part) services) (empty_of next.unseen both.0)
             ∙ left_none (was_there l.part) services;
@@ -169,29 +148,20 @@ left_through s (x ∷ more) l n =
     (λ f. ap (λ (o : List Look). looks_through (x ∷ more) o) (one_next s l f)
     ∙ left_through x more (next s l) (left_next s l (x ∷ more) n))
 
+one_of : (P : ℕ → Type 0) (ids : List ℕ) (id : ℕ) → AllByRecursion P ids
+    → is_among ids id ≡ true → P id
+one_of P [] id all here = absurd (cc)
+one_of P (x ∷ ids) id all here =
+    by_cases _ (x == id) (λ t. subst P (eqb-true x id t) all.0)
+    (λ f. one_of P ids id all.1 (rw f at here))
+
 -- an id of a list that is not in the reply is among those of the list without the reply
 kept_one : (P : ℕ → Type 0) (reply ids : List ℕ) (id : ℕ) → AllByRecursion P (without reply ids)
     → is_among ids id ≡ true → is_among reply id ≡ false → P id
-kept_one P reply [] id all here away = absurd (cc)
-kept_one P reply (x ∷ ids) id all here away =
-    let later : is_among ids id ≡ true → P id =
-    λ rest. by_cases _ (is_among reply x)
-    (λ t. kept_one P reply ids id
-    (subst (λ (l : List ℕ). AllByRecursion P l) (left_out t) all) rest away)
-    (λ n. kept_one P reply ids id
-    (subst (λ (l : List ℕ). AllByRecursion P l) (kept_in n) all).1 rest away) in
-    by_cases _ (x == id) (λ t.
-    let same : x ≡ id = grind (arith, nat_tests, t) in
-    let gone : is_among reply x ≡ false =
-    subst (λ i. is_among reply i ≡ false) (sym same) away in
-    subst P same (subst (λ (l : List ℕ). AllByRecursion P l) (kept_in gone) all).0)
-    (λ f. later (rw f at here))
-  where
-    left_out : is_among reply x ≡ true → without reply (x ∷ ids) ≡ without reply ids
-    left_out t = rw t refl
-
-    kept_in : is_among reply x ≡ false → without reply (x ∷ ids) ≡ x ∷ without reply ids
-    kept_in f = rw f refl
+kept_one P reply ids id all here away =
+    one_of P (without reply ids) id all
+    (any-filter_same (λ i. i == id) (λ i. not (is_among reply i)) true
+    (λ k e. ap (λ i. not (is_among reply i)) (eqb-true k id e) ∙ ap not away) ids ∙ here)
 
 kept_all : (P : ℕ → Type 0) (reply ids : List ℕ) → ((id : ℕ) → is_among reply id ≡ false → P id)
     → AllByRecursion P (without reply ids)
@@ -235,22 +205,18 @@ enough number p reply first others =
             seen = none_left (was_there p) services reply n.unseen;
             lasting = λ id all. by_cases _ (is_among reply id) (λ t. t) (λ f.
                 let one = kept_one Away reply (ids_in first p) id away all.0 f in
-                absurd (not_true (is_among (ids_in one.0 p) id)
-                (all_there p id services one.0 all one.1) one.2));
+                let here = all_there p id services one.0 all one.1 in
+                let away : not (is_among (ids_in one.0 p) id) ≡ true = one.2 in
+                absurd (let z : false ≡ true = sym (ap not here) ∙ away in cc));
           },
       λ so.
           left_through first others l (record {
             unseen = all_settled (was_there p) services reply so.seen;
             lasting = all_settled (was_away p) services l.lasting
                 (kept_all Away reply (ids_in first p) (λ id f.
-                either (Away id) (there_or_away p id services)
-                (λ all. not_both (is_among reply id) (so.lasting id all) f)));
+                elim (there_or_away p id services) [
+                  | inl all ↦ absurd (not_both (is_among reply id) (so.lasting id all) f)
+                  | inr away ↦ away
+                ]));
           }),
     )
-  where
-    either : {A : Type 0} (B : Type 0) → A ⊎ B → (A → ⊥) → B
-    either B (inl a) not = absurd (not a)
-    either B (inr b) not = b
-
-    not_both : (b : Bool) → b ≡ true → b ≡ false → ⊥
-    not_both b t f = (let z : true ≡ false = sym t ∙ f in cc)

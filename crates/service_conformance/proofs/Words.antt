@@ -1,5 +1,5 @@
 -- What words tell.
-use Rattle.service_conformance.proofs.Prelude.{All-cons, All-head, All-map, All-nil, All-tail, List, None, Option, Some, Vec, [], ap, append-nil, append_assoc, append_cancel_left, arith, codes, decimal, decimal_injective, map, refl, subst, sym, ℕ, ◌++◌, ◌+◌, ◌<◌, ◌^◌, ◌∙◌, ◌∷◌, ◌≡◌, ◌≢◌}
+use Rattle.service_conformance.proofs.Prelude.{All-map, List, None, Option, Some, Vec, [], ap, append-nil, append_assoc, append_cancel_left, arith, codes, decimal, decimal_injective, map, refl, subst, sym, ℕ, ◌++◌, ◌+◌, ◌<◌, ◌^◌, ◌∙◌, ◌∷◌, ◌≡◌, ◌≢◌, get_or-map, length-map}
 use Rattle.service_conformance.proofs.Names.{AllowsWords, ArePossible, ArePossibleWords, ByPort, Bytes, Command, EndsNumber, Entry, Handle, IsCovered, IsNextHandle, IsNextIn, IsSameReply, LineReply, MayGive, MayGiveIn, NextHandle, Part, PortDetails, RegistryState, Reply, Request, Serves, ServesDeregister, ServesRelease, Service, Spelling, Tells, TellsHandle, after, cons_same, handle_words, line_end, named, number_one, reply_in, request_command, sequence, text_of}
 use Rattle.std.proofs.Common.{All}
 use Rattle.service_descriptions.specs.declared.replay.machine.command.Command.TheVariants as command
@@ -141,10 +141,8 @@ module _ (s : Service) (words : List ℕ) where
 
 from_map : {X Y : Type 0} (P : X → Type 0) (f : Y → X) (ys : List Y) → All P (map f ys)
     → All (λ y. P (f y)) ys
-from_map P f [] a = All-nil (λ y. P (f y))
-from_map P f (y ∷ ys) a =
-    All-cons (λ y. P (f y)) y ys (All-head P (f y) (map f ys) a)
-    (from_map P f ys (All-tail P (f y) (map f ys) a))
+from_map P f ys a = λ k d h.
+    subst P (get_or-map f ys k d (f d) h) (a k (f d) (rw (length-map ys f) h))
 
 module _ {T : Type 0} (r : RegistryState T) (next : NextHandle) (is : IsNextHandle r next)
     (words : List ℕ) where
@@ -261,10 +259,4 @@ module _ (s new : Service) (handles : List (Option Handle)) where
 -- a command that was called is one whose replies are known
 pub request_covered : (a : Request) → IsCovered (request_command a)
 request_covered (request.Register id) = tt
-request_covered (request.Deregister handle) = tt
-request_covered request.Nodes = tt
-request_covered (request.Add port) = tt
-request_covered (request.Release handle) = tt
-request_covered (request.List role) = tt
-request_covered (request.Count role) = tt
-request_covered (request.Dead node kept) = tt
+request_covered _ = tt

@@ -20,7 +20,7 @@ digits_have_no_space (d ∷ ds) h =
     (digits_have_no_space ds h.1)
 
 -- a number is read from its digits
-pub id_numeral : (n : ℕ) → IsIdNumber n
+id_numeral : (n : ℕ) → IsIdNumber n
     → IsNumeral 16 (hexadecimal n) × (digits_value 16 (hexadecimal n) ≡ n)
 id_numeral n small = digits_is_IsNumeral 16 false (omega arith) (omega arith) n (omega arith)
 

@@ -1,5 +1,5 @@
 -- What the words of replies say.
-use Rattle.std.specs.Prelude.{◌++◌, ◌<◌, ◌^◌, ◌≡◌, ◌≢◌, All, Bool, List, None, Option, Some, codes, false, get_or, true, ℕ}
+use Rattle.std.specs.Prelude.{◌++◌, ◌<◌, ◌^◌, ◌≡◌, All, Bool, List, None, Option, Some, codes, false, get_or, true, ℕ}
 use Rattle.service_conformance.specs.Prelude.{Reply, Spelling, decimal, flat_map, hexadecimal, id_word, port_of, port_value, text_of}
 use Rattle.service_descriptions.specs.declared.replay.machine.reply.Reply.TheVariants as reply
 use Rattle.service_conformance.specs.declared.conformance.seen_reply.ReplyWord.{ReplyWord}
@@ -90,8 +90,3 @@ printed_id = record {
   Fits = λ front. IsIdNumber front.0 × EndsWord front.1;
   text = λ front. hexadecimal front.0 ++ front.1;
 }
-
--- the number of an id that a text is, or that it is that of none
-abbrev pub ReadsId : List ℕ → Option ℕ → Type 0
-ReadsId text (Some id) = (hexadecimal id ≡ text) × IsIdNumber id
-ReadsId text None = (id : ℕ) → IsIdNumber id → hexadecimal id ≢ text

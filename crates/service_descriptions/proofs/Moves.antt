@@ -49,9 +49,11 @@ pub record IsNext (old new : Service) (h : Handle) : Type 0 where
   pub ticket : h.ticket ≡ tickets_of old h.role
   pub given : h.ticket < tickets_of new h.role
 
--- a service goes on, and gives the next handle of a role, or none
+-- a service goes on in each registry, and gives the next handle of a role, or none
 pub record Moves (old new : Service) (given : Option Handle) : Type 0 where
-  pub number : new.nodes.registry.service ≡ old.nodes.registry.service
+  pub nodes : Grows old.nodes.registry new.nodes.registry
+  pub first : Grows old.ports.first.registry new.ports.first.registry
+  pub second : Grows old.ports.second.registry new.ports.second.registry
   pub tickets : (role : Role) → tickets_of old role ≤ tickets_of new role
   pub next : IfSome given (IsNext old new)
 
@@ -71,7 +73,7 @@ moved : (old new : Service) (given : Option Handle) → Grows old.nodes.registry
     → Grows old.ports.second.registry new.ports.second.registry
     → IfSome given (IsNext old new) → Moves old new given
 moved old new given n f s next =
-    record { number = n.service; tickets = tickets_rise old new n f s; next = next }
+    record { nodes = n; first = f; second = s; tickets = tickets_rise old new n f s; next = next }
 
 pub still : (old new : Service) → new ≡ old → Moves old new None
 still old new e =

@@ -100,7 +100,7 @@ module _ (about : Option Description) (old : Inside) (service : Service) (earlie
   noted =
       record {
         is_service = is_service;
-        number_is = m.number ∙ sound.number_is;
+        number_is = m.nodes.service ∙ sound.number_is;
         keeps = noted_kept;
       }
 

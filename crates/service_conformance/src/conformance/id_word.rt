@@ -1,29 +1,11 @@
 //! The ids in replies.
 ghost use Rattle.std.specs.Prelude.{◌≡◌, ◌++◌, ℕ};
 ghost use Rattle.line_streams.specs.Spelling.{HasNo};
-ghost use Rattle.service_conformance.specs.Seen.{EndsWord, ReadsId, printed_id};
+ghost use Rattle.service_conformance.specs.Seen.{EndsWord, printed_id};
 ghost use Rattle.service_conformance.specs.IdWords.{printed_one};
 
 use iox2_ids::identifiers::Hexadecimal;
 use line_streams::{Phrase, before_byte};
-use std::str;
-
-/// The number of the id that a text is: lower-case hexadecimal digits without leading zeros.
-fn id_of(text: &[u8]) -> Option<u128>
-    ensures { ReadsId text.now result }
-{
-    let Ok(digits) = str::from_utf8(text) else {
-        return None;
-    };
-    let Ok(id) = u128::from_str_radix(digits, 16) else {
-        return None;
-    };
-    if Hexadecimal::new(id).as_bytes() == text {
-        Some(id)
-    } else {
-        None
-    }
-}
 
 /// What comes before the first space, and the rest from that space on.
 fn front_word(bytes: &[u8]) -> (&[u8], &[u8])
@@ -52,7 +34,7 @@ impl<'a> Phrase<'a> for PrintedId {
 
     fn read(&self, bytes: &'a [u8]) -> Option<(u128, &'a [u8])> {
         let (word, rest) = front_word(bytes);
-        let Some(id) = id_of(word) else {
+        let Some(id) = Hexadecimal::parse(word) else {
             return None;
         };
         Some((id, rest))

@@ -99,8 +99,7 @@ impl<T: Copy> RegistryCheck<T> {
 
     /// A copy.
     pub(super) fn copied(&self, alloc: Global) -> Result<Self, AllocError>
-        ensures copy { IfOk result (λ copy. copy ≡ self.now) }
-        ensures kept { IsRegistry self.now }
+        ensures { IfOk result (λ copy. copy ≡ self.now) }
     {
         Ok(RegistryCheck {
             service: self.service,
@@ -115,16 +114,14 @@ impl<T: Copy> RegistryCheck<T> {
 
     /// Whether it is locked.
     pub(super) fn is_locked(&self) -> bool
-        ensures locked { result ≡ self.now.locked }
-        ensures kept { IsRegistry self.now }
+        ensures { result ≡ self.now.locked }
     {
         self.locked
     }
 
     /// How many entries there are.
     pub(super) fn len(&self) -> usize
-        ensures len { result ≡ length self.now.entries }
-        ensures kept { IsRegistry self.now }
+        ensures { result ≡ length self.now.entries }
     {
         self.entries.len()
     }
@@ -138,8 +135,7 @@ impl<T: Copy> RegistryCheck<T> {
 
     /// Why an add is refused now, or `None` where it is not.
     pub(super) fn refusal(&self) -> Option<ContainerAddFailure>
-        ensures refuses { Refuses self.now result }
-        ensures kept { IsRegistry self.now }
+        ensures { Refuses self.now result }
     {
         if self.locked {
             return Some(ContainerAddFailure::IsLocked);
@@ -155,7 +151,6 @@ impl<T: Copy> RegistryCheck<T> {
     pub(super) fn next(&self, slot: usize) -> Option<ContainerHandle>
         ensures some { IfSome result (λ h. (h.slot ≡ slot) × MayGive self.now h) }
         ensures none { IfNone result ((h : Handle) → h.slot ≡ slot → ¬ (MayGive self.now h)) }
-        ensures kept { IsRegistry self.now }
     {
         if slot >= self.capacity {
             return None;
@@ -168,8 +163,7 @@ impl<T: Copy> RegistryCheck<T> {
 
     /// The handles that the next add may give, where it is not refused.
     pub(super) fn next_handle(&self, alloc: Global) -> Result<NextHandle, AllocError>
-        ensures next { IfOk result (IsNextHandle self.now) }
-        ensures kept { IsRegistry self.now }
+        ensures { IfOk result (IsNextHandle self.now) }
     {
         Ok(NextHandle {
             ticket: self.used,
@@ -181,8 +175,7 @@ impl<T: Copy> RegistryCheck<T> {
     /// The handle of this slot and this ticket that the next add may give, or `None` where it may
     /// not.
     pub(super) fn handle_at(&self, slot: usize, ticket: u64) -> Option<ContainerHandle>
-        ensures reported { TellsHandle (MayGive self.now) (handle_words slot ticket) result }
-        ensures kept { IsRegistry self.now }
+        ensures { TellsHandle (MayGive self.now) (handle_words slot ticket) result }
     {
         // For the proof: slots and tickets are numbers of 64 bits.
         let (_capacity, _used) = (self.capacity, self.used);
@@ -215,7 +208,6 @@ impl<T: Copy> RegistryCheck<T> {
     fn position(&self, handle: ContainerHandle) -> Option<usize>
         ensures none { IfNone result (IsUnknownHandle self.now handle) }
         ensures some { IfSome result (StandsAt self.now handle) }
-        ensures kept { IsRegistry self.now }
     {
         if handle.service() != self.service {
             return None;
@@ -233,7 +225,6 @@ impl<T: Copy> RegistryCheck<T> {
     pub(super) fn get(&self, handle: ContainerHandle) -> Option<T>
         ensures none { IfNone result (IsUnknownHandle self.now handle) }
         ensures some { IfSome result (HasEntry self.now handle) }
-        ensures kept { IsRegistry self.now }
     {
         let Some(position) = self.position(handle) else {
             return None;
@@ -243,9 +234,8 @@ impl<T: Copy> RegistryCheck<T> {
 
     /// Removes the entry with the handle, if there is one.
     pub(super) fn remove(&mut self, handle: ContainerHandle, mode: ReleaseMode)
-        ensures gone { (state : ReleaseState) (new : RegistryState T)
+        ensures { (state : ReleaseState) (new : RegistryState T)
             → RemoveStep self.old handle mode (Ok state) new → new ≡ self.new }
-        ensures kept { IsRegistry self.new }
     {
         let Some(position) = self.position(handle) else {
             return;
@@ -259,7 +249,6 @@ impl<T: Copy> RegistryCheck<T> {
     fn is_unused(&self) -> bool
         ensures yes { IsTrue result → IsUnused self.now }
         ensures no { IsUnused self.now → IsTrue result }
-        ensures kept { IsRegistry self.now }
     {
         self.entries.is_empty() && self.used == 0 && !self.locked
     }
@@ -268,7 +257,6 @@ impl<T: Copy> RegistryCheck<T> {
     fn may_stand(&self, slot: usize, ticket: u64) -> bool
         ensures yes { IsTrue result → MayStand self.now slot ticket }
         ensures no { MayStand self.now slot ticket → IsTrue result }
-        ensures kept { IsRegistry self.now }
     {
         !self.locked
             && slot < self.capacity
@@ -279,8 +267,7 @@ impl<T: Copy> RegistryCheck<T> {
     /// So many of its tickets were used, and it is locked or not. Returns whether it can be so: it
     /// is as a new one, and has so many tickets.
     pub(super) fn give_used(&mut self, used: u64, locked: bool) -> bool
-        ensures gives { Becomes (UsedSo self.old used locked) self.old result self.new }
-        ensures kept { IsRegistry self.new }
+        ensures { Becomes (UsedSo self.old used locked) self.old result self.new }
     {
         if !self.is_unused() || used > self.tickets {
             return false;
@@ -301,7 +288,6 @@ impl<T: Copy> RegistryCheck<T> {
         ensures gives { IfOk result (λ yes.
             Becomes (StandsLast self.old (slot_entry slot ticket details)) self.old yes self.new) }
         ensures err { OnErr result (self.new ≡ self.old) }
-        ensures kept { IsRegistry self.new }
     {
         if !self.may_stand(slot, ticket) {
             return Ok(false);
@@ -316,8 +302,7 @@ impl<T: Copy> RegistryCheck<T> {
 
     /// The details by rising slot.
     pub(super) fn listed(&self, alloc: Global) -> Result<Vec<T>, AllocError>
-        ensures listed { IfOk result (λ list. list.items ≡ listed self.now) }
-        ensures kept { IsRegistry self.now }
+        ensures { IfOk result (λ list. list.items ≡ listed self.now) }
     {
         details_of(alloc, &self.entries)
     }
@@ -341,25 +326,22 @@ impl<T: Copy + Same> RegistryCheck<T> {
 impl RegistryCheck<UniqueNodeId> {
     /// How many entries the node has.
     pub(super) fn count(&self, node: &UniqueNodeId) -> usize
-        ensures count { result ≡ entries_of_node node.now self.now }
-        ensures kept { IsRegistry self.now }
+        ensures { result ≡ entries_of_node node.now self.now }
     {
         self.entries.iter().filter(|e| e.is_of(node)).count()
     }
 
     /// How many entries other nodes have.
     fn others(&self, node: &UniqueNodeId) -> usize
-        ensures count { result ≡ length
+        ensures { result ≡ length
             (filter (λ e. not (is_of (λ i. i) node.now e.details)) self.now.entries) }
-        ensures kept { IsRegistry self.now }
     {
         self.entries.iter().filter(|e| !e.is_of(node)).count()
     }
 
     /// Whether it is locked once all entries of the node are removed.
     pub(super) fn locks_without(&self, dead: &UniqueNodeId) -> bool
-        ensures locks { result ≡ (without_node dead.now self.now).locked }
-        ensures kept { IsRegistry self.now }
+        ensures { result ≡ (without_node dead.now self.now).locked }
     {
         let left = self.others(dead);
         lock_after(
@@ -372,8 +354,7 @@ impl RegistryCheck<UniqueNodeId> {
 
     /// Removes all entries of the dead node.
     pub(super) fn recover(&mut self, dead: &UniqueNodeId)
-        ensures left { self.new ≡ without_node dead.now self.old }
-        ensures kept { IsRegistry self.new }
+        ensures { self.new ≡ without_node dead.now self.old }
     {
         let before = self.entries.len();
         self.entries.retain(|e| !e.is_of(dead));
@@ -385,25 +366,22 @@ impl RegistryCheck<UniqueNodeId> {
 impl RegistryCheck<PortDetails> {
     /// How many ports the node has.
     pub(super) fn count(&self, node: &UniqueNodeId) -> usize
-        ensures count { result ≡ entries_of node_of node.now self.now }
-        ensures kept { IsRegistry self.now }
+        ensures { result ≡ entries_of node_of node.now self.now }
     {
         self.entries.iter().filter(|e| e.is_of(node)).count()
     }
 
     /// Whether a port of the dead node is left, where those of these values stay.
     pub(super) fn has_left(&self, dead: &UniqueNodeId, kept: &[u128]) -> bool
-        ensures stays { result ≡ list_any (λ e. stays dead.now kept.now e.details)
+        ensures { result ≡ list_any (λ e. stays dead.now kept.now e.details)
             self.now.entries }
-        ensures kept { IsRegistry self.now }
     {
         self.entries.iter().any(|e| e.stays(dead, kept))
     }
 
     /// Removes the ports of the dead node, except those of these values.
     pub(super) fn recover(&mut self, dead: &UniqueNodeId, kept: &[u128])
-        ensures left { self.new ≡ without_ports dead.now kept.now self.old }
-        ensures kept { IsRegistry self.new }
+        ensures { self.new ≡ without_ports dead.now kept.now self.old }
     {
         self.entries.retain(|e| !e.goes(dead, kept));
     }

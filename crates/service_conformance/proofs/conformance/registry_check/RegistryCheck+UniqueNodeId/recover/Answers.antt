@@ -4,8 +4,8 @@ use Rattle.service_conformance.proofs.Filters.{kept_filter}
 use Rattle.service_conformance.proofs.Removes.{with_left_is}
 use Rattle.service_conformance.proofs.conformance.registry_check.RegistryCheck+UniqueNodeId.recover.Goals as goal
 
-pub returns-clause-left : goal.returns-clause-left
-returns-clause-left c =
+pub returns : goal.returns
+returns c =
     let p = λ (e : Entry ℕ). not (is_of (λ i. i) c.args.dead.now e.details) in
     let left : c.retain.new.self.items ≡ filter p c.self.inside.entries.items =
     filter_same _ _ _ (λ x b f' k. search rules) _ _ c.retain.ensures.filtered in
@@ -14,9 +14,6 @@ returns-clause-left c =
 
 pub invariant_of-self : goal.invariant_of-self
 invariant_of-self c =
-    subst IsRegistry (sym (returns-clause-left c))
+    subst IsRegistry (sym (returns c))
     (kept_filter c.args.self.now LockIfLastIndex _
     (subst IsRegistry c.self.view_is c.self.invariant))
-
-pub returns-clause-kept : goal.returns-clause-kept
-returns-clause-kept c = invariant_of-self c

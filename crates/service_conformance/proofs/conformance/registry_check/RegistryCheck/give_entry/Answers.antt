@@ -30,6 +30,3 @@ returns-clause-gives g c = (
       c.in_ok-push.ensures.items,
   invariant_of-self-2 g c,
 )
-
-pub returns-clause-kept : goal.returns-clause-kept
-returns-clause-kept g c = invariant_of-self-2 g c

@@ -1,7 +1,7 @@
-use Rattle.service_conformance.proofs.Prelude.{refl, sym, ◌∙◌, ◌≡◌}
+use Rattle.service_conformance.proofs.Prelude.{sym, ◌∙◌, ◌≡◌}
 use Rattle.service_conformance.proofs.Names.{CanServe, First, Second, ServesAdd, role_at, role_of, service_of, side_of}
 use Rattle.service_descriptions.specs.declared.replay.machine.reply.Reply.TheVariants as reply
-use Rattle.service_conformance.proofs.Following.{attach_enters, attach_may, attach_stays}
+use Rattle.service_conformance.proofs.Following.{attach_enters, attach_may}
 use Rattle.service_conformance.proofs.conformance.service_check.ServiceCheck.follow_attach.Goals.{In-Some-side}
 use Rattle.service_conformance.proofs.conformance.service_check.ServiceCheck.follow_attach.Goals as goal
 
@@ -12,11 +12,6 @@ role_is c = sym c.role.ensures ∙ c.in-Some-side.ensures.some
 can : (c : In-Some-side) → CanServe (ServesAdd (service_of c.self.inside) c.args.details)
     (reply.Handle c.in-Some.handle)
 can c = rw (← c.self.view_is, c.in-Some.ensures.some) at c.requires
-
-pub returns-in_default-clause-ok : goal.returns-in_default-clause-ok
-returns-in_default-clause-ok c =
-    rw (← c.self.view_is)
-    (attach_stays (service_of c.self.inside) c.args.details refl _ c.in_default.ensures.none)
 
 pub enter-requires-clause-may : goal.enter-requires-clause-may
 enter-requires-clause-may c =

@@ -18,7 +18,7 @@ invariant_of-self c =
 
 pub returns : goal.returns
 returns c =
-    rw (← c.self.view_is, c.recover-3.ensures.left)
+    rw (← c.self.view_is, c.recover-3.ensures)
     (dead_left (service_of c.self.inside) c.args.dead.now c.args.kept.now
     (reply_in c.args._reply.now)
     c.recover.new.self c.recover-2.new.self false (search rules) (search rules) (search rules))

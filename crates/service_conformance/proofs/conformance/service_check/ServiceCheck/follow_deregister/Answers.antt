@@ -1,24 +1,13 @@
-use Rattle.service_conformance.proofs.Prelude.{refl, rules}
+use Rattle.service_conformance.proofs.Prelude.{rules}
 use Rattle.service_conformance.proofs.Names.{ServesDeregister, reply_in, service_of}
-use Rattle.service_conformance.proofs.Following.{deregister_goes, deregister_none, deregister_stays, one_kept}
+use Rattle.service_conformance.proofs.Following.{deregister_goes, one_kept}
 use Rattle.service_conformance.proofs.conformance.service_check.ServiceCheck.follow_deregister.Goals as goal
-
-pub returns-in_default : goal.returns-in_default
-returns-in_default c =
-    rw (← c.self.view_is, c.in_default.is)
-    (deregister_none (service_of c.self.inside) refl (reply_in c.args.reply.now))
-
-pub returns-then-not-is_removal : goal.returns-then-not-is_removal
-returns-then-not-is_removal c =
-    rw (← c.self.view_is, c.in-Some.is)
-    (deregister_stays (service_of c.self.inside) refl c.in-Some.handle (reply_in c.args.reply.now)
-    (search rules))
 
 pub returns : goal.returns
 returns c =
     rw (← c.self.view_is, c.in-Some.is)
     (deregister_goes (service_of c.self.inside) c.in-Some.handle (reply_in c.args.reply.now)
-    c.remove.new.self (search rules) c.remove.ensures.gone)
+    c.remove.new.self (search rules) c.remove.ensures)
 
 pub invariant_of-self : goal.invariant_of-self
 invariant_of-self c =

@@ -1,18 +1,12 @@
-use Rattle.service_conformance.proofs.Prelude.{refl}
 use Rattle.service_conformance.proofs.Names.{CanServe, ServesRegister, service_of}
 use Rattle.service_descriptions.specs.declared.replay.machine.reply.Reply.TheVariants as reply
-use Rattle.service_conformance.proofs.Following.{register_enters, register_may, register_stays}
+use Rattle.service_conformance.proofs.Following.{register_enters, register_may}
 use Rattle.service_conformance.proofs.conformance.service_check.ServiceCheck.follow_register.Goals.{In-Some}
 use Rattle.service_conformance.proofs.conformance.service_check.ServiceCheck.follow_register.Goals as goal
 
 can : (c : In-Some) → CanServe (ServesRegister (service_of c.self.inside) c.args.id)
     (reply.Handle c.in-Some.handle)
 can c = rw (← c.self.view_is, c.in-Some.ensures.some) at c.requires
-
-pub returns-in_default-clause-ok : goal.returns-in_default-clause-ok
-returns-in_default-clause-ok c =
-    rw (← c.self.view_is)
-    (register_stays (service_of c.self.inside) refl c.args.id _ c.in_default.ensures.none)
 
 pub enter-requires-clause-may : goal.enter-requires-clause-may
 enter-requires-clause-may c =

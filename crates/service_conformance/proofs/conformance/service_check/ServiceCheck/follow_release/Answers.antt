@@ -1,6 +1,6 @@
-use Rattle.service_conformance.proofs.Prelude.{refl, rules, sym, ◌∙◌, ◌≡◌}
+use Rattle.service_conformance.proofs.Prelude.{rules, sym, ◌∙◌, ◌≡◌}
 use Rattle.service_conformance.proofs.Names.{First, Second, ServesRelease, reply_in, role_at, service_of, side_of}
-use Rattle.service_conformance.proofs.Following.{one_kept, release_goes, release_none, release_stays}
+use Rattle.service_conformance.proofs.Following.{one_kept, release_goes}
 use Rattle.service_conformance.proofs.conformance.service_check.ServiceCheck.follow_release.Goals.{In-Some-side}
 use Rattle.service_conformance.proofs.conformance.service_check.ServiceCheck.follow_release.Goals as goal
 
@@ -8,23 +8,12 @@ role_is : (c : In-Some-side)
     → c.in-Some.handle.role ≡ role_at c.self.inside.pattern (side_of c.in-Some-side.first)
 role_is c = sym c.role.ensures ∙ c.in-Some-side.ensures.some
 
-pub returns-in_default : goal.returns-in_default
-returns-in_default c =
-    rw (← c.self.view_is, c.in_default.is)
-    (release_none (service_of c.self.inside) refl (reply_in c.args.reply.now))
-
-pub returns-then-not-is_removal : goal.returns-then-not-is_removal
-returns-then-not-is_removal c =
-    rw (← c.self.view_is, c.in-Some.is)
-    (release_stays (service_of c.self.inside) c.in-Some.handle refl (reply_in c.args.reply.now)
-    (search rules))
-
 pub returns-then-first : goal.returns-then-first
 returns-then-first c =
     let p = (goal.at.returns-then-first c).In-Some-side in
     rw (← c.self.view_is, c.in-Some.is)
     (release_goes (service_of c.self.inside) c.in-Some.handle First
-    (rw c.if-first.true at (role_is p)) c.remove.new.self c.remove.ensures.gone
+    (rw c.if-first.true at (role_is p)) c.remove.new.self c.remove.ensures
     (reply_in c.args.reply.now)
     (search rules))
 
@@ -38,7 +27,7 @@ returns c =
     let p = (goal.at.returns c).In-Some-side in
     rw (← c.self.view_is, c.in-Some.is)
     (release_goes (service_of c.self.inside) c.in-Some.handle Second
-    (rw c.if-first.false at (role_is p)) c.remove-2.new.self c.remove-2.ensures.gone
+    (rw c.if-first.false at (role_is p)) c.remove-2.new.self c.remove-2.ensures
     (reply_in c.args.reply.now) (search rules))
 
 pub invariant_of-self-2 : goal.invariant_of-self-2

@@ -5,13 +5,7 @@ use Rattle.service_conformance.proofs.conformance.service_check.ServiceCheck.giv
 pub invariant_of-self : goal.invariant_of-self
 invariant_of-self c =
     (gives_nodes (service_of c.self.inside) c.self.invariant c.args.used c.args.locked
-    c.give_used.result c.give_used.new.self c.give_used.ensures.gives).1
-
-pub returns-clause-gives : goal.returns-clause-gives
-returns-clause-gives c =
-    rw (← c.self.view_is)
-    (gives_nodes (service_of c.self.inside) c.self.invariant c.args.used c.args.locked
-    c.give_used.result c.give_used.new.self c.give_used.ensures.gives).0
+    c.give_used.result c.give_used.new.self c.give_used.ensures).1
 
 pub returns-clause-kept : goal.returns-clause-kept
 returns-clause-kept c = invariant_of-self c

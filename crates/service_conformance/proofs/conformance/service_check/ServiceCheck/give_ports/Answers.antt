@@ -1,28 +1,12 @@
-use Rattle.service_conformance.proofs.Prelude.{refl}
 use Rattle.service_conformance.proofs.Names.{First, Second, service_of}
-use Rattle.service_conformance.proofs.Given.{gives_ports, no_side}
+use Rattle.service_conformance.proofs.Given.{gives_ports}
 use Rattle.service_conformance.proofs.conformance.service_check.ServiceCheck.give_ports.Goals as goal
-
-pub returns-in_default-clause-gives : goal.returns-in_default-clause-gives
-returns-in_default-clause-gives c =
-    rw (← c.self.view_is) (
-      λ new g.
-          no_side (service_of c.self.inside) c.args.role c.in_default.ensures.none g.0 g.1,
-      refl,
-    )
 
 pub invariant_of-self : goal.invariant_of-self
 invariant_of-self c =
     (gives_ports (service_of c.self.inside) c.self.invariant First c.args.role c.args.used
     c.give_used.result c.give_used.new.self (rw c.if-first.true at c.in-Some.ensures.some)
-    c.give_used.ensures.gives).1
-
-pub returns-then-first-clause-gives : goal.returns-then-first-clause-gives
-returns-then-first-clause-gives c =
-    rw (← c.self.view_is)
-    (gives_ports (service_of c.self.inside) c.self.invariant First c.args.role c.args.used
-    c.give_used.result c.give_used.new.self (rw c.if-first.true at c.in-Some.ensures.some)
-    c.give_used.ensures.gives).0
+    c.give_used.ensures).1
 
 pub returns-then-first-clause-kept : goal.returns-then-first-clause-kept
 returns-then-first-clause-kept c = invariant_of-self c
@@ -31,14 +15,7 @@ pub invariant_of-self-2 : goal.invariant_of-self-2
 invariant_of-self-2 c =
     (gives_ports (service_of c.self.inside) c.self.invariant Second c.args.role c.args.used
     c.give_used-2.result c.give_used-2.new.self (rw c.if-first.false at c.in-Some.ensures.some)
-    c.give_used-2.ensures.gives).1
-
-pub returns-clause-gives : goal.returns-clause-gives
-returns-clause-gives c =
-    rw (← c.self.view_is)
-    (gives_ports (service_of c.self.inside) c.self.invariant Second c.args.role c.args.used
-    c.give_used-2.result c.give_used-2.new.self (rw c.if-first.false at c.in-Some.ensures.some)
-    c.give_used-2.ensures.gives).0
+    c.give_used-2.ensures).1
 
 pub returns-clause-kept : goal.returns-clause-kept
 returns-clause-kept c = invariant_of-self-2 c

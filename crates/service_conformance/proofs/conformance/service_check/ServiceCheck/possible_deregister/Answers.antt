@@ -20,7 +20,7 @@ returns c =
     let locks : nat_eq c.len-locks.result 1
     ≡ nat_eq (length c.args.self.now.nodes.registry.entries) 1 =
     ap (λ n. nat_eq n 1)
-    (c.len-locks.ensures.len ∙ ap (λ r. length r.entries) c.nodes-nodes.ensures.nodes) in
+    (c.len-locks.ensures ∙ ap (λ r. length r.entries) c.nodes-nodes.ensures.nodes) in
     rw (c.reply_of_owners.ensures, c.in-Some.is)
     (leaves c.args.self.now c.in-Some.handle c.nodes-nodes.ensures.kept c.in-Some-get.id
     (rw c.nodes-nodes.ensures.nodes at c.in-Some-get.ensures.some) (nat_eq c.len-locks.result 1)

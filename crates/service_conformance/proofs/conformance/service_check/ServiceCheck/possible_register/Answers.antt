@@ -4,4 +4,4 @@ use Rattle.service_conformance.proofs.conformance.service_check.ServiceCheck.pos
 pub returns : goal.returns
 returns c =
     rw (← c.self.view_is, c.possible_add.ensures)
-    (registers _ _ _ c.self.invariant c.refusal-why.ensures.refuses)
+    (registers _ _ _ c.self.invariant c.refusal-why.ensures)
