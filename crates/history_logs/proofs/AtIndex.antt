@@ -2,23 +2,12 @@
 use Rattle.std.proofs.Common.{◌≡◌, ◌≢◌, ◌⊎◌, ℕ, zero, suc, ◌<◌, List, [], ◌∷◌, ◌++◌, All, Option, Some, length, refl, ap, subst, arith, inl, inr, slice_get}
 use Rattle.std.specs.List.{slice_set}
 use Rattle.std.proofs.lemmas.List.Elements.{All-cons, All-head, All-nil, All-tail}
-
-pub same_some : {X : Type 0} (a b : X) → Some a ≡ Some b → a ≡ b
-same_some a b e = cc
+use Rattle.std.proofs.lemmas.Option.{same_Some, slice_get_within}
+use Rattle.iox2_container.proofs.ListEdits.{get_set_same}
 
 pub get_same : {X : Type 0} (xs : List X) (i : ℕ) (a b : X) → slice_get xs i ≡ Some b
     → slice_get (slice_set xs i a) i ≡ Some a
-get_same [] i a b e = absurd (cc)
-get_same (x ∷ xs) zero a b e = refl
-get_same (x ∷ xs) (suc i) a b e = get_same xs i a b e
-
-pub get_other : {X : Type 0} (xs : List X) (i j : ℕ) (a : X) → j ≢ i
-    → slice_get (slice_set xs i a) j ≡ slice_get xs j
-get_other [] i j a n = refl
-get_other (x ∷ xs) zero zero a n = absurd (n refl)
-get_other (x ∷ xs) zero (suc j) a n = refl
-get_other (x ∷ xs) (suc i) zero a n = refl
-get_other (x ∷ xs) (suc i) (suc j) a n = get_other xs i j a (λ e. n (ap suc e))
+get_same xs i a b e = get_set_same xs i a (slice_get_within xs i b e)
 
 pub get_push : {X : Type 0} (xs : List X) (y : X) (i : ℕ) (x : X) → slice_get xs i ≡ Some x
     → slice_get (xs ++ y ∷ []) i ≡ Some x
@@ -29,7 +18,7 @@ get_push (z ∷ xs) y (suc i) x e = get_push xs y i x e
 pub get_push_at : {X : Type 0} (xs : List X) (y : X) (i : ℕ) (x : X)
     → slice_get (xs ++ y ∷ []) i ≡ Some x
     → (slice_get xs i ≡ Some x) ⊎ ((i ≡ length xs) × (y ≡ x))
-get_push_at [] y zero x e = inr (refl, same_some y x e)
+get_push_at [] y zero x e = inr (refl, same_Some y x e)
 get_push_at [] y (suc i) x e = absurd (cc)
 get_push_at (z ∷ xs) y zero x e = inl e
 get_push_at (z ∷ xs) y (suc i) x e =
@@ -42,7 +31,7 @@ get_push_at (z ∷ xs) y (suc i) x e =
 pub all_get : {X : Type 0} (P : X → Type 0) (xs : List X) (i : ℕ) (x : X) → All P xs
     → slice_get xs i ≡ Some x → P x
 all_get P [] i x all e = absurd (cc)
-all_get P (y ∷ xs) zero x all e = subst P (same_some y x e) (All-head P y xs all)
+all_get P (y ∷ xs) zero x all e = subst P (same_Some y x e) (All-head P y xs all)
 all_get P (y ∷ xs) (suc i) x all e = all_get P xs i x (All-tail P y xs all) e
 
 pub all_of : {X : Type 0} (P : X → Type 0) (xs : List X)

@@ -1,12 +1,12 @@
 -- What settles of all services while a log is read.
-use Rattle.std.proofs.Common.{◌≡◌, ◌≢◌, ℕ, zero, suc, ◌+◌, ◌<◌, ◌≤◌, true, List, [], ◌∷◌, ◌++◌, All, Option, Some, None, get_or, length, refl, sym, ◌∙◌, ap, subst, arith, inl, inr, slice_get, take, take_all}
+use Rattle.std.proofs.Common.{◌≡◌, ◌≢◌, ℕ, zero, suc, ◌+◌, ◌<◌, ◌≤◌, true, List, [], ◌∷◌, ◌++◌, All, Option, Some, None, get_or, get_or-set_other, get_or-set_same, length, refl, sym, ◌∙◌, ap, subst, arith, inl, inr, slice_get, take, take_all}
 use Rattle.std.specs.Prelude.{◌==◌, sum_by}
 use Rattle.std.specs.List.{slice_set}
 use Rattle.std.proofs.lemmas.Bool.{cases_eq, cases_lt}
 use Rattle.std.proofs.lemmas.List.{length-set}
 use Rattle.std.proofs.lemmas.List.Elements.{All-nil, Contains-push}
 use Rattle.std.proofs.lemmas.List.Sums.{sum_by-cons}
-use Rattle.std.proofs.lemmas.Option.{slice_get-get_or, slice_get_within}
+use Rattle.std.proofs.lemmas.Option.{same_Some, slice_get-get_or, slice_get_within}
 use Rattle.histories.specs.declared.event.Event.{Event}
 use Rattle.histories.specs.declared.event.Event.TheVariants.{Begin, End, Crash}
 use Rattle.histories.specs.declared.front.Front.{Front}
@@ -14,6 +14,7 @@ use Rattle.histories.specs.Histories.{IsExplained, begun}
 use Rattle.histories.proofs.Events.{begins_none}
 use Rattle.histories.proofs.Frontiers.{explains_none}
 use Rattle.history_windows.proofs.Growing.{goes_explained}
+use Rattle.iox2_container.proofs.ListEdits.{get_set_other}
 use Rattle.line_streams.specs.Spelling.{HasNo}
 use Rattle.service_conformance.specs.Looks.{Watched, unwatched}
 use Rattle.history_logs.specs.Good.{IsAbove, IsOrderly, IsReadTo, Takes}
@@ -24,7 +25,7 @@ use Rattle.history_logs.specs.Seen.{Service}
 use Rattle.history_logs.specs.Settling.{AreRightShort, AreSameFronts, GoesShort, HasShort, HaveShort, IsRightShort, IsShortAbove, StayAll, Stays}
 use Rattle.history_logs.specs.Shortened.{AreShort, IsShort, IsShortLog, front_at}
 use Rattle.history_logs.proofs.Above.{above_more, above_room, read_whole}
-use Rattle.history_logs.proofs.AtIndex.{all_get, all_of, get_other, get_same, get_within, same_some}
+use Rattle.history_logs.proofs.AtIndex.{all_get, all_of, get_same, get_within}
 use Rattle.history_logs.proofs.Judgements.{judged_conforms}
 use Rattle.history_logs.proofs.Named.{same_count}
 use Rattle.history_logs.proofs.Settled.{events_split}
@@ -81,25 +82,11 @@ right_after live old new count all goes s o k =
     (goes_explained (StepOf s) (news s) (k.keeps.has.past ++ take count live.events)
     (record { begin = f.0; front = new }) f.1)
 
--- fronts at an index
-front_set : (xs : List (Option (Front Watched))) (at : ℕ) (f : Option (Front Watched))
-    → at < length xs → front_at (slice_set xs at f) at ≡ f
-front_set [] at f h = absurd (omega (arith, h))
-front_set (x ∷ xs) zero f h = refl
-front_set (x ∷ xs) (suc at) f h = front_set xs at f (omega (arith, h))
-
-front_other : (xs : List (Option (Front Watched))) (i j : ℕ) (f : Option (Front Watched)) → j ≢ i
-    → front_at (slice_set xs i f) j ≡ front_at xs j
-front_other [] i j f n = refl
-front_other (x ∷ xs) zero zero f n = absurd (n refl)
-front_other (x ∷ xs) zero (suc j) f n = refl
-front_other (x ∷ xs) (suc i) zero f n = refl
-front_other (x ∷ xs) (suc i) (suc j) f n = front_other xs i j f (λ e. n (ap suc e))
-
+-- a front at an index
 pub front_is : (xs : List (Option (Front Watched))) (at : ℕ) (f : Option (Front Watched))
     → at < length xs → f ≡ get_or xs at f → front_at xs at ≡ f
 front_is xs at f h is =
-    same_some (get_or xs at None) (get_or xs at f)
+    same_Some (get_or xs at None) (get_or xs at f)
     (sym (slice_get-get_or xs at None h) ∙ slice_get-get_or xs at f h) ∙ sym is
 
 -- one service settles
@@ -125,20 +112,20 @@ module _ (old live : List Service) (fronts mid : List (Option (Front Watched))) 
               elim (cases_eq i at) as (λ _. IsShort x y (front_at (slice_set mid at front) i)) [
                 | inl same ↦
                     let isx : s.0 ≡ x =
-                    same_some s.0 x
+                    same_Some s.0 x
                     (sym s.1 ∙ (ap (λ j. slice_get services j) (sym same) ∙ ex)) in
                     let isy : next ≡ y =
-                    same_some next y (sym (get_same live at next t here)
+                    same_Some next y (sym (get_same live at next t here)
                     ∙ (ap (λ j. slice_get (slice_set live at next) j) (sym same) ∙ ey)) in
                     subst (λ j. IsShort x y (front_at (slice_set mid at front) j)) (sym same)
                     (subst (λ (f : Option (Front Watched)). IsShort x y f)
-                    (sym (front_set mid at front within))
+                    (sym (get_or-set_same mid at front None within))
                     (subst (λ (v : Service). IsShort v y front) isx
                     (subst (λ (v : Service). IsShort s.0 v front) isy short)))
                 | inr other ↦
                     subst (λ (f : Option (Front Watched)). IsShort x y f)
-                    (sym (front_other mid at i front other))
-                    (a.2 i x y ex (sym (get_other live at i next other) ∙ ey))
+                    (sym (get_or-set_other mid at i front None other))
+                    (a.2 i x y ex (sym (get_set_other live at i next other) ∙ ey))
               ],
         )
 
@@ -175,7 +162,7 @@ module _ (live : List Service) (fronts left : List (Option (Front Watched))) (at
     right_to_more front is = record {
       long = length-set left at front ∙ r.long;
       ahead = λ i h.
-          front_other left at i front (λ e. absurd (omega (arith, e, h)))
+          get_or-set_other left at i front None (λ e. absurd (omega (arith, e, h)))
           ∙ r.ahead i (omega (arith, h));
       right = λ services o a i s h there. elim (cases_lt i at) as (λ _. IsSeenRightly s) [
         | inl below ↦ r.right services o a i s below there

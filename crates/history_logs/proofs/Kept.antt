@@ -5,10 +5,11 @@ use Rattle.std.specs.List.{slice_set}
 use Rattle.std.proofs.lemmas.Bool.{cases_eq}
 use Rattle.std.proofs.lemmas.List.{length-append}
 use Rattle.std.proofs.lemmas.List.Elements.{All-head, All-nil, All-push, All-set, All-tail, All-weaker}
-use Rattle.std.proofs.lemmas.List.Sums.{sum_by-cons, sum_by_push}
-use Rattle.std.proofs.lemmas.Option.{slice_get-get_or, slice_get_within}
+use Rattle.std.proofs.lemmas.List.Sums.{sum_by-set, sum_by_push}
+use Rattle.std.proofs.lemmas.Option.{get_or_from_slice_get, same_Some, slice_get-get_or, slice_get_within}
 use Rattle.histories.specs.declared.event.Event.{Event}
 use Rattle.histories.specs.Histories.{IsOpen}
+use Rattle.iox2_container.proofs.ListEdits.{get_set_other}
 use Rattle.log_lines.specs.Commands.{Begun, NamedCommand}
 use Rattle.log_lines.specs.Commands.Begun.{command, weak}
 use Rattle.log_lines.specs.Lines.{Line}
@@ -19,7 +20,7 @@ use Rattle.history_logs.specs.Good.{IsKept, IsOpenOn, IsOrderly}
 use Rattle.history_logs.specs.Logs.{calls_in}
 use Rattle.history_logs.specs.Reading.{Dies, GoesOn, IsSane, Log, Sets}
 use Rattle.history_logs.specs.Seen.{Begins, HasHandles, Service, called, started, unseen, with_alone, with_begin, with_crash, with_end}
-use Rattle.history_logs.proofs.AtIndex.{all_get, get_other, get_push, get_same, same_some}
+use Rattle.history_logs.proofs.AtIndex.{all_get, get_push, get_same}
 use Rattle.history_logs.proofs.Callers.{other_bytes, same_bytes}
 use Rattle.history_logs.proofs.Orderly.{begun_of, open_alone, open_crashed, open_ended, orderly_alone, orderly_crash, orderly_end, orderly_new, orderly_started}
 
@@ -38,13 +39,13 @@ opened_set ss at s t there b m keeps o =
     elim (cases_eq b at) as (λ _. IsOpenOn (slice_set ss at t) b m) [
       | inl e ↦
           let same : o.0 ≡ s =
-          same_some o.0 s (sym o.1 ∙ (ap (λ i. slice_get ss i) e ∙ there)) in (
+          same_Some o.0 s (sym o.1 ∙ (ap (λ i. slice_get ss i) e ∙ there)) in (
             t,
             subst (λ i. slice_get (slice_set ss at t) i ≡ Some t) (sym e)
                 (get_same ss at t s there),
             keeps e (subst (λ (x : Service). IsOpen x.events m) same o.2),
           )
-      | inr ne ↦ (o.0, get_other ss at b t ne ∙ o.1, o.2)
+      | inr ne ↦ (o.0, get_set_other ss at b t ne ∙ o.1, o.2)
     ]
 
 set_some : (ss : List Service) (at : ℕ) (s t : Service) → slice_get ss at ≡ Some s
@@ -81,7 +82,7 @@ kept_call old at s c k there = record {
   opened = k.opened;
   apart = k.apart;
   waits = λ b d e.
-      let same : at ≡ b = ap (λ (p : ℕ × NamedCommand). p.0) (same_some (at, c) (b, d) e) in
+      let same : at ≡ b = ap (λ (p : ℕ × NamedCommand). p.0) (same_Some (at, c) (b, d) e) in
       subst (λ i. i < length old.services) same (slice_get_within old.services at s there);
   none = k.none;
 }
@@ -113,7 +114,7 @@ module _ (old new : Log) (at : ℕ) (s t : Service) (name : List ℕ) (st : Call
     does : (one : List ℕ) (b m : ℕ) → one ≡ name → new.callers one ≡ Some (caller.Calls b m)
         → st ≡ caller.Calls b m
     does one b m same e =
-        same_some st (caller.Calls b m)
+        same_Some st (caller.Calls b m)
         (sym sets.own ∙ (ap (λ n. new.callers n) (sym same) ∙ e))
 
     did : (one : List ℕ) (b m : ℕ) → one ≢ name → new.callers one ≡ Some (caller.Calls b m)
@@ -147,7 +148,7 @@ module _ (old new : Log) (at : ℕ) (s t : Service) (name : List ℕ) (st : Call
         let o = own b m (does one b m same e) in
         let was = k.opened other b m (did other b m ne f) in
         let is : was.0 ≡ s =
-        same_some was.0 s (sym was.1 ∙ (ap (λ i. slice_get old.services i) o.0 ∙ there)) in
+        same_Some was.0 s (sym was.1 ∙ (ap (λ i. slice_get old.services i) o.0 ∙ there)) in
         o.2 (subst (λ (x : Service). IsOpen x.events m) is was.2)
 
     apart : (one other : List ℕ) (b m : ℕ) → new.callers one ≡ Some (caller.Calls b m)
@@ -212,7 +213,7 @@ kept_dies old new k name (Some caller.Idle) kept is dies sets waits =
 kept_dies old new k name (Some (caller.Calls at number)) kept is dies sets waits =
     let s = dies.0 in
     let o = kept.opened name at number is in
-    let same : o.0 ≡ s = same_some o.0 s (sym o.1 ∙ dies.1) in
+    let same : o.0 ≡ s = same_Some o.0 s (sym o.1 ∙ dies.1) in
     let live = subst (λ (x : Service). IsOpen x.events number) same o.2 in
     let orderly = all_get IsOrderly old.services at s kept.orderly dies.1 in
     kept_sets old new at s (with_crash s number k) name caller.Dead kept dies.1
@@ -268,7 +269,7 @@ kept_step old new k (end name words) kept g =
     let s = g.2 in
     let number = g.1 in
     let o = kept.opened name g.0 number g.5 in
-    let same : o.0 ≡ s = same_some o.0 s (sym o.1 ∙ g.6) in
+    let same : o.0 ≡ s = same_Some o.0 s (sym o.1 ∙ g.6) in
     let live = subst (λ (x : Service). IsOpen x.events number) same o.2 in
     let orderly = all_get IsOrderly old.services g.0 s kept.orderly g.6 in
     kept_sets old new g.0 s (with_end s number g.3 k) name caller.Idle kept g.6
@@ -293,105 +294,90 @@ kept_step old new k (given number what) kept g =
           (orderly_started (unseen s.line) g.2 (orderly_new s.line)))
     ]
 
--- how many calls were read after one line more
+-- how many commands were read on the service
 abbrev calls_of : Service → ℕ
 calls_of s = length s.commands
 
-sum_set : (ss : List Service) (at : ℕ) (s t : Service) → slice_get ss at ≡ Some s
-    → calls_of t ≤ calls_of s + 1 → sum_by calls_of (slice_set ss at t) ≤ sum_by calls_of ss + 1
-sum_set [] at s t there less = absurd (cc)
-sum_set (x ∷ ss) zero s t there less =
-    let same : x ≡ s = same_some x s there in
-    let is : calls_of x ≡ calls_of s = ap calls_of same in
-    omega (arith, less, is, sum_by-cons calls_of t ss, sum_by-cons calls_of x ss)
-sum_set (x ∷ ss) (suc at) s t there less =
-    omega (
-      arith,
-      sum_set ss at s t there less,
-      sum_by-cons calls_of x (slice_set ss at t),
-      sum_by-cons calls_of x ss,
-    )
+-- What a line does to the services: nothing; or it changes one, which keeps its line and has at
+-- most one command more; or it adds one, which has none.
+data Moves : List Service → List Service → Type 0 where
+  stays : (ss : List Service) → Moves ss ss
+  sets : (ss : List Service) (at : ℕ) (s t : Service) → slice_get ss at ≡ Some s
+      → t.line ≡ s.line → calls_of t ≤ calls_of s + 1 → Moves ss (slice_set ss at t)
+  adds : (ss : List Service) (t : Service) → calls_of t ≡ 0 → Moves ss (ss ++ t ∷ [])
 
 -- what begins is one command more
-begins_few : (s t : Service) (b : Begun) (k current : ℕ) → Begins s b k t current
-    → calls_of t ≤ calls_of s + 1
-begins_few s t (command c) k current begins =
-    omega (arith, ap calls_of begins.0, length-append s.commands (length s.calls ∷ []))
-begins_few s t (weak r) k current (inl looks) =
-    omega (arith, ap calls_of looks.2, length-append s.commands (length s.calls ∷ []))
-begins_few s t (weak r) k current (inr lists) =
-    omega (arith, ap calls_of lists.1, length-append s.commands (length s.calls ∷ []))
+moves_begins : (ss : List Service) (at : ℕ) (s t : Service) (b : Begun) (k current : ℕ)
+    → slice_get ss at ≡ Some s → Begins s b k t current → Moves ss (slice_set ss at t)
+moves_begins ss at s t (command c) k current there is =
+    sets ss at s t there (ap (λ (v : Service). v.line) is.0)
+    (omega (arith, ap calls_of is.0, length-append s.commands (length s.calls ∷ [])))
+moves_begins ss at s t (weak r) k current there (inl is) =
+    sets ss at s t there (ap (λ (v : Service). v.line) is.2)
+    (omega (arith, ap calls_of is.2, length-append s.commands (length s.calls ∷ [])))
+moves_begins ss at s t (weak r) k current there (inr is) =
+    sets ss at s t there (ap (λ (v : Service). v.line) is.1)
+    (omega (arith, ap calls_of is.1, length-append s.commands (length s.calls ∷ [])))
 
-sum_push : (ss : List Service) (t : Service) → calls_of t ≡ 0
-    → sum_by calls_of (ss ++ t ∷ []) ≡ sum_by calls_of ss
-sum_push ss t none = omega (arith, none, sum_by_push calls_of ss t)
+moves_dies : (ss new : List Service) (k : ℕ) (state : Option CallerState) → Dies ss k state new
+    → Moves ss new
+moves_dies ss new k None dies = absurd dies
+moves_dies ss new k (Some caller.Dead) dies = absurd dies
+moves_dies ss new k (Some caller.Idle) dies = subst (Moves ss) (sym dies) (stays ss)
+moves_dies ss new k (Some (caller.Calls at number)) dies =
+    subst (Moves ss) (sym dies.2)
+    (sets ss at dies.0 (with_crash dies.0 number k) dies.1 refl (omega arith))
 
-sum_dies : (ss new : List Service) (k : ℕ) (state : Option CallerState) → Dies ss k state new
-    → sum_by calls_of new ≤ sum_by calls_of ss + 1
-sum_dies ss new k None dies = absurd dies
-sum_dies ss new k (Some caller.Dead) dies = absurd dies
-sum_dies ss new k (Some caller.Idle) dies =
-    omega (arith, ap (λ (l : List Service). sum_by calls_of l) dies)
-sum_dies ss new k (Some (caller.Calls at number)) dies =
-    omega (
-      arith,
-      ap (λ (l : List Service). sum_by calls_of l) dies.2,
-      sum_set ss at dies.0 (with_crash dies.0 number k) dies.1 (omega arith),
-    )
-
-sum_step : (old new : Log) (k : ℕ) (l : Line) → GoesOn old k l new
-    → sum_by calls_of new.services ≤ sum_by calls_of old.services + 1
-sum_step old new k (service line) g =
-    omega (
-      arith,
-      ap (λ (x : Log). sum_by calls_of x.services) g.2,
-      sum_push old.services (unseen line) refl,
-    )
-sum_step old new k (call number c) g =
-    omega (arith, ap (λ (x : Log). sum_by calls_of x.services) g.4)
-sum_step old new k (reply words) g =
+moves_step : (old new : Log) (k : ℕ) (l : Line) → GoesOn old k l new
+    → Moves old.services new.services
+moves_step old new k (service line) g =
+    subst (λ (x : Log). Moves old.services x.services) (sym g.2)
+    (adds old.services (unseen line) refl)
+moves_step old new k (call number c) g =
+    subst (λ (x : Log). Moves old.services x.services) (sym g.4) (stays old.services)
+moves_step old new k (reply words) g =
     let s = g.2 in
-    let t = with_alone s (called s g.1) g.3 k in
-    omega (
-      arith,
-      ap (λ (x : Log). sum_by calls_of x.services) g.7,
-      sum_set old.services g.0 s t g.5
-          (omega (arith, length-append s.commands (length s.calls ∷ []))),
-    )
-sum_step old new k (begin number name begun) g =
-    omega (
-      arith,
-      ap (λ (l : List Service). sum_by calls_of l) g.5.3,
-      sum_set old.services g.0 g.1 g.5.0 g.3.there
-          (begins_few g.1 g.5.0 begun k g.5.1 g.5.2),
-    )
-sum_step old new k (end name words) g =
-    let s = g.2 in
-    omega (
-      arith,
-      ap (λ (l : List Service). sum_by calls_of l) g.8,
-      sum_set old.services g.0 s (with_end s g.1 g.3 k) g.6 (omega arith),
-    )
-sum_step old new k (crash name) g = sum_dies old.services new.services k (old.callers name) g.1
-sum_step old new k (given number what) g =
-    elim g.5 as (λ _. sum_by calls_of new.services ≤ sum_by calls_of old.services + 1) [
+    subst (λ (x : Log). Moves old.services x.services) (sym g.7)
+    (sets old.services g.0 s (with_alone s (called s g.1) g.3 k) g.5 refl
+    (omega (arith, length-append s.commands (length s.calls ∷ []))))
+moves_step old new k (begin number name begun) g =
+    subst (Moves old.services) (sym g.5.3)
+    (moves_begins old.services g.0 g.1 g.5.0 begun k g.5.1 g.3.there g.5.2)
+moves_step old new k (end name words) g =
+    subst (Moves old.services) (sym g.8)
+    (sets old.services g.0 g.2 (with_end g.2 g.1 g.3 k) g.6 refl (omega arith))
+moves_step old new k (crash name) g =
+    moves_dies old.services new.services k (old.callers name) g.1
+moves_step old new k (given number what) g =
+    elim g.5 as (λ _. Moves old.services new.services) [
       | inl first ↦
-          omega (
-            arith,
-            ap (λ (x : Log). sum_by calls_of x.services) first.1,
-            sum_set old.services g.0 g.1 (started g.1 g.2) g.4.there (omega arith),
-          )
+          subst (λ (x : Log). Moves old.services x.services) (sym first.1)
+          (sets old.services g.0 g.1 (started g.1 g.2) g.4.there refl (omega arith))
       | inr anew ↦
-          omega (
-            arith,
-            ap (λ (x : Log). sum_by calls_of x.services) anew.1,
-            sum_push old.services (started (unseen g.1.line) g.2) refl,
-          )
+          subst (λ (x : Log). Moves old.services x.services) (sym anew.1)
+          (adds old.services (started (unseen g.1.line) g.2) refl)
     ]
+
+-- how many commands were read then
+sum_set : (ss : List Service) (at : ℕ) (s t : Service) → slice_get ss at ≡ Some s
+    → calls_of t ≤ calls_of s + 1 → sum_by calls_of (slice_set ss at t) ≤ sum_by calls_of ss + 1
+sum_set ss at s t there less =
+    omega (
+      arith,
+      less,
+      sum_by-set calls_of ss at t s (slice_get_within ss at s there),
+      ap calls_of (get_or_from_slice_get ss at s s there),
+    )
+
+sum_moves : (ss new : List Service) → Moves ss new
+    → sum_by calls_of new ≤ sum_by calls_of ss + 1
+sum_moves ss new (stays x) = omega arith
+sum_moves ss new (sets x at s t there line less) = sum_set ss at s t there less
+sum_moves ss new (adds x t none) = omega (arith, none, sum_by_push calls_of ss t)
 
 pub few_step : (old new : Log) (k : ℕ) (l : Line) → GoesOn old k l new
     → calls_in new ≤ calls_in old + 1
-few_step old new k l g = sum_step old new k l g
+few_step old new k l g = sum_moves old.services new.services (moves_step old new k l g)
 
 -- nothing was read yet
 pub kept_new : (log : Log) → log.services ≡ [] → ((name : List ℕ) → log.callers name ≡ None)

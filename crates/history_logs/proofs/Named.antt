@@ -6,11 +6,10 @@ use Rattle.std.specs.Option.{is_some}
 use Rattle.std.specs.Set.{unique_keys}
 use Rattle.std.proofs.lemmas.Bool.{cases_eq, cases_order}
 use Rattle.std.proofs.lemmas.List.Elements.{All-head, All-tail}
-use Rattle.std.proofs.lemmas.Option.{get_or_from_slice_get, slice_get-get_or, slice_get_within}
+use Rattle.std.proofs.lemmas.Option.{get_or_from_slice_get, same_Some, slice_get-get_or, slice_get_within}
 use Rattle.history_logs.specs.Logs.{services_in}
 use Rattle.history_logs.specs.Reading.{HaveNumber, IsNamed, IsNameless, IsNew, IsNewBehind}
 use Rattle.history_logs.specs.Seen.{Service}
-use Rattle.history_logs.proofs.AtIndex.{same_some}
 
 -- the number of a service
 abbrev number_of : Service → ℕ
@@ -94,7 +93,7 @@ one_place number ss at bt s t p q =
     let same : number_of s ≡ number_of t =
     elim p.named as (λ _. number_of s ≡ number_of t) [
       | inl a ↦ elim q.named as (λ _. number_of s ≡ number_of t) [
-        | inl b ↦ same_some (number_of s) (number_of t) (sym a ∙ b)
+        | inl b ↦ same_Some (number_of s) (number_of t) (sym a ∙ b)
         | inr b ↦ absurd (no_some (number_of s) (sym a ∙ b.0))
       ]
       | inr a ↦ sym (number_at (number_of s) ss bt t a.1 q.there)
@@ -108,7 +107,7 @@ one_place number ss at bt s t p q =
 pub one_named : (number : Option ℕ) (ss : List Service) (at bt : ℕ) (s t : Service)
     → IsNamed number ss at s → IsNamed number ss bt t → s ≡ t
 one_named number ss at bt s t p q =
-    same_some s t (sym p.there ∙ (ap (λ i. slice_get ss i) (one_place number ss at bt s t p q)
+    same_Some s t (sym p.there ∙ (ap (λ i. slice_get ss i) (one_place number ss at bt s t p q)
     ∙ q.there))
 
 drop_one : (xs : List Service) (at : ℕ) (d : Service) → at < length xs → d ≡ get_or xs at d
@@ -138,7 +137,7 @@ module _ (d : Service) where
   is_known (s ∷ ss) zero t there same =
       let own : eqb (number_of d) (number_of s) ≡ true =
       eq-eqb (number_of d) (number_of s)
-      (sym same ∙ ap number_of (sym (same_some s t there))) in
+      (sym same ∙ ap number_of (sym (same_Some s t there))) in
       rw own refl
   is_known (s ∷ ss) (suc at) t there same =
       cases (eqb (number_of d) (number_of s)) (is_known ss at t there same)
@@ -212,7 +211,7 @@ some_service (s ∷ t ∷ ss) some =
 pub set_back : (ss : List Service) (at : ℕ) (s : Service) → slice_get ss at ≡ Some s
     → slice_set ss at s ≡ ss
 set_back [] at s there = absurd (cc)
-set_back (x ∷ ss) zero s there = ap (λ (y : Service). y ∷ ss) (sym (same_some x s there))
+set_back (x ∷ ss) zero s there = ap (λ (y : Service). y ∷ ss) (sym (same_Some x s there))
 set_back (x ∷ ss) (suc at) s there =
     ap (λ (l : List Service). x ∷ l) (set_back ss at s there)
 

@@ -3,9 +3,10 @@ use Rattle.std.proofs.Common.{◌≡◌, ◌≢◌, ◌⊎◌, ℕ, ◌+◌, ◌
 use Rattle.std.specs.List.{slice_set}
 use Rattle.std.proofs.lemmas.Bool.{cases_eq}
 use Rattle.std.proofs.lemmas.List.{get_or_past, length-append, length-set}
-use Rattle.std.proofs.lemmas.Option.{slice_get_within}
+use Rattle.std.proofs.lemmas.Option.{same_Some, slice_get_within}
 use Rattle.histories.specs.declared.front.Front.{Front}
 use Rattle.histories.specs.Histories.{IsOpen}
+use Rattle.iox2_container.proofs.ListEdits.{get_set_other}
 use Rattle.iox2_dynamic.specs.Service as dynamic
 use Rattle.log_lines.specs.Commands.{Begun, NamedCommand}
 use Rattle.log_lines.specs.Lines.{Line}
@@ -23,7 +24,7 @@ use Rattle.history_logs.specs.Reading.{Dies, Gives, GoesOn, HaveNumber, IsNamed,
 use Rattle.history_logs.specs.Seen.{Begins, HasHandles, IsKeptCall, Service, called, started, unseen, with_alone, with_begin, with_crash, with_end}
 use Rattle.history_logs.specs.Shortened.{AreShort, IsShort, IsShortLog, Keeps, Kept, front_at, shortened}
 use Rattle.history_logs.proofs.Alone.{called_stops}
-use Rattle.history_logs.proofs.AtIndex.{all_get, all_of, get_other, get_push_at, get_same, get_within, same_some}
+use Rattle.history_logs.proofs.AtIndex.{all_get, all_of, get_push_at, get_same, get_within}
 use Rattle.history_logs.proofs.Orderly.{open_new}
 use Rattle.history_logs.proofs.Refused.{nil_of}
 use Rattle.history_logs.proofs.Shortened.{called_same, kept_call, kept_start}
@@ -48,17 +49,17 @@ short_set services live fronts at old oldt s t a there here short = (
   λ i x y ex ey. elim (cases_eq i at) as (λ _. IsShort x y (front_at fronts i)) [
     | inl same ↦
         let isx : s ≡ x =
-        same_some s x (sym (get_same services at s old there)
+        same_Some s x (sym (get_same services at s old there)
         ∙ (ap (λ j. slice_get (slice_set services at s) j) (sym same) ∙ ex)) in
         let isy : t ≡ y =
-        same_some t y (sym (get_same live at t oldt here)
+        same_Some t y (sym (get_same live at t oldt here)
         ∙ (ap (λ j. slice_get (slice_set live at t) j) (sym same) ∙ ey)) in
         subst (λ j. IsShort x y (front_at fronts j)) (sym same)
         (subst (λ (v : Service). IsShort v y (front_at fronts at)) isx
         (subst (λ (v : Service). IsShort s v (front_at fronts at)) isy short))
     | inr other ↦
-        a.2 i x y (sym (get_other services at i s other) ∙ ex)
-        (sym (get_other live at i t other) ∙ ey)
+        a.2 i x y (sym (get_set_other services at i s other) ∙ ex)
+        (sym (get_set_other live at i t other) ∙ ey)
   ],
 )
 
@@ -93,22 +94,13 @@ short_push services live fronts new short a = (
       ],
 )
 
--- the line of a service is kept
-line_same : (s t : Service) (front : Option (Front Watched)) → IsShort s t front
-    → t.line ≡ s.line
-line_same s t front h = ap (λ (x : Service). x.line) h.is
-
 -- the number of a service is kept at each index
 numbers_same : (services live : List Service) (fronts : List (Option (Front Watched))) (at : ℕ)
     (x : Service) → AreShort services live fronts → slice_get services at ≡ Some x
     → (y : Service) × (slice_get live at ≡ Some y) × (y.line.number ≡ x.line.number)
 numbers_same services live fronts at x a there =
-    let y = get_within live at (omega (arith, a.0, slice_get_within services at x there)) in (
-      y.0,
-      y.1,
-      ap (λ (l : ServiceLine). l.number)
-          (line_same x y.0 (front_at fronts at) (a.2 at x y.0 there y.1)),
-    )
+    let y = get_within live at (omega (arith, a.0, slice_get_within services at x there)) in
+    (y.0, y.1, ap (λ (v : Service). v.line.number) (a.2 at x y.0 there y.1).is)
 
 named_same : (number : Option ℕ) (services live : List Service)
     (fronts : List (Option (Front Watched))) (at : ℕ) (s t : Service)
@@ -116,7 +108,7 @@ named_same : (number : Option ℕ) (services live : List Service)
     → slice_get services at ≡ Some s → IsNamed number live at t → IsNamed number services at s
 named_same number services live fronts at s t a short there n =
     let own : t.line.number ≡ s.line.number =
-    ap (λ (l : ServiceLine). l.number) (line_same s t (front_at fronts at) short) in
+    ap (λ (v : Service). v.line.number) short.is in
     record {
       there = there;
       named = elim n.named
@@ -158,8 +150,8 @@ module _ (log live new : Log) (fronts : List (Option (Front Watched))) (k : ℕ)
             (omega (arith, h.services.0, slice_get_within log.services i s there)) in
             let other = all_get (λ (x : Service). x.line.number ≢ l.number) live.services i t.0 g.1
             t.1 in
-            λ e. other (ap (λ (x : ServiceLine). x.number)
-            (line_same s t.0 (front_at fronts i) (h.services.2 i s t.0 there t.1)) ∙ e)),
+            λ e. other
+            (ap (λ (v : Service). v.line.number) (h.services.2 i s t.0 there t.1).is ∙ e)),
         refl,
       ),
       subst (λ (x : Log). IsShortLog (record log { services = log.services ++ unseen l ∷ [] }) x
@@ -286,7 +278,7 @@ module _ (log live new : Log) (fronts : List (Option (Front Watched))) (k : ℕ)
         let does : log.callers name ≡ Some (caller.Calls at number) =
         sym (does_same name) ∙ g.5 in
         let o = kept.opened name at number does in
-        let same : o.0 ≡ s = same_some o.0 s (sym o.1 ∙ f.1) in
+        let same : o.0 ≡ s = same_Some o.0 s (sym o.1 ∙ f.1) in
         let now = subst (λ (x : Service). IsOpen x.events number) same o.2 in
         let t = with_end s number g.3 k in
         let e = short_end s f.2.kept f.2.upto (front_at fronts at) f.2.keeps f.2.within number g.3 k
@@ -399,7 +391,7 @@ module _ (log live new : Log) (fronts : List (Option (Front Watched))) (k : ℕ)
     given_anew number what at x start waits named anew more_is =
         let f = found_at log.services live.services fronts at x h.services named.there in
         let s = f.0 in
-        let line : x.line ≡ s.line = line_same s x (front_at fronts at) f.2 in
+        let line : x.line ≡ s.line = ap (λ (v : Service). v.line) f.2.is in
         let t = started (unseen s.line) start in
         let same : started (unseen x.line) start ≡ t =
         ap (λ (l : ServiceLine). started (unseen l) start) line in

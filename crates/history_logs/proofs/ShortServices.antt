@@ -1,6 +1,7 @@
 -- What is kept of a service after one line more.
 use Rattle.std.proofs.Common.{◌≡◌, ℕ, ◌+◌, ◌≤◌, List, [], ◌∷◌, ◌++◌, Option, Some, None, length, refl, sym, ◌∙◌, ap, subst, arith, inl, inr}
 use Rattle.std.proofs.lemmas.List.{length-append}
+use Rattle.std.proofs.lemmas.Option.{same_Some}
 use Rattle.histories.specs.declared.event.Event.TheVariants.{Begin, End, Crash}
 use Rattle.histories.specs.declared.front.Front.{Front}
 use Rattle.histories.specs.Histories.{HasEnded}
@@ -20,7 +21,6 @@ use Rattle.history_logs.specs.Reading.{StartsAs}
 use Rattle.history_logs.specs.Seen.{Begins, Service, called, started, starting, stopping, unseen, with_begin, with_crash, with_end, with_look, with_over}
 use Rattle.history_logs.specs.Shortened.{HasFront, IsShort, Keeps, Kept, shortened}
 use Rattle.history_logs.proofs.Alone.{called_stops}
-use Rattle.history_logs.proofs.AtIndex.{same_some}
 use Rattle.history_logs.proofs.Refused.{nil_of}
 use Rattle.history_logs.proofs.Shortened.{begin_is, called_same, end_is, ended, length_answered, keeps_begin, keeps_end, keeps_over, keeps_part, part, with_event}
 
@@ -77,9 +77,9 @@ module _ (s : Service) (kept : Kept) (upto : ℕ) (front : Option (Front Watched
         keeps_over one two first.kept upto front first.keeps (End n) line refl refl refl in
         let next : (start : ℕ) → stopped (stopping n).seen ≡ Some start
         → start + 1 ≡ length two.calls =
-        λ start is. omega (arith, same_some n start is, long) in
+        λ start is. omega (arith, same_Some n start is, long) in
         let late : (start : ℕ) → stopped (stopping n).seen ≡ Some start → upto ≤ start =
-        λ start is. omega (arith, same_some n start is, within) in
+        λ start is. omega (arith, same_Some n start is, within) in
         let few : upto ≤ length two.calls = omega (arith, within, long) in
         record {
           kept = part two over upto front second (stopping n) line next few late;

@@ -3,7 +3,7 @@ use Rattle.std.proofs.Common.{◌≡◌, ◌≢◌, ◌<◌, ℕ, Bool, true, fa
 use Rattle.std.specs.Prelude.{◌↔◌, IsTrue, slice_get}
 use Rattle.std.specs.List.{slice_set}
 use Rattle.std.proofs.lemmas.Bool.{cases_lt}
-use Rattle.std.proofs.lemmas.Option.{slice_get-get_or}
+use Rattle.std.proofs.lemmas.Option.{same_Some, slice_get-get_or}
 use Rattle.iox2_dynamic.specs.Service as dynamic
 use Rattle.log_lines.specs.Lines.Line.{given}
 use Rattle.log_lines.specs.States.{State}
@@ -14,7 +14,6 @@ use Rattle.history_logs.specs.declared.logs.verdict.Expected.TheVariants as expe
 use Rattle.history_logs.specs.Good.{GivesAnew, Starts}
 use Rattle.history_logs.specs.Reading.{Does, Gives, IsNamed, Log, NoneCalls}
 use Rattle.history_logs.specs.Seen.{Service, started, unseen}
-use Rattle.history_logs.proofs.AtIndex.{same_some}
 use Rattle.history_logs.proofs.Named.{set_back}
 use Rattle.history_logs.proofs.Refused.{nil_of}
 
@@ -39,7 +38,7 @@ pub gives_on : (old new : Log) (k : ℕ) (number : Option ℕ) (what : State) (a
     → new ≡ record old { services = slice_set old.services at t }
     → Does old k (given number what) (expected_if yes) new
 gives_on old new k number what at s d t true few none named there st is =
-    let same : s ≡ d = same_some s d (sym named.there ∙ there) in (
+    let same : s ≡ d = same_Some s d (sym named.there ∙ there) in (
       at,
       d,
       st.0,
@@ -51,7 +50,7 @@ gives_on old new k number what at s d t true few none named there st is =
       ),
     )
 gives_on old new k number what at s d t false few none named there st is =
-    let same : s ≡ d = same_some s d (sym named.there ∙ there) in (
+    let same : s ≡ d = same_Some s d (sym named.there ∙ there) in (
       inr (
         refl,
         (
@@ -71,7 +70,7 @@ gives_on old new k number what at s d t false few none named there st is =
 pub same_item : (ss : List Service) (at : ℕ) (s d : Service) → at < length ss
     → s ≡ get_or ss at s → d ≡ get_or ss at d → s ≡ d
 same_item ss at s d h one other =
-    same_some s d (ap (λ (x : Service). Some x) one ∙ (sym (slice_get-get_or ss at s h)
+    same_Some s d (ap (λ (x : Service). Some x) one ∙ (sym (slice_get-get_or ss at s h)
     ∙ (slice_get-get_or ss at d h ∙ ap (λ (x : Service). Some x) (sym other))))
 
 -- whether a service has calls
