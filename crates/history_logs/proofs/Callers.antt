@@ -11,6 +11,7 @@ use Rattle.history_logs.specs.declared.logs.callers.CallerState.{CallerState}
 use Rattle.history_logs.specs.declared.logs.callers.CallerState.TheVariants as caller
 use Rattle.history_logs.specs.Fields.{HasName, IsOn, IsUnknown, is_name, state_in}
 use Rattle.history_logs.specs.Reading.{NoneCalls, Sets}
+use Rattle.std.proofs.lemmas.Option.{same_Some}
 
 same_name : (a : List ℕ) → is_name a a ≡ true
 same_name [] = refl
@@ -51,9 +52,6 @@ unknown_state (c ∷ known) name none =
     other_name c.name.items name (All-head (λ (d : Caller). d.name.items ≢ name) c known none) in
     rw not (unknown_state known name (All-tail (λ (d : Caller). d.name.items ≢ name) c known none))
 
-some_is : (c d : Caller) → Some c ≡ Some d → c ≡ d
-some_is c d e = cc
-
 -- what the caller does that stands at the index
 pub known_state : (known : List Caller) (name : List ℕ) (at : ℕ) (h : HasName known name at)
     → state_in known name ≡ Some h.c.state
@@ -64,7 +62,7 @@ known_state known name at h = go known at h.c h.there h.named h.first
         → state_in known name ≡ Some c.state
     go [] at c there named first = absurd (cc)
     go (d ∷ known) zero c there named first =
-        let same : d ≡ c = some_is d c there in
+        let same : d ≡ c = same_Some d c there in
         let is : is_name d.name.items name ≡ true =
         subst (λ (n : List ℕ). is_name d.name.items n ≡ true)
         (ap (λ (x : Caller). x.name.items) same ∙ named) (same_name d.name.items) in
@@ -86,7 +84,7 @@ other_bytes a b e same = let yes = (bytes_eq-Decides a b).1 same in absurd (cc)
 pub known_at : (known : List Caller) (at : ℕ) (c d : Caller) → slice_get known at ≡ Some c
     → d ≡ get_or known at d → d ≡ c
 known_at [] at c d there is = absurd (cc)
-known_at (x ∷ known) zero c d there is = is ∙ some_is x c there
+known_at (x ∷ known) zero c d there is = is ∙ same_Some x c there
 known_at (x ∷ known) (suc at) c d there is = known_at known at c d there is
 
 pub state_at : (known : List Caller) (name : List ℕ) (at : ℕ) (d : Caller)
@@ -104,7 +102,7 @@ module _ (name : List ℕ) (state : CallerState) where
   own_set (d ∷ known) zero c n there named does first =
       let is : is_name n.name.items name ≡ true =
       subst (λ (m : List ℕ). is_name n.name.items m ≡ true) named (same_name n.name.items) in
-      rw is (ap (λ (s : CallerState). Some s) does)
+      rw is (ap Some does)
   own_set (d ∷ known) (suc at) c n there named does first =
       let not : is_name d.name.items name ≡ false =
       other_name d.name.items name
@@ -121,10 +119,10 @@ module _ (name : List ℕ) (state : CallerState) where
       other_name n.name.items other (λ e. ne (sym e ∙ named)) in
       let old : is_name d.name.items other ≡ false =
       other_name d.name.items other
-      (λ e. ne (sym e ∙ (ap (λ (x : Caller). x.name.items) (some_is d c there) ∙ was))) in
+      (λ e. ne (sym e ∙ (ap (λ (x : Caller). x.name.items) (same_Some d c there) ∙ was))) in
       rw (new, old) refl
   others_set (d ∷ known) (suc at) c n other there was named ne =
-      ap (λ (s : Option CallerState). if is_name d.name.items other then Some d.state else s)
+      ap (λ (o : Option CallerState). if is_name d.name.items other then Some d.state else o)
       (others_set known at c n other there was named ne)
 
   pub set_known : (known : List Caller) (at : ℕ) (d n : Caller) → HasName known name at
@@ -143,11 +141,10 @@ module _ (name : List ℕ) (state : CallerState) where
   own_push [] n named does none =
       let is : is_name n.name.items name ≡ true =
       subst (λ (m : List ℕ). is_name n.name.items m ≡ true) named (same_name n.name.items) in
-      rw is (ap (λ (s : CallerState). Some s) does)
+      rw is (ap Some does)
   own_push (d ∷ known) n named does none =
       let not : is_name d.name.items name ≡ false =
-      other_name d.name.items name
-      (All-head (λ (x : Caller). x.name.items ≢ name) d known none) in
+      other_name d.name.items name (All-head (λ (x : Caller). x.name.items ≢ name) d known none) in
       rw not (own_push known n named does
       (All-tail (λ (x : Caller). x.name.items ≢ name) d known none))
 
@@ -158,7 +155,7 @@ module _ (name : List ℕ) (state : CallerState) where
       other_name n.name.items other (λ e. ne (sym e ∙ named)) in
       rw not refl
   others_push (d ∷ known) n other named ne =
-      ap (λ (s : Option CallerState). if is_name d.name.items other then Some d.state else s)
+      ap (λ (o : Option CallerState). if is_name d.name.items other then Some d.state else o)
       (others_push known n other named ne)
 
   pub push_known : (known : List Caller) (n : Caller) → IsUnknown known name
@@ -183,7 +180,7 @@ state_more : (known others : List Caller) (name : List ℕ) (state : CallerState
     → state_in known name ≡ Some state → state_in (known ++ others) name ≡ Some state
 state_more [] others name state is = absurd (cc)
 state_more (c ∷ known) others name state is =
-    cases (is_name c.name.items name) is (λ rest. state_more known others name state rest)
+    cases (is_name c.name.items name) is (state_more known others name state)
   where
     cases : (b : Bool) → (if b then Some c.state else state_in known name) ≡ Some state
         → (state_in known name ≡ Some state → state_in (known ++ others) name ≡ Some state)
@@ -197,16 +194,13 @@ state_cases : (known : List Caller) (c : Caller) (name : List ℕ) (state : Call
     → (state_in known name ≡ Some state) ⊎ ((c.name.items ≡ name) × (c.state ≡ state))
 state_cases [] c name state is = cases (is_name c.name.items name) refl is
   where
-    same_state : (a b : CallerState) → Some a ≡ Some b → a ≡ b
-    same_state a b e = cc
-
     cases : (b : Bool) → is_name c.name.items name ≡ b
         → (if b then Some c.state else None) ≡ Some state
         → (state_in [] name ≡ Some state) ⊎ ((c.name.items ≡ name) × (c.state ≡ state))
-    cases true e own = inr (is_same c.name.items name e, same_state c.state state own)
+    cases true e own = inr (is_same c.name.items name e, same_Some c.state state own)
     cases false e rest = absurd (cc)
 state_cases (d ∷ known) c name state is =
-    cases (is_name d.name.items name) is (λ rest. state_cases known c name state rest)
+    cases (is_name d.name.items name) is (state_cases known c name state)
   where
     cases : (b : Bool)
         → (if b then Some d.state else state_in (known ++ c ∷ []) name) ≡ Some state
@@ -216,10 +210,6 @@ state_cases (d ∷ known) c name state is =
         ⊎ ((c.name.items ≡ name) × (c.state ≡ state))
     cases true own more = inl own
     cases false rest more = more rest
-
--- no caller calls
-pub none_yet : (at : ℕ) → NoneCalls (state_in []) at
-none_yet at name number is = absurd (cc)
 
 -- one caller more, that has no call open there, or does not do what its name does
 pub none_on : (known : List Caller) (i at : ℕ) (c : Caller) → i < length known
@@ -239,16 +229,10 @@ none_on known i at c h is none not name number does =
           let all : state_in known name ≡ Some (caller.Calls at number) =
           subst (λ (l : List Caller). state_in l name ≡ Some (caller.Calls at number))
           (take-append-drop (i + 1) known) on in
-          not
-          (number, ap (λ (s : CallerState). Some s) last.1)
-          (number, ap (λ (n : List ℕ). state_in known n) last.0 ∙ all)
+          not (number, ap Some last.1) (number, ap (state_in known) last.0 ∙ all)
     ]
 
 pub none_all : (known : List Caller) (i at : ℕ) → length known ≤ i
     → NoneCalls (state_in (take i known)) at → NoneCalls (state_in known) at
 none_all known i at h none =
     subst (λ (l : List Caller). NoneCalls (state_in l) at) (take_all i known h) none
-
-pub some_on : (known : List Caller) (at : ℕ) (name : List ℕ) → IsOn at (state_in known name)
-    → ¬ (NoneCalls (state_in known) at)
-some_on known at name on none = none name on.0 on.1

@@ -13,9 +13,7 @@ use Rattle.history_logs.specs.Judging.{AreJudged, IsNotBefore, IsRefusedIn, end_
 use Rattle.history_logs.specs.Logs.{HasGood, IsRefusal, IsRightAbove, IsSeenRightly, Judged, NoneRefused, NoneRefusedAbove, StopsAt, StopsIn, services_in}
 use Rattle.history_logs.specs.Seen.{Service}
 use Rattle.history_logs.proofs.Named.{some_service}
-
-some_is : (a b : ℕ) → Some a ≡ Some b → a ≡ b
-some_is a b e = cc
+use Rattle.std.proofs.lemmas.Option.{same_Some}
 
 -- of each service nothing comes before
 each_first : (P : Service → Type 0) (k : ℕ) (v : Verdict) (services : List Service)
@@ -38,7 +36,7 @@ refusal_of : (services : List Service) (k : ℕ) (s : Service) (reported : Refus
     → IsRefusal services reported
 refusal_of services k s reported has r above =
     let same : reported.line ≡ k =
-    some_is reported.line k (sym r.is_reported.ended ∙ r.stops.there) in
+    same_Some reported.line k (sym r.is_reported.ended ∙ r.stops.there) in
     record {
       s = s;
       index = r.index;
@@ -112,10 +110,10 @@ unfolding Judged
 judged_conforms bytes services n m r all calls count = (
   r.count,
   r.log,
-  subst (λ (l : List ℕ). HasGood bytes r.count r.log l) r.ends.0 r.good,
+  subst (HasGood bytes r.count r.log) r.ends.0 r.good,
   r.ends.1,
-  subst (λ (ss : List Service). All IsSeenRightly ss) (sym r.same) all,
-  calls ∙ ap (λ (ss : List Service). sum_by (λ (s : Service). length s.commands) ss) (sym r.same),
+  subst (All IsSeenRightly) (sym r.same) all,
+  calls ∙ ap (sum_by (λ (s : Service). length s.commands)) (sym r.same),
   count ∙ ap services_in (sym r.same),
   subst (λ x. 0 < x) (sym count) (some_service services
       (subst (λ (ss : List Service). 0 < length ss) r.same r.ends.2)),
@@ -131,7 +129,7 @@ judged_bad bytes services line e r all = (
   r.log,
   r.rest,
   r.good,
-  subst (λ (ss : List Service). All IsSeenRightly ss) (sym r.same) all,
+  subst (All IsSeenRightly) (sym r.same) all,
   r.ends.0,
   r.ends.1,
 )

@@ -1,12 +1,12 @@
 -- What holds of all that is read holds after one line more.
-use Rattle.std.proofs.Common.{◌≡◌, ◌≢◌, ◌⊎◌, ℕ, zero, suc, ◌+◌, ◌<◌, ◌≤◌, List, [], ◌∷◌, ◌++◌, All, Bool, bytes_eq, true, false, Option, Some, None, get_or, length, refl, sym, ◌∙◌, ap, subst, arith, inl, inr}
+use Rattle.std.proofs.Common.{◌≡◌, ◌≢◌, ◌⊎◌, ℕ, zero, suc, ◌+◌, ◌<◌, ◌≤◌, List, [], ◌∷◌, ◌++◌, All, Bool, bytes_eq, true, false, Option, Some, None, get_or, length, refl, sym, ◌∙◌, ap, subst, arith, inl, inr, take, take_all}
 use Rattle.std.specs.Prelude.{slice_get, sum_by}
 use Rattle.std.specs.List.{slice_set}
 use Rattle.std.proofs.lemmas.Bool.{cases_eq}
-use Rattle.std.proofs.lemmas.List.{length-append}
+use Rattle.std.proofs.lemmas.List.{length-append, length-set}
 use Rattle.std.proofs.lemmas.List.Elements.{All-head, All-nil, All-push, All-set, All-tail, All-weaker}
-use Rattle.std.proofs.lemmas.List.Sums.{sum_by-set, sum_by_push}
-use Rattle.std.proofs.lemmas.Option.{get_or_from_slice_get, same_Some, slice_get-get_or, slice_get_within}
+use Rattle.std.proofs.lemmas.List.Sums.{sum_by_push, sum_by-set}
+use Rattle.std.proofs.lemmas.Option.{same_Some, slice_get-get_or, slice_get_within, get_or_from_slice_get}
 use Rattle.histories.specs.declared.event.Event.{Event}
 use Rattle.histories.specs.Histories.{IsOpen}
 use Rattle.iox2_container.proofs.ListEdits.{get_set_other}
@@ -16,13 +16,15 @@ use Rattle.log_lines.specs.Lines.{Line}
 use Rattle.log_lines.specs.Lines.Line.{service, call, reply, begin, end, crash, given}
 use Rattle.history_logs.specs.declared.logs.callers.CallerState.{CallerState}
 use Rattle.history_logs.specs.declared.logs.callers.CallerState.TheVariants as caller
-use Rattle.history_logs.specs.Good.{IsKept, IsOpenOn, IsOrderly}
+use Rattle.history_logs.specs.Good.{IsKept, IsOpenOn, IsOrderly, TakesLine}
 use Rattle.history_logs.specs.Logs.{calls_in}
-use Rattle.history_logs.specs.Reading.{Dies, GoesOn, IsSane, Log, Sets}
+use Rattle.history_logs.specs.Reading.{Dies, GoesOn, IsSane, Log, Sets, HaveOneNumber}
 use Rattle.history_logs.specs.Seen.{Begins, HasHandles, Service, called, started, unseen, with_alone, with_begin, with_crash, with_end}
 use Rattle.history_logs.proofs.AtIndex.{all_get, get_push, get_same}
 use Rattle.history_logs.proofs.Callers.{other_bytes, same_bytes}
 use Rattle.history_logs.proofs.Orderly.{begun_of, open_alone, open_crashed, open_ended, orderly_alone, orderly_crash, orderly_end, orderly_new, orderly_started}
+use Rattle.service_descriptions.specs.declared.replay.lines.service_line.ServiceLine.{ServiceLine}
+use Rattle.std.proofs.Math.Seq.{take-append_seam, take-length}
 
 cases_name : (a b : List ℕ) → (a ≡ b) ⊎ (a ≢ b)
 cases_name a b = cases (bytes_eq a b) refl
@@ -39,7 +41,7 @@ opened_set ss at s t there b m keeps o =
     elim (cases_eq b at) as (λ _. IsOpenOn (slice_set ss at t) b m) [
       | inl e ↦
           let same : o.0 ≡ s =
-          same_Some o.0 s (sym o.1 ∙ (ap (λ i. slice_get ss i) e ∙ there)) in (
+          same_Some o.0 s (sym o.1 ∙ (ap (slice_get ss) e ∙ there)) in (
             t,
             subst (λ i. slice_get (slice_set ss at t) i ≡ Some t) (sym e)
                 (get_same ss at t s there),
@@ -50,9 +52,8 @@ opened_set ss at s t there b m keeps o =
 
 set_some : (ss : List Service) (at : ℕ) (s t : Service) → slice_get ss at ≡ Some s
     → slice_set ss at t ≢ []
-set_some [] at s t there e = absurd (cc)
-set_some (x ∷ ss) zero s t there e = absurd (cc)
-set_some (x ∷ ss) (suc at) s t there e = absurd (cc)
+set_some ss at s t there e =
+    omega (arith, slice_get_within ss at s there, length-set ss at t, ap length e)
 
 push_some : {X : Type 0} (xs : List X) (y : X) → xs ++ y ∷ [] ≢ []
 push_some [] y e = absurd (cc)
@@ -102,8 +103,7 @@ kept_alone old at s t k there orderly keeps = record {
 
 -- the caller does something else, and its service changes
 module _ (old new : Log) (at : ℕ) (s t : Service) (name : List ℕ) (st : CallerState)
-    (k : IsKept old)
-    (there : slice_get old.services at ≡ Some s) (orderly : IsOrderly t)
+    (k : IsKept old) (there : slice_get old.services at ≡ Some s) (orderly : IsOrderly t)
     (services : new.services ≡ slice_set old.services at t)
     (sets : Sets old.callers name st new.callers) (waits : new.waits ≡ None)
     (own : (b m : ℕ) → st ≡ caller.Calls b m
@@ -114,8 +114,7 @@ module _ (old new : Log) (at : ℕ) (s t : Service) (name : List ℕ) (st : Call
     does : (one : List ℕ) (b m : ℕ) → one ≡ name → new.callers one ≡ Some (caller.Calls b m)
         → st ≡ caller.Calls b m
     does one b m same e =
-        same_Some st (caller.Calls b m)
-        (sym sets.own ∙ (ap (λ n. new.callers n) (sym same) ∙ e))
+        same_Some st (caller.Calls b m) (sym sets.own ∙ (ap new.callers (sym same) ∙ e))
 
     did : (one : List ℕ) (b m : ℕ) → one ≢ name → new.callers one ≡ Some (caller.Calls b m)
         → old.callers one ≡ Some (caller.Calls b m)
@@ -148,7 +147,7 @@ module _ (old new : Log) (at : ℕ) (s t : Service) (name : List ℕ) (st : Call
         let o = own b m (does one b m same e) in
         let was = k.opened other b m (did other b m ne f) in
         let is : was.0 ≡ s =
-        same_Some was.0 s (sym was.1 ∙ (ap (λ i. slice_get old.services i) o.0 ∙ there)) in
+        same_Some was.0 s (sym was.1 ∙ (ap (slice_get old.services) o.0 ∙ there)) in
         o.2 (subst (λ (x : Service). IsOpen x.events m) is was.2)
 
     apart : (one other : List ℕ) (b m : ℕ) → new.callers one ≡ Some (caller.Calls b m)
@@ -167,7 +166,7 @@ module _ (old new : Log) (at : ℕ) (s t : Service) (name : List ℕ) (st : Call
 
     kept_sets : IsKept new
     kept_sets = record {
-      orderly = subst (λ (l : List Service). All IsOrderly l) (sym services)
+      orderly = subst (All IsOrderly) (sym services)
           (All-set IsOrderly old.services at t orderly k.orderly);
       opened = opened;
       apart = apart;
@@ -186,13 +185,13 @@ kept_idle old new name k services sets waits was =
     as (λ _. old.callers one ≡ Some (caller.Calls b m)) [
       | inl same ↦
           let is : new.callers name ≡ Some (caller.Calls b m) =
-          ap (λ n. new.callers n) (sym same) ∙ e in
+          ap new.callers (sym same) ∙ e in
           let bars = sets.own in
           absurd (cc)
       | inr ne ↦ sym (sets.others one ne) ∙ e
     ] in
     record {
-      orderly = subst (λ (l : List Service). All IsOrderly l) (sym services) k.orderly;
+      orderly = subst (All IsOrderly) (sym services) k.orderly;
       opened = λ one b m e.
           subst (λ (l : List Service). IsOpenOn l b m) (sym services)
           (k.opened one b m (did one b m e));
@@ -217,8 +216,7 @@ kept_dies old new k name (Some (caller.Calls at number)) kept is dies sets waits
     let live = subst (λ (x : Service). IsOpen x.events number) same o.2 in
     let orderly = all_get IsOrderly old.services at s kept.orderly dies.1 in
     kept_sets old new at s (with_crash s number k) name caller.Dead kept dies.1
-    (orderly_crash s number k orderly live) dies.2 sets waits
-    (λ b m e. absurd (cc))
+    (orderly_crash s number k orderly live) dies.2 sets waits (λ b m e. absurd (cc))
     (λ other m ne does here. open_crashed s number k m here
     (λ e. ne (kept.apart other name at m does
     (subst (λ i. old.callers name ≡ Some (caller.Calls at i)) (sym e) is))))
@@ -261,8 +259,8 @@ kept_step old new k (begin number name begun) kept g =
     let at : g.0 ≡ b = cc in
     let same : current ≡ m = cc in (
       sym at,
-      subst (λ n. IsOpen t.events n) same is.now,
-      λ o. is.fresh (subst (λ n. IsOpen s.events n) (sym same) o),
+      subst (IsOpen t.events) same is.now,
+      λ o. is.fresh (subst (IsOpen s.events) (sym same) o),
     ))
     (λ other m ne does here. is.still m here)
 kept_step old new k (end name words) kept g =
@@ -273,8 +271,7 @@ kept_step old new k (end name words) kept g =
     let live = subst (λ (x : Service). IsOpen x.events number) same o.2 in
     let orderly = all_get IsOrderly old.services g.0 s kept.orderly g.6 in
     kept_sets old new g.0 s (with_end s number g.3 k) name caller.Idle kept g.6
-    (orderly_end s number g.3 k orderly live) g.8 g.9 g.10
-    (λ b m e. absurd (cc))
+    (orderly_end s number g.3 k orderly live) g.8 g.9 g.10 (λ b m e. absurd (cc))
     (λ other m ne does here. open_ended s number g.3 k m here
     (λ e. ne (kept.apart other name g.0 m does
     (subst (λ i. old.callers name ≡ Some (caller.Calls g.0 i)) (sym e) g.5))))
@@ -321,12 +318,11 @@ moves_begins ss at s t (weak r) k current there (inr is) =
 
 moves_dies : (ss new : List Service) (k : ℕ) (state : Option CallerState) → Dies ss k state new
     → Moves ss new
-moves_dies ss new k None dies = absurd dies
-moves_dies ss new k (Some caller.Dead) dies = absurd dies
 moves_dies ss new k (Some caller.Idle) dies = subst (Moves ss) (sym dies) (stays ss)
 moves_dies ss new k (Some (caller.Calls at number)) dies =
     subst (Moves ss) (sym dies.2)
     (sets ss at dies.0 (with_crash dies.0 number k) dies.1 refl (omega arith))
+moves_dies ss new k _ dies = absurd dies
 
 moves_step : (old new : Log) (k : ℕ) (l : Line) → GoesOn old k l new
     → Moves old.services new.services
@@ -364,7 +360,6 @@ sum_set : (ss : List Service) (at : ℕ) (s t : Service) → slice_get ss at ≡
 sum_set ss at s t there less =
     omega (
       arith,
-      less,
       sum_by-set calls_of ss at t s (slice_get_within ss at s there),
       ap calls_of (get_or_from_slice_get ss at s s there),
     )
@@ -373,7 +368,35 @@ sum_moves : (ss new : List Service) → Moves ss new
     → sum_by calls_of new ≤ sum_by calls_of ss + 1
 sum_moves ss new (stays x) = omega arith
 sum_moves ss new (sets x at s t there line less) = sum_set ss at s t there less
-sum_moves ss new (adds x t none) = omega (arith, none, sum_by_push calls_of ss t)
+sum_moves ss new (adds x t none) = omega (arith, sum_by_push calls_of ss t)
+
+-- the services that were there have their numbers still
+alike_moves : (ss new : List Service) → Moves ss new
+    → (length ss ≤ length new) × (HaveOneNumber ss → HaveOneNumber (take (length ss) new))
+alike_moves ss new (stays x) =
+    (omega arith, subst HaveOneNumber (sym (take-length ss)))
+alike_moves ss new (sets x at s t there line less) =
+    let long : length (slice_set ss at t) ≡ length ss = length-set ss at t in (
+      omega arith,
+      λ one.
+          let has = λ (v : Service). v.line.number ≡ one.0 in
+          subst HaveOneNumber
+          (sym (take_all (length ss) (slice_set ss at t) (omega arith))) (
+            one.0,
+            All-set has ss at t
+                (ap (λ (l : ServiceLine). l.number) line ∙ all_get has ss at s one.1 there) one.1,
+          ),
+    )
+alike_moves ss new (adds x t none) = (
+  omega (arith, length-append ss (t ∷ [])),
+  subst HaveOneNumber (sym (take-append_seam ss (t ∷ []))),
+)
+
+pub alike_line : (old new : Log) (k : ℕ) (text : List ℕ) → TakesLine old k text None new
+    → (length old.services ≤ length new.services)
+    × (HaveOneNumber old.services → HaveOneNumber (take (length old.services) new.services))
+alike_line old new k text t =
+    alike_moves old.services new.services (moves_step old new k t.0 t.3)
 
 pub few_step : (old new : Log) (k : ℕ) (l : Line) → GoesOn old k l new
     → calls_in new ≤ calls_in old + 1
@@ -383,7 +406,7 @@ few_step old new k l g = sum_moves old.services new.services (moves_step old new
 pub kept_new : (log : Log) → log.services ≡ [] → ((name : List ℕ) → log.callers name ≡ None)
     → log.waits ≡ None → IsKept log
 kept_new log services callers waits = record {
-  orderly = subst (λ (l : List Service). All IsOrderly l) (sym services) (All-nil IsOrderly);
+  orderly = subst (All IsOrderly) (sym services) (All-nil IsOrderly);
   opened = λ name at number e. let bars = callers name in absurd (cc);
   apart = λ one other at number e f. let bars = callers one in absurd (cc);
   waits = none_waits log waits;
@@ -394,7 +417,7 @@ pub handles_of : (s : Service) → IsOrderly s → HasHandles s
 handles_of s o = record {
   adds = o.all.adds;
   given = o.all.given;
-  first = omega (arith, o.all.whole);
+  first = omega arith;
 }
 
 -- what holds of all that is read is what the parts need
@@ -406,10 +429,10 @@ sane_of log k = record {
       let orderly = all_get IsOrderly log.services at o.0 k.orderly o.1 in (
         o.0,
         o.1,
-        omega (arith, orderly.numbered number o.2.0, orderly.counts),
+        omega (arith, orderly.numbered number o.2.0),
         record {
-          call = omega (arith, orderly.all.whole);
-          start = λ start is. omega (arith, orderly.all.whole);
+          call = omega arith;
+          start = λ start is. omega arith;
         },
       );
   waits = k.waits;

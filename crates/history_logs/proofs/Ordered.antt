@@ -29,7 +29,7 @@ pub begins_more : (begins calls : List ℕ) (i : ℕ) (lines more : List ℕ)
     → AllZip (BeginsAt begins) (take (i + 1) calls) more
 begins_more begins calls i lines more all h within new =
     let call = get_or calls i 0 in
-    subst (λ (l : List ℕ). AllZip (BeginsAt begins) (take (i + 1) calls) l) (sym new)
+    subst (AllZip (BeginsAt begins) (take (i + 1) calls)) (sym new)
     (subst (λ (l : List ℕ). AllZip (BeginsAt begins) l (lines ++ get_or begins call 0 ∷ []))
     (sym (take_more calls i 0 h))
     (zip_push (BeginsAt begins) (take i calls) lines call (get_or begins call 0) all
@@ -45,12 +45,7 @@ module _ (s : Service) (o : IsOrderly s) (window : Window Watched) (calls : List
   pub calls_within : All (λ call. call < length s.begins) calls
   calls_within i d h =
       let call = get_or calls i d in
-      omega (
-        arith,
-        o.numbered call (explains.3.begun call (times_at calls i d h)),
-        o.counts,
-        o.all.begins,
-      )
+      omega (arith, o.numbered call (explains.3.begun call (times_at calls i d h)))
 
   pub order_reported : (number : ℕ) (lines : List ℕ) (reported : Order) → number ≡ s.line.number
       → AllZip (BeginsAt s.begins) calls lines → reported.service ≡ number
@@ -59,7 +54,7 @@ module _ (s : Service) (o : IsOrderly s) (window : Window Watched) (calls : List
     number = b ∙ a;
     order = calls;
     explains = explains;
-    begins = subst (λ (l : List ℕ). AllZip (BeginsAt s.begins) calls l) (sym same) begins;
+    begins = subst (AllZip (BeginsAt s.begins) calls) (sym same) begins;
   }
 
 -- what has an order is explained
@@ -82,7 +77,7 @@ orders_more : (services : List Service) (i : ℕ) (d : Service) (orders more : L
 orders_more services i d orders more found h is all added =
     let one : take (i + 1) services ≡ take i services ++ d ∷ [] =
     take_more services i d h ∙ ap (λ (e : Service). take i services ++ e ∷ []) (sym is) in
-    subst (λ (l : List Order). AllZip IsOrderOf (take (i + 1) services) l) (sym added.2)
+    subst (AllZip IsOrderOf (take (i + 1) services)) (sym added.2)
     (subst (λ (l : List Service). AllZip IsOrderOf l (orders ++ added.0 ∷ [])) (sym one)
     (zip_push IsOrderOf (take i services) orders d added.0 all added.1))
 
@@ -101,7 +96,7 @@ pub orders_none : (services : List Service) (orders : List Order) → orders ≡
     → OrdersTo services 0 None orders
 orders_none services orders is = record {
   found = first_none;
-  ordered = λ none. subst (λ (l : List Order). AreOrdered [] l) (sym is) tt;
+  ordered = λ none. subst (AreOrdered []) (sym is) tt;
 }
 
 earlier_none : (one other : Option (ℕ × Verdict)) → earlier one other ≡ None
@@ -137,10 +132,7 @@ orders_next bytes services i d first found result orders more os ps h is to f ad
 pub no_orders : (bytes : List ℕ) (services : List Service) (v : Verdict) (orders : List Order)
     → AreJudged services (Some v) → orders ≡ [] → HasOrders bytes v orders
 no_orders bytes services (Conforms n m) orders f none = absurd f.1.2
-no_orders bytes services (Refused reported) orders f none = none
-no_orders bytes services (ManyConfigs line) orders f none = none
-no_orders bytes services (ManyOpen line) orders f none = none
-no_orders bytes services (BadLine line e) orders f none = none
+no_orders bytes services _ orders f none = none
 
 -- where the log ends after its good lines, each service has an order
 pub orders_end : (bytes : List ℕ) (services : List Service) (orders : List Order)
@@ -149,6 +141,6 @@ pub orders_end : (bytes : List ℕ) (services : List Service) (orders : List Ord
 orders_end bytes services orders r all = (
   r.count,
   r.log,
-  subst (λ (l : List ℕ). HasGood bytes r.count r.log l) r.ends.0 r.good,
+  subst (HasGood bytes r.count r.log) r.ends.0 r.good,
   subst (λ (l : List Service). AllZip IsOrderOf l orders) (sym r.same) all,
 )

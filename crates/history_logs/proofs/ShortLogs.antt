@@ -5,6 +5,7 @@ use Rattle.std.proofs.lemmas.Bool.{cases_eq}
 use Rattle.std.proofs.lemmas.List.{get_or_past, length-append, length-set}
 use Rattle.std.proofs.lemmas.Option.{same_Some, slice_get_within}
 use Rattle.histories.specs.declared.front.Front.{Front}
+use Rattle.histories.specs.declared.event.Event.TheVariants.{Crash}
 use Rattle.histories.specs.Histories.{IsOpen}
 use Rattle.iox2_container.proofs.ListEdits.{get_set_other}
 use Rattle.iox2_dynamic.specs.Service as dynamic
@@ -12,7 +13,6 @@ use Rattle.log_lines.specs.Commands.{Begun, NamedCommand}
 use Rattle.log_lines.specs.Lines.{Line}
 use Rattle.log_lines.specs.Lines.Line.{service, call, reply, begin, end, crash, given}
 use Rattle.log_lines.specs.States.{State}
-use Rattle.service_conformance.specs.declared.conformance.seen_reply.SeenReply.TheVariants as seen_reply
 use Rattle.service_conformance.specs.Judged.{Judged}
 use Rattle.service_conformance.specs.Looks.{Watched}
 use Rattle.service_descriptions.specs.declared.replay.lines.service_line.ServiceLine.{ServiceLine}
@@ -27,16 +27,15 @@ use Rattle.history_logs.proofs.Alone.{called_stops}
 use Rattle.history_logs.proofs.AtIndex.{all_get, all_of, get_push_at, get_same, get_within}
 use Rattle.history_logs.proofs.Orderly.{open_new}
 use Rattle.history_logs.proofs.Refused.{nil_of}
-use Rattle.history_logs.proofs.Shortened.{called_same, kept_call, kept_start}
-use Rattle.history_logs.proofs.ShortServices.{short_begin, short_begins, short_crash, short_end, short_new, short_started, short_unseen}
+use Rattle.history_logs.proofs.Shortened.{kept_call, kept_start, short_begin, short_count, short_end, short_over}
+use Rattle.history_logs.proofs.ShortServices.{short_begins, short_new, short_started, short_unseen, same_call}
 
 -- the service that is kept at an index
 pub found_at : (services live : List Service) (fronts : List (Option (Front Watched))) (at : ℕ)
     (t : Service) → AreShort services live fronts → slice_get live at ≡ Some t
     → (s : Service) × (slice_get services at ≡ Some s) × IsShort s t (front_at fronts at)
 found_at services live fronts at t a there =
-    let s = get_within services at
-    (omega (arith, a.0, slice_get_within live at t there)) in
+    let s = get_within services at (omega (arith, a.0, slice_get_within live at t there)) in
     (s.0, s.1, a.2 at s.0 t s.1 there)
 
 short_set : (services live : List Service) (fronts : List (Option (Front Watched))) (at : ℕ)
@@ -50,10 +49,10 @@ short_set services live fronts at old oldt s t a there here short = (
     | inl same ↦
         let isx : s ≡ x =
         same_Some s x (sym (get_same services at s old there)
-        ∙ (ap (λ j. slice_get (slice_set services at s) j) (sym same) ∙ ex)) in
+        ∙ (ap (slice_get (slice_set services at s)) (sym same) ∙ ex)) in
         let isy : t ≡ y =
         same_Some t y (sym (get_same live at t oldt here)
-        ∙ (ap (λ j. slice_get (slice_set live at t) j) (sym same) ∙ ey)) in
+        ∙ (ap (slice_get (slice_set live at t)) (sym same) ∙ ey)) in
         subst (λ j. IsShort x y (front_at fronts j)) (sym same)
         (subst (λ (v : Service). IsShort v y (front_at fronts at)) isx
         (subst (λ (v : Service). IsShort s v (front_at fronts at)) isy short))
@@ -67,12 +66,7 @@ short_push : (services live : List Service) (fronts : List (Option (Front Watche
     (new : Service) → IsShort new new None → AreShort services live fronts
     → AreShort (services ++ new ∷ []) (live ++ new ∷ []) fronts
 short_push services live fronts new short a = (
-  omega (
-    arith,
-    a.0,
-    length-append services (new ∷ []),
-    length-append live (new ∷ []),
-  ),
+  omega (arith, a.0, length-append services (new ∷ []), length-append live (new ∷ [])),
   omega (arith, a.1, length-append services (new ∷ [])),
   λ i x y ex ey. elim (get_push_at services new i x ex)
       as (λ _. IsShort x y (front_at fronts i)) [
@@ -86,8 +80,7 @@ short_push services live fronts new short a = (
             as (λ _. IsShort x y (front_at fronts i)) [
               | inl beside ↦ absurd (omega (arith, slice_get_within live i y beside, last.0, a.0))
               | inr both ↦
-                  subst (λ (f : Option (Front Watched)). IsShort x y f)
-                  (sym (get_or_past fronts i None (omega (arith, a.1, last.0))))
+                  subst (IsShort x y) (sym (get_or_past fronts i None (omega (arith, a.1, last.0))))
                   (subst (λ (v : Service). IsShort v y None) last.1
                   (subst (λ (v : Service). IsShort new v None) both.1 short))
             ]
@@ -95,7 +88,7 @@ short_push services live fronts new short a = (
 )
 
 -- the number of a service is kept at each index
-numbers_same : (services live : List Service) (fronts : List (Option (Front Watched))) (at : ℕ)
+pub numbers_same : (services live : List Service) (fronts : List (Option (Front Watched))) (at : ℕ)
     (x : Service) → AreShort services live fronts → slice_get services at ≡ Some x
     → (y : Service) × (slice_get live at ≡ Some y) × (y.line.number ≡ x.line.number)
 numbers_same services live fronts at x a there =
@@ -114,7 +107,7 @@ named_same number services live fronts at s t a short there n =
       named = elim n.named
           as (λ _. (number ≡ Some s.line.number)
           ⊎ ((number ≡ None) × HaveNumber s.line.number services)) [
-            | inl is ↦ inl (is ∙ ap (λ (k : ℕ). Some k) own)
+            | inl is ↦ inl (is ∙ ap Some own)
             | inr alone ↦
                 inr (
                   alone.0,
@@ -187,33 +180,28 @@ module _ (log live new : Log) (fronts : List (Option (Front Watched))) (k : ℕ)
     goes_reply : (words : List ℕ) → GoesOn live k (reply words) new → Goes (reply words)
     goes_reply words g =
         let at = g.0 in
-        let f = found_at log.services live.services fronts at g.2 h.services g.5 in
+        let live_one = g.2 in
+        let f = found_at log.services live.services fronts at live_one h.services g.5 in
         let s = f.0 in
         let c = called s g.1 in
-        let same : called g.2 g.1 ≡ c =
-        ap (λ (x : Service). called x g.1) f.2.is ∙ called_same s f.2.kept g.1 in
-        let waits : log.waits ≡ Some (at, g.1) = sym h.waits ∙ g.4 in
-        let none = called_stops s g.1 in
-        let b = short_begin s f.2.kept f.2.upto (front_at fronts at) f.2.keeps f.2.within c k none
-        in
+        let front = front_at fronts at in
+        let same : called live_one g.1 ≡ c = same_call s live_one front f.2 g.1 in
+        let begun = short_begin s live_one front f.2 c k (called_stops s g.1) in
         let orderly = all_get IsOrderly log.services at s kept.orderly f.1 in
-        let count : length (shortened s f.2.kept).calls ≡ length s.calls = f.2.keeps.count in
-        let e = short_end (with_begin s c k) b.kept b.upto (front_at fronts at) b.keeps b.within
-        (length s.calls) g.3 k (open_new s c k orderly).1 in
         let t = with_alone s c g.3 k in
-        let both : IsShort t (with_alone g.2 (called g.2 g.1) g.3 k) (front_at fronts at) =
-        subst (λ (x : LogCall). IsShort t (with_alone g.2 x g.3 k) (front_at fronts at)) (sym same)
-        (subst (λ (x : Service). IsShort t (with_alone x c g.3 k) (front_at fronts at)) (sym f.2.is)
-        (subst (λ n. IsShort t
-        (with_end (with_begin (shortened s f.2.kept) c k) n g.3 k) (front_at fronts at)) (sym count)
-        (subst (λ (x : Service). IsShort t
-        (with_end x (length s.calls) g.3 k) (front_at fronts at)) (sym b.is) e))) in
+        let other = with_alone live_one (called live_one g.1) g.3 k in
+        let both : IsShort t other front =
+        subst (λ (x : LogCall). IsShort t (with_alone live_one x g.3 k) front) (sym same)
+        (subst (λ n. IsShort t (with_end (with_begin live_one c k) n g.3 k) front)
+        (sym (short_count s live_one front f.2))
+        (short_end (with_begin s c k) (with_begin live_one c k) front begun (length s.calls)
+        (open_new s c k orderly).1 g.3 k)) in
         let more : Log = record log { services = slice_set log.services at t; waits = None } in (
           more,
-          (at, g.1, s, g.3, waits, f.1, g.6, refl),
+          (at, g.1, s, g.3, sym h.waits ∙ g.4, f.1, g.6, refl),
           subst (λ (x : Log). IsShortLog more x fronts) (sym g.7) (record {
-            services = short_set log.services live.services fronts at s g.2 t
-                (with_alone g.2 (called g.2 g.1) g.3 k) h.services f.1 g.5 both;
+            services = short_set log.services live.services fronts at s live_one t other h.services
+                f.1 g.5 both;
             callers = h.callers;
             waits = refl;
           }),
@@ -250,9 +238,7 @@ module _ (log live new : Log) (fronts : List (Option (Front Watched))) (k : ℕ)
         let at = g.0 in
         let f = found_at log.services live.services fronts at g.1 h.services g.3.there in
         let s = f.0 in
-        let begun = short_begins s f.2.kept f.2.upto (front_at fronts at) f.2.keeps f.2.within b k
-        g.5.0 g.5.1
-        (subst (λ (x : Service). Begins x b k g.5.0 g.5.1) f.2.is g.5.2) in (
+        let begun = short_begins s g.1 (front_at fronts at) f.2 b k g.5.0 g.5.1 g.5.2 in (
           record {
             services = slice_set log.services at begun.0;
             callers = new.callers;
@@ -263,7 +249,7 @@ module _ (log live new : Log) (fronts : List (Option (Front Watched))) (k : ℕ)
             s,
             no_waits g.2,
             named_same number log.services live.services fronts at s g.1 h.services f.2 f.1 g.3,
-            subst (λ (x : Option CallerState). MayBegin x) (does_same name) g.4,
+            subst MayBegin (does_same name) g.4,
             (begun.0, g.5.1, begun.1, refl, sets_same name (caller.Calls at g.5.1) g.5.4, refl),
           ),
           goes_sets at s g.1 begun.0 g.5.0 f.1 g.3.there begun.2 g.5.3 g.5.5,
@@ -281,11 +267,7 @@ module _ (log live new : Log) (fronts : List (Option (Front Watched))) (k : ℕ)
         let same : o.0 ≡ s = same_Some o.0 s (sym o.1 ∙ f.1) in
         let now = subst (λ (x : Service). IsOpen x.events number) same o.2 in
         let t = with_end s number g.3 k in
-        let e = short_end s f.2.kept f.2.upto (front_at fronts at) f.2.keeps f.2.within number g.3 k
-        now.1 in
-        let short : IsShort t (with_end g.2 number g.3 k) (front_at fronts at) =
-        subst (λ (x : Service). IsShort t (with_end x number g.3 k) (front_at fronts at))
-        (sym f.2.is) e in (
+        let short = short_end s g.2 (front_at fronts at) f.2 number now.1 g.3 k in (
           record {
             services = slice_set log.services at t;
             callers = new.callers;
@@ -331,10 +313,7 @@ module _ (log live new : Log) (fronts : List (Option (Front Watched))) (k : ℕ)
         let f = found_at log.services live.services fronts at dies.0 h.services dies.1 in
         let s = f.0 in
         let t = with_crash s number k in
-        let short : IsShort t (with_crash dies.0 number k) (front_at fronts at) =
-        subst (λ (x : Service). IsShort t (with_crash x number k) (front_at fronts at))
-        (sym f.2.is)
-        (short_crash s f.2.kept f.2.upto (front_at fronts at) f.2.keeps f.2.within number k) in
+        let short = short_over s dies.0 (front_at fronts at) f.2 (Crash number) k in
         let services = slice_set log.services at t in
         let own : Dies log.services k (Some (caller.Calls at number)) services =
         (s, f.1, refl) in (
@@ -358,12 +337,7 @@ module _ (log live new : Log) (fronts : List (Option (Front Watched))) (k : ℕ)
         let f = found_at log.services live.services fronts at x h.services named.there in
         let s = f.0 in
         let t = started s start in
-        let is = short_started s f.2.kept f.2.upto (front_at fronts at) f.2.keeps f.2.within what
-        start
-        (subst (λ (x : Service). StartsAs x what start) f.2.is starts) in
-        let short : IsShort t (started x start) (front_at fronts at) =
-        subst (λ (x : Service). IsShort t (started x start) (front_at fronts at)) (sym f.2.is)
-        is.1 in
+        let is = short_started s x (front_at fronts at) f.2 what start starts in
         let more : Log = record log { services = slice_set log.services at t } in (
           more,
           (
@@ -376,7 +350,7 @@ module _ (log live new : Log) (fronts : List (Option (Front Watched))) (k : ℕ)
           ),
           subst (λ (x : Log). IsShortLog more x fronts) (sym more_is) (record {
             services = short_set log.services live.services fronts at s x t (started x start)
-                h.services f.1 named.there short;
+                h.services f.1 named.there is.1;
             callers = h.callers;
             waits = h.waits;
           }),
@@ -409,7 +383,7 @@ module _ (log live new : Log) (fronts : List (Option (Front Watched))) (k : ℕ)
                   arith,
                   ap (λ (y : Service). length y.calls) f.2.is,
                   f.2.keeps.count,
-                  ap (λ (l : List Judged). length l) none,
+                  ap length none,
                 ))),
                 λ name n does. anew.1 name n (does_same name ∙ does),
                 subst (λ (l : ServiceLine). Gives (unseen l).start what start) line anew.2,
@@ -469,19 +443,10 @@ short_sane log live fronts h kept = record {
       let o = all_get IsOrderly log.services at live_call.0 kept.orderly live_call.1 in (
         t.0,
         t.1,
-        omega (
-          arith,
-          o.numbered number live_call.2.0,
-          o.counts,
-          is.keeps.count,
-          ap (λ (x : Service). length x.calls) is.is,
-        ),
+        omega (arith, o.numbered number live_call.2.0, ap (λ (x : Service). length x.calls) is.is),
         subst (λ (x : Service). IsKeptCall x number) (sym is.is) (record {
-          call = kept_call live_call.0 is.kept is.upto (front_at fronts at) is.keeps number
-              (seen_reply.Count 0) 0 live_call.2.1;
-          start = λ from s.
-              kept_start live_call.0 is.kept is.upto (front_at fronts at) is.keeps number
-              (seen_reply.Count 0) 0 live_call.2.1 from s;
+          call = kept_call live_call.0 t.0 (front_at fronts at) is number live_call.2.1;
+          start = kept_start live_call.0 t.0 (front_at fronts at) is number live_call.2.1;
         }),
       );
   waits = λ at c e. omega (arith, h.services.0, kept.waits at c (sym h.waits ∙ e));
@@ -491,4 +456,4 @@ short_sane log live fronts h kept = record {
         → Keeps s k upto f → upto ≤ length s.calls → k.first ≤ length k.calls
     first_within s k upto None keeps within = omega (arith, keeps.has.0)
     first_within s k upto (Some f) keeps within =
-        omega (arith, keeps.has.first, keeps.has.most, keeps.count, within)
+        omega arith

@@ -1,5 +1,5 @@
 -- What the fields of what is read tell.
-use Rattle.std.specs.Prelude.{◌≡◌, ◌≢◌, ◌==◌, ◌&&◌, ℕ, All, Bool, true, false, List, [], ◌∷◌, Option, Some, None, if◌then◌else◌, slice_get, take}
+use Rattle.std.specs.Prelude.{◌≡◌, ◌≢◌, ◌==◌, ◌&&◌, ℕ, All, Bool, true, false, List, [], ◌∷◌, Option, Some, None, IsTrue, if◌then◌else◌, slice_get, take}
 use Rattle.log_lines.specs.declared.command.LogCommand.{LogCommand}
 use Rattle.log_lines.specs.Commands.{NamedCommand, named}
 use Rattle.history_logs.specs.declared.logs.callers.Caller.{Caller}
@@ -7,7 +7,7 @@ use Rattle.history_logs.specs.declared.logs.callers.CallerState.{CallerState}
 use Rattle.history_logs.specs.declared.logs.callers.CallerState.TheVariants as caller
 use Rattle.history_logs.specs.declared.logs.callers.Callers.{Callers}
 use Rattle.history_logs.specs.declared.logs.reading.Reading.{Reading}
-use Rattle.history_logs.specs.Reading.{Log}
+use Rattle.history_logs.specs.Reading.{HaveOneNumber, IsSane, Log}
 
 -- whether two names are the same
 abbrev pub is_name : List ℕ → List ℕ → Bool
@@ -53,3 +53,8 @@ log_of r = record {
   callers = callers_of r.callers;
   waits = waits_in r.waits;
 }
+
+-- what was read is sane, and where it says that the services have one number, they have
+pub record IsReady (r : Reading) : Type 0 where
+  pub sane : IsSane (log_of r)
+  pub alike : IsTrue r.are_alike → HaveOneNumber r.services.items

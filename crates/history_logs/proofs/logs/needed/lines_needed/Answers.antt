@@ -22,7 +22,7 @@ calls_left_out-requires c =
           c.requires.stops c.args.refused c.requires.ended;
       idle = subst (λ (l : List Judged). AreIdle (WindowStep 0 l) c.deref-2.result.now)
           (c.calls-2.ensures ∙ sym c.calls.ensures)
-          (subst (λ (l : List Bool). AreIdle (WindowStep 0 c.calls-2.result.now) l)
+          (subst (AreIdle (WindowStep 0 c.calls-2.result.now))
           (sym c.deref-2.ensures.value) c.in_ok-idle.ensures);
     }
 

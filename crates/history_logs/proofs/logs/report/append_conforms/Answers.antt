@@ -13,6 +13,6 @@ returns c =
     let so : two ≡ one ++ (calls ++ decimal c.args.services) = search rules in
     let on : three ≡ two ++ word = search rules in
     let end : c.push.new.self.items ≡ three ++ 10 ∷ [] = search rules in
-    four_parts c.args.out.now.items one two three c.push.new.self.items
+    four_parts _ one two three _
     (codes "conforms, " ++ decimal c.args.calls) (calls ++ decimal c.args.services) word (10 ∷ [])
     c.in_ok-append_number.ensures so on end

@@ -23,4 +23,4 @@ pub returns-else-position-len : goal.returns-else-position-len
 returns-else-position-len c =
     shown_past c.args.first c.args.calls.now.items c.args.at c.in-Some.start c.index.result.now
     c.args.reply.now c.requires.within c.index.ensures (sym c.stopped.ensures ∙ c.in-Some.is)
-    _ refl (omega (arith, c.if-position-len.false, c.len.ensures))
+    _ refl (omega arith)

@@ -10,7 +10,7 @@ returns-then-not-has_calls c = λ yes. right_none c.args.service.now c.args.fron
 pub returns : goal.returns
 returns c =
     let all : length c.args.service.now.events ≤ length c.events.result.now =
-    omega (arith, ap (λ (l : List Event). length l) c.events.ensures) in
+    omega (arith, ap length c.events.ensures) in
     if_ok _ _ c.go_short.result c.go_short.ensures (λ yes goes t s o k.
     right_after c.args.service.now c.in_ok-last.last c.go_short.new.front
     (length c.events.result.now) all (goes t) s o (c.in_ok-last.ensures s o k))

@@ -32,8 +32,6 @@ index_mut-requires-2 c =
     c.requires.kept in
     omega (
       arith,
-      within,
-      kept.call,
       length-append (replicate first forgotten) calls,
       length-replicate first forgotten,
       ap length c.in_ok-show.ensures,
