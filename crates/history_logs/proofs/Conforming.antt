@@ -27,9 +27,9 @@ use Rattle.history_logs.specs.Shortened.{AreShort, IsShort, IsShortLog, front_at
 use Rattle.history_logs.proofs.Above.{above_more, above_room, read_whole}
 use Rattle.history_logs.proofs.AtIndex.{all_get, all_of, get_same, get_within}
 use Rattle.history_logs.proofs.Judgements.{judged_conforms}
-use Rattle.history_logs.proofs.Named.{same_count, map_same}
+use Rattle.history_logs.proofs.Named.{same_count, map_same, set_back}
 use Rattle.history_logs.proofs.Settled.{events_split}
-use Rattle.history_logs.proofs.ShortLogs.{found_at, goes_line, numbers_same, short_sane}
+use Rattle.history_logs.proofs.ShortLogs.{found_at, goes_line, numbers_same, short_sane, short_put}
 
 -- where no call was seen, nothing was
 explained_none : (s : Service) → IsOrderly s → length s.calls ≡ 0 → IsSeenRightly s
@@ -43,17 +43,11 @@ explained_none s o none = nothing s.events refl
         (old, [], old, Contains-push [] old, explains_none (StepOf s) old)
     nothing (Begin c ∷ es) is = absurd (omega (arith, ap begun is))
     nothing (End c ∷ es) is =
-        absurd (omega (
-          arith,
-          (o.history 0 (End c) (ap (λ (l : List Event). slice_get l 0) is)).0,
-          begins_none c,
-        ))
+        let before = (o.history 0 (End c) (ap (λ (l : List Event). slice_get l 0) is)).0 in
+        absurd (omega (arith, begins_none c))
     nothing (Crash c ∷ es) is =
-        absurd (omega (
-          arith,
-          (o.history 0 (Crash c) (ap (λ (l : List Event). slice_get l 0) is)).0,
-          begins_none c,
-        ))
+        let before = (o.history 0 (Crash c) (ap (λ (l : List Event). slice_get l 0) is)).0 in
+        absurd (omega (arith, begins_none c))
 
 pub right_none : (live : Service) (front : Option (Front Watched)) → (¬ (0 < length live.calls))
     → IsRightShort live front
@@ -102,36 +96,22 @@ module _ (old live : List Service) (fronts mid : List (Option (Front Watched))) 
   where
     pub has_short : HaveShort old fronts → HasShort t (front_at mid at)
     has_short h =
-        let a = stay h.0 h.1 h.2 in
-        let s = get_within h.0 at (omega (arith, a.0, slice_get_within live at t here)) in
-        (s.0, all_get IsOrderly h.0 at s.0 h.1 s.1, a.2 at s.0 t s.1 here)
+        let f = found_at h.0 live mid at t (stay h.0 h.1 h.2) here in
+        (f.0, all_get IsOrderly h.0 at f.0 h.1 f.1, f.2)
 
     pub stay_set : (next : Service) (front : Option (Front Watched)) → at < length mid
         → Stays t (front_at mid at) next front
         → StayAll old fronts (slice_set live at next) (slice_set mid at front)
     stay_set next front within is services o b =
         let a = stay services o b in
-        let s = get_within services at (omega (arith, a.0, slice_get_within live at t here)) in
-        let short = is s.0 (all_get IsOrderly services at s.0 o s.1) (a.2 at s.0 t s.1 here) in (
-          length-set live at next ∙ a.0,
-          omega (arith, a.1, length-set mid at front),
-          λ i x y ex ey.
-              elim (cases_eq i at) as (λ _. IsShort x y (front_at (slice_set mid at front) i)) [
-                | inl same ↦
-                    let isx : s.0 ≡ x =
-                    same_Some s.0 x (sym s.1 ∙ (ap (slice_get services) (sym same) ∙ ex)) in
-                    let isy : next ≡ y =
-                    same_Some next y (sym (get_same live at next t here)
-                    ∙ (ap (slice_get (slice_set live at next)) (sym same) ∙ ey)) in
-                    subst (λ j. IsShort x y (front_at (slice_set mid at front) j)) (sym same)
-                    (subst (IsShort x y) (sym (get_or-set_same mid at front None within))
-                    (subst (λ (v : Service). IsShort v y front) isx
-                    (subst (λ (v : Service). IsShort s.0 v front) isy short)))
-                | inr other ↦
-                    subst (IsShort x y) (sym (get_or-set_other mid at i front None other))
-                    (a.2 i x y ex (sym (get_set_other live at i next other) ∙ ey))
-              ],
-        )
+        let f = found_at services live mid at t a here in
+        let short = is f.0 (all_get IsOrderly services at f.0 o f.1) f.2 in
+        let more = slice_set mid at front in
+        subst (λ (l : List Service). AreShort l (slice_set live at next) more)
+        (set_back services at f.0 f.1)
+        (short_put services live mid more at f.0 f.0 next t a f.1 here (length-set mid at front)
+        (λ i other. get_or-set_other mid at i front None other)
+        (subst (IsShort f.0 next) (sym (get_or-set_same mid at front None within)) short))
 
 -- the services below an index are explained, and from there on each has its front
 pub record AreRightTo (live : List Service) (fronts left : List (Option (Front Watched)))
@@ -154,10 +134,10 @@ module _ (live : List Service) (fronts left : List (Option (Front Watched))) (at
   where
     pub right_short : HaveShort live fronts → HasShort t (front_at left at)
     right_short h =
-        let s = get_within h.0 at (omega (arith, h.2.0, slice_get_within live at t here)) in (
-          s.0,
-          all_get IsOrderly h.0 at s.0 h.1 s.1,
-          subst (IsShort s.0 t) (sym (r.ahead at (omega arith))) (h.2.2 at s.0 t s.1 here),
+        let f = found_at h.0 live fronts at t h.2 here in (
+          f.0,
+          all_get IsOrderly h.0 at f.0 h.1 f.1,
+          subst (IsShort f.0 t) (sym (r.ahead at (omega arith))) f.2,
         )
 
     pub right_to_more : (front : Option (Front Watched)) → IsRightShort t (front_at left at)
@@ -182,8 +162,7 @@ pub right_all : (live : List Service) (fronts left : List (Option (Front Watched
     → length live ≤ at → AreRightTo live fronts left at → AreRightShort live fronts
 right_all live fronts left at all r services o a =
     all_of IsSeenRightly services (λ i s there.
-    r.right services o a i s
-    (omega (arith, a.0, slice_get_within services i s there)) there)
+    r.right services o a i s (omega (arith, a.0, slice_get_within services i s there)) there)
 
 -- as many commands are kept as were read
 calls_same : (services live : List Service) (fronts : List (Option (Front Watched)))

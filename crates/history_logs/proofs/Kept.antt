@@ -205,8 +205,6 @@ kept_idle old new name k services sets waits was =
 kept_dies : (old new : Log) (k : ℕ) (name : List ℕ) (state : Option CallerState) → IsKept old
     → old.callers name ≡ state → Dies old.services k state new.services
     → Sets old.callers name caller.Dead new.callers → new.waits ≡ None → IsKept new
-kept_dies old new k name None kept is dies sets waits = absurd dies
-kept_dies old new k name (Some caller.Dead) kept is dies sets waits = absurd dies
 kept_dies old new k name (Some caller.Idle) kept is dies sets waits =
     kept_idle old new name kept dies sets waits is
 kept_dies old new k name (Some (caller.Calls at number)) kept is dies sets waits =
@@ -220,6 +218,7 @@ kept_dies old new k name (Some (caller.Calls at number)) kept is dies sets waits
     (λ other m ne does here. open_crashed s number k m here
     (λ e. ne (kept.apart other name at m does
     (subst (λ i. old.callers name ≡ Some (caller.Calls at i)) (sym e) is))))
+kept_dies old new k name _ kept is dies sets waits = absurd dies
 
 -- a service began otherwise
 kept_given : (old : Log) (at : ℕ) (s t : Service) → IsKept old → old.waits ≡ None

@@ -38,27 +38,30 @@ found_at services live fronts at t a there =
     let s = get_within services at (omega (arith, a.0, slice_get_within live at t there)) in
     (s.0, s.1, a.2 at s.0 t s.1 there)
 
-short_set : (services live : List Service) (fronts : List (Option (Front Watched))) (at : ℕ)
-    (old oldt s t : Service) → AreShort services live fronts → slice_get services at ≡ Some old
-    → slice_get live at ≡ Some oldt → IsShort s t (front_at fronts at)
-    → AreShort (slice_set services at s) (slice_set live at t) fronts
-short_set services live fronts at old oldt s t a there here short = (
+-- the service at an index is another one, and has another front
+pub short_put : (services live : List Service) (old new : List (Option (Front Watched))) (at : ℕ)
+    (s x t y : Service) → AreShort services live old → slice_get services at ≡ Some x
+    → slice_get live at ≡ Some y → length new ≡ length old
+    → ((i : ℕ) → i ≢ at → front_at new i ≡ front_at old i) → IsShort s t (front_at new at)
+    → AreShort (slice_set services at s) (slice_set live at t) new
+short_put services live old new at s x t y a there here long others short = (
   length-set live at t ∙ (a.0 ∙ sym (length-set services at s)),
   omega (arith, a.1, length-set services at s),
-  λ i x y ex ey. elim (cases_eq i at) as (λ _. IsShort x y (front_at fronts i)) [
+  λ i v w ev ew. elim (cases_eq i at) as (λ _. IsShort v w (front_at new i)) [
     | inl same ↦
-        let isx : s ≡ x =
-        same_Some s x (sym (get_same services at s old there)
-        ∙ (ap (slice_get (slice_set services at s)) (sym same) ∙ ex)) in
-        let isy : t ≡ y =
-        same_Some t y (sym (get_same live at t oldt here)
-        ∙ (ap (slice_get (slice_set live at t)) (sym same) ∙ ey)) in
-        subst (λ j. IsShort x y (front_at fronts j)) (sym same)
-        (subst (λ (v : Service). IsShort v y (front_at fronts at)) isx
-        (subst (λ (v : Service). IsShort s v (front_at fronts at)) isy short))
+        let isv : s ≡ v =
+        same_Some s v (sym (get_same services at s x there)
+        ∙ (ap (slice_get (slice_set services at s)) (sym same) ∙ ev)) in
+        let isw : t ≡ w =
+        same_Some t w (sym (get_same live at t y here)
+        ∙ (ap (slice_get (slice_set live at t)) (sym same) ∙ ew)) in
+        subst (λ j. IsShort v w (front_at new j)) (sym same)
+        (subst (λ (u : Service). IsShort u w (front_at new at)) isv
+        (subst (λ (u : Service). IsShort s u (front_at new at)) isw short))
     | inr other ↦
-        a.2 i x y (sym (get_set_other services at i s other) ∙ ex)
-        (sym (get_set_other live at i t other) ∙ ey)
+        subst (IsShort v w) (sym (others i other))
+        (a.2 i v w (sym (get_set_other services at i s other) ∙ ev)
+        (sym (get_set_other live at i t other) ∙ ew))
   ],
 )
 
@@ -200,8 +203,8 @@ module _ (log live new : Log) (fronts : List (Option (Front Watched))) (k : ℕ)
           more,
           (at, g.1, s, g.3, sym h.waits ∙ g.4, f.1, g.6, refl),
           subst (λ (x : Log). IsShortLog more x fronts) (sym g.7) (record {
-            services = short_set log.services live.services fronts at s live_one t other h.services
-                f.1 g.5 both;
+            services = short_put log.services live.services fronts fronts at t s other live_one
+                h.services f.1 g.5 refl (λ i n. refl) both;
             callers = h.callers;
             waits = refl;
           }),
@@ -219,7 +222,8 @@ module _ (log live new : Log) (fronts : List (Option (Front Watched))) (k : ℕ)
     goes_sets at s oldt s' t there here short services waits = record {
       services = subst (λ (l : List Service). AreShort (slice_set log.services at s') l fronts)
           (sym services)
-          (short_set log.services live.services fronts at s oldt s' t h.services there here short);
+          (short_put log.services live.services fronts fronts at s' s t oldt h.services there here
+          refl (λ i n. refl) short);
       callers = refl;
       waits = waits;
     }
@@ -349,8 +353,8 @@ module _ (log live new : Log) (fronts : List (Option (Front Watched))) (k : ℕ)
             inl (is.0, refl),
           ),
           subst (λ (x : Log). IsShortLog more x fronts) (sym more_is) (record {
-            services = short_set log.services live.services fronts at s x t (started x start)
-                h.services f.1 named.there is.1;
+            services = short_put log.services live.services fronts fronts at t s (started x start) x
+                h.services f.1 named.there refl (λ i n. refl) is.1;
             callers = h.callers;
             waits = h.waits;
           }),

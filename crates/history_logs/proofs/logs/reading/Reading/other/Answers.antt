@@ -12,7 +12,7 @@ returns-then-not-is_service c =
     let p : IsLine l = search rules in
     let is : c.args.text.now ≡ line_text l = search rules in
     let none : length c.args.self.now.services.items ≡ 0 = search rules in
-    let empty = nil_of _ none in
+    let empty = nil_of c.args.self.now.services.items none in
     let other : is_service l ≡ false = search rules in
     (wrong_first (log_of c.args.self.now) _ l p is empty other, refl)
 
