@@ -272,14 +272,13 @@ module _ (text : List ℕ) (count : ℕ) where
 
   placed_dies : (ss new : List Service) (state : Option CallerState) → All Now ss
       → Dies ss (count + 1) state new → All Next new
-  placed_dies ss new None all d = absurd d
-  placed_dies ss new (Some caller.Dead) all d = absurd d
   placed_dies ss new (Some caller.Idle) all d =
       subst (All Next) (sym d) (all_later ss all)
   placed_dies ss new (Some (caller.Calls at number)) all d =
       set_next ss new at (with_crash d.0 number (count + 1)) all
       (placed_crash text count d.0 (all_get Now ss at d.0 all d.1) (count + 1) (omega arith) number)
       d.2
+  placed_dies ss new _ all d = absurd d
 
   placed_look : (s : Service) (part : Part) → Now s → Next (with_look s part (count + 1))
   placed_look s part p =

@@ -15,11 +15,6 @@ use Rattle.history_logs.specs.Seen.{Service}
 use Rattle.history_logs.proofs.Named.{some_service}
 use Rattle.std.proofs.lemmas.Option.{same_Some}
 
--- of each service nothing comes before
-each_first : (P : Service → Type 0) (k : ℕ) (v : Verdict) (services : List Service)
-    → ((s : Service) → IsNotBefore k v s → P s) → All (IsNotBefore k v) services → All P services
-each_first P k v services does all = All-weaker (IsNotBefore k v) P does services all
-
 stops_at : (services : List Service) (k line : ℕ) (s : Service) (index : ℕ) (why : Stop)
     → Contains services s → StopsIn s k index why → line ≡ k → All (IsRightAbove k) services
     → All NoneRefused services → StopsAt services line s index why
@@ -81,8 +76,9 @@ judged_found bytes services bad (ManyConfigs line) r f = (
     f.1.2.1.0,
     subst (λ (ss : List Service). StopsAt ss line f.1.0 f.1.2.1.0 stop.ManyConfigs) (sym r.same)
         (stops_at services f.0 line f.1.0 f.1.2.1.0 stop.ManyConfigs f.1.1 f.1.2.1.1 f.1.2.0
-        (each_first (IsRightAbove f.0) f.0 (ManyConfigs line) services (λ s x. x.0) f.1.3)
-        (each_first NoneRefused f.0 (ManyConfigs line) services (λ s x. x.1) f.1.3)),
+        (All-weaker (IsNotBefore f.0 (ManyConfigs line)) (IsRightAbove f.0) (λ s x. x.0) services
+        f.1.3)
+        (All-weaker (IsNotBefore f.0 (ManyConfigs line)) NoneRefused (λ s x. x.1) services f.1.3)),
   ),
 )
 judged_found bytes services bad (ManyOpen line) r f = (
@@ -95,8 +91,9 @@ judged_found bytes services bad (ManyOpen line) r f = (
     f.1.2.1.0,
     subst (λ (ss : List Service). StopsAt ss line f.1.0 f.1.2.1.0 stop.ManyOpen) (sym r.same)
         (stops_at services f.0 line f.1.0 f.1.2.1.0 stop.ManyOpen f.1.1 f.1.2.1.1 f.1.2.0
-        (each_first (IsRightAbove f.0) f.0 (ManyOpen line) services (λ s x. x.0) f.1.3)
-        (each_first NoneRefused f.0 (ManyOpen line) services (λ s x. x.1) f.1.3)),
+        (All-weaker (IsNotBefore f.0 (ManyOpen line)) (IsRightAbove f.0) (λ s x. x.0) services
+        f.1.3)
+        (All-weaker (IsNotBefore f.0 (ManyOpen line)) NoneRefused (λ s x. x.1) services f.1.3)),
   ),
 )
 judged_found bytes services bad (BadLine line e) r f = absurd f.1.2

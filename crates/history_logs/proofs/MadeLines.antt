@@ -7,6 +7,7 @@ use Rattle.std.proofs.lemmas.List.Sorted.{All-permutation, Contains-permutation}
 use Rattle.histories.specs.Frontier.{HasSlot}
 use Rattle.histories.proofs.Bits.{bit_cases, slot_once, slot_within}
 use Rattle.history_logs.specs.Judging.{AreLines, AreLinesTo, IsLineMade}
+use Rattle.std.proofs.lemmas.Option.{same_Some}
 
 -- a slot that does not wait
 pub not_waiting : (waiting slot : ℕ) (r : Bool) → (bit_at waiting slot ≡ 1 → IsTrue r)
@@ -38,13 +39,10 @@ module _ (begins : List ℕ) (slots : List (Option ℕ)) (waiting : ℕ) where
               (subst (λ s. HasSlot slots s other) same its) in
               let found : slice_get begins number ≡ Some line =
               subst (λ n. slice_get begins n ≡ Some line) (sym one) there in
-              subst (Contains (lines ++ k ∷ [])) (same_line k line at found) (Contains-push lines k)
+              subst (Contains (lines ++ k ∷ [])) (same_Some k line (sym at ∙ found))
+              (Contains-push lines k)
         ];
   }
-    where
-      same_line : (a b : ℕ) → slice_get begins number ≡ Some a → slice_get begins number ≡ Some b
-          → a ≡ b
-      same_line a b one other = cc
 
   -- all slots, in any order of the lines
   pub lines_all : (limit : ℕ) (lines sorted : List ℕ) → length slots ≤ limit

@@ -1,5 +1,5 @@
 -- The calls that a refused reply needs.
-use Rattle.histories.proofs.Events.{stands_begins}
+use Rattle.histories.proofs.Events.{stands_begins, stands_left, stands_right}
 use Rattle.std.proofs.Common.{◌≡◌, inl, inr, ℕ, zero, suc, ◌+◌, ◌-◌, ◌<◌, ◌≤◌, Bool, true, false, List, [], ◌∷◌, ◌++◌, Some, length, get_or, slice_get, take, drop, refl, sym, ◌∙◌, ap, subst, arith, append-nil, take_all, eq-eqb}
 use Rattle.std.specs.Prelude.{flat_map}
 use Rattle.std.proofs.lemmas.Bool.{cases_Bool, cases_order, cond_both}
@@ -108,18 +108,15 @@ lines_more begins kept es i d lines news h is new =
 -- a call that begins is counted
 stands_taken : (es : List Event) (k p : ℕ) (e : Event) → StandsAt (take k es) p e
     → StandsAt es p e
-stands_taken [] zero p e at = absurd (cc)
-stands_taken [] (suc k) p e at = absurd (cc)
-stands_taken (x ∷ es) zero p e at = absurd (cc)
-stands_taken (x ∷ es) (suc k) zero e at = at
-stands_taken (x ∷ es) (suc k) (suc p) e at = stands_taken es k p e at
+stands_taken es k p e at =
+    subst (λ (l : List Event). StandsAt l p e) (take-append-drop k es)
+    (stands_left (take k es) (drop k es) p e at)
 
 stands_dropped : (es : List Event) (k p : ℕ) (e : Event) → StandsAt (drop k es) p e
     → (q : ℕ) × StandsAt es q e
-stands_dropped es zero p e at = (p, at)
-stands_dropped [] (suc k) p e at = absurd (cc)
-stands_dropped (x ∷ es) (suc k) p e at =
-    let r = stands_dropped es k p e at in (suc r.0, r.1)
+stands_dropped es k p e at =
+    let r = stands_right (take k es) (drop k es) p e at in
+    (r.0, subst (λ (l : List Event). StandsAt l r.0 e) (take-append-drop k es) r.2)
 
 module _ {S : Type 0} (Step : S → ℕ → S → Type 0) (olds : List S) (past window : List Event)
     (history : IsHistory (past ++ window)) (c : ℕ) (kept : ℕ → Bool) where

@@ -2,7 +2,7 @@
 use Rattle.std.proofs.Common.{◌≡◌, ℕ, ◌+◌, ◌<◌, ◌≤◌, All, Bool, true, false, IfNone, List, [], ◌∷◌, ◌++◌, Option, Some, None, get_or, length, take, refl, sym, ◌∙◌, ap, subst, arith, take_all}
 use Rattle.std.specs.List.{AllZip}
 use Rattle.std.proofs.lemmas.List.Elements.{All-cons, All-nil}
-use Rattle.std.proofs.lemmas.List.{take_more}
+use Rattle.std.proofs.lemmas.List.{take_more, get_or_default}
 use Rattle.std.proofs.lemmas.Option.{slice_get-get_or}
 use Rattle.histories.specs.Frontier.{IsFrontOf}
 use Rattle.histories.proofs.Counting.{times_at}
@@ -20,7 +20,7 @@ use Rattle.history_logs.specs.Orders.{HasOrders, IsOrderOf}
 use Rattle.history_logs.specs.EventLines.{HasEventLines}
 use Rattle.history_logs.specs.Seen.{Service}
 use Rattle.history_logs.proofs.Found.{first_next, first_none}
-use Rattle.history_logs.proofs.Telling.{zip_push}
+use Rattle.history_logs.proofs.Telling.{zip_next}
 
 -- one call more
 pub begins_more : (begins calls : List ℕ) (i : ℕ) (lines more : List ℕ)
@@ -29,11 +29,8 @@ pub begins_more : (begins calls : List ℕ) (i : ℕ) (lines more : List ℕ)
     → AllZip (BeginsAt begins) (take (i + 1) calls) more
 begins_more begins calls i lines more all h within new =
     let call = get_or calls i 0 in
-    subst (AllZip (BeginsAt begins) (take (i + 1) calls)) (sym new)
-    (subst (λ (l : List ℕ). AllZip (BeginsAt begins) l (lines ++ get_or begins call 0 ∷ []))
-    (sym (take_more calls i 0 h))
-    (zip_push (BeginsAt begins) (take i calls) lines call (get_or begins call 0) all
-    (slice_get-get_or begins call 0 within)))
+    zip_next (BeginsAt begins) calls i call lines more (get_or begins call 0) all h
+    (get_or_default calls i 0 call h) (slice_get-get_or begins call 0 within) new
 
 module _ (s : Service) (o : IsOrderly s) (window : Window Watched) (calls : List ℕ)
     (f : IsFrontOf (StepOf s) window.front s.events (news s))
@@ -67,19 +64,6 @@ ordered_right (s ∷ services) (o ∷ orders) all =
     let x = all.0.explains in
     All-cons IsSeenRightly s services (x.0, all.0.order, x.1, x.2, x.3)
     (ordered_right services orders all.1)
-
--- one service more
-orders_more : (services : List Service) (i : ℕ) (d : Service) (orders more : List Order)
-    (found : Option (ℕ × Verdict)) → i < length services → d ≡ get_or services i d
-    → AreOrdered (take i services) orders
-    → (order : Order) × IsOrderOf d order × (more ≡ orders ++ order ∷ [])
-    → AreOrdered (take (i + 1) services) more
-orders_more services i d orders more found h is all added =
-    let one : take (i + 1) services ≡ take i services ++ d ∷ [] =
-    take_more services i d h ∙ ap (λ (e : Service). take i services ++ e ∷ []) (sym is) in
-    subst (AllZip IsOrderOf (take (i + 1) services)) (sym added.2)
-    (subst (λ (l : List Service). AllZip IsOrderOf l (orders ++ added.0 ∷ [])) (sym one)
-    (zip_push IsOrderOf (take i services) orders d added.0 all added.1))
 
 pub orders_all : (services : List Service) (i : ℕ) (orders : List Order) → length services ≤ i
     → AreOrdered (take i services) orders → AreOrdered services orders
@@ -123,9 +107,9 @@ orders_next bytes services i d first found result orders more os ps h is to f ad
   found = first_next bytes services i d first found result os ps h is to.found f same;
   ordered = λ none.
       let both = earlier_none first found (sym same ∙ none) in
-      orders_more services i d orders more found h is (to.ordered both.0)
-      (none_of found ((order : Order) × IsOrderOf d order × (more ≡ orders ++ order ∷ [])) added
-      both.1);
+      let own = none_of found ((order : Order) × IsOrderOf d order
+      × (more ≡ orders ++ order ∷ [])) added both.1 in
+      zip_next IsOrderOf services i d orders more own.0 (to.ordered both.0) h is own.1 own.2;
 }
 
 -- what is found is that of a log without orders

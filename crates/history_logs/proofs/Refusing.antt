@@ -95,15 +95,9 @@ no_other es events index d same ended other =
     ap (λ (l : List Event). get_or l index d) same
     ∙ get_or_from_slice_get events index (End ended.0) d ended.1 in
     elim other as (λ _. ⊥) [
-      | inl b ↦ begin_not b.0 ended.0 (sym b.1 ∙ is)
-      | inr b ↦ crash_not b.0 ended.0 (sym b.1 ∙ is)
+      | inl b ↦ let other_event = sym b.1 ∙ is in absurd (cc)
+      | inr b ↦ let other_event = sym b.1 ∙ is in absurd (cc)
     ]
-  where
-    begin_not : (x y : ℕ) → Begin x ≡ End y → ⊥
-    begin_not x y e = absurd (cc)
-
-    crash_not : (x y : ℕ) → Crash x ≡ End y → ⊥
-    crash_not x y e = absurd (cc)
 
 -- what stands at a place
 pub read_index : (ps qs : List ℕ) (i : ℕ) → qs ≡ ps → i < length ps

@@ -327,8 +327,7 @@ module _ (live s : Service) (front : Front Watched) (count : ℕ) (o : IsOrderly
 
         ended_whole : (n : ℕ) → HasEnded live.events n → HasEnded s.events n
         ended_whole n h =
-            subst (λ (l : List Event). HasEnded l n) (sym split)
-            (ended_right past live.events n h)
+            subst (λ (l : List Event). HasEnded l n) (sym split) (ended_right past live.events n h)
 
         over_now : (n : ℕ) → n < begun (past ++ followed) → HasEnded s.events n
         over_now n h =
