@@ -220,20 +220,6 @@ kept_dies old new k name (Some (caller.Calls at number)) kept is dies sets waits
     (subst (λ i. old.callers name ≡ Some (caller.Calls at i)) (sym e) is))))
 kept_dies old new k name _ kept is dies sets waits = absurd dies
 
--- a service began otherwise
-kept_given : (old : Log) (at : ℕ) (s t : Service) → IsKept old → old.waits ≡ None
-    → slice_get old.services at ≡ Some s → IsOrderly t → t.events ≡ s.events
-    → IsKept (record old { services = slice_set old.services at t })
-kept_given old at s t k none there orderly events = record {
-  orderly = All-set IsOrderly old.services at t orderly k.orderly;
-  opened = λ name b m e.
-      opened_set old.services at s t there b m
-      (λ _ o. subst (λ (l : List Event). IsOpen l m) (sym events) o) (k.opened name b m e);
-  apart = k.apart;
-  waits = λ b c e. absurd (cc);
-  none = λ e name. absurd (set_some old.services at s t there e);
-}
-
 pub kept_step : (old new : Log) (k : ℕ) (l : Line) → IsKept old → GoesOn old k l new → IsKept new
 kept_step old new k (service line) kept g =
     subst IsKept (sym g.2) (kept_push old (unseen line) kept g.0 (orderly_new line))
@@ -283,7 +269,12 @@ kept_step old new k (given number what) kept g =
     elim g.5 as (λ _. IsKept new) [
       | inl first ↦
           subst IsKept (sym first.1)
-          (kept_given old g.0 s (started s g.2) kept g.3 there (orderly_started s g.2 orderly) refl)
+          (subst (λ (w : Option (ℕ × NamedCommand)). IsKept (record old {
+            services = slice_set old.services g.0 (started s g.2);
+            waits = w;
+          })) (sym g.3)
+          (kept_alone old g.0 s (started s g.2) kept there (orderly_started s g.2 orderly)
+          (λ m o. o)))
       | inr anew ↦
           subst IsKept (sym anew.1)
           (kept_push old (started (unseen s.line) g.2) kept g.3

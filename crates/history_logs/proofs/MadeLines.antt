@@ -1,5 +1,5 @@
 -- The lines in which calls begin that were made.
-use Rattle.std.proofs.Common.{◌≡◌, ℕ, Bool, false, IsTrue, ◌+◌, ◌≤◌, List, [], ◌∷◌, ◌++◌, Contains, IsPermutation, Option, Some, inl, inr, length, slice_get, subst, sym, arith}
+use Rattle.std.proofs.Common.{◌≡◌, ℕ, Bool, false, IsTrue, ◌+◌, ◌≤◌, List, [], ◌∷◌, ◌++◌, Contains, IsPermutation, Option, Some, inl, inr, length, slice_get, subst, sym, arith, ◌∙◌}
 use Rattle.std.specs.Int.{bit_at}
 use Rattle.std.proofs.lemmas.Bool.{cases_lt}
 use Rattle.std.proofs.lemmas.List.Elements.{All-nil, All-push, Contains-append_left, Contains-push}
