@@ -19,7 +19,7 @@ pub above_new : (bytes : List ℕ) (log : Log) → log.services ≡ []
     → ((name : List ℕ) → log.callers name ≡ None) → log.waits ≡ None → IsAbove bytes log bytes 1
 above_new bytes log services callers waits =
     let none : calls_in log ≡ 0 =
-    ap (λ (l : List Service). sum_by (λ (s : Service). length s.commands) l) services in
+    ap (sum_by (λ (s : Service). length s.commands)) services in
     record {
       text = [];
       count = 0;
@@ -27,7 +27,7 @@ above_new bytes log services callers waits =
       spelled = refl;
       is = refl;
       kept = kept_new log services callers waits;
-      few = omega (arith, none);
+      few = omega arith;
       short = omega arith;
     }
 
@@ -41,7 +41,7 @@ one_line bytes text rest own after is comes =
 longer : (text own : List ℕ) (count : ℕ) → count ≤ length text
     → count + 1 ≤ length (text ++ (own ++ 10 ∷ []))
 longer text own count less =
-    omega (arith, less, length-append text (own ++ 10 ∷ []), length-append own (10 ∷ []))
+    omega (arith, length-append text (own ++ 10 ∷ []), length-append own (10 ∷ []))
 
 pub above_more : (bytes : List ℕ) (old new : Log) (rest : List ℕ) (k : ℕ) (text after : List ℕ)
     → IsAbove bytes old rest k → HasNo 10 text → rest ≡ text ++ 10 ∷ after
@@ -55,7 +55,7 @@ above_more bytes old new rest k text after a bars comes t =
         spelled = one_line bytes a.text rest text after a.spelled comes;
         is = ap (λ n. n + 1) a.is;
         kept = a.kept;
-        few = omega (arith, a.few);
+        few = omega arith;
         short = longer a.text text a.count a.short;
       })
       | inr goes ↦
@@ -64,12 +64,12 @@ above_more bytes old new rest k text after a bars comes t =
             text = a.text ++ (line_text goes.0 ++ 10 ∷ []);
             count = a.count + 1;
             read = line a.text a.count old a.read goes.0 goes.1
-                (subst (λ (l : List ℕ). HasNo 10 l) (sym goes.2) bars) new g;
+                (subst (HasNo 10) (sym goes.2) bars) new g;
             spelled = one_line bytes a.text rest (line_text goes.0) after a.spelled
                 (comes ∙ ap (λ (l : List ℕ). l ++ 10 ∷ after) (sym goes.2));
             is = ap (λ n. n + 1) a.is;
             kept = kept_step old new k goes.0 a.kept goes.3;
-            few = omega (arith, a.few, few_step old new k goes.0 goes.3);
+            few = omega (arith, few_step old new k goes.0 goes.3);
             short = longer a.text (line_text goes.0) a.count a.short;
           }
     ]
@@ -80,11 +80,9 @@ pub above_room : (bytes : List ℕ) (log : Log) (rest : List ℕ) (k : ℕ) (tex
 above_room bytes log rest k text after a comes =
     omega (
       arith,
-      a.is,
-      a.short,
-      ap (λ (l : List ℕ). length l) a.spelled,
+      ap length a.spelled,
       length-append a.text rest,
-      ap (λ (l : List ℕ). length l) comes,
+      ap length comes,
       length-append text (10 ∷ after),
     )
 
@@ -95,7 +93,7 @@ no_newline (x ∷ first) after bars =
 
 ends_none : (log : Log) (count : ℕ) (rest : List ℕ) → HasNo 10 rest → EndsThere log count rest
 ends_none log count rest bars first after hasno is =
-    absurd (no_newline first after (subst (λ (l : List ℕ). HasNo 10 l) is bars))
+    absurd (no_newline first after (subst (HasNo 10) is bars))
 
 ends_bad : (log : Log) (count : ℕ) (rest text back : List ℕ) → HasNo 10 text
     → rest ≡ text ++ 10 ∷ back → (¬ (IsTrue (is_note text))) → HasNoNext log (count + 1) text
@@ -115,14 +113,8 @@ read_to bytes log rest k services bad a same there ends = record {
   rest = rest;
   good = record { text = a.text; read = a.read; spelled = a.spelled; ends = there };
   same = same;
-  orderly = subst (λ (l : List Service). All IsOrderly l) same a.kept.orderly;
-  few = omega (
-    arith,
-    a.few,
-    a.short,
-    ap (λ (l : List ℕ). length l) a.spelled,
-    length-append a.text rest,
-  );
+  orderly = subst (All IsOrderly) same a.kept.orderly;
+  few = omega (arith, ap length a.spelled, length-append a.text rest);
   ends = ends;
 }
 

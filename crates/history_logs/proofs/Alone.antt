@@ -10,27 +10,13 @@ use Rattle.service_conformance.specs.declared.conformance.seen_reply.SeenReply.T
 use Rattle.service_conformance.specs.Judged.{Judged, judged_answered, shown, stopped}
 use Rattle.history_logs.specs.declared.logs.service.LogCall.{LogCall}
 use Rattle.history_logs.specs.Seen.{HasHandles, Service, called, calls_answered, calls_shown, changed, given_in, start_of, with_alone, with_begin, with_begun, with_over}
+use Rattle.std.proofs.Math.Seq.{set-append_seam}
+use Rattle.std.proofs.lemmas.List.{get_or_push}
 
 -- a command is no weak listing that stops
 pub called_stops : (s : Service) (c : NamedCommand) → stopped (called s c).seen ≡ None
 called_stops s (numbered c) = refl
-called_stops s (deregister slot ticket) = refl
-called_stops s (release r slot ticket) = refl
-
-set_last : {X : Type 0} (xs : List X) (a b : X) (n : ℕ) → n ≡ length xs
-    → slice_set (xs ++ a ∷ []) n b ≡ xs ++ b ∷ []
-set_last [] a b zero is = refl
-set_last [] a b (suc n) is = absurd (omega (arith, is))
-set_last (x ∷ xs) a b zero is = absurd (omega (arith, is))
-set_last {X} (x ∷ xs) a b (suc n) is =
-    ap (λ (l : List X). x ∷ l) (set_last xs a b n (omega (arith, is)))
-
-or_last : {X : Type 0} (xs : List X) (a d : X) (n : ℕ) → n ≡ length xs
-    → get_or (xs ++ a ∷ []) n d ≡ a
-or_last [] a d zero is = refl
-or_last [] a d (suc n) is = absurd (omega (arith, is))
-or_last (x ∷ xs) a d zero is = absurd (omega (arith, is))
-or_last (x ∷ xs) a d (suc n) is = or_last xs a d n (omega (arith, is))
+called_stops s _ = refl
 
 changed_last : (f : Judged → Judged) (calls : List Judged) (c : Judged)
     → changed f (calls ++ c ∷ []) (length calls) ≡ calls ++ f c ∷ []
@@ -45,14 +31,8 @@ start_last (x ∷ calls) c = start_last calls c
 -- what the reply gives is not changed by the begin
 given_begun : (s : Service) (c : LogCall) (k : ℕ) (adds : Option Role) (r : SeenReply)
     → given_in (with_begin s c k) adds r ≡ given_in s adds r
-given_begun s c k None (reply.Handle slot ticket) = refl
-given_begun s c k None (reply.Word w) = refl
-given_begun s c k None (reply.List ids) = refl
-given_begun s c k None (reply.Count n) = refl
 given_begun s c k (Some a) (reply.Handle slot ticket) = refl
-given_begun s c k (Some a) (reply.Word w) = refl
-given_begun s c k (Some a) (reply.List ids) = refl
-given_begun s c k (Some a) (reply.Count n) = refl
+given_begun s c k _ _ = refl
 
 module _ (s : Service) (c : LogCall) (r : SeenReply) (k : ℕ) (h : HasHandles s)
     (none : stopped c.seen ≡ None)
@@ -62,20 +42,15 @@ module _ (s : Service) (c : LogCall) (r : SeenReply) (k : ℕ) (h : HasHandles s
     calls_alone =
         ap (λ (o : Option ℕ). changed (λ x. judged_answered x r)
         (calls_shown (s.calls ++ c.seen ∷ []) o r) (length s.calls))
-        (start_last s.calls c.seen ∙ none)
-        ∙ changed_last (λ x. judged_answered x r) s.calls c.seen
+        (start_last s.calls c.seen ∙ none) ∙ changed_last (λ x. judged_answered x r) s.calls c.seen
 
     given_alone : slice_set (s.given ++ None ∷ []) (length s.calls)
         (given_in (with_begin s c k) (get_or (s.adds ++ c.adds ∷ []) (length s.calls) None) r)
         ≡ s.given ++ given_in s c.adds r ∷ []
     given_alone =
-        set_last s.given None
-        (given_in (with_begin s c k) (get_or (s.adds ++ c.adds ∷ []) (length s.calls) None) r)
-        (length s.calls) (sym h.given)
-        ∙ ap (λ (o : Option Handle). s.given ++ o ∷ [])
-        (ap (λ (a : Option Role). given_in (with_begin s c k) a r)
-        (or_last s.adds c.adds None (length s.calls) (sym h.adds))
-        ∙ given_begun s c k c.adds r)
+        let adds = get_or_push s.adds c.adds None (length s.calls) h.adds in
+        rw (adds, given_begun s c k c.adds r, ← h.given)
+        (set-append_seam s.given None [] (given_in s c.adds r))
 
     alone_is : (made : LogCall) (gives : Option Handle) → made.seen ≡ judged_answered c.seen r
         → made.adds ≡ c.adds → gives ≡ given_in s c.adds r

@@ -27,10 +27,13 @@ use Rattle.history_logs.specs.Reading.{Dies, GoesOn, HasRead, Log, Says}
 use Rattle.history_logs.specs.Reading.HasRead.{nothing as none_read, note as note_read, line as line_read}
 use Rattle.history_logs.specs.declared.logs.callers.CallerState.{CallerState}
 use Rattle.history_logs.specs.declared.logs.callers.CallerState.TheVariants as caller
-use Rattle.history_logs.proofs.AtIndex.{all_get, get_within}
+use Rattle.history_logs.proofs.AtIndex.{all_get, get_within, get_left, get_last, get_push}
 use Rattle.history_logs.proofs.Kept.{kept_new, kept_step}
-use Rattle.history_logs.proofs.Orderly.{open_new}
+use Rattle.history_logs.proofs.Orderly.{open_new, both}
+use Rattle.history_logs.proofs.Shortened.{get_changed, get_unchanged}
 use Rattle.history_logs.specs.Seen.{Begins, Service, called, calls_answered, calls_shown, changed, start_of, started, starting, stopping, unseen, with_alone, with_begin, with_crash, with_end, with_look, with_over, with_part}
+use Rattle.std.proofs.lemmas.Option.{same_Some}
+use Rattle.std.specs.Option.{option_map}
 
 -- so it is above a line: the events stand in these lines, and replies where their calls end,
 -- whatever follows
@@ -41,43 +44,6 @@ pub record HasEventLinesTo (text : List ℕ) (count : ℕ) (s : Service) : Type 
   pub answers : (index number k : ℕ) → StandsAt s.events index (End number)
       → slice_get s.event_lines index ≡ Some k → (rest : List ℕ)
       → IsAnsweredIn (text ++ rest) s number k
-
-get_back : {X : Type 0} (xs : List X) (y : X) (i : ℕ) (x : X) → i < length xs
-    → slice_get (xs ++ y ∷ []) i ≡ Some x → slice_get xs i ≡ Some x
-get_back [] y i x h e = absurd (omega (arith, h))
-get_back (z ∷ xs) y zero x h e = e
-get_back (z ∷ xs) y (suc i) x h e = get_back xs y i x (omega (arith, h)) e
-
-get_on : {X : Type 0} (xs : List X) (y : X) (i : ℕ) (x : X) → slice_get xs i ≡ Some x
-    → slice_get (xs ++ y ∷ []) i ≡ Some x
-get_on [] y i x e = absurd (cc)
-get_on (z ∷ xs) y zero x e = e
-get_on (z ∷ xs) y (suc i) x e = get_on xs y i x e
-
-get_last : (xs : List ℕ) (y i x : ℕ) → i ≡ length xs → slice_get (xs ++ y ∷ []) i ≡ Some x
-    → y ≡ x
-get_last [] y zero x h e = cc
-get_last [] y (suc i) x h e = absurd (omega (arith, h))
-get_last (z ∷ xs) y zero x h e = absurd (omega (arith, h))
-get_last (z ∷ xs) y (suc i) x h e = get_last xs y i x (omega (arith, h)) e
-
-get_changed : (f : Judged → Judged) (calls : List Judged) (number : ℕ) (c : Judged)
-    → slice_get calls number ≡ Some c → slice_get (changed f calls number) number ≡ Some (f c)
-get_changed f [] number c e = absurd (cc)
-get_changed f (x ∷ calls) zero c e = ap (λ o. Some (f o)) (some_is x c e)
-  where
-    some_is : (a b : Judged) → Some a ≡ Some b → a ≡ b
-    some_is a b e = cc
-get_changed f (x ∷ calls) (suc number) c e = get_changed f calls number c e
-
-get_unchanged : (f : Judged → Judged) (calls : List Judged) (number other : ℕ) → other ≢ number
-    → slice_get (changed f calls number) other ≡ slice_get calls other
-get_unchanged f [] number other n = refl
-get_unchanged f (x ∷ calls) zero zero n = absurd (n refl)
-get_unchanged f (x ∷ calls) zero (suc other) n = refl
-get_unchanged f (x ∷ calls) (suc number) zero n = refl
-get_unchanged f (x ∷ calls) (suc number) (suc other) n =
-    get_unchanged f calls number other (λ e. n (ap suc e))
 
 -- where a reply is shown, what is said stays said
 said_shown : (bytes : List ℕ) (c : Judged) (r : SeenReply) (k : ℕ) → IsSaidIn bytes c k
@@ -103,7 +69,7 @@ stands_shown calls (Some start) number c r e =
         now = shown c r;
         there = subst
             (λ n. slice_get (changed (λ x. shown x r) calls n) number ≡ Some (shown c r)) same
-            (get_changed (λ x. shown x r) calls number c e);
+            (get_changed (λ x. shown x r) calls number ∙ ap (option_map (λ x. shown x r)) e);
         says = λ bytes k said. said_shown bytes c r k said;
       }
       | inr other ↦ record {
@@ -117,38 +83,34 @@ said_answered : (bytes : List ℕ) (c : Judged) (r : SeenReply) (k : ℕ) (l : L
     → Says words r → IsLine l → Answers l words → IsLineAt bytes k (line_text l)
     → IsSaidIn bytes (judged_answered c r) k
 said_answered bytes (judged_call c) r k l words says is answer at =
-    (words, ap (λ (w : List ℕ). Some w) says.text, (l, is, answer, at))
+    (words, ap Some says.text, (l, is, answer, at))
 said_answered bytes (starts p ids) r k l words says is answer at = tt
 said_answered bytes (stops start seen) r k l words says is answer at =
-    (words, ap (λ (w : List ℕ). Some w) says.text, (l, is, answer, at))
+    (words, ap Some says.text, (l, is, answer, at))
 
 push_rising : (ps : List ℕ) (count k : ℕ) → AllPairs (λ (one other : ℕ). one ≤ other) ps
     → All (λ p. p ≤ count) ps → count ≤ k
     → AllPairs (λ (one other : ℕ). one ≤ other) (ps ++ k ∷ [])
 push_rising ps count k rising upto h =
     all_pairs_push (λ (one other : ℕ). one ≤ other) ps k rising
-    (λ i d lt. omega (arith, h, upto i d lt))
+    (λ i d lt. omega (arith, upto i d lt))
 
 push_upto : (ps : List ℕ) (count k : ℕ) → All (λ p. p ≤ count) ps → count ≤ k
     → All (λ p. p ≤ k) (ps ++ k ∷ [])
 push_upto ps count k upto h =
-    All-push (λ p. p ≤ k) ps k (λ i d lt. omega (arith, h, upto i d lt)) (omega arith)
-
-both_long : (ps : List ℕ) (k : ℕ) (es : List Event) (e : Event) → length ps ≡ length es
-    → length (ps ++ k ∷ []) ≡ length (es ++ e ∷ [])
-both_long [] k [] e h = refl
-both_long [] k (x ∷ es) e h = absurd (omega (arith, h))
-both_long (p ∷ ps) k [] e h = absurd (omega (arith, h))
-both_long (p ∷ ps) k (x ∷ es) e h = ap suc (both_long ps k es e (omega (arith, h)))
+    All-push (λ p. p ≤ k) ps k (λ i d lt. omega (arith, upto i d lt)) (omega arith)
 
 pub placed_new : (text : List ℕ) (count : ℕ) (line : ServiceLine)
     → HasEventLinesTo text count (unseen line)
 placed_new text count line = record {
   long = refl;
-  rising = λ i j d h lt. absurd (omega (arith, lt));
+  rising = λ i j d h lt. absurd (omega arith);
   upto = All-nil (λ p. p ≤ count);
   answers = λ index number k at is rest. absurd (cc);
 }
+
+same_end : (a b : ℕ) → End a ≡ End b → a ≡ b
+same_end a b e = cc
 
 module _ (text : List ℕ) (count : ℕ) (s : Service) (p : HasEventLinesTo text count s) where
   -- more lines follow
@@ -156,132 +118,107 @@ module _ (text : List ℕ) (count : ℕ) (s : Service) (p : HasEventLinesTo text
   placed_on more k h = record {
     long = p.long;
     rising = p.rising;
-    upto = λ i d lt. omega (arith, h, p.upto i d lt);
+    upto = λ i d lt. omega (arith, p.upto i d lt);
     answers = λ index number line at is rest.
         subst (λ (l : List ℕ). IsAnsweredIn l s number line) (sym (append_assoc text more rest))
         (p.answers index number line at is (more ++ rest));
   }
 
   module _ (k : ℕ) (h : count ≤ k) where
-    -- a call begins in this line
-    placed_part : (c : LogCall) → HasEventLinesTo text k (with_part s c k)
-    placed_part c = record {
-      long = both_long s.event_lines k s.events (Begin (length s.calls)) p.long;
-      rising = push_rising s.event_lines count k p.rising p.upto h;
-      upto = push_upto s.event_lines count k p.upto h;
+    -- one event more, in this line
+    placed_event : (t : Service) (e : Event) → t.events ≡ s.events ++ e ∷ []
+        → t.event_lines ≡ s.event_lines ++ k ∷ []
+        → ((index number line : ℕ) → StandsAt s.events index (End number) → (rest : List ℕ)
+        → IsAnsweredIn (text ++ rest) s number line → IsAnsweredIn (text ++ rest) t number line)
+        → ((number : ℕ) → e ≡ End number → (rest : List ℕ)
+        → IsAnsweredIn (text ++ rest) t number k)
+        → HasEventLinesTo text k t
+    placed_event t e events lines still last = record {
+      long = ap length lines ∙ (both s.event_lines s.events k e p.long ∙ ap length (sym events));
+      rising = subst (AllPairs (λ (one other : ℕ). one ≤ other)) (sym lines)
+          (push_rising s.event_lines count k p.rising p.upto h);
+      upto = subst (All (λ p. p ≤ k)) (sym lines) (push_upto s.event_lines count k p.upto h);
       answers = λ index number line at is rest.
-          elim (stands_cases s.events (Begin (length s.calls)) index (End number) at)
-          as (λ _. IsAnsweredIn (text ++ rest) (with_part s c k) number line) [
+          let stands = subst (λ (l : List ℕ). slice_get l index ≡ Some line) lines is in
+          elim (stands_cases s.events e index (End number)
+          (subst (λ (l : List Event). StandsAt l index (End number)) events at))
+          as (λ _. IsAnsweredIn (text ++ rest) t number line) [
             | inl before ↦
                 let lt : index < length s.event_lines =
                 omega (arith, p.long, stands_within s.events index (End number) before) in
-                let a = p.answers index number line before
-                (get_back s.event_lines k index line lt is) rest in
-                (a.0, get_on s.calls c.seen number a.0 a.1, a.2)
-            | inr last ↦ let no_end = last.1 in absurd (cc)
+                still index number line before rest
+                (p.answers index number line before
+                (sym (get_left s.event_lines (k ∷ []) index lt) ∙ stands) rest)
+            | inr own ↦
+                let here : k ≡ line =
+                same_Some k line
+                (sym (get_last s.event_lines k index (own.0 ∙ sym p.long)) ∙ stands) in
+                subst (IsAnsweredIn (text ++ rest) t number) here (last number own.1 rest)
           ];
     }
 
+    -- a call begins in this line
+    placed_call : (t : Service) (c : LogCall) → t.events ≡ s.events ++ Begin (length s.calls) ∷ []
+        → t.event_lines ≡ s.event_lines ++ k ∷ [] → t.calls ≡ s.calls ++ c.seen ∷ []
+        → HasEventLinesTo text k t
+    placed_call t c events lines calls =
+        placed_event t (Begin (length s.calls)) events lines
+        (λ index number line at rest a. (
+          a.0,
+          ap (λ (l : List Judged). slice_get l number) calls
+              ∙ get_push s.calls c.seen number a.0 a.1,
+          a.2,
+        )) (λ number e. absurd (cc))
+
+    placed_part : (c : LogCall) → HasEventLinesTo text k (with_part s c k)
+    placed_part c = placed_call (with_part s c k) c refl refl refl
+
     pub placed_begin : (c : LogCall) → HasEventLinesTo text k (with_begin s c k)
-    placed_begin c =
-        let p = placed_part c in
-        record { long = p.long; rising = p.rising; upto = p.upto; answers = p.answers }
+    placed_begin c = placed_call (with_begin s c k) c refl refl refl
 
     -- what starts to look is over
     placed_over : (over : ℕ) (part : Part) (ids : Option (List ℕ))
-        → slice_get s.calls over ≡ Some (starts part ids) → HasEventLinesTo text k (with_over s
-        over k)
-    placed_over over part ids called = record {
-      long = both_long s.event_lines k s.events (End over) p.long;
-      rising = push_rising s.event_lines count k p.rising p.upto h;
-      upto = push_upto s.event_lines count k p.upto h;
-      answers = λ index number line at is rest.
-          elim (stands_cases s.events (End over) index (End number) at)
-          as (λ _. IsAnsweredIn (text ++ rest) (with_over s over k) number line) [
-            | inl before ↦
-                let lt : index < length s.event_lines =
-                omega (arith, p.long, stands_within s.events index (End number) before) in
-                p.answers index number line before (get_back s.event_lines k index line lt is) rest
-            | inr last ↦
-                let same : over ≡ number = over_is over number last.1 in (
-                  starts part ids,
-                  subst (λ n. slice_get s.calls n ≡ Some (starts part ids)) same called,
-                  tt,
-                )
-          ];
-    }
-      where
-        over_is : (a b : ℕ) → End a ≡ End b → a ≡ b
-        over_is a b e = cc
+        → slice_get s.calls over ≡ Some (starts part ids)
+        → HasEventLinesTo text k (with_over s over k)
+    placed_over over part ids called =
+        placed_event (with_over s over k) (End over) refl refl (λ index number line at rest a. a)
+        (λ number e rest. (
+          starts part ids,
+          subst (λ n. slice_get s.calls n ≡ Some (starts part ids)) (same_end over number e) called,
+          tt,
+        ))
 
     -- the caller of a call died
     pub placed_crash : (dead : ℕ) → HasEventLinesTo text k (with_crash s dead k)
-    placed_crash dead = record {
-      long = both_long s.event_lines k s.events (Crash dead) p.long;
-      rising = push_rising s.event_lines count k p.rising p.upto h;
-      upto = push_upto s.event_lines count k p.upto h;
-      answers = λ index number line at is rest.
-          elim (stands_cases s.events (Crash dead) index (End number) at)
-          as (λ _. IsAnsweredIn (text ++ rest) (with_crash s dead k) number line) [
-            | inl before ↦
-                let lt : index < length s.event_lines =
-                omega (arith, p.long, stands_within s.events index (End number) before) in
-                p.answers index number line before (get_back s.event_lines k index line lt is) rest
-            | inr last ↦ let no_end = last.1 in absurd (cc)
-          ];
-    }
+    placed_crash dead =
+        placed_event (with_crash s dead k) (Crash dead) refl refl
+        (λ index number line at rest a. a) (λ number e. absurd (cc))
 
     -- a call that is open was answered in this line
     pub placed_end : (ended : ℕ) (r : SeenReply) (c : Judged) (l : Line) (words : List ℕ)
         → IsOpen s.events ended → slice_get s.calls ended ≡ Some c → Says words r → IsLine l
         → Answers l words → ((rest : List ℕ) → IsLineAt (text ++ rest) k (line_text l))
         → HasEventLinesTo text k (with_end s ended r k)
-    placed_end ended r c l words live called says is_line answer there = record {
-      long = both_long s.event_lines k s.events (End ended) p.long;
-      rising = push_rising s.event_lines count k p.rising p.upto h;
-      upto = push_upto s.event_lines count k p.upto h;
-      answers = λ index number line at is rest.
-          elim (stands_cases s.events (End ended) index (End number) at)
-          as (λ _. IsAnsweredIn (text ++ rest) (with_end s ended r k) number line) [
-            | inl before ↦
-                let lt : index < length s.event_lines =
-                omega (arith, p.long, stands_within s.events index (End number) before) in
-                let other : number ≢ ended =
-                λ same. live.1
-                (index, inl (subst (λ n. StandsAt s.events index (End n)) same before)) in
-                let a = p.answers index number line before
-                (get_back s.event_lines k index line lt is) rest in
-                let sh = stands_shown s.calls (start_of s.calls ended) number a.0 r a.1 in (
-                  sh.now,
-                  get_unchanged (λ x. judged_answered x r)
-                      (calls_shown s.calls (start_of s.calls ended) r) ended number other
-                      ∙ sh.there,
-                  sh.says (text ++ rest) line a.2,
-                )
-            | inr last ↦
-                let same : ended ≡ number = end_is ended number last.1 in
-                let here : k ≡ line =
-                get_last s.event_lines k index line (last.0 ∙ sym p.long) is in
-                let sh = stands_shown s.calls (start_of s.calls ended) ended c r called in (
-                  judged_answered sh.now r,
-                  subst
-                      (λ n. slice_get (calls_answered s.calls ended r) n
-                      ≡ Some (judged_answered sh.now r))
-                      same
-                      (get_changed (λ x. judged_answered x r)
-                      (calls_shown s.calls (start_of s.calls ended) r) ended sh.now sh.there),
-                  said_answered (text ++ rest) sh.now r line l words says is_line answer
-                      (subst (λ n. IsLineAt (text ++ rest) n (line_text l)) here (there rest)),
-                )
-          ];
-    }
-      where
-        end_is : (a b : ℕ) → End a ≡ End b → a ≡ b
-        end_is a b e = cc
-
-get_end : {X : Type 0} (xs : List X) (y : X) → slice_get (xs ++ y ∷ []) (length xs) ≡ Some y
-get_end [] y = refl
-get_end (x ∷ xs) y = get_end xs y
+    placed_end ended r c l words live called says is_line answer there =
+        let shown_calls = calls_shown s.calls (start_of s.calls ended) r in
+        let answered = λ (x : Judged). judged_answered x r in
+        placed_event (with_end s ended r k) (End ended) refl refl
+        (λ index number line before rest a.
+        let other : number ≢ ended =
+        λ same. live.1 (index, inl (subst (λ n. StandsAt s.events index (End n)) same before)) in
+        let sh = stands_shown s.calls (start_of s.calls ended) number a.0 r a.1 in (
+          sh.now,
+          get_unchanged answered shown_calls ended number other ∙ sh.there,
+          sh.says (text ++ rest) line a.2,
+        ))
+        (λ number e rest.
+        let sh = stands_shown s.calls (start_of s.calls ended) ended c r called in (
+          answered sh.now,
+          subst (λ n. slice_get (calls_answered s.calls ended r) n ≡ Some (answered sh.now))
+              (same_end ended number e)
+              (get_changed answered shown_calls ended ∙ ap (option_map answered) sh.there),
+          said_answered (text ++ rest) sh.now r k l words says is_line answer (there rest),
+        ))
 
 -- the lines that follow the text have their numbers after those of the text
 abbrev FollowsOn : List ℕ → ℕ → Type 0
@@ -304,8 +241,7 @@ line_there : (text : List ℕ) (count : ℕ) (first : List ℕ) → HasNo 10 fir
 line_there text count first none cut rest =
     subst (λ (l : List ℕ). IsLineAt l (count + 1) first)
     (sym (append_assoc text (first ++ 10 ∷ []) rest))
-    (cut ((first ++ 10 ∷ []) ++ rest) first zero
-    (rest, none, append_assoc first (10 ∷ []) rest))
+    (cut ((first ++ 10 ∷ []) ++ rest) first zero (rest, none, append_assoc first (10 ∷ []) rest))
 
 module _ (text : List ℕ) (count : ℕ) where
   abbrev Now : Service → Type 0
@@ -328,8 +264,7 @@ module _ (text : List ℕ) (count : ℕ) where
   set_next : (ss new : List Service) (at : ℕ) (t : Service) → All Now ss → Next t
       → new ≡ slice_set ss at t → All Next new
   set_next ss new at t all p is =
-      subst (λ (l : List Service). All Next l) (sym is)
-      (All-set Next ss at t p (all_later ss all))
+      subst (All Next) (sym is) (All-set Next ss at t p (all_later ss all))
 
   placed_started : (s : Service) (start : dynamic.Service) → Next s → Next (started s start)
   placed_started s start p =
@@ -337,14 +272,13 @@ module _ (text : List ℕ) (count : ℕ) where
 
   placed_dies : (ss new : List Service) (state : Option CallerState) → All Now ss
       → Dies ss (count + 1) state new → All Next new
-  placed_dies ss new None all d = absurd d
-  placed_dies ss new (Some caller.Dead) all d = absurd d
   placed_dies ss new (Some caller.Idle) all d =
-      subst (λ (l : List Service). All Next l) (sym d) (all_later ss all)
+      subst (All Next) (sym d) (all_later ss all)
   placed_dies ss new (Some (caller.Calls at number)) all d =
       set_next ss new at (with_crash d.0 number (count + 1)) all
       (placed_crash text count d.0 (all_get Now ss at d.0 all d.1) (count + 1) (omega arith) number)
       d.2
+  placed_dies ss new _ all d = absurd d
 
   placed_look : (s : Service) (part : Part) → Now s → Next (with_look s part (count + 1))
   placed_look s part p =
@@ -354,14 +288,13 @@ module _ (text : List ℕ) (count : ℕ) where
       let first : Next one = placed_begin text count s p k (omega arith) (starting part) in
       let second : Next (with_over one n k) =
       placed_over text k one first k (omega arith) n part None
-      (get_end s.calls (starting part).seen) in
+      (get_last s.calls (starting part).seen (length s.calls) refl) in
       placed_part text k (with_over one n k) second k (omega arith) (stopping n)
 
   placed_begun : (s t : Service) (b : Begun) (current : ℕ) → Now s
       → Begins s b (count + 1) t current → Next t
   placed_begun s t (command c) current p begins =
-      subst Next (sym begins.0)
-      (placed_begin text count s p (count + 1) (omega arith) (called s c))
+      subst Next (sym begins.0) (placed_begin text count s p (count + 1) (omega arith) (called s c))
   placed_begun s t (weak r) current p (inl looks) =
       subst Next (sym looks.2) (placed_look s looks.0 p)
   placed_begun s t (weak r) current p (inr lists) =
@@ -386,9 +319,9 @@ module _ (text : List ℕ) (count : ℕ) where
       placed_begin text count s (all_get Now old.services g.0 s all g.5) k (omega arith) c in
       let ended : HasEventLinesTo text k (with_alone s c g.3 k) =
       placed_end text k (with_begin s c k) begun k (omega arith) (length s.calls) g.3 c.seen
-      (reply words) words (open_new s c k orderly) (get_end s.calls c.seen) g.6 tt refl there in
-      set_next old.services new.services g.0 _ all ended
-      (ap (λ (x : Log). x.services) g.7)
+      (reply words) words (open_new s c k orderly) (get_last s.calls c.seen _ refl)
+      g.6 tt refl there in
+      set_next old.services new.services g.0 _ all ended (ap (λ (x : Log). x.services) g.7)
   placed_step old new (begin number name begun) kept all g is there =
       let s = g.1 in
       set_next old.services new.services g.0 g.5.0 all
@@ -398,26 +331,22 @@ module _ (text : List ℕ) (count : ℕ) where
       let k = count + 1 in
       let orderly = all_get IsOrderly old.services g.0 s kept.orderly g.6 in
       let o = kept.opened name g.0 g.1 g.5 in
-      let same : o.0 ≡ s = same_service o.0 s (sym o.1 ∙ g.6) in
+      let same : o.0 ≡ s = same_Some o.0 s (sym o.1 ∙ g.6) in
       let live : IsOpen s.events g.1 =
       subst (λ (x : Service). IsOpen x.events g.1) same o.2 in
       let within : g.1 < length s.calls =
-      omega (arith, orderly.numbered g.1 live.0, orderly.counts) in
+      omega (arith, orderly.numbered g.1 live.0) in
       let c = get_within s.calls g.1 within in
       set_next old.services new.services g.0 (with_end s g.1 g.3 k) all
       (placed_end text count s (all_get Now old.services g.0 s all g.6) k (omega arith) g.1 g.3 c.0
       (end name words) words live c.1 g.7 is refl there) g.8
-    where
-      same_service : (a b : Service) → Some a ≡ Some b → a ≡ b
-      same_service a b e = cc
   placed_step old new (crash name) kept all g is there =
       placed_dies old.services new.services (old.callers name) all g.1
   placed_step old new (given number what) kept all g is there =
       elim g.5 as (λ _. All Next new.services) [
         | inl first ↦
             set_next old.services new.services g.0 (started g.1 g.2) all
-            (placed_started g.1 g.2
-            (later g.1 (all_get Now old.services g.0 g.1 all g.4.there)))
+            (placed_started g.1 g.2 (later g.1 (all_get Now old.services g.0 g.1 all g.4.there)))
             (ap (λ (x : Log). x.services) first.1)
         | inr anew ↦
             let t = started (unseen g.1.line) g.2 in
@@ -438,8 +367,7 @@ read_on text count log (none_read l services callers waits) = record {
   cut = λ rest line k at.
       let same : suc k ≡ 0 + suc k = omega arith in
       subst (λ n. IsLineAt rest n line) same at;
-  placed = subst (λ (ss : List Service). All (HasEventLinesTo [] 0) ss) (sym services)
-      (All-nil (HasEventLinesTo [] 0));
+  placed = subst (All (HasEventLinesTo [] 0)) (sym services) (All-nil (HasEventLinesTo [] 0));
 }
 read_on text count log (note_read before n l read first none is) =
     let r = read_on before n l read in
@@ -468,7 +396,7 @@ pub placed_of : (bytes : List ℕ) (services : List Service) (bad : Option (ℕ 
 placed_of bytes services bad r =
     let g = r.good in
     let on = read_on g.text r.count r.log g.read in
-    subst (λ (ss : List Service). All (HasEventLines bytes) ss) r.same
+    subst (All (HasEventLines bytes)) r.same
     (All-weaker (HasEventLinesTo g.text r.count) (HasEventLines bytes)
     (λ s p. record {
       rising = p.rising;

@@ -1,9 +1,10 @@
 -- Calls that are answered.
 use Rattle.std.proofs.Common.{◌≡◌, ℕ, zero, suc, List, [], ◌∷◌, Option, Some, None, ◌+◌, ◌<◌, ◌≤◌, ◌-◌, ◌++◌, drop, replicate, get_or, length, set, slice_get, refl, sym, ◌∙◌, ap, arith}
-use Rattle.std.proofs.lemmas.List.{get_or_past, length-replicate}
+use Rattle.std.proofs.lemmas.List.{get_or_past, length-replicate, get_or_default}
 use Rattle.std.proofs.Math.Seq.{drop-append-add}
 use Rattle.histories.specs.declared.event.Event.{Event}
 use Rattle.histories.specs.declared.event.Event.TheVariants.{End}
+use Rattle.history_logs.proofs.Orderly.{length_changed}
 use Rattle.iox2_container.specs.declared.container.role.Role.{Role}
 use Rattle.iox2_container.specs.Handle.{Handle}
 use Rattle.service_conformance.specs.declared.conformance.seen_reply.SeenReply.{SeenReply}
@@ -20,17 +21,17 @@ changed_at f (x ∷ calls) (suc number) c n is new =
 -- the number with which a weak listing began is told by the call
 pub start_at : (calls : List Judged) (number : ℕ) (c : Judged) → number < length calls
     → c ≡ get_or calls number c → start_of calls number ≡ stopped c
-start_at [] number c h is = absurd (omega (arith, h))
+start_at [] number c h is = absurd (omega arith)
 start_at (x ∷ calls) zero c h is = ap stopped (sym is)
-start_at (x ∷ calls) (suc number) c h is = start_at calls number c (omega (arith, h)) is
+start_at (x ∷ calls) (suc number) c h is = start_at calls number c (omega arith) is
 
 -- beyond the calls nothing changes
 pub changed_past : (f : Judged → Judged) (calls : List Judged) (number : ℕ)
     → length calls ≤ number → changed f calls number ≡ calls
 changed_past f [] number h = refl
-changed_past f (x ∷ calls) zero h = absurd (omega (arith, h))
+changed_past f (x ∷ calls) zero h = absurd (omega arith)
 changed_past f (x ∷ calls) (suc number) h =
-    ap (λ (l : List Judged). x ∷ l) (changed_past f calls number (omega (arith, h)))
+    ap (λ (l : List Judged). x ∷ l) (changed_past f calls number (omega arith))
 
 -- what a reply shows to the weak listing that the call stops, if it stops one
 pub shown_none : (calls : List Judged) (number : ℕ) (c : Judged) (r : SeenReply)
@@ -53,14 +54,14 @@ module _ (first : ℕ) (calls : List Judged) (number start : ℕ) (c : Judged) (
         → calls ≡ calls_shown_from first calls (start_of calls number) r
     shown_past index same past =
         sym (changed_past (λ x. shown x r) calls index past)
-        ∙ (ap (λ n. changed (λ x. shown x r) calls n) same ∙ shown_at)
+        ∙ (ap (changed (λ x. shown x r) calls) same ∙ shown_at)
 
     pub shown_set : (index : ℕ) → index ≡ start - first → (d n : Judged)
         → d ≡ get_or calls index d → n ≡ shown d r
         → set calls index n ≡ calls_shown_from first calls (start_of calls number) r
     shown_set index same d n at new =
         changed_at (λ x. shown x r) calls index d n at new
-        ∙ (ap (λ n. changed (λ x. shown x r) calls n) same ∙ shown_at)
+        ∙ (ap (changed (λ x. shown x r) calls) same ∙ shown_at)
 
     pub stops_kept : ((from : ℕ) → start_of calls number ≡ Some from → first ≤ from)
         → first ≤ start
@@ -75,9 +76,7 @@ given_past s number call there past =
 -- a default that is what stands there is any default
 pub same_default : {X : Type 0} (xs : List X) (at : ℕ) (d e : X) → at < length xs
     → d ≡ get_or xs at d → d ≡ get_or xs at e
-same_default [] at d e h is = absurd (omega (arith, h))
-same_default (x ∷ xs) zero d e h is = is
-same_default (x ∷ xs) (suc at) d e h is = same_default xs at d e (omega arith) is
+same_default xs at d e h is = is ∙ get_or_default xs at d e h
 
 -- forgotten calls stand before those that are kept
 changed_over : (f : Judged → Judged) (first : ℕ) (d : Judged) (calls : List Judged) (number : ℕ)
@@ -86,23 +85,23 @@ changed_over : (f : Judged → Judged) (first : ℕ) (d : Judged) (calls : List 
     ≡ replicate first d ++ changed f calls (number - first)
 changed_over f zero d calls number h =
     let same : number - 0 ≡ number = omega arith in
-    ap (λ n. changed f calls n) (sym same)
-changed_over f (suc first) d calls zero h = absurd (omega (arith, h))
+    ap (changed f calls) (sym same)
+changed_over f (suc first) d calls zero h = absurd (omega arith)
 changed_over f (suc first) d calls (suc number) h =
     let same : suc number - suc first ≡ number - first = omega arith in
     ap (λ (l : List Judged). d ∷ l)
-    (changed_over f first d calls number (omega (arith, h))
+    (changed_over f first d calls number (omega arith)
     ∙ ap (λ n. replicate first d ++ changed f calls n) (sym same))
 
 pub start_over : (first : ℕ) (d : Judged) (calls : List Judged) (number : ℕ) → first ≤ number
     → start_of (replicate first d ++ calls) number ≡ start_of calls (number - first)
 start_over zero d calls number h =
     let same : number - 0 ≡ number = omega arith in
-    ap (λ n. start_of calls n) (sym same)
-start_over (suc first) d calls zero h = absurd (omega (arith, h))
+    ap (start_of calls) (sym same)
+start_over (suc first) d calls zero h = absurd (omega arith)
 start_over (suc first) d calls (suc number) h =
     let same : suc number - suc first ≡ number - first = omega arith in
-    start_over first d calls number (omega (arith, h)) ∙ ap (λ n. start_of calls n) (sym same)
+    start_over first d calls number (omega arith) ∙ ap (start_of calls) (sym same)
 
 module _ (first : ℕ) (calls : List Judged) (number : ℕ) (r : SeenReply) (kept : first ≤ number)
   where
@@ -162,12 +161,6 @@ end_is s number line r calls adds given es ps within a role gives e f made same 
     (same_default s.adds number adds None within role) in
     same ∙ rw (a, b, e, f) refl
 
-length_changed : (f : Judged → Judged) (calls : List Judged) (number : ℕ)
-    → length (changed f calls number) ≡ length calls
-length_changed f [] number = refl
-length_changed f (c ∷ calls) zero = refl
-length_changed f (c ∷ calls) (suc number) = ap suc (length_changed f calls number)
-
 pub length_shown_from : (first : ℕ) (calls : List Judged) (start : Option ℕ) (r : SeenReply)
     → length (calls_shown_from first calls start r) ≡ length calls
 length_shown_from first calls None r = refl
@@ -190,24 +183,23 @@ pub forget_is : (old s : Service) (begun : ℕ) (calls : List Judged) (first fol
 forget_is old s begun calls first followed same from is less kept rest events left begins b
     event_lines p
     made m =
-    let low : begun ≤ first = omega (arith, less, ap (λ (x : Service). x.first) same, from) in
+    let low : begun ≤ first = omega (arith, ap (λ (x : Service). x.first) same) in
     let at : length (replicate begun forgotten) + (first - begun) ≡ first =
-    omega (arith, low, length-replicate begun forgotten) in
+    omega (arith, length-replicate begun forgotten) in
     let c : kept ≡ drop first s.calls =
     rest ∙ (sym (drop-append-add (replicate begun forgotten) calls (first - begun))
-    ∙ (ap (λ n. drop n (replicate begun forgotten ++ calls)) at
-    ∙ ap (λ (l : List Judged). drop first l) (sym is))) in
+    ∙ (ap (λ n. drop n (replicate begun forgotten ++ calls)) at ∙ ap (drop first) (sym is))) in
     m ∙ (rw (c, left, b, p) refl ∙ ap (λ (x : Service). forgetting x first followed) same)
 
 pub start_under : (first : ℕ) (d : Judged) (calls : List Judged) (number : ℕ) → number < first
     → (stopped d ≡ None → start_of (replicate first d ++ calls) number ≡ None)
-start_under zero d calls number h none = absurd (omega (arith, h))
+start_under zero d calls number h none = absurd (omega arith)
 start_under (suc first) d calls zero h none = none
 start_under (suc first) d calls (suc number) h none =
-    start_under first d calls number (omega (arith, h)) none
+    start_under first d calls number (omega arith) none
 
 pub start_past : (calls : List Judged) (number : ℕ) → length calls ≤ number
     → start_of calls number ≡ None
 start_past [] number h = refl
-start_past (x ∷ calls) zero h = absurd (omega (arith, h))
-start_past (x ∷ calls) (suc number) h = start_past calls number (omega (arith, h))
+start_past (x ∷ calls) zero h = absurd (omega arith)
+start_past (x ∷ calls) (suc number) h = start_past calls number (omega arith)

@@ -1,35 +1,34 @@
 -- Elements at an index.
-use Rattle.std.proofs.Common.{◌≡◌, ◌≢◌, ◌⊎◌, ℕ, zero, suc, ◌<◌, List, [], ◌∷◌, ◌++◌, All, Option, Some, length, refl, ap, subst, arith, inl, inr, slice_get}
+use Rattle.std.proofs.Common.{◌≡◌, ◌≢◌, ◌⊎◌, ℕ, zero, suc, ◌<◌, List, [], ◌∷◌, ◌++◌, All, Option, Some, length, refl, ap, subst, arith, inl, inr, slice_get, ◌∙◌, get_or}
 use Rattle.std.specs.List.{slice_set}
-use Rattle.std.proofs.lemmas.List.Elements.{All-cons, All-head, All-nil, All-tail}
-
-pub same_some : {X : Type 0} (a b : X) → Some a ≡ Some b → a ≡ b
-same_some a b e = cc
+use Rattle.std.proofs.lemmas.Option.{same_Some, slice_get_within, get_or_from_slice_get, slice_get-get_or}
+use Rattle.iox2_container.proofs.ListEdits.{get_set_same}
 
 pub get_same : {X : Type 0} (xs : List X) (i : ℕ) (a b : X) → slice_get xs i ≡ Some b
     → slice_get (slice_set xs i a) i ≡ Some a
-get_same [] i a b e = absurd (cc)
-get_same (x ∷ xs) zero a b e = refl
-get_same (x ∷ xs) (suc i) a b e = get_same xs i a b e
+get_same xs i a b e = get_set_same xs i a (slice_get_within xs i b e)
 
-pub get_other : {X : Type 0} (xs : List X) (i j : ℕ) (a : X) → j ≢ i
-    → slice_get (slice_set xs i a) j ≡ slice_get xs j
-get_other [] i j a n = refl
-get_other (x ∷ xs) zero zero a n = absurd (n refl)
-get_other (x ∷ xs) zero (suc j) a n = refl
-get_other (x ∷ xs) (suc i) zero a n = refl
-get_other (x ∷ xs) (suc i) (suc j) a n = get_other xs i j a (λ e. n (ap suc e))
+pub get_left : {X : Type 0} (xs ys : List X) (n : ℕ) → n < length xs
+    → slice_get (xs ++ ys) n ≡ slice_get xs n
+get_left [] ys n h = absurd (omega arith)
+get_left (x ∷ xs) ys zero h = refl
+get_left (x ∷ xs) ys (suc n) h = get_left xs ys n (omega arith)
+
+pub get_last : {X : Type 0} (xs : List X) (y : X) (n : ℕ) → n ≡ length xs
+    → slice_get (xs ++ y ∷ []) n ≡ Some y
+get_last [] y zero h = refl
+get_last [] y (suc n) h = absurd (omega arith)
+get_last (x ∷ xs) y zero h = absurd (omega arith)
+get_last (x ∷ xs) y (suc n) h = get_last xs y n (omega arith)
 
 pub get_push : {X : Type 0} (xs : List X) (y : X) (i : ℕ) (x : X) → slice_get xs i ≡ Some x
     → slice_get (xs ++ y ∷ []) i ≡ Some x
-get_push [] y i x e = absurd (cc)
-get_push (z ∷ xs) y zero x e = e
-get_push (z ∷ xs) y (suc i) x e = get_push xs y i x e
+get_push xs y i x e = get_left xs (y ∷ []) i (slice_get_within xs i x e) ∙ e
 
 pub get_push_at : {X : Type 0} (xs : List X) (y : X) (i : ℕ) (x : X)
     → slice_get (xs ++ y ∷ []) i ≡ Some x
     → (slice_get xs i ≡ Some x) ⊎ ((i ≡ length xs) × (y ≡ x))
-get_push_at [] y zero x e = inr (refl, same_some y x e)
+get_push_at [] y zero x e = inr (refl, same_Some y x e)
 get_push_at [] y (suc i) x e = absurd (cc)
 get_push_at (z ∷ xs) y zero x e = inl e
 get_push_at (z ∷ xs) y (suc i) x e =
@@ -41,18 +40,15 @@ get_push_at (z ∷ xs) y (suc i) x e =
 
 pub all_get : {X : Type 0} (P : X → Type 0) (xs : List X) (i : ℕ) (x : X) → All P xs
     → slice_get xs i ≡ Some x → P x
-all_get P [] i x all e = absurd (cc)
-all_get P (y ∷ xs) zero x all e = subst P (same_some y x e) (All-head P y xs all)
-all_get P (y ∷ xs) (suc i) x all e = all_get P xs i x (All-tail P y xs all) e
+all_get P xs i x all e =
+    subst P (get_or_from_slice_get xs i x x e) (all i x (slice_get_within xs i x e))
 
 pub all_of : {X : Type 0} (P : X → Type 0) (xs : List X)
     → ((i : ℕ) (x : X) → slice_get xs i ≡ Some x → P x) → All P xs
-all_of P [] each = All-nil P
-all_of P (x ∷ xs) each =
-    All-cons P x xs (each 0 x refl) (all_of P xs (λ i y e. each (suc i) y e))
+all_of P xs each i d h = each i (get_or xs i d) (slice_get-get_or xs i d h)
 
 pub get_within : {X : Type 0} (xs : List X) (i : ℕ) → i < length xs
     → (x : X) × (slice_get xs i ≡ Some x)
-get_within [] i h = absurd (omega (arith, h))
+get_within [] i h = absurd (omega arith)
 get_within (x ∷ xs) zero h = (x, refl)
-get_within (x ∷ xs) (suc i) h = get_within xs i (omega (arith, h))
+get_within (x ∷ xs) (suc i) h = get_within xs i (omega arith)

@@ -9,37 +9,21 @@ use Rattle.std.proofs.lemmas.List.Elements.{All-head, All-push, All-tail}
 use Rattle.history_logs.specs.declared.logs.callers.Caller.{Caller}
 use Rattle.history_logs.specs.declared.logs.callers.CallerState.{CallerState}
 use Rattle.history_logs.specs.declared.logs.callers.CallerState.TheVariants as caller
-use Rattle.history_logs.specs.Fields.{HasName, IsOn, IsUnknown, is_name, state_in}
+use Rattle.history_logs.specs.Fields.{HasName, IsOn, IsUnknown, state_in}
 use Rattle.history_logs.specs.Reading.{NoneCalls, Sets}
+use Rattle.std.proofs.lemmas.Option.{same_Some, get_or_from_slice_get}
 
-same_name : (a : List ℕ) → is_name a a ≡ true
-same_name [] = refl
-same_name (x ∷ a) =
-    let rest = same_name a in
-    let here : (x == x) ≡ true = grind (arith, nat_tests) in
-    rw (here, rest) refl
+pub same_bytes : (a b : List ℕ) → bytes_eq a b ≡ true → a ≡ b
+same_bytes a b e = (bytes_eq-Decides a b).0 e
 
-and_parts : (p q : Bool) → (p && q) ≡ true → (p ≡ true) × (q ≡ true)
-and_parts true true h = (refl, refl)
-and_parts true false h = absurd (cc)
-and_parts false true h = absurd (cc)
-and_parts false false h = absurd (cc)
+same_name : (a : List ℕ) → bytes_eq a a ≡ true
+same_name a = (bytes_eq-Decides a a).1 refl
 
-is_same : (a b : List ℕ) → is_name a b ≡ true → a ≡ b
-is_same [] [] e = refl
-is_same [] (y ∷ b) e = absurd (cc)
-is_same (x ∷ a) [] e = absurd (cc)
-is_same (x ∷ a) (y ∷ b) e =
-    let parts = and_parts (x == y) (is_name a b) e in
-    let first : x ≡ y = grind (arith, nat_tests, parts.0) in
-    let rest = is_same a b parts.1 in
-    rw (first, rest) refl
-
-other_name : (a b : List ℕ) → a ≢ b → is_name a b ≡ false
-other_name a b ne = cases (is_name a b) refl
+other_name : (a b : List ℕ) → a ≢ b → bytes_eq a b ≡ false
+other_name a b ne = cases (bytes_eq a b) refl
   where
-    cases : (t : Bool) → is_name a b ≡ t → is_name a b ≡ false
-    cases true e = absurd (ne (is_same a b e))
+    cases : (t : Bool) → bytes_eq a b ≡ t → bytes_eq a b ≡ false
+    cases true e = absurd (ne (same_bytes a b e))
     cases false e = e
 
 -- a caller that is none of these does nothing
@@ -47,12 +31,9 @@ pub unknown_state : (known : List Caller) (name : List ℕ) → IsUnknown known 
     → state_in known name ≡ None
 unknown_state [] name none = refl
 unknown_state (c ∷ known) name none =
-    let not : is_name c.name.items name ≡ false =
+    let not : bytes_eq c.name.items name ≡ false =
     other_name c.name.items name (All-head (λ (d : Caller). d.name.items ≢ name) c known none) in
     rw not (unknown_state known name (All-tail (λ (d : Caller). d.name.items ≢ name) c known none))
-
-some_is : (c d : Caller) → Some c ≡ Some d → c ≡ d
-some_is c d e = cc
 
 -- what the caller does that stands at the index
 pub known_state : (known : List Caller) (name : List ℕ) (at : ℕ) (h : HasName known name at)
@@ -64,20 +45,17 @@ known_state known name at h = go known at h.c h.there h.named h.first
         → state_in known name ≡ Some c.state
     go [] at c there named first = absurd (cc)
     go (d ∷ known) zero c there named first =
-        let same : d ≡ c = some_is d c there in
-        let is : is_name d.name.items name ≡ true =
-        subst (λ (n : List ℕ). is_name d.name.items n ≡ true)
+        let same : d ≡ c = same_Some d c there in
+        let is : bytes_eq d.name.items name ≡ true =
+        subst (λ (n : List ℕ). bytes_eq d.name.items n ≡ true)
         (ap (λ (x : Caller). x.name.items) same ∙ named) (same_name d.name.items) in
         rw is (ap (λ (x : Caller). Some x.state) same)
     go (d ∷ known) (suc at) c there named first =
-        let not : is_name d.name.items name ≡ false =
+        let not : bytes_eq d.name.items name ≡ false =
         other_name d.name.items name
         (All-head (λ (x : Caller). x.name.items ≢ name) d (take at known) first) in
         rw not (go known at c there named
         (All-tail (λ (x : Caller). x.name.items ≢ name) d (take at known) first))
-
-pub same_bytes : (a b : List ℕ) → bytes_eq a b ≡ true → a ≡ b
-same_bytes a b e = (bytes_eq-Decides a b).0 e
 
 pub other_bytes : (a b : List ℕ) → bytes_eq a b ≡ false → a ≢ b
 other_bytes a b e same = let yes = (bytes_eq-Decides a b).1 same in absurd (cc)
@@ -85,9 +63,7 @@ other_bytes a b e same = let yes = (bytes_eq-Decides a b).1 same in absurd (cc)
 -- what stands at an index
 pub known_at : (known : List Caller) (at : ℕ) (c d : Caller) → slice_get known at ≡ Some c
     → d ≡ get_or known at d → d ≡ c
-known_at [] at c d there is = absurd (cc)
-known_at (x ∷ known) zero c d there is = is ∙ some_is x c there
-known_at (x ∷ known) (suc at) c d there is = known_at known at c d there is
+known_at known at c d there is = is ∙ get_or_from_slice_get known at c d there
 
 pub state_at : (known : List Caller) (name : List ℕ) (at : ℕ) (d : Caller)
     → HasName known name at → d ≡ get_or known at d → Some d.state ≡ state_in known name
@@ -102,11 +78,11 @@ module _ (name : List ℕ) (state : CallerState) where
       → state_in (set known at n) name ≡ Some state
   own_set [] at c n there named does first = absurd (cc)
   own_set (d ∷ known) zero c n there named does first =
-      let is : is_name n.name.items name ≡ true =
-      subst (λ (m : List ℕ). is_name n.name.items m ≡ true) named (same_name n.name.items) in
-      rw is (ap (λ (s : CallerState). Some s) does)
+      let is : bytes_eq n.name.items name ≡ true =
+      subst (λ (m : List ℕ). bytes_eq n.name.items m ≡ true) named (same_name n.name.items) in
+      rw is (ap Some does)
   own_set (d ∷ known) (suc at) c n there named does first =
-      let not : is_name d.name.items name ≡ false =
+      let not : bytes_eq d.name.items name ≡ false =
       other_name d.name.items name
       (All-head (λ (x : Caller). x.name.items ≢ name) d (take at known) first) in
       rw not (own_set known at c n there named does
@@ -117,14 +93,14 @@ module _ (name : List ℕ) (state : CallerState) where
       → state_in (set known at n) other ≡ state_in known other
   others_set [] at c n other there was named ne = absurd (cc)
   others_set (d ∷ known) zero c n other there was named ne =
-      let new : is_name n.name.items other ≡ false =
+      let new : bytes_eq n.name.items other ≡ false =
       other_name n.name.items other (λ e. ne (sym e ∙ named)) in
-      let old : is_name d.name.items other ≡ false =
+      let old : bytes_eq d.name.items other ≡ false =
       other_name d.name.items other
-      (λ e. ne (sym e ∙ (ap (λ (x : Caller). x.name.items) (some_is d c there) ∙ was))) in
+      (λ e. ne (sym e ∙ (ap (λ (x : Caller). x.name.items) (same_Some d c there) ∙ was))) in
       rw (new, old) refl
   others_set (d ∷ known) (suc at) c n other there was named ne =
-      ap (λ (s : Option CallerState). if is_name d.name.items other then Some d.state else s)
+      ap (λ (o : Option CallerState). if bytes_eq d.name.items other then Some d.state else o)
       (others_set known at c n other there was named ne)
 
   pub set_known : (known : List Caller) (at : ℕ) (d n : Caller) → HasName known name at
@@ -141,24 +117,23 @@ module _ (name : List ℕ) (state : CallerState) where
   own_push : (known : List Caller) (n : Caller) → n.name.items ≡ name → n.state ≡ state
       → IsUnknown known name → state_in (known ++ n ∷ []) name ≡ Some state
   own_push [] n named does none =
-      let is : is_name n.name.items name ≡ true =
-      subst (λ (m : List ℕ). is_name n.name.items m ≡ true) named (same_name n.name.items) in
-      rw is (ap (λ (s : CallerState). Some s) does)
+      let is : bytes_eq n.name.items name ≡ true =
+      subst (λ (m : List ℕ). bytes_eq n.name.items m ≡ true) named (same_name n.name.items) in
+      rw is (ap Some does)
   own_push (d ∷ known) n named does none =
-      let not : is_name d.name.items name ≡ false =
-      other_name d.name.items name
-      (All-head (λ (x : Caller). x.name.items ≢ name) d known none) in
+      let not : bytes_eq d.name.items name ≡ false =
+      other_name d.name.items name (All-head (λ (x : Caller). x.name.items ≢ name) d known none) in
       rw not (own_push known n named does
       (All-tail (λ (x : Caller). x.name.items ≢ name) d known none))
 
   others_push : (known : List Caller) (n : Caller) (other : List ℕ) → n.name.items ≡ name
       → other ≢ name → state_in (known ++ n ∷ []) other ≡ state_in known other
   others_push [] n other named ne =
-      let not : is_name n.name.items other ≡ false =
+      let not : bytes_eq n.name.items other ≡ false =
       other_name n.name.items other (λ e. ne (sym e ∙ named)) in
       rw not refl
   others_push (d ∷ known) n other named ne =
-      ap (λ (s : Option CallerState). if is_name d.name.items other then Some d.state else s)
+      ap (λ (o : Option CallerState). if bytes_eq d.name.items other then Some d.state else o)
       (others_push known n other named ne)
 
   pub push_known : (known : List Caller) (n : Caller) → IsUnknown known name
@@ -183,7 +158,7 @@ state_more : (known others : List Caller) (name : List ℕ) (state : CallerState
     → state_in known name ≡ Some state → state_in (known ++ others) name ≡ Some state
 state_more [] others name state is = absurd (cc)
 state_more (c ∷ known) others name state is =
-    cases (is_name c.name.items name) is (λ rest. state_more known others name state rest)
+    cases (bytes_eq c.name.items name) is (state_more known others name state)
   where
     cases : (b : Bool) → (if b then Some c.state else state_in known name) ≡ Some state
         → (state_in known name ≡ Some state → state_in (known ++ others) name ≡ Some state)
@@ -195,18 +170,15 @@ state_more (c ∷ known) others name state is =
 state_cases : (known : List Caller) (c : Caller) (name : List ℕ) (state : CallerState)
     → state_in (known ++ c ∷ []) name ≡ Some state
     → (state_in known name ≡ Some state) ⊎ ((c.name.items ≡ name) × (c.state ≡ state))
-state_cases [] c name state is = cases (is_name c.name.items name) refl is
+state_cases [] c name state is = cases (bytes_eq c.name.items name) refl is
   where
-    same_state : (a b : CallerState) → Some a ≡ Some b → a ≡ b
-    same_state a b e = cc
-
-    cases : (b : Bool) → is_name c.name.items name ≡ b
+    cases : (b : Bool) → bytes_eq c.name.items name ≡ b
         → (if b then Some c.state else None) ≡ Some state
         → (state_in [] name ≡ Some state) ⊎ ((c.name.items ≡ name) × (c.state ≡ state))
-    cases true e own = inr (is_same c.name.items name e, same_state c.state state own)
+    cases true e own = inr (same_bytes c.name.items name e, same_Some c.state state own)
     cases false e rest = absurd (cc)
 state_cases (d ∷ known) c name state is =
-    cases (is_name d.name.items name) is (λ rest. state_cases known c name state rest)
+    cases (bytes_eq d.name.items name) is (state_cases known c name state)
   where
     cases : (b : Bool)
         → (if b then Some d.state else state_in (known ++ c ∷ []) name) ≡ Some state
@@ -216,10 +188,6 @@ state_cases (d ∷ known) c name state is =
         ⊎ ((c.name.items ≡ name) × (c.state ≡ state))
     cases true own more = inl own
     cases false rest more = more rest
-
--- no caller calls
-pub none_yet : (at : ℕ) → NoneCalls (state_in []) at
-none_yet at name number is = absurd (cc)
 
 -- one caller more, that has no call open there, or does not do what its name does
 pub none_on : (known : List Caller) (i at : ℕ) (c : Caller) → i < length known
@@ -239,16 +207,10 @@ none_on known i at c h is none not name number does =
           let all : state_in known name ≡ Some (caller.Calls at number) =
           subst (λ (l : List Caller). state_in l name ≡ Some (caller.Calls at number))
           (take-append-drop (i + 1) known) on in
-          not
-          (number, ap (λ (s : CallerState). Some s) last.1)
-          (number, ap (λ (n : List ℕ). state_in known n) last.0 ∙ all)
+          not (number, ap Some last.1) (number, ap (state_in known) last.0 ∙ all)
     ]
 
 pub none_all : (known : List Caller) (i at : ℕ) → length known ≤ i
     → NoneCalls (state_in (take i known)) at → NoneCalls (state_in known) at
 none_all known i at h none =
     subst (λ (l : List Caller). NoneCalls (state_in l) at) (take_all i known h) none
-
-pub some_on : (known : List Caller) (at : ℕ) (name : List ℕ) → IsOn at (state_in known name)
-    → ¬ (NoneCalls (state_in known) at)
-some_on known at name on none = none name on.0 on.1

@@ -1,12 +1,12 @@
 -- What settles of all services while a log is read.
-use Rattle.std.proofs.Common.{◌≡◌, ◌≢◌, ℕ, zero, suc, ◌+◌, ◌<◌, ◌≤◌, true, List, [], ◌∷◌, ◌++◌, All, Option, Some, None, get_or, length, refl, sym, ◌∙◌, ap, subst, arith, inl, inr, slice_get, take, take_all}
+use Rattle.std.proofs.Common.{◌≡◌, ◌≢◌, ℕ, zero, suc, ◌+◌, ◌<◌, ◌≤◌, true, List, [], ◌∷◌, ◌++◌, All, Option, Some, None, get_or, get_or-set_other, get_or-set_same, length, refl, sym, ◌∙◌, ap, subst, arith, inl, inr, slice_get, take, take_all, sum}
 use Rattle.std.specs.Prelude.{◌==◌, sum_by}
 use Rattle.std.specs.List.{slice_set}
 use Rattle.std.proofs.lemmas.Bool.{cases_eq, cases_lt}
-use Rattle.std.proofs.lemmas.List.{length-set}
+use Rattle.std.proofs.lemmas.List.{length-set, get_or_default}
 use Rattle.std.proofs.lemmas.List.Elements.{All-nil, Contains-push}
-use Rattle.std.proofs.lemmas.List.Sums.{sum_by-cons}
-use Rattle.std.proofs.lemmas.Option.{slice_get-get_or, slice_get_within}
+use Rattle.std.proofs.lemmas.List.Sums.{sum-map}
+use Rattle.std.proofs.lemmas.Option.{same_Some, slice_get-get_or, slice_get_within}
 use Rattle.histories.specs.declared.event.Event.{Event}
 use Rattle.histories.specs.declared.event.Event.TheVariants.{Begin, End, Crash}
 use Rattle.histories.specs.declared.front.Front.{Front}
@@ -14,21 +14,22 @@ use Rattle.histories.specs.Histories.{IsExplained, begun}
 use Rattle.histories.proofs.Events.{begins_none}
 use Rattle.histories.proofs.Frontiers.{explains_none}
 use Rattle.history_windows.proofs.Growing.{goes_explained}
+use Rattle.iox2_container.proofs.ListEdits.{get_set_other}
 use Rattle.line_streams.specs.Spelling.{HasNo}
 use Rattle.service_conformance.specs.Looks.{Watched, unwatched}
 use Rattle.history_logs.specs.Good.{IsAbove, IsOrderly, IsReadTo, Takes}
 use Rattle.history_logs.specs.Judging.{end_verdict}
 use Rattle.history_logs.specs.Logs.{IsSeenRightly, Judged, StepOf, news, services_in}
-use Rattle.history_logs.specs.Reading.{IsSane, Log}
+use Rattle.history_logs.specs.Reading.{HaveOneNumber, IsSane, Log}
 use Rattle.history_logs.specs.Seen.{Service}
 use Rattle.history_logs.specs.Settling.{AreRightShort, AreSameFronts, GoesShort, HasShort, HaveShort, IsRightShort, IsShortAbove, StayAll, Stays}
 use Rattle.history_logs.specs.Shortened.{AreShort, IsShort, IsShortLog, front_at}
 use Rattle.history_logs.proofs.Above.{above_more, above_room, read_whole}
-use Rattle.history_logs.proofs.AtIndex.{all_get, all_of, get_other, get_same, get_within, same_some}
+use Rattle.history_logs.proofs.AtIndex.{all_get, all_of, get_same, get_within}
 use Rattle.history_logs.proofs.Judgements.{judged_conforms}
-use Rattle.history_logs.proofs.Named.{same_count}
+use Rattle.history_logs.proofs.Named.{same_count, map_same, set_back}
 use Rattle.history_logs.proofs.Settled.{events_split}
-use Rattle.history_logs.proofs.ShortLogs.{goes_line, short_sane}
+use Rattle.history_logs.proofs.ShortLogs.{found_at, goes_line, numbers_same, short_sane, short_put}
 
 -- where no call was seen, nothing was
 explained_none : (s : Service) → IsOrderly s → length s.calls ≡ 0 → IsSeenRightly s
@@ -40,34 +41,23 @@ explained_none s o none = nothing s.events refl
         let old = unwatched s.start in
         subst (λ (l : List Event). IsExplained (StepOf s) l (news s)) (sym is)
         (old, [], old, Contains-push [] old, explains_none (StepOf s) old)
-    nothing (Begin c ∷ es) is = absurd (omega (arith, o.counts, none, ap begun is))
+    nothing (Begin c ∷ es) is = absurd (omega (arith, ap begun is))
     nothing (End c ∷ es) is =
-        absurd (omega (
-          arith,
-          (o.history 0 (End c) (ap (λ (l : List Event). slice_get l 0) is)).0,
-          begins_none c,
-        ))
+        let before = (o.history 0 (End c) (ap (λ (l : List Event). slice_get l 0) is)).0 in
+        absurd (omega (arith, begins_none c))
     nothing (Crash c ∷ es) is =
-        absurd (omega (
-          arith,
-          (o.history 0 (Crash c) (ap (λ (l : List Event). slice_get l 0) is)).0,
-          begins_none c,
-        ))
+        let before = (o.history 0 (Crash c) (ap (λ (l : List Event). slice_get l 0) is)).0 in
+        absurd (omega (arith, begins_none c))
 
 pub right_none : (live : Service) (front : Option (Front Watched)) → (¬ (0 < length live.calls))
     → IsRightShort live front
 right_none live front none s o k =
-    explained_none s o (omega (
-      arith,
-      none_is,
-      k.keeps.count,
-      ap (λ (x : Service). length x.calls) k.is,
-    ))
+    explained_none s o (omega (arith, none_is, ap (λ (x : Service). length x.calls) k.is))
   where
     none_is : length live.calls ≡ 0
     none_is = elim (cases_lt 0 (length live.calls)) as (λ _. length live.calls ≡ 0) [
       | inl some ↦ absurd (none some)
-      | inr few ↦ omega (arith, few)
+      | inr few ↦ omega arith
     ]
 
 -- the front has gone on with all that was seen
@@ -81,26 +71,24 @@ right_after live old new count all goes s o k =
     (goes_explained (StepOf s) (news s) (k.keeps.has.past ++ take count live.events)
     (record { begin = f.0; front = new }) f.1)
 
--- fronts at an index
-front_set : (xs : List (Option (Front Watched))) (at : ℕ) (f : Option (Front Watched))
-    → at < length xs → front_at (slice_set xs at f) at ≡ f
-front_set [] at f h = absurd (omega (arith, h))
-front_set (x ∷ xs) zero f h = refl
-front_set (x ∷ xs) (suc at) f h = front_set xs at f (omega (arith, h))
-
-front_other : (xs : List (Option (Front Watched))) (i j : ℕ) (f : Option (Front Watched)) → j ≢ i
-    → front_at (slice_set xs i f) j ≡ front_at xs j
-front_other [] i j f n = refl
-front_other (x ∷ xs) zero zero f n = absurd (n refl)
-front_other (x ∷ xs) zero (suc j) f n = refl
-front_other (x ∷ xs) (suc i) zero f n = refl
-front_other (x ∷ xs) (suc i) (suc j) f n = front_other xs i j f (λ e. n (ap suc e))
-
+-- a front at an index
 pub front_is : (xs : List (Option (Front Watched))) (at : ℕ) (f : Option (Front Watched))
     → at < length xs → f ≡ get_or xs at f → front_at xs at ≡ f
-front_is xs at f h is =
-    same_some (get_or xs at None) (get_or xs at f)
-    (sym (slice_get-get_or xs at None h) ∙ slice_get-get_or xs at f h) ∙ sym is
+front_is xs at f h is = get_or_default xs at None f h ∙ sym is
+
+-- the services have the numbers that they had
+pub alike_stays : (live new : List Service) (fronts next : List (Option (Front Watched)))
+    → HaveShort live fronts → StayAll live fronts new next → HaveOneNumber live
+    → HaveOneNumber new
+alike_stays live new fronts next h stay one =
+    let has = λ (v : Service). v.line.number ≡ one.0 in (
+      one.0,
+      all_of has new (λ i t here.
+          let f = found_at h.0 new next i t (stay h.0 h.1 h.2) here in
+          let was = numbers_same h.0 live fronts i f.0 h.2 f.1 in
+          ap (λ (v : Service). v.line.number) f.2.is
+          ∙ (sym was.2 ∙ all_get has live i was.0 one.1 was.1)),
+    )
 
 -- one service settles
 module _ (old live : List Service) (fronts mid : List (Option (Front Watched))) (at : ℕ)
@@ -108,39 +96,22 @@ module _ (old live : List Service) (fronts mid : List (Option (Front Watched))) 
   where
     pub has_short : HaveShort old fronts → HasShort t (front_at mid at)
     has_short h =
-        let a = stay h.0 h.1 h.2 in
-        let s = get_within h.0 at (omega (arith, a.0, slice_get_within live at t here)) in
-        (s.0, all_get IsOrderly h.0 at s.0 h.1 s.1, a.2 at s.0 t s.1 here)
+        let f = found_at h.0 live mid at t (stay h.0 h.1 h.2) here in
+        (f.0, all_get IsOrderly h.0 at f.0 h.1 f.1, f.2)
 
     pub stay_set : (next : Service) (front : Option (Front Watched)) → at < length mid
         → Stays t (front_at mid at) next front
         → StayAll old fronts (slice_set live at next) (slice_set mid at front)
     stay_set next front within is services o b =
         let a = stay services o b in
-        let s = get_within services at (omega (arith, a.0, slice_get_within live at t here)) in
-        let short = is s.0 (all_get IsOrderly services at s.0 o s.1) (a.2 at s.0 t s.1 here) in (
-          length-set live at next ∙ a.0,
-          omega (arith, a.1, length-set mid at front),
-          λ i x y ex ey.
-              elim (cases_eq i at) as (λ _. IsShort x y (front_at (slice_set mid at front) i)) [
-                | inl same ↦
-                    let isx : s.0 ≡ x =
-                    same_some s.0 x
-                    (sym s.1 ∙ (ap (λ j. slice_get services j) (sym same) ∙ ex)) in
-                    let isy : next ≡ y =
-                    same_some next y (sym (get_same live at next t here)
-                    ∙ (ap (λ j. slice_get (slice_set live at next) j) (sym same) ∙ ey)) in
-                    subst (λ j. IsShort x y (front_at (slice_set mid at front) j)) (sym same)
-                    (subst (λ (f : Option (Front Watched)). IsShort x y f)
-                    (sym (front_set mid at front within))
-                    (subst (λ (v : Service). IsShort v y front) isx
-                    (subst (λ (v : Service). IsShort s.0 v front) isy short)))
-                | inr other ↦
-                    subst (λ (f : Option (Front Watched)). IsShort x y f)
-                    (sym (front_other mid at i front other))
-                    (a.2 i x y ex (sym (get_other live at i next other) ∙ ey))
-              ],
-        )
+        let f = found_at services live mid at t a here in
+        let short = is f.0 (all_get IsOrderly services at f.0 o f.1) f.2 in
+        let more = slice_set mid at front in
+        subst (λ (l : List Service). AreShort l (slice_set live at next) more)
+        (set_back services at f.0 f.1)
+        (short_put services live mid more at f.0 f.0 next t a f.1 here (length-set mid at front)
+        (λ i other. get_or-set_other mid at i front None other)
+        (subst (IsShort f.0 next) (sym (get_or-set_same mid at front None within)) short))
 
 -- the services below an index are explained, and from there on each has its front
 pub record AreRightTo (live : List Service) (fronts left : List (Option (Front Watched)))
@@ -155,7 +126,7 @@ pub right_to_none : (live : List Service) (fronts left : List (Option (Front Wat
 right_to_none live fronts left long same = record {
   long = long;
   ahead = λ i h. same i;
-  right = λ services o a i s h there. absurd (omega (arith, h));
+  right = λ services o a i s h there. absurd (omega arith);
 }
 
 module _ (live : List Service) (fronts left : List (Option (Front Watched))) (at : ℕ)
@@ -163,11 +134,10 @@ module _ (live : List Service) (fronts left : List (Option (Front Watched))) (at
   where
     pub right_short : HaveShort live fronts → HasShort t (front_at left at)
     right_short h =
-        let s = get_within h.0 at (omega (arith, h.2.0, slice_get_within live at t here)) in (
-          s.0,
-          all_get IsOrderly h.0 at s.0 h.1 s.1,
-          subst (λ (f : Option (Front Watched)). IsShort s.0 t f)
-              (sym (r.ahead at (omega arith))) (h.2.2 at s.0 t s.1 here),
+        let f = found_at h.0 live fronts at t h.2 here in (
+          f.0,
+          all_get IsOrderly h.0 at f.0 h.1 f.1,
+          subst (IsShort f.0 t) (sym (r.ahead at (omega arith))) f.2,
         )
 
     pub right_to_more : (front : Option (Front Watched)) → IsRightShort t (front_at left at)
@@ -175,17 +145,16 @@ module _ (live : List Service) (fronts left : List (Option (Front Watched))) (at
     right_to_more front is = record {
       long = length-set left at front ∙ r.long;
       ahead = λ i h.
-          front_other left at i front (λ e. absurd (omega (arith, e, h)))
-          ∙ r.ahead i (omega (arith, h));
+          get_or-set_other left at i front None (λ e. absurd (omega arith))
+          ∙ r.ahead i (omega arith);
       right = λ services o a i s h there. elim (cases_lt i at) as (λ _. IsSeenRightly s) [
         | inl below ↦ r.right services o a i s below there
         | inr above ↦
-            let same : at ≡ i = omega (arith, h, above) in
+            let same : at ≡ i = omega arith in
             let own : slice_get services at ≡ Some s =
             subst (λ j. slice_get services j ≡ Some s) (sym same) there in
             is s (all_get IsOrderly services at s o own)
-            (subst (λ (f : Option (Front Watched)). IsShort s t f)
-            (sym (r.ahead at (omega arith))) (a.2 at s t own here))
+            (subst (IsShort s t) (sym (r.ahead at (omega arith))) (a.2 at s t own here))
       ];
     }
 
@@ -193,34 +162,19 @@ pub right_all : (live : List Service) (fronts left : List (Option (Front Watched
     → length live ≤ at → AreRightTo live fronts left at → AreRightShort live fronts
 right_all live fronts left at all r services o a =
     all_of IsSeenRightly services (λ i s there.
-    r.right services o a i s
-    (omega (arith, all, a.0, slice_get_within services i s there)) there)
+    r.right services o a i s (omega (arith, a.0, slice_get_within services i s there)) there)
 
 -- as many commands are kept as were read
-sum_same : (xs ys : List Service) → length ys ≡ length xs
-    → ((at : ℕ) (s t : Service) → slice_get xs at ≡ Some s → slice_get ys at ≡ Some t
-    → t.commands ≡ s.commands)
-    → sum_by (λ (s : Service). length s.commands) ys
-    ≡ sum_by (λ (s : Service). length s.commands) xs
-sum_same [] [] long same = refl
-sum_same [] (y ∷ ys) long same = absurd (omega (arith, long))
-sum_same (x ∷ xs) [] long same = absurd (omega (arith, long))
-sum_same (x ∷ xs) (y ∷ ys) long same =
-    omega (
-      arith,
-      sum_by-cons (λ (s : Service). length s.commands) x xs,
-      sum_by-cons (λ (s : Service). length s.commands) y ys,
-      ap (λ (l : List ℕ). length l) (same 0 x y refl refl),
-      sum_same xs ys (omega (arith, long)) (λ at s t there here. same (suc at) s t there here),
-    )
-
 calls_same : (services live : List Service) (fronts : List (Option (Front Watched)))
     → AreShort services live fronts
     → sum_by (λ (s : Service). length s.commands) live
     ≡ sum_by (λ (s : Service). length s.commands) services
 calls_same services live fronts a =
-    sum_same services live a.0 (λ at s t there here.
-    ap (λ (x : Service). x.commands) (a.2 at s t there here).is)
+    let count : Service → ℕ = λ s. length s.commands in
+    sym (sum-map count live)
+    ∙ (ap sum (map_same count services live a.0 (λ at s t there here.
+    ap count (a.2 at s t there here).is))
+    ∙ sum-map count services)
 
 pub no_more : (xs : List ℕ) → true ≡ (length xs == 0) → xs ≡ []
 no_more [] e = refl
@@ -249,9 +203,6 @@ module _ (bytes : List ℕ) (live : Log) (fronts : List (Option (Front Watched))
 
     pub above_short : HaveShort live.services fronts
     above_short = (h.log.services, h.above.kept.orderly, h.short.services)
-
-    pub short_room : (text after : List ℕ) → rest ≡ text ++ 10 ∷ after → k ≤ length bytes
-    short_room text after comes = above_room bytes h.log rest k text after h.above comes
 
     pub short_more : (new : Log) (text after : List ℕ) → HasNo 10 text → rest ≡ text ++ 10 ∷ after
         → Takes live k text None new → IsShortAbove bytes new fronts after (k + 1)
@@ -290,27 +241,21 @@ module _ (bytes : List ℕ) (live : Log) (fronts : List (Option (Front Watched))
     -- fewer commands are kept than lines were read
     pub few_short : sum_by (λ (s : Service). length s.commands) live.services < k
     few_short =
-        omega (
-          arith,
-          h.above.few,
-          h.above.is,
-          calls_same h.log.services live.services fronts h.short.services,
-        )
+        omega (arith, calls_same h.log.services live.services fronts h.short.services)
 
     module _ (empty : rest ≡ []) (waits : live.waits ≡ None) (some : 0 < length live.services)
       where
         read_short : IsReadTo bytes h.log.services None
         read_short =
             read_whole bytes h.log rest k h.above empty
-            (subst (λ (l : List ℕ). HasNo 10 l) (sym empty) (All-nil (λ b. b ≢ 10)))
-            (sym h.short.waits ∙ waits) (omega (arith, some, h.short.services.0))
+            (subst (HasNo 10) (sym empty) (All-nil (λ b. b ≢ 10)))
+            (sym h.short.waits ∙ waits) (omega (arith, h.short.services.0))
 
         pub judged_short : AreRightShort live.services fronts
             → Judged bytes (end_verdict live.services None)
         judged_short right =
             judged_conforms bytes h.log.services
-            (sum_by (λ (s : Service). length s.commands) live.services)
-            (services_in live.services)
+            (sum_by (λ (s : Service). length s.commands) live.services) (services_in live.services)
             read_short (right h.log.services h.above.kept.orderly h.short.services)
             (calls_same h.log.services live.services fronts h.short.services)
             (same_count h.log.services live.services h.short.services.0

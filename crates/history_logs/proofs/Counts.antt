@@ -22,7 +22,7 @@ pub counts_more : (a b c : Option (List ℕ)) → AddsCounts a b → AddsCounts 
 counts_more a b c p q = (
   p.0 ++ q.0,
   All-append IsCount p.0 q.0 p.1 q.1,
-  subst (λ (bs : List ℕ). Appends a c bs) (sym (concat-append p.0 q.0))
+  subst (Appends a c) (sym (concat-append p.0 q.0))
       (appends_more a b c (concat p.0) (concat q.0) p.2 q.2),
 )
 
@@ -31,7 +31,7 @@ one_count : (a b : Option (List ℕ)) (bytes : List ℕ) → IsCount bytes → A
 one_count a b bytes is p = (
   bytes ∷ [],
   All-push IsCount [] bytes (All-nil IsCount) is,
-  subst (λ (bs : List ℕ). Appends a b bs) (sym (append-nil bytes)) p,
+  subst (Appends a b) (sym (append-nil bytes)) p,
 )
 
 -- what comes before the end of one byte is nothing

@@ -18,17 +18,15 @@ unchanged : {T : Type 0} (r : RegistryState T) (used : ℕ) (locked : Bool) → 
     → locked ≡ false → with_used r used locked ≡ r
 unchanged r used locked u none free =
     ap (λ n. with_used r n locked) (none ∙ sym u.used)
-    ∙ ap (λ b. with_used r r.used b) (free ∙ sym u.locked)
+    ∙ ap (with_used r r.used) (free ∙ sym u.locked)
 
 start_same : (old : dynamic.Service) (what : State) (start : dynamic.Service) → IsEmptyState what
     → Gives old what start → start ≡ old
 start_same old (nodes used locked) start none g =
-    g.1 ∙ ap (λ (r : RegistryState ℕ). with_nodes old r)
-    (unchanged old.nodes.registry used locked g.0 none.0 none.1)
+    g.1 ∙ ap (with_nodes old) (unchanged old.nodes.registry used locked g.0 none.0 none.1)
 start_same old (ports r used) start none g =
     g.3
-    ∙ (ap (λ (x : RegistryState PortDetails). with_ports g.0 old x)
-    (unchanged (ports_at old g.0).registry used false g.2 none refl)
+    ∙ (ap (with_ports g.0 old) (unchanged (ports_at old g.0).registry used false g.2 none refl)
     ∙ same_ports old g.0)
 start_same old (entry slot ticket c) start none g = absurd none
 
@@ -37,21 +35,18 @@ empty_none old new k number what none g =
     elim g.5 as (λ _. (new ≡ old) ⊎ IsAnew old number new) [
       | inl first ↦
           let same : started g.1 g.2 ≡ g.1 =
-          ap (λ (x : dynamic.Service). started g.1 x)
-          (start_same g.1.start what g.2 none first.0.1) in
+          ap (started g.1) (start_same g.1.start what g.2 none first.0.1) in
           inl (first.1
           ∙ ap (λ (l : List Service). record {
             services = l;
             callers = old.callers;
             waits = old.waits;
           })
-          (ap (λ (x : Service). slice_set old.services g.0 x) same
-          ∙ set_back old.services g.0 g.1 g.4.there))
+          (ap (slice_set old.services g.0) same ∙ set_back old.services g.0 g.1 g.4.there))
       | inr anew ↦
           let new_one = unseen g.1.line in
           let same : started new_one g.2 ≡ new_one =
-          ap (λ (x : dynamic.Service). started new_one x)
-          (start_same new_one.start what g.2 none anew.0.2) in
+          ap (started new_one) (start_same new_one.start what g.2 none anew.0.2) in
           inr (
             g.0,
             g.1,

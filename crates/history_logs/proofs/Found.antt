@@ -3,7 +3,7 @@ use Rattle.std.proofs.Common.{◌≡◌, ℕ, zero, suc, ◌+◌, ◌-◌, ◌<�
 use Rattle.std.proofs.lemmas.Bool.{cases_lt, ltb-false, ltb-true, le-ltb}
 use Rattle.std.proofs.lemmas.List.Elements.{All-nil, All-push, All-take, Contains-append_left, Contains-push}
 use Rattle.std.proofs.lemmas.List.{take_more}
-use Rattle.std.proofs.lemmas.Option.{get_or_from_slice_get, slice_get_within}
+use Rattle.std.proofs.lemmas.Option.{get_or_from_slice_get, slice_get_within, same_Some}
 use Rattle.histories.specs.declared.event.Event.{Event}
 use Rattle.histories.specs.Histories.{IsExplained}
 use Rattle.histories.proofs.Verdicts.{explained_take}
@@ -43,7 +43,7 @@ below_index k (p ∷ ps) (suc index) none =
     omega (
       arith,
       kept (ltb p k) p (filter (λ x. ltb x k) ps),
-      below_index k ps index (λ i v h at. none (suc i) v (omega (arith, h)) at),
+      below_index k ps index (λ i v h at. none (suc i) v (omega arith) at),
     )
 
 below_length : (k : ℕ) (ps : List ℕ) → below k ps ≤ length ps
@@ -59,9 +59,9 @@ below_less j k (p ∷ ps) h =
   where
     cases : below j ps ≤ below k ps → (a b : Bool) → ltb p j ≡ a → ltb p k ≡ b
         → below j (p ∷ ps) ≤ below k (p ∷ ps)
-    cases rest true true e f = rw (e, f) (omega (arith, rest))
-    cases rest true false e f = absurd (omega (arith, h, ltb-true p j e, ltb-false p k f))
-    cases rest false true e f = rw (e, f) (omega (arith, rest))
+    cases rest true true e f = rw (e, f) (omega arith)
+    cases rest true false e f = absurd (omega (arith, ltb-true p j e, ltb-false p k f))
+    cases rest false true e f = rw (e, f) (omega arith)
     cases rest false false e f = rw (e, f) rest
 
 -- of numbers that rise, those from a place on are no less
@@ -72,10 +72,10 @@ no_less ps index i at v rising is h there =
     let b : get_or ps i 0 ≡ v = get_or_from_slice_get ps i v 0 there in
     elim (cases_lt index i) as (λ _. at ≤ v) [
       | inl before ↦
-          omega (arith, a, b, rising index i 0 before (slice_get_within ps i v there))
+          omega (arith, rising index i 0 before (slice_get_within ps i v there))
       | inr late ↦
-          let same : index ≡ i = omega (arith, h, late) in
-          omega (arith, a, b, ap (λ x. get_or ps x 0) same)
+          let same : index ≡ i = omega arith in
+          omega (arith, ap (λ x. get_or ps x 0) same)
     ]
 
 module _ (bytes : List ℕ) (s : Service) (o : IsOrderly s) (p : HasEventLines bytes s) where
@@ -84,14 +84,14 @@ module _ (bytes : List ℕ) (s : Service) (o : IsOrderly s) (p : HasEventLines b
       → IsExplained (StepOf s) (take j s.events) (news s)
       → IsExplained (StepOf s) (take i s.events) (news s)
   explained_to i j h within x =
-      explained_take (StepOf s) s.events (news s) i (j - i) o.history (omega (arith, h, within))
+      explained_take (StepOf s) s.events (news s) i (j - i) o.history (omega arith)
       (subst (λ n. IsExplained (StepOf s) (take n s.events) (news s)) (back i j h) x)
     where
       back : (i j : ℕ) → i ≤ j → j ≡ i + (j - i)
-      back i j h = omega (arith, h)
+      back i j h = omega arith
 
   few_above : (k : ℕ) → count_above k s ≤ length s.events
-  few_above k = omega (arith, below_length k s.event_lines, o.all.event_lines)
+  few_above k = omega (arith, below_length k s.event_lines)
 
   right_all : (k : ℕ) → IsSeenRightly s → IsRightAbove k s
   right_all k x =
@@ -109,15 +109,14 @@ module _ (bytes : List ℕ) (s : Service) (o : IsOrderly s) (p : HasEventLines b
       explained_to (count_above j s) index
       (below_index j s.event_lines index
       (λ i v late there.
-      omega (arith, h, no_less s.event_lines index i k v p.rising x.there late there)))
-      (omega (arith, x.stops.within)) x.stops.before
+      omega (arith, no_less s.event_lines index i k v p.rising x.there late there)))
+      (omega arith) x.stops.before
 
   right_found : (j k : ℕ) (v : Verdict) → j ≤ k → IsFound s k v → IsRightAbove j s
-  right_found j k (Conforms n m) h x = absurd x
   right_found j k (Refused reported) h x = right_stop j k x.index _ h x.stops
   right_found j k (ManyConfigs line) h x = right_stop j k x.1.0 _ h x.1.1
   right_found j k (ManyOpen line) h x = right_stop j k x.1.0 _ h x.1.1
-  right_found j k (BadLine line e) h x = absurd x
+  right_found j k _ h x = absurd x
 
   -- a bound that is passed is above the line, or all above that is explained
   none_passed : (k line : ℕ) → PassesBound s line → NoneRefusedAbove k s
@@ -138,44 +137,31 @@ module _ (bytes : List ℕ) (s : Service) (o : IsOrderly s) (p : HasEventLines b
 
   -- a bound is passed in this line
   passed : (k : ℕ) (v : Verdict) → is_refused v ≡ false → IsFound s k v → PassesBound s k
-  passed k (Conforms n m) not x = absurd x
   passed k (Refused reported) not x = absurd (cc)
   passed k (ManyConfigs line) not x = (x.1.0, stop.ManyConfigs, (λ e. absurd (cc)), x.1.1)
   passed k (ManyOpen line) not x = (x.1.0, stop.ManyOpen, (λ e. absurd (cc)), x.1.1)
-  passed k (BadLine line e) not x = absurd x
+  passed k _ not x = absurd x
 
   -- what does not come before something, by what it is
   before_refused : (k : ℕ) (v : Verdict) → is_refused v ≡ true → NoneRefusedAbove k s
       → IsNotBefore k v s
-  before_refused k (Conforms n m) is x = absurd (cc)
   before_refused k (Refused reported) is x = x
-  before_refused k (ManyConfigs line) is x = absurd (cc)
-  before_refused k (ManyOpen line) is x = absurd (cc)
-  before_refused k (BadLine line e) is x = absurd (cc)
+  before_refused k _ is x = absurd (cc)
 
   before_bound : (k : ℕ) (v : Verdict) → is_refused v ≡ false → IsRightAbove k s → NoneRefused s
       → IsNotBefore k v s
-  before_bound k (Conforms n m) is right none = (right, none)
   before_bound k (Refused reported) is right none = absurd (cc)
-  before_bound k (ManyConfigs line) is right none = (right, none)
-  before_bound k (ManyOpen line) is right none = (right, none)
-  before_bound k (BadLine line e) is right none = (right, none)
+  before_bound k _ is right none = (right, none)
 
   of_refused : (k : ℕ) (v : Verdict) → is_refused v ≡ true → IsNotBefore k v s
       → NoneRefusedAbove k s
-  of_refused k (Conforms n m) is x = absurd (cc)
   of_refused k (Refused reported) is x = x
-  of_refused k (ManyConfigs line) is x = absurd (cc)
-  of_refused k (ManyOpen line) is x = absurd (cc)
-  of_refused k (BadLine line e) is x = absurd (cc)
+  of_refused k _ is x = absurd (cc)
 
   of_bound : (k : ℕ) (v : Verdict) → is_refused v ≡ false → IsNotBefore k v s
       → IsRightAbove k s × NoneRefused s
-  of_bound k (Conforms n m) is x = x
   of_bound k (Refused reported) is x = absurd (cc)
-  of_bound k (ManyConfigs line) is x = x
-  of_bound k (ManyOpen line) is x = x
-  of_bound k (BadLine line e) is x = x
+  of_bound k _ is x = x
 
   -- where all is explained, nothing comes before
   all_before : (k : ℕ) (v : Verdict) → IsSeenRightly s → IsNotBefore k v s
@@ -209,15 +195,13 @@ module _ (bytes : List ℕ) (s : Service) (o : IsOrderly s) (p : HasEventLines b
           before_refused other.0 other.1 e
           (none_less other.0 one.0 (omega (arith, ltb-true other.0 one.0 g))
           (of_refused one.0 one.1 f x))
-      cases true true false e f g is = absurd (cc)
       cases true false t e f g is =
           before_refused other.0 other.1 e (none_above other.0 (of_bound one.0 one.1 f x).1)
-      cases false true t e f g is = absurd (cc)
       cases false false true e f g is =
           let both = of_bound one.0 one.1 f x in
           before_bound other.0 other.1 e
           (right_less other.0 one.0 (omega (arith, ltb-true other.0 one.0 g)) both.0) both.1
-      cases false false false e f g is = absurd (cc)
+      cases _ _ _ e f g is = absurd (cc)
 
   -- what is found and comes behind something does not come before it
   found_behind : (one other : ℕ × Verdict) → comes_before other one ≡ false
@@ -231,14 +215,12 @@ module _ (bytes : List ℕ) (s : Service) (o : IsOrderly s) (p : HasEventLines b
       cases : (b c t : Bool) → is_refused other.1 ≡ b → is_refused one.1 ≡ c
           → ltb other.0 one.0 ≡ t → (if b then (not c || t) else (not c && t)) ≡ false
           → IsNotBefore one.0 one.1 s
-      cases true true true e f g is = absurd (cc)
       cases true true false e f g is = before_refused one.0 one.1 f (inl (right g))
-      cases true false t e f g is = absurd (cc)
       cases false true t e f g is =
           before_refused one.0 one.1 f (none_passed one.0 other.0 (passed other.0 other.1 e x))
-      cases false false true e f g is = absurd (cc)
       cases false false false e f g is =
           before_bound one.0 one.1 f (right g) (inr (other.0, passed other.0 other.1 e x))
+      cases _ _ _ e f g is = absurd (cc)
 
 module _ (bytes : List ℕ) (ss : List Service) (os : All IsOrderly ss)
     (ps : All (HasEventLines bytes) ss) (s : Service) (o : IsOrderly s) (p : HasEventLines bytes s)
@@ -284,15 +266,12 @@ module _ (bytes : List ℕ) (ss : List Service) (os : All IsOrderly ss)
     first_more (Some one) None f x = one_first one f (all_before bytes s o p one.0 one.1 x)
     first_more (Some one) (Some other) f x = cases (comes_before other one) refl
       where
-        same_one : (a b : ℕ × Verdict) → Some a ≡ Some b → a ≡ b
-        same_one a b e = cc
-
         cases : (t : Bool) → comes_before other one ≡ t
             → IsFirstFound both (if t then Some other else Some one)
         cases true e =
             other_first (Some one) other f
             (λ a is. subst (λ (y : ℕ × Verdict). comes_before other y ≡ true)
-            (same_one one a is) e) x
+            (same_Some one a is) e) x
         cases false e = one_first one f (found_behind bytes s o p one other e x)
 
 -- what holds of all items holds of one
@@ -310,7 +289,7 @@ first_next bytes services i d first found result os ps h is f x same =
     let more : take (i + 1) services ≡ take i services ++ d ∷ [] =
     take_more services i d h ∙ ap (λ (e : Service). take i services ++ e ∷ []) (sym is) in
     subst (λ (l : List Service). IsFirstFound l result) (sym more)
-    (subst (λ r. IsFirstFound (take i services ++ d ∷ []) r) (sym same)
+    (subst (IsFirstFound (take i services ++ d ∷ [])) (sym same)
     (first_more bytes (take i services) (All-take IsOrderly i services os)
     (All-take (HasEventLines bytes) i services ps) d (item_of IsOrderly services i d os h is)
     (item_of (HasEventLines bytes) services i d ps h is) first found f x))
@@ -320,7 +299,7 @@ pub first_whole : (services : List Service) (i : ℕ) (first result : Option (�
     → length services ≤ i → IsFirstFound (take i services) first → first ≡ result
     → IsFirstFound services result
 first_whole services i first result h f is =
-    subst (λ r. IsFirstFound services r) is
+    subst (IsFirstFound services) is
     (subst (λ (l : List Service). IsFirstFound l first) (take_all i services h) f)
 
 pub first_none : IsFirstFound [] None
@@ -354,13 +333,13 @@ pub explored : (s : Service) (c : Cut) (found : WindowVerdict Watched)
     → Explores s c reported
 explored s c found (Err reported) is whole f = f
 explored s c found (Ok window) is whole same =
-    let all = subst (λ v. IsVerdict (StepOf s) (news s) s.events v) same is in (
+    let all = subst (IsVerdict (StepOf s) (news s) s.events) same is in (
       all.0,
       all.1.some,
-      λ never. subst (λ v. IsWhole (StepOf s) (news s) s.events v) same (whole never),
+      λ never. subst (IsWhole (StepOf s) (news s) s.events) same (whole never),
     )
 
 -- a place of an event is one of a line
 pub line_within : (s : Service) (index : ℕ) (why : Stop) → IsOrderly s
     → IsStop (StepOf s) (news s) s.events index why → index < length s.event_lines
-line_within s index why o x = omega (arith, x.within, o.all.event_lines)
+line_within s index why o x = omega arith

@@ -13,14 +13,7 @@ use Rattle.history_logs.specs.Judging.{AreJudged, IsNotBefore, IsRefusedIn, end_
 use Rattle.history_logs.specs.Logs.{HasGood, IsRefusal, IsRightAbove, IsSeenRightly, Judged, NoneRefused, NoneRefusedAbove, StopsAt, StopsIn, services_in}
 use Rattle.history_logs.specs.Seen.{Service}
 use Rattle.history_logs.proofs.Named.{some_service}
-
-some_is : (a b : ℕ) → Some a ≡ Some b → a ≡ b
-some_is a b e = cc
-
--- of each service nothing comes before
-each_first : (P : Service → Type 0) (k : ℕ) (v : Verdict) (services : List Service)
-    → ((s : Service) → IsNotBefore k v s → P s) → All (IsNotBefore k v) services → All P services
-each_first P k v services does all = All-weaker (IsNotBefore k v) P does services all
+use Rattle.std.proofs.lemmas.Option.{same_Some}
 
 stops_at : (services : List Service) (k line : ℕ) (s : Service) (index : ℕ) (why : Stop)
     → Contains services s → StopsIn s k index why → line ≡ k → All (IsRightAbove k) services
@@ -38,7 +31,7 @@ refusal_of : (services : List Service) (k : ℕ) (s : Service) (reported : Refus
     → IsRefusal services reported
 refusal_of services k s reported has r above =
     let same : reported.line ≡ k =
-    some_is reported.line k (sym r.is_reported.ended ∙ r.stops.there) in
+    same_Some reported.line k (sym r.is_reported.ended ∙ r.stops.there) in
     record {
       s = s;
       index = r.index;
@@ -83,8 +76,9 @@ judged_found bytes services bad (ManyConfigs line) r f = (
     f.1.2.1.0,
     subst (λ (ss : List Service). StopsAt ss line f.1.0 f.1.2.1.0 stop.ManyConfigs) (sym r.same)
         (stops_at services f.0 line f.1.0 f.1.2.1.0 stop.ManyConfigs f.1.1 f.1.2.1.1 f.1.2.0
-        (each_first (IsRightAbove f.0) f.0 (ManyConfigs line) services (λ s x. x.0) f.1.3)
-        (each_first NoneRefused f.0 (ManyConfigs line) services (λ s x. x.1) f.1.3)),
+        (All-weaker (IsNotBefore f.0 (ManyConfigs line)) (IsRightAbove f.0) (λ s x. x.0) services
+        f.1.3)
+        (All-weaker (IsNotBefore f.0 (ManyConfigs line)) NoneRefused (λ s x. x.1) services f.1.3)),
   ),
 )
 judged_found bytes services bad (ManyOpen line) r f = (
@@ -97,8 +91,9 @@ judged_found bytes services bad (ManyOpen line) r f = (
     f.1.2.1.0,
     subst (λ (ss : List Service). StopsAt ss line f.1.0 f.1.2.1.0 stop.ManyOpen) (sym r.same)
         (stops_at services f.0 line f.1.0 f.1.2.1.0 stop.ManyOpen f.1.1 f.1.2.1.1 f.1.2.0
-        (each_first (IsRightAbove f.0) f.0 (ManyOpen line) services (λ s x. x.0) f.1.3)
-        (each_first NoneRefused f.0 (ManyOpen line) services (λ s x. x.1) f.1.3)),
+        (All-weaker (IsNotBefore f.0 (ManyOpen line)) (IsRightAbove f.0) (λ s x. x.0) services
+        f.1.3)
+        (All-weaker (IsNotBefore f.0 (ManyOpen line)) NoneRefused (λ s x. x.1) services f.1.3)),
   ),
 )
 judged_found bytes services bad (BadLine line e) r f = absurd f.1.2
@@ -112,10 +107,10 @@ unfolding Judged
 judged_conforms bytes services n m r all calls count = (
   r.count,
   r.log,
-  subst (λ (l : List ℕ). HasGood bytes r.count r.log l) r.ends.0 r.good,
+  subst (HasGood bytes r.count r.log) r.ends.0 r.good,
   r.ends.1,
-  subst (λ (ss : List Service). All IsSeenRightly ss) (sym r.same) all,
-  calls ∙ ap (λ (ss : List Service). sum_by (λ (s : Service). length s.commands) ss) (sym r.same),
+  subst (All IsSeenRightly) (sym r.same) all,
+  calls ∙ ap (sum_by (λ (s : Service). length s.commands)) (sym r.same),
   count ∙ ap services_in (sym r.same),
   subst (λ x. 0 < x) (sym count) (some_service services
       (subst (λ (ss : List Service). 0 < length ss) r.same r.ends.2)),
@@ -131,7 +126,7 @@ judged_bad bytes services line e r all = (
   r.log,
   r.rest,
   r.good,
-  subst (λ (ss : List Service). All IsSeenRightly ss) (sym r.same) all,
+  subst (All IsSeenRightly) (sym r.same) all,
   r.ends.0,
   r.ends.1,
 )

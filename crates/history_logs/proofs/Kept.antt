@@ -1,27 +1,30 @@
 -- What holds of all that is read holds after one line more.
-use Rattle.std.proofs.Common.{◌≡◌, ◌≢◌, ◌⊎◌, ℕ, zero, suc, ◌+◌, ◌<◌, ◌≤◌, List, [], ◌∷◌, ◌++◌, All, Bool, bytes_eq, true, false, Option, Some, None, get_or, length, refl, sym, ◌∙◌, ap, subst, arith, inl, inr}
+use Rattle.std.proofs.Common.{◌≡◌, ◌≢◌, ◌⊎◌, ℕ, zero, suc, ◌+◌, ◌<◌, ◌≤◌, List, [], ◌∷◌, ◌++◌, All, Bool, bytes_eq, true, false, Option, Some, None, get_or, length, refl, sym, ◌∙◌, ap, subst, arith, inl, inr, take, take_all}
 use Rattle.std.specs.Prelude.{slice_get, sum_by}
 use Rattle.std.specs.List.{slice_set}
 use Rattle.std.proofs.lemmas.Bool.{cases_eq}
-use Rattle.std.proofs.lemmas.List.{length-append}
+use Rattle.std.proofs.lemmas.List.{length-append, length-set}
 use Rattle.std.proofs.lemmas.List.Elements.{All-head, All-nil, All-push, All-set, All-tail, All-weaker}
-use Rattle.std.proofs.lemmas.List.Sums.{sum_by-cons, sum_by_push}
-use Rattle.std.proofs.lemmas.Option.{slice_get-get_or, slice_get_within}
+use Rattle.std.proofs.lemmas.List.Sums.{sum_by_push, sum_by-set}
+use Rattle.std.proofs.lemmas.Option.{same_Some, slice_get-get_or, slice_get_within, get_or_from_slice_get}
 use Rattle.histories.specs.declared.event.Event.{Event}
 use Rattle.histories.specs.Histories.{IsOpen}
+use Rattle.iox2_container.proofs.ListEdits.{get_set_other}
 use Rattle.log_lines.specs.Commands.{Begun, NamedCommand}
 use Rattle.log_lines.specs.Commands.Begun.{command, weak}
 use Rattle.log_lines.specs.Lines.{Line}
 use Rattle.log_lines.specs.Lines.Line.{service, call, reply, begin, end, crash, given}
 use Rattle.history_logs.specs.declared.logs.callers.CallerState.{CallerState}
 use Rattle.history_logs.specs.declared.logs.callers.CallerState.TheVariants as caller
-use Rattle.history_logs.specs.Good.{IsKept, IsOpenOn, IsOrderly}
+use Rattle.history_logs.specs.Good.{IsKept, IsOpenOn, IsOrderly, TakesLine}
 use Rattle.history_logs.specs.Logs.{calls_in}
-use Rattle.history_logs.specs.Reading.{Dies, GoesOn, IsSane, Log, Sets}
+use Rattle.history_logs.specs.Reading.{Dies, GoesOn, IsSane, Log, Sets, HaveOneNumber}
 use Rattle.history_logs.specs.Seen.{Begins, HasHandles, Service, called, started, unseen, with_alone, with_begin, with_crash, with_end}
-use Rattle.history_logs.proofs.AtIndex.{all_get, get_other, get_push, get_same, same_some}
+use Rattle.history_logs.proofs.AtIndex.{all_get, get_push, get_same}
 use Rattle.history_logs.proofs.Callers.{other_bytes, same_bytes}
 use Rattle.history_logs.proofs.Orderly.{begun_of, open_alone, open_crashed, open_ended, orderly_alone, orderly_crash, orderly_end, orderly_new, orderly_started}
+use Rattle.service_descriptions.specs.declared.replay.lines.service_line.ServiceLine.{ServiceLine}
+use Rattle.std.proofs.Math.Seq.{take-append_seam, take-length}
 
 cases_name : (a b : List ℕ) → (a ≡ b) ⊎ (a ≢ b)
 cases_name a b = cases (bytes_eq a b) refl
@@ -38,20 +41,19 @@ opened_set ss at s t there b m keeps o =
     elim (cases_eq b at) as (λ _. IsOpenOn (slice_set ss at t) b m) [
       | inl e ↦
           let same : o.0 ≡ s =
-          same_some o.0 s (sym o.1 ∙ (ap (λ i. slice_get ss i) e ∙ there)) in (
+          same_Some o.0 s (sym o.1 ∙ (ap (slice_get ss) e ∙ there)) in (
             t,
             subst (λ i. slice_get (slice_set ss at t) i ≡ Some t) (sym e)
                 (get_same ss at t s there),
             keeps e (subst (λ (x : Service). IsOpen x.events m) same o.2),
           )
-      | inr ne ↦ (o.0, get_other ss at b t ne ∙ o.1, o.2)
+      | inr ne ↦ (o.0, get_set_other ss at b t ne ∙ o.1, o.2)
     ]
 
 set_some : (ss : List Service) (at : ℕ) (s t : Service) → slice_get ss at ≡ Some s
     → slice_set ss at t ≢ []
-set_some [] at s t there e = absurd (cc)
-set_some (x ∷ ss) zero s t there e = absurd (cc)
-set_some (x ∷ ss) (suc at) s t there e = absurd (cc)
+set_some ss at s t there e =
+    omega (arith, slice_get_within ss at s there, length-set ss at t, ap length e)
 
 push_some : {X : Type 0} (xs : List X) (y : X) → xs ++ y ∷ [] ≢ []
 push_some [] y e = absurd (cc)
@@ -81,7 +83,7 @@ kept_call old at s c k there = record {
   opened = k.opened;
   apart = k.apart;
   waits = λ b d e.
-      let same : at ≡ b = ap (λ (p : ℕ × NamedCommand). p.0) (same_some (at, c) (b, d) e) in
+      let same : at ≡ b = ap (λ (p : ℕ × NamedCommand). p.0) (same_Some (at, c) (b, d) e) in
       subst (λ i. i < length old.services) same (slice_get_within old.services at s there);
   none = k.none;
 }
@@ -101,8 +103,7 @@ kept_alone old at s t k there orderly keeps = record {
 
 -- the caller does something else, and its service changes
 module _ (old new : Log) (at : ℕ) (s t : Service) (name : List ℕ) (st : CallerState)
-    (k : IsKept old)
-    (there : slice_get old.services at ≡ Some s) (orderly : IsOrderly t)
+    (k : IsKept old) (there : slice_get old.services at ≡ Some s) (orderly : IsOrderly t)
     (services : new.services ≡ slice_set old.services at t)
     (sets : Sets old.callers name st new.callers) (waits : new.waits ≡ None)
     (own : (b m : ℕ) → st ≡ caller.Calls b m
@@ -113,8 +114,7 @@ module _ (old new : Log) (at : ℕ) (s t : Service) (name : List ℕ) (st : Call
     does : (one : List ℕ) (b m : ℕ) → one ≡ name → new.callers one ≡ Some (caller.Calls b m)
         → st ≡ caller.Calls b m
     does one b m same e =
-        same_some st (caller.Calls b m)
-        (sym sets.own ∙ (ap (λ n. new.callers n) (sym same) ∙ e))
+        same_Some st (caller.Calls b m) (sym sets.own ∙ (ap new.callers (sym same) ∙ e))
 
     did : (one : List ℕ) (b m : ℕ) → one ≢ name → new.callers one ≡ Some (caller.Calls b m)
         → old.callers one ≡ Some (caller.Calls b m)
@@ -147,7 +147,7 @@ module _ (old new : Log) (at : ℕ) (s t : Service) (name : List ℕ) (st : Call
         let o = own b m (does one b m same e) in
         let was = k.opened other b m (did other b m ne f) in
         let is : was.0 ≡ s =
-        same_some was.0 s (sym was.1 ∙ (ap (λ i. slice_get old.services i) o.0 ∙ there)) in
+        same_Some was.0 s (sym was.1 ∙ (ap (slice_get old.services) o.0 ∙ there)) in
         o.2 (subst (λ (x : Service). IsOpen x.events m) is was.2)
 
     apart : (one other : List ℕ) (b m : ℕ) → new.callers one ≡ Some (caller.Calls b m)
@@ -166,7 +166,7 @@ module _ (old new : Log) (at : ℕ) (s t : Service) (name : List ℕ) (st : Call
 
     kept_sets : IsKept new
     kept_sets = record {
-      orderly = subst (λ (l : List Service). All IsOrderly l) (sym services)
+      orderly = subst (All IsOrderly) (sym services)
           (All-set IsOrderly old.services at t orderly k.orderly);
       opened = opened;
       apart = apart;
@@ -185,13 +185,13 @@ kept_idle old new name k services sets waits was =
     as (λ _. old.callers one ≡ Some (caller.Calls b m)) [
       | inl same ↦
           let is : new.callers name ≡ Some (caller.Calls b m) =
-          ap (λ n. new.callers n) (sym same) ∙ e in
+          ap new.callers (sym same) ∙ e in
           let bars = sets.own in
           absurd (cc)
       | inr ne ↦ sym (sets.others one ne) ∙ e
     ] in
     record {
-      orderly = subst (λ (l : List Service). All IsOrderly l) (sym services) k.orderly;
+      orderly = subst (All IsOrderly) (sym services) k.orderly;
       opened = λ one b m e.
           subst (λ (l : List Service). IsOpenOn l b m) (sym services)
           (k.opened one b m (did one b m e));
@@ -205,36 +205,20 @@ kept_idle old new name k services sets waits was =
 kept_dies : (old new : Log) (k : ℕ) (name : List ℕ) (state : Option CallerState) → IsKept old
     → old.callers name ≡ state → Dies old.services k state new.services
     → Sets old.callers name caller.Dead new.callers → new.waits ≡ None → IsKept new
-kept_dies old new k name None kept is dies sets waits = absurd dies
-kept_dies old new k name (Some caller.Dead) kept is dies sets waits = absurd dies
 kept_dies old new k name (Some caller.Idle) kept is dies sets waits =
     kept_idle old new name kept dies sets waits is
 kept_dies old new k name (Some (caller.Calls at number)) kept is dies sets waits =
     let s = dies.0 in
     let o = kept.opened name at number is in
-    let same : o.0 ≡ s = same_some o.0 s (sym o.1 ∙ dies.1) in
+    let same : o.0 ≡ s = same_Some o.0 s (sym o.1 ∙ dies.1) in
     let live = subst (λ (x : Service). IsOpen x.events number) same o.2 in
     let orderly = all_get IsOrderly old.services at s kept.orderly dies.1 in
     kept_sets old new at s (with_crash s number k) name caller.Dead kept dies.1
-    (orderly_crash s number k orderly live) dies.2 sets waits
-    (λ b m e. absurd (cc))
+    (orderly_crash s number k orderly live) dies.2 sets waits (λ b m e. absurd (cc))
     (λ other m ne does here. open_crashed s number k m here
     (λ e. ne (kept.apart other name at m does
     (subst (λ i. old.callers name ≡ Some (caller.Calls at i)) (sym e) is))))
-
--- a service began otherwise
-kept_given : (old : Log) (at : ℕ) (s t : Service) → IsKept old → old.waits ≡ None
-    → slice_get old.services at ≡ Some s → IsOrderly t → t.events ≡ s.events
-    → IsKept (record old { services = slice_set old.services at t })
-kept_given old at s t k none there orderly events = record {
-  orderly = All-set IsOrderly old.services at t orderly k.orderly;
-  opened = λ name b m e.
-      opened_set old.services at s t there b m
-      (λ _ o. subst (λ (l : List Event). IsOpen l m) (sym events) o) (k.opened name b m e);
-  apart = k.apart;
-  waits = λ b c e. absurd (cc);
-  none = λ e name. absurd (set_some old.services at s t there e);
-}
+kept_dies old new k name _ kept is dies sets waits = absurd dies
 
 pub kept_step : (old new : Log) (k : ℕ) (l : Line) → IsKept old → GoesOn old k l new → IsKept new
 kept_step old new k (service line) kept g =
@@ -260,20 +244,19 @@ kept_step old new k (begin number name begun) kept g =
     let at : g.0 ≡ b = cc in
     let same : current ≡ m = cc in (
       sym at,
-      subst (λ n. IsOpen t.events n) same is.now,
-      λ o. is.fresh (subst (λ n. IsOpen s.events n) (sym same) o),
+      subst (IsOpen t.events) same is.now,
+      λ o. is.fresh (subst (IsOpen s.events) (sym same) o),
     ))
     (λ other m ne does here. is.still m here)
 kept_step old new k (end name words) kept g =
     let s = g.2 in
     let number = g.1 in
     let o = kept.opened name g.0 number g.5 in
-    let same : o.0 ≡ s = same_some o.0 s (sym o.1 ∙ g.6) in
+    let same : o.0 ≡ s = same_Some o.0 s (sym o.1 ∙ g.6) in
     let live = subst (λ (x : Service). IsOpen x.events number) same o.2 in
     let orderly = all_get IsOrderly old.services g.0 s kept.orderly g.6 in
     kept_sets old new g.0 s (with_end s number g.3 k) name caller.Idle kept g.6
-    (orderly_end s number g.3 k orderly live) g.8 g.9 g.10
-    (λ b m e. absurd (cc))
+    (orderly_end s number g.3 k orderly live) g.8 g.9 g.10 (λ b m e. absurd (cc))
     (λ other m ne does here. open_ended s number g.3 k m here
     (λ e. ne (kept.apart other name g.0 m does
     (subst (λ i. old.callers name ≡ Some (caller.Calls g.0 i)) (sym e) g.5))))
@@ -286,118 +269,134 @@ kept_step old new k (given number what) kept g =
     elim g.5 as (λ _. IsKept new) [
       | inl first ↦
           subst IsKept (sym first.1)
-          (kept_given old g.0 s (started s g.2) kept g.3 there (orderly_started s g.2 orderly) refl)
+          (subst (λ (w : Option (ℕ × NamedCommand)). IsKept (record old {
+            services = slice_set old.services g.0 (started s g.2);
+            waits = w;
+          })) (sym g.3)
+          (kept_alone old g.0 s (started s g.2) kept there (orderly_started s g.2 orderly)
+          (λ m o. o)))
       | inr anew ↦
           subst IsKept (sym anew.1)
           (kept_push old (started (unseen s.line) g.2) kept g.3
           (orderly_started (unseen s.line) g.2 (orderly_new s.line)))
     ]
 
--- how many calls were read after one line more
+-- how many commands were read on the service
 abbrev calls_of : Service → ℕ
 calls_of s = length s.commands
 
-sum_set : (ss : List Service) (at : ℕ) (s t : Service) → slice_get ss at ≡ Some s
-    → calls_of t ≤ calls_of s + 1 → sum_by calls_of (slice_set ss at t) ≤ sum_by calls_of ss + 1
-sum_set [] at s t there less = absurd (cc)
-sum_set (x ∷ ss) zero s t there less =
-    let same : x ≡ s = same_some x s there in
-    let is : calls_of x ≡ calls_of s = ap calls_of same in
-    omega (arith, less, is, sum_by-cons calls_of t ss, sum_by-cons calls_of x ss)
-sum_set (x ∷ ss) (suc at) s t there less =
-    omega (
-      arith,
-      sum_set ss at s t there less,
-      sum_by-cons calls_of x (slice_set ss at t),
-      sum_by-cons calls_of x ss,
-    )
+-- What a line does to the services: nothing; or it changes one, which keeps its line and has at
+-- most one command more; or it adds one, which has none.
+data Moves : List Service → List Service → Type 0 where
+  stays : (ss : List Service) → Moves ss ss
+  sets : (ss : List Service) (at : ℕ) (s t : Service) → slice_get ss at ≡ Some s
+      → t.line ≡ s.line → calls_of t ≤ calls_of s + 1 → Moves ss (slice_set ss at t)
+  adds : (ss : List Service) (t : Service) → calls_of t ≡ 0 → Moves ss (ss ++ t ∷ [])
 
 -- what begins is one command more
-begins_few : (s t : Service) (b : Begun) (k current : ℕ) → Begins s b k t current
-    → calls_of t ≤ calls_of s + 1
-begins_few s t (command c) k current begins =
-    omega (arith, ap calls_of begins.0, length-append s.commands (length s.calls ∷ []))
-begins_few s t (weak r) k current (inl looks) =
-    omega (arith, ap calls_of looks.2, length-append s.commands (length s.calls ∷ []))
-begins_few s t (weak r) k current (inr lists) =
-    omega (arith, ap calls_of lists.1, length-append s.commands (length s.calls ∷ []))
+moves_begins : (ss : List Service) (at : ℕ) (s t : Service) (b : Begun) (k current : ℕ)
+    → slice_get ss at ≡ Some s → Begins s b k t current → Moves ss (slice_set ss at t)
+moves_begins ss at s t (command c) k current there is =
+    sets ss at s t there (ap (λ (v : Service). v.line) is.0)
+    (omega (arith, ap calls_of is.0, length-append s.commands (length s.calls ∷ [])))
+moves_begins ss at s t (weak r) k current there (inl is) =
+    sets ss at s t there (ap (λ (v : Service). v.line) is.2)
+    (omega (arith, ap calls_of is.2, length-append s.commands (length s.calls ∷ [])))
+moves_begins ss at s t (weak r) k current there (inr is) =
+    sets ss at s t there (ap (λ (v : Service). v.line) is.1)
+    (omega (arith, ap calls_of is.1, length-append s.commands (length s.calls ∷ [])))
 
-sum_push : (ss : List Service) (t : Service) → calls_of t ≡ 0
-    → sum_by calls_of (ss ++ t ∷ []) ≡ sum_by calls_of ss
-sum_push ss t none = omega (arith, none, sum_by_push calls_of ss t)
+moves_dies : (ss new : List Service) (k : ℕ) (state : Option CallerState) → Dies ss k state new
+    → Moves ss new
+moves_dies ss new k (Some caller.Idle) dies = subst (Moves ss) (sym dies) (stays ss)
+moves_dies ss new k (Some (caller.Calls at number)) dies =
+    subst (Moves ss) (sym dies.2)
+    (sets ss at dies.0 (with_crash dies.0 number k) dies.1 refl (omega arith))
+moves_dies ss new k _ dies = absurd dies
 
-sum_dies : (ss new : List Service) (k : ℕ) (state : Option CallerState) → Dies ss k state new
-    → sum_by calls_of new ≤ sum_by calls_of ss + 1
-sum_dies ss new k None dies = absurd dies
-sum_dies ss new k (Some caller.Dead) dies = absurd dies
-sum_dies ss new k (Some caller.Idle) dies =
-    omega (arith, ap (λ (l : List Service). sum_by calls_of l) dies)
-sum_dies ss new k (Some (caller.Calls at number)) dies =
-    omega (
-      arith,
-      ap (λ (l : List Service). sum_by calls_of l) dies.2,
-      sum_set ss at dies.0 (with_crash dies.0 number k) dies.1 (omega arith),
-    )
-
-sum_step : (old new : Log) (k : ℕ) (l : Line) → GoesOn old k l new
-    → sum_by calls_of new.services ≤ sum_by calls_of old.services + 1
-sum_step old new k (service line) g =
-    omega (
-      arith,
-      ap (λ (x : Log). sum_by calls_of x.services) g.2,
-      sum_push old.services (unseen line) refl,
-    )
-sum_step old new k (call number c) g =
-    omega (arith, ap (λ (x : Log). sum_by calls_of x.services) g.4)
-sum_step old new k (reply words) g =
+moves_step : (old new : Log) (k : ℕ) (l : Line) → GoesOn old k l new
+    → Moves old.services new.services
+moves_step old new k (service line) g =
+    subst (λ (x : Log). Moves old.services x.services) (sym g.2)
+    (adds old.services (unseen line) refl)
+moves_step old new k (call number c) g =
+    subst (λ (x : Log). Moves old.services x.services) (sym g.4) (stays old.services)
+moves_step old new k (reply words) g =
     let s = g.2 in
-    let t = with_alone s (called s g.1) g.3 k in
-    omega (
-      arith,
-      ap (λ (x : Log). sum_by calls_of x.services) g.7,
-      sum_set old.services g.0 s t g.5
-          (omega (arith, length-append s.commands (length s.calls ∷ []))),
-    )
-sum_step old new k (begin number name begun) g =
-    omega (
-      arith,
-      ap (λ (l : List Service). sum_by calls_of l) g.5.3,
-      sum_set old.services g.0 g.1 g.5.0 g.3.there
-          (begins_few g.1 g.5.0 begun k g.5.1 g.5.2),
-    )
-sum_step old new k (end name words) g =
-    let s = g.2 in
-    omega (
-      arith,
-      ap (λ (l : List Service). sum_by calls_of l) g.8,
-      sum_set old.services g.0 s (with_end s g.1 g.3 k) g.6 (omega arith),
-    )
-sum_step old new k (crash name) g = sum_dies old.services new.services k (old.callers name) g.1
-sum_step old new k (given number what) g =
-    elim g.5 as (λ _. sum_by calls_of new.services ≤ sum_by calls_of old.services + 1) [
+    subst (λ (x : Log). Moves old.services x.services) (sym g.7)
+    (sets old.services g.0 s (with_alone s (called s g.1) g.3 k) g.5 refl
+    (omega (arith, length-append s.commands (length s.calls ∷ []))))
+moves_step old new k (begin number name begun) g =
+    subst (Moves old.services) (sym g.5.3)
+    (moves_begins old.services g.0 g.1 g.5.0 begun k g.5.1 g.3.there g.5.2)
+moves_step old new k (end name words) g =
+    subst (Moves old.services) (sym g.8)
+    (sets old.services g.0 g.2 (with_end g.2 g.1 g.3 k) g.6 refl (omega arith))
+moves_step old new k (crash name) g =
+    moves_dies old.services new.services k (old.callers name) g.1
+moves_step old new k (given number what) g =
+    elim g.5 as (λ _. Moves old.services new.services) [
       | inl first ↦
-          omega (
-            arith,
-            ap (λ (x : Log). sum_by calls_of x.services) first.1,
-            sum_set old.services g.0 g.1 (started g.1 g.2) g.4.there (omega arith),
-          )
+          subst (λ (x : Log). Moves old.services x.services) (sym first.1)
+          (sets old.services g.0 g.1 (started g.1 g.2) g.4.there refl (omega arith))
       | inr anew ↦
-          omega (
-            arith,
-            ap (λ (x : Log). sum_by calls_of x.services) anew.1,
-            sum_push old.services (started (unseen g.1.line) g.2) refl,
-          )
+          subst (λ (x : Log). Moves old.services x.services) (sym anew.1)
+          (adds old.services (started (unseen g.1.line) g.2) refl)
     ]
+
+-- how many commands were read then
+sum_set : (ss : List Service) (at : ℕ) (s t : Service) → slice_get ss at ≡ Some s
+    → calls_of t ≤ calls_of s + 1 → sum_by calls_of (slice_set ss at t) ≤ sum_by calls_of ss + 1
+sum_set ss at s t there less =
+    omega (
+      arith,
+      sum_by-set calls_of ss at t s (slice_get_within ss at s there),
+      ap calls_of (get_or_from_slice_get ss at s s there),
+    )
+
+sum_moves : (ss new : List Service) → Moves ss new
+    → sum_by calls_of new ≤ sum_by calls_of ss + 1
+sum_moves ss new (stays x) = omega arith
+sum_moves ss new (sets x at s t there line less) = sum_set ss at s t there less
+sum_moves ss new (adds x t none) = omega (arith, sum_by_push calls_of ss t)
+
+-- the services that were there have their numbers still
+alike_moves : (ss new : List Service) → Moves ss new
+    → (length ss ≤ length new) × (HaveOneNumber ss → HaveOneNumber (take (length ss) new))
+alike_moves ss new (stays x) =
+    (omega arith, subst HaveOneNumber (sym (take-length ss)))
+alike_moves ss new (sets x at s t there line less) =
+    let long : length (slice_set ss at t) ≡ length ss = length-set ss at t in (
+      omega arith,
+      λ one.
+          let has = λ (v : Service). v.line.number ≡ one.0 in
+          subst HaveOneNumber
+          (sym (take_all (length ss) (slice_set ss at t) (omega arith))) (
+            one.0,
+            All-set has ss at t
+                (ap (λ (l : ServiceLine). l.number) line ∙ all_get has ss at s one.1 there) one.1,
+          ),
+    )
+alike_moves ss new (adds x t none) = (
+  omega (arith, length-append ss (t ∷ [])),
+  subst HaveOneNumber (sym (take-append_seam ss (t ∷ []))),
+)
+
+pub alike_line : (old new : Log) (k : ℕ) (text : List ℕ) → TakesLine old k text None new
+    → (length old.services ≤ length new.services)
+    × (HaveOneNumber old.services → HaveOneNumber (take (length old.services) new.services))
+alike_line old new k text t =
+    alike_moves old.services new.services (moves_step old new k t.0 t.3)
 
 pub few_step : (old new : Log) (k : ℕ) (l : Line) → GoesOn old k l new
     → calls_in new ≤ calls_in old + 1
-few_step old new k l g = sum_step old new k l g
+few_step old new k l g = sum_moves old.services new.services (moves_step old new k l g)
 
 -- nothing was read yet
 pub kept_new : (log : Log) → log.services ≡ [] → ((name : List ℕ) → log.callers name ≡ None)
     → log.waits ≡ None → IsKept log
 kept_new log services callers waits = record {
-  orderly = subst (λ (l : List Service). All IsOrderly l) (sym services) (All-nil IsOrderly);
+  orderly = subst (All IsOrderly) (sym services) (All-nil IsOrderly);
   opened = λ name at number e. let bars = callers name in absurd (cc);
   apart = λ one other at number e f. let bars = callers one in absurd (cc);
   waits = none_waits log waits;
@@ -408,7 +407,7 @@ pub handles_of : (s : Service) → IsOrderly s → HasHandles s
 handles_of s o = record {
   adds = o.all.adds;
   given = o.all.given;
-  first = omega (arith, o.all.whole);
+  first = omega arith;
 }
 
 -- what holds of all that is read is what the parts need
@@ -420,10 +419,10 @@ sane_of log k = record {
       let orderly = all_get IsOrderly log.services at o.0 k.orderly o.1 in (
         o.0,
         o.1,
-        omega (arith, orderly.numbered number o.2.0, orderly.counts),
+        omega (arith, orderly.numbered number o.2.0),
         record {
-          call = omega (arith, orderly.all.whole);
-          start = λ start is. omega (arith, orderly.all.whole);
+          call = omega arith;
+          start = λ start is. omega arith;
         },
       );
   waits = k.waits;

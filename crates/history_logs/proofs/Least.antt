@@ -18,7 +18,7 @@ use Rattle.history_logs.proofs.Settled.{begins-one}
 -- what an event alone begins
 begins_same : (c call : ℕ) → 0 < begins call (Begin c ∷ []) → c ≡ call
 begins_same c call h =
-    times_same call c (omega (arith, h, begins_none call, begins_begin call c []))
+    times_same call c (omega (arith, begins_none call, begins_begin call c []))
 
 begins_ends_one : (call c : ℕ) → begins call (End c ∷ []) ≡ 0
 unfolding begins
@@ -37,7 +37,7 @@ pub record IsLeast (slots : List (Option ℕ)) (limit at first : ℕ) : Type 0 w
 pub least_none : (slots : List (Option ℕ)) (most : ℕ) → IsLeast slots most 0 most
 least_none slots most = record {
   most = omega arith;
-  each = λ slot call h has. absurd (omega (arith, h));
+  each = λ slot call h has. absurd (omega arith);
   is = inl refl;
 }
 
@@ -45,10 +45,10 @@ pub least_more : (slots : List (Option ℕ)) (most at first next : ℕ) → IsLe
     → next ≤ first → ((call : ℕ) → get_or slots at None ≡ Some call → next ≤ call)
     → ((next ≡ first) ⊎ (get_or slots at None ≡ Some next)) → IsLeast slots most (at + 1) next
 least_more slots most at first next l less own is = record {
-  most = omega (arith, l.most, less);
+  most = omega arith;
   each = λ slot call h has. elim (cases_eq slot at) as (λ _. next ≤ call) [
     | inl same ↦ own call (subst (λ k. HasSlot slots k call) same has)
-    | inr other ↦ omega (arith, less, l.each slot call (omega (arith, h, other)) has)
+    | inr other ↦ omega (arith, l.each slot call (omega arith) has)
   ];
   is = elim is as (λ _. (next ≡ most) ⊎ ((slot : ℕ) × HasSlot slots slot next)) [
     | inl same ↦
@@ -64,7 +64,7 @@ least_each slots most at first l h slot call has =
       | inl within ↦ l.each slot call within has
       | inr past ↦
           let none : get_or slots slot None ≡ None =
-          get_or_past slots slot None (omega (arith, h, past)) in
+          get_or_past slots slot None (omega arith) in
           absurd (cc)
     ]
 
@@ -85,15 +85,11 @@ last_more first events at d last next h l is =
           subst (λ (x : Event). IsBehindBegun first (take at events ++ x ∷ []) next) (sym now.1)
           (inr (
             call,
-            omega (
-              arith,
-              begins-one call,
-              begins-append call (take at events) (Begin call ∷ []),
-            ),
+            omega (arith, begins-one call, begins-append call (take at events) (Begin call ∷ [])),
             now.2,
           ))
       | inr same ↦
-          subst (λ n. IsBehindBegun first (take at events ++ e ∷ []) n) (sym same)
+          subst (IsBehindBegun first (take at events ++ e ∷ [])) (sym same)
           (elim l as (λ _. IsBehindBegun first (take at events ++ e ∷ []) last) [
             | inl from ↦ inl from
             | inr some ↦ inr (
@@ -118,7 +114,6 @@ over_more s at d h are own call some =
     cases (get_or s.events at d) refl
     (omega (
       arith,
-      some,
       ap (begins call) (one_more s.events at d h),
       begins-append call (take at s.events) (get_or s.events at d ∷ []),
     ))
@@ -129,12 +124,7 @@ over_more s at d h are own call some =
     cases e is more =
         elim (cases_lt 0 (begins call (take at s.events))) as (λ _. IsOverIn s s.events call) [
           | inl before ↦ are call before
-          | inr none ↦ last e is (omega (
-            arith,
-            more,
-            none,
-            ap (λ (x : Event). begins call (x ∷ [])) is,
-          ))
+          | inr none ↦ last e is (omega (arith, ap (λ (x : Event). begins call (x ∷ [])) is))
         ]
       where
         last : (f : Event) → get_or s.events at d ≡ f → 0 < begins call (f ∷ [])
@@ -142,5 +132,5 @@ over_more s at d h are own call some =
         last (Begin c) same now =
             let is_call : c ≡ call = begins_same c call now in
             own call (same ∙ ap Begin is_call)
-        last (End c) same now = absurd (omega (arith, now, begins_ends_one call c))
-        last (Crash c) same now = absurd (omega (arith, now, begins_crash_one call c))
+        last (End c) same now = absurd (omega (arith, begins_ends_one call c))
+        last (Crash c) same now = absurd (omega (arith, begins_crash_one call c))

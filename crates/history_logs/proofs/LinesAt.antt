@@ -29,9 +29,9 @@ line_first bytes text after line none is at =
 pub no_line : (bytes : List ℕ) (k : ℕ) (line : List ℕ) → HasNo 10 bytes → IsLineAt bytes k line → ⊥
 no_line bytes zero line none at = at
 no_line bytes (suc zero) line none at =
-    has_one 10 line at.0 (subst (λ (l : List ℕ). HasNo 10 l) at.2 none)
+    has_one 10 line at.0 (subst (HasNo 10) at.2 none)
 no_line bytes (suc (suc k)) line none at =
-    has_one 10 at.0 at.1 (subst (λ (l : List ℕ). HasNo 10 l) at.3 none)
+    has_one 10 at.0 at.1 (subst (HasNo 10) at.3 none)
 
 -- the number of lines that are left
 abbrev pub LeftIn : List ℕ → ℕ → ℕ → List ℕ → Type 0
@@ -41,25 +41,11 @@ LeftIn log count i rest =
 
 pub same_answer : (l line : Line) (words : List ℕ) → IsAlike l line → Answers line words
     → Answers l words
-same_answer l (service x) words same a = absurd a
-same_answer l (call n c) words same a = absurd a
-same_answer l (begin n m c) words same a = absurd a
-same_answer l (crash n) words same a = absurd a
-same_answer l (given n s) words same a = absurd a
-same_answer (service x) (reply w) words same a = absurd same
-same_answer (call n c) (reply w) words same a = absurd same
 same_answer (reply v) (reply w) words same a = same ∙ a
-same_answer (begin n m c) (reply w) words same a = absurd same
-same_answer (end n v) (reply w) words same a = absurd same
-same_answer (crash n) (reply w) words same a = absurd same
-same_answer (given n s) (reply w) words same a = absurd same
-same_answer (service x) (end m w) words same a = absurd same
-same_answer (call n c) (end m w) words same a = absurd same
-same_answer (reply v) (end m w) words same a = absurd same
-same_answer (begin n k c) (end m w) words same a = absurd same
 same_answer (end n v) (end m w) words same a = same.1 ∙ a
-same_answer (crash n) (end m w) words same a = absurd same
-same_answer (given n s) (end m w) words same a = absurd same
+same_answer _ (reply w) words same a = absurd same
+same_answer _ (end m w) words same a = absurd same
+same_answer _ _ words same a = absurd a
 
 -- what the line answers that was read from the text
 pub answer_read : (text : List ℕ) (l line : Line) (words : List ℕ) → IsLine l
@@ -71,22 +57,21 @@ answer_read text l line words is spelled its a same =
 module _ (log : List ℕ) (count : ℕ) where
   pub left_none : LeftIn log count 0 log
   left_none d line e at =
-      let same : count ≡ d = omega (arith, e) in subst (λ k. IsLineAt log (suc k) line) same at
+      let same : count ≡ d = omega arith in subst (λ k. IsLineAt log (suc k) line) same at
 
   pub left_more : (i : ℕ) (rest text after : List ℕ) → HasNo 10 text → rest ≡ text ++ 10 ∷ after
       → LeftIn log count i rest → LeftIn log count (i + 1) after
   left_more i rest text after none is left d line e at =
-      line_after rest text after d line none is (left (suc d) line (omega (arith, e)) at)
+      line_after rest text after d line none is (left (suc d) line (omega arith) at)
 
   pub left_bad : (i : ℕ) (rest line : List ℕ) → HasNo 10 rest → i < count
       → LeftIn log count i rest → IsLineAt log (suc count) line → IsLineAt rest (suc zero) line
   left_bad i rest line none h left at =
-      absurd (no_line rest (suc (count - i)) line none
-      (left (count - i) line (omega (arith, h)) at))
+      absurd (no_line rest (suc (count - i)) line none (left (count - i) line (omega arith) at))
 
   pub left_end : (i : ℕ) (rest line : List ℕ) → i ≤ count → count ≤ i → LeftIn log count i rest
       → IsLineAt log (suc count) line → IsLineAt rest (suc zero) line
-  left_end i rest line h k left at = left 0 line (omega (arith, h, k)) at
+  left_end i rest line h k left at = left 0 line (omega arith) at
 
 -- where one thing holds of what was made, so does another
 pub if_ok : {A E : Type 0} (P Q : A → Type 0) (r : Result A E) → IfOk r P

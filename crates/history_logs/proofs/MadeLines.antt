@@ -1,5 +1,5 @@
 -- The lines in which calls begin that were made.
-use Rattle.std.proofs.Common.{◌≡◌, ℕ, Bool, false, IsTrue, ◌+◌, ◌≤◌, List, [], ◌∷◌, ◌++◌, Contains, IsPermutation, Option, Some, inl, inr, length, slice_get, subst, sym, arith}
+use Rattle.std.proofs.Common.{◌≡◌, ℕ, Bool, false, IsTrue, ◌+◌, ◌≤◌, List, [], ◌∷◌, ◌++◌, Contains, IsPermutation, Option, Some, inl, inr, length, slice_get, subst, sym, arith, ◌∙◌}
 use Rattle.std.specs.Int.{bit_at}
 use Rattle.std.proofs.lemmas.Bool.{cases_lt}
 use Rattle.std.proofs.lemmas.List.Elements.{All-nil, All-push, Contains-append_left, Contains-push}
@@ -7,6 +7,7 @@ use Rattle.std.proofs.lemmas.List.Sorted.{All-permutation, Contains-permutation}
 use Rattle.histories.specs.Frontier.{HasSlot}
 use Rattle.histories.proofs.Bits.{bit_cases, slot_once, slot_within}
 use Rattle.history_logs.specs.Judging.{AreLines, AreLinesTo, IsLineMade}
+use Rattle.std.proofs.lemmas.Option.{same_Some}
 
 -- a slot that does not wait
 pub not_waiting : (waiting slot : ℕ) (r : Bool) → (bit_at waiting slot ≡ 1 → IsTrue r)
@@ -18,28 +19,7 @@ not_waiting waiting slot r says off =
     ]
 
 module _ (begins : List ℕ) (slots : List (Option ℕ)) (waiting : ℕ) where
-  pub lines_none : AreLinesTo begins slots waiting 0 []
-  lines_none = record {
-    made = All-nil (IsLineMade begins slots waiting);
-    each = λ slot number k h has made at. absurd (omega (arith, h));
-  }
-
   -- a slot whose call was not made, or that has none
-  pub lines_same : (limit : ℕ) (lines : List ℕ) → AreLinesTo begins slots waiting limit lines
-      → ((number : ℕ) → HasSlot slots limit number → bit_at waiting limit ≡ 0 → ⊥)
-      → AreLinesTo begins slots waiting (limit + 1) lines
-  lines_same limit lines l none = record {
-    made = l.made;
-    each = λ slot number k h has made at.
-        elim (cases_lt slot limit) as (λ _. Contains lines k) [
-          | inl before ↦ l.each slot number k before has made at
-          | inr late ↦
-              let same : slot ≡ limit = omega (arith, h, late) in
-              absurd (none number (subst (λ s. HasSlot slots s number) same has)
-              (subst (λ s. bit_at waiting s ≡ 0) same made))
-        ];
-  }
-
   -- a slot whose call was made
   pub lines_more : (limit number k : ℕ) (lines : List ℕ)
       → AreLinesTo begins slots waiting limit lines → HasSlot slots limit number
@@ -53,20 +33,16 @@ module _ (begins : List ℕ) (slots : List (Option ℕ)) (waiting : ℕ) where
           | inl before ↦
               Contains-append_left lines (k ∷ []) line (l.each slot other line before its was there)
           | inr late ↦
-              let same : slot ≡ limit = omega (arith, h, late) in
+              let same : slot ≡ limit = omega arith in
               let one : number ≡ other =
               slot_once slots limit number other has
               (subst (λ s. HasSlot slots s other) same its) in
               let found : slice_get begins number ≡ Some line =
               subst (λ n. slice_get begins n ≡ Some line) (sym one) there in
-              subst (λ x. Contains (lines ++ k ∷ []) x) (same_line k line at found)
+              subst (Contains (lines ++ k ∷ [])) (same_Some k line (sym at ∙ found))
               (Contains-push lines k)
         ];
   }
-    where
-      same_line : (a b : ℕ) → slice_get begins number ≡ Some a → slice_get begins number ≡ Some b
-          → a ≡ b
-      same_line a b one other = cc
 
   -- all slots, in any order of the lines
   pub lines_all : (limit : ℕ) (lines sorted : List ℕ) → length slots ≤ limit
@@ -77,5 +53,5 @@ module _ (begins : List ℕ) (slots : List (Option ℕ)) (waiting : ℕ) where
     each = λ number k made at.
         Contains-permutation lines sorted k same
         (l.each made.0 number k
-        (omega (arith, h, slot_within slots made.0 number made.1)) made.1 made.2 at);
+        (omega (arith, slot_within slots made.0 number made.1)) made.1 made.2 at);
   }

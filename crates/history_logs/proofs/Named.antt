@@ -1,16 +1,17 @@
 -- Services that are named.
-use Rattle.std.proofs.Common.{◌≡◌, ◌≢◌, ℕ, zero, suc, ◌+◌, ◌<◌, ◌≤◌, ◌-◌, List, [], ◌∷◌, Bool, true, false, ◌||◌, Option, Some, None, IfNone, IfSome, add-one, cond, drop, drop-cons, eqb, get_or, length, length-drop, map, refl, sym, ◌∙◌, ap, subst, arith, eq-eqb, inl, inr, ne_eqb, take, take_all}
+use Rattle.history_logs.proofs.AtIndex.{all_get, get_within}
+use Rattle.std.proofs.Common.{◌≡◌, ◌≢◌, ℕ, zero, suc, ◌+◌, ◌<◌, ◌≤◌, ◌-◌, List, [], ◌∷◌, Bool, true, false, ◌||◌, Option, Some, None, IfNone, IfSome, add-one, cond, drop, drop-cons, eqb, get_or, length, length-drop, map, refl, sym, ◌∙◌, ap, subst, arith, eq-eqb, inl, inr, ne_eqb, take, take_all, All}
 use Rattle.std.specs.Prelude.{slice_get}
 use Rattle.std.specs.List.{list_any, slice_set}
 use Rattle.std.specs.Option.{is_some}
 use Rattle.std.specs.Set.{unique_keys}
 use Rattle.std.proofs.lemmas.Bool.{cases_eq, cases_order}
-use Rattle.std.proofs.lemmas.List.Elements.{All-head, All-tail}
-use Rattle.std.proofs.lemmas.Option.{get_or_from_slice_get, slice_get-get_or, slice_get_within}
+use Rattle.std.proofs.lemmas.List.Elements.{All-head, All-tail, All-append}
+use Rattle.std.proofs.lemmas.Option.{get_or_from_slice_get, same_Some, slice_get-get_or, slice_get_within}
 use Rattle.history_logs.specs.Logs.{services_in}
-use Rattle.history_logs.specs.Reading.{HaveNumber, IsNamed, IsNameless, IsNew, IsNewBehind}
+use Rattle.history_logs.specs.Reading.{HaveNumber, IsNamed, IsNameless, IsNew, IsNewBehind, HaveOneNumber}
 use Rattle.history_logs.specs.Seen.{Service}
-use Rattle.history_logs.proofs.AtIndex.{same_some}
+use Rattle.std.proofs.lemmas.List.{get_or-take, length-take-le, take-append-drop}
 
 -- the number of a service
 abbrev number_of : Service → ℕ
@@ -21,71 +22,14 @@ abbrev pub NoneFrom : ℕ → List Service → ℕ → Type 0
 NoneFrom number ss at =
     (later : ℕ) (t : Service) → at ≤ later → slice_get ss later ≡ Some t → number_of t ≢ number
 
-pub none_past : (number : ℕ) (ss : List Service) (at : ℕ) → length ss ≤ at
-    → NoneFrom number ss at
-none_past number ss at past later t from there =
-    absurd (omega (arith, past, from, slice_get_within ss later t there))
-
--- one service more
-pub none_more : (number : ℕ) (ss : List Service) (at : ℕ) (d : Service) → at < length ss
-    → d ≡ get_or ss at d → number_of d ≢ number → NoneFrom number ss (at + 1)
-    → NoneFrom number ss at
-none_more number ss at d h is other rest later t from there =
-    elim (cases_eq later at) as (λ _. number_of t ≢ number) [
-      | inl same ↦
-          let here : get_or ss at d ≡ t =
-          get_or_from_slice_get ss at t d
-          (subst (λ i. slice_get ss i ≡ Some t) same there) in
-          subst (λ (x : Service). number_of x ≢ number) (is ∙ here) other
-      | inr behind ↦ rest later t (omega (arith, from, behind)) there
-    ]
-
-pub none_at_all : (number : ℕ) (ss : List Service) → NoneFrom number ss 0 → IsNew number ss
-none_at_all number ss none i d h =
-    none i (get_or ss i d) (omega arith) (slice_get-get_or ss i d h)
-
-pub none_behind : (number : ℕ) (ss : List Service) (at : ℕ) → NoneFrom number ss (at + 1)
-    → IsNewBehind number ss at
-none_behind number ss at none later t less there =
-    none later t (omega (arith, less)) there
-
 -- what holds of all holds of the one at an index
 number_at : (number : ℕ) (ss : List Service) (at : ℕ) (s : Service) → HaveNumber number ss
     → slice_get ss at ≡ Some s → number_of s ≡ number
 number_at number ss at s have there =
-    subst (λ (x : Service). number_of x ≡ number) (get_or_from_slice_get ss at s s there)
-    (have at s (slice_get_within ss at s there))
+    all_get (λ (x : Service). number_of x ≡ number) ss at s have there
 
 no_some : (n : ℕ) → Some n ≡ None → ⊥
 no_some n e = absurd (cc)
-
--- all services have one number
-pub only_named : (ss : List Service) (at : ℕ) (d : Service) → at + 1 ≡ length ss
-    → d ≡ get_or ss at d → HaveNumber (number_of d) ss → (s : Service) × IsNamed None ss at s
-only_named ss at d last is have = (
-  d,
-  record {
-    there = slice_get-get_or ss at d (omega (arith, last))
-        ∙ ap (λ (x : Service). Some x) (sym is);
-    named = inr (refl, have);
-    last = λ later t less there.
-        absurd (omega (arith, last, less, slice_get_within ss later t there));
-  },
-)
-
-pub none_named : (ss : List Service) (at : ℕ) (d : Service) → at < length ss
-    → d ≡ get_or ss at d → ¬ (HaveNumber (number_of d) ss) → IsNameless None ss
-none_named ss at d h is others bt s n =
-    elim n.named as (λ _. ⊥) [
-      | inl own ↦ no_some (number_of s) (sym own)
-      | inr have ↦
-          let there = slice_get-get_or ss at d h ∙ ap (λ (x : Service). Some x) (sym is) in
-          others (subst (λ k. HaveNumber k ss) (sym (number_at (number_of s) ss at d have.1 there))
-          have.1)
-    ]
-
-pub empty_named : (ss : List Service) → length ss ≡ 0 → IsNameless None ss
-empty_named ss none at s n = omega (arith, none, slice_get_within ss at s n.there)
 
 -- one service is named
 pub one_place : (number : Option ℕ) (ss : List Service) (at bt : ℕ) (s t : Service)
@@ -94,7 +38,7 @@ one_place number ss at bt s t p q =
     let same : number_of s ≡ number_of t =
     elim p.named as (λ _. number_of s ≡ number_of t) [
       | inl a ↦ elim q.named as (λ _. number_of s ≡ number_of t) [
-        | inl b ↦ same_some (number_of s) (number_of t) (sym a ∙ b)
+        | inl b ↦ same_Some (number_of s) (number_of t) (sym a ∙ b)
         | inr b ↦ absurd (no_some (number_of s) (sym a ∙ b.0))
       ]
       | inr a ↦ sym (number_at (number_of s) ss bt t a.1 q.there)
@@ -108,8 +52,42 @@ one_place number ss at bt s t p q =
 pub one_named : (number : Option ℕ) (ss : List Service) (at bt : ℕ) (s t : Service)
     → IsNamed number ss at s → IsNamed number ss bt t → s ≡ t
 one_named number ss at bt s t p q =
-    same_some s t (sym p.there ∙ (ap (λ i. slice_get ss i) (one_place number ss at bt s t p q)
-    ∙ q.there))
+    same_Some s t (sym p.there ∙ (ap (slice_get ss) (one_place number ss at bt s t p q) ∙ q.there))
+
+-- where all have one number, the last one is named
+pub last_named : (ss : List Service) → 0 < length ss → HaveOneNumber ss
+    → (s : Service) × IsNamed None ss (length ss - 1) s
+last_named ss some one =
+    let s = get_within ss (length ss - 1) (omega arith) in
+    let own = number_at one.0 ss (length ss - 1) s.0 one.1 s.1 in (
+      s.0,
+      record {
+        there = s.1;
+        named = inr (refl, subst (λ n. HaveNumber n ss) (sym own) one.1);
+        last = λ later t less there. absurd (omega (arith, slice_get_within ss later t there));
+      },
+    )
+
+-- those below an index have one number, and the others that of the first one
+pub all_alike : (ss : List Service) (known number : ℕ) (d : Service) → known ≤ length ss
+    → d ≡ get_or ss 0 d → number ≡ number_of d
+    → HaveNumber number (take (length ss - known) (drop known ss))
+    → HaveOneNumber (take known ss) → HaveOneNumber ss
+all_alike ss known number d within is own rest one =
+    let has = λ (x : Service). number_of x ≡ number in
+    let long = length-take-le known ss within in
+    let left : All has (take known ss) =
+    λ i x h.
+    let first = one.1 0 d (omega arith) in
+    let at : get_or (take known ss) 0 d ≡ d = get_or-take known ss 0 d (omega arith) ∙ sym is in
+    one.1 i x h ∙ (sym first ∙ (ap number_of at ∙ sym own)) in
+    let right : All has (drop known ss) =
+    subst (All has)
+    (take_all (length ss - known) (drop known ss) (omega (arith, length-drop known ss))) rest in (
+      number,
+      subst (All has) (take-append-drop known ss)
+          (All-append has (take known ss) (drop known ss) left right),
+    )
 
 drop_one : (xs : List Service) (at : ℕ) (d : Service) → at < length xs → d ≡ get_or xs at d
     → drop at xs ≡ d ∷ drop (at + 1) xs
@@ -137,8 +115,7 @@ module _ (d : Service) where
   is_known [] at t there same = absurd (cc)
   is_known (s ∷ ss) zero t there same =
       let own : eqb (number_of d) (number_of s) ≡ true =
-      eq-eqb (number_of d) (number_of s)
-      (sym same ∙ ap number_of (sym (same_some s t there))) in
+      eq-eqb (number_of d) (number_of s) (sym same ∙ ap number_of (sym (same_Some s t there))) in
       rw own refl
   is_known (s ∷ ss) (suc at) t there same =
       cases (eqb (number_of d) (number_of s)) (is_known ss at t there same)
@@ -174,12 +151,11 @@ pub count_left : (xs : List Service) (at count number : ℕ) (d : Service) (foun
     → count + services_in (drop at xs) ≡ services_in xs
     → count + cond known 0 1 + services_in (drop (at + 1) xs) ≡ services_in xs
 count_left xs at count number d None known h is own says some none so =
-    let new = subst (λ (l : List Service). IsNew (number_of d) l) (behind_is xs at)
+    let new = subst (IsNew (number_of d)) (behind_is xs at)
     (subst (λ n. IsNew n (behind xs at)) own none) in
     let no : known ≡ false = sym says in
     rw no (omega (
       arith,
-      so,
       count_new d (drop (at + 1) xs) new,
       ap services_in (drop_one xs at d h is),
     ))
@@ -189,14 +165,13 @@ count_left xs at count number d (Some i) known h is own says some none so =
     let no : known ≡ true = sym says in
     rw no (omega (
       arith,
-      so,
       count_known d (drop (at + 1) xs) (i, some.0, there, some.2 ∙ own),
       ap services_in (drop_one xs at d h is),
     ))
 
 -- there is one, where there is any
 pub some_service : (ss : List Service) → 0 < length ss → 0 < services_in ss
-some_service [] some = absurd (omega (arith, some))
+some_service [] some = absurd (omega arith)
 some_service (s ∷ []) some = omega arith
 some_service (s ∷ t ∷ ss) some =
     let rest = some_service (t ∷ ss) (omega arith) in
@@ -212,25 +187,23 @@ some_service (s ∷ t ∷ ss) some =
 pub set_back : (ss : List Service) (at : ℕ) (s : Service) → slice_get ss at ≡ Some s
     → slice_set ss at s ≡ ss
 set_back [] at s there = absurd (cc)
-set_back (x ∷ ss) zero s there = ap (λ (y : Service). y ∷ ss) (sym (same_some x s there))
+set_back (x ∷ ss) zero s there = ap (λ (y : Service). y ∷ ss) (sym (same_Some x s there))
 set_back (x ∷ ss) (suc at) s there =
     ap (λ (l : List Service). x ∷ l) (set_back ss at s there)
 
--- services at each index with the same number
-same_numbers : (ss ts : List Service) → length ts ≡ length ss
-    → ((at : ℕ) (s t : Service) → slice_get ss at ≡ Some s → slice_get ts at ≡ Some t
-    → number_of t ≡ number_of s)
-    → map (λ (s : Service). s.line.number) ts ≡ map (λ (s : Service). s.line.number) ss
-same_numbers [] [] long same = refl
-same_numbers [] (t ∷ ts) long same = absurd (omega (arith, long))
-same_numbers (s ∷ ss) [] long same = absurd (omega (arith, long))
-same_numbers (s ∷ ss) (t ∷ ts) long same =
-    let rest = same_numbers ss ts (omega (arith, long)) (λ at a b e f. same (suc at) a b e f) in
-    ap (λ (n : ℕ). n ∷ map (λ (x : Service). x.line.number) ts) (same 0 s t refl refl)
-    ∙ ap (λ (ns : List ℕ). number_of s ∷ ns) rest
+-- services at each index of which a function gives the same
+pub map_same : {Y : Type 0} (f : Service → Y) (ss ts : List Service) → length ts ≡ length ss
+    → ((at : ℕ) (s t : Service) → slice_get ss at ≡ Some s → slice_get ts at ≡ Some t → f t ≡ f s)
+    → map f ts ≡ map f ss
+map_same f [] [] long same = refl
+map_same f [] (t ∷ ts) long same = absurd (omega arith)
+map_same f (s ∷ ss) [] long same = absurd (omega arith)
+map_same {Y} f (s ∷ ss) (t ∷ ts) long same =
+    let rest = map_same f ss ts (omega arith) (λ at a b e g. same (suc at) a b e g) in
+    ap (λ (y : Y). y ∷ map f ts) (same 0 s t refl refl) ∙ ap (λ (ys : List Y). f s ∷ ys) rest
 
 pub same_count : (ss ts : List Service) → length ts ≡ length ss
     → ((at : ℕ) (s t : Service) → slice_get ss at ≡ Some s → slice_get ts at ≡ Some t
     → number_of t ≡ number_of s) → services_in ts ≡ services_in ss
 same_count ss ts long same =
-    ap (λ (ns : List ℕ). length (unique_keys eqb ns)) (same_numbers ss ts long same)
+    ap (λ (ns : List ℕ). length (unique_keys eqb ns)) (map_same number_of ss ts long same)

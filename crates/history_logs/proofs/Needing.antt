@@ -1,11 +1,12 @@
 -- The calls that a refused reply needs.
+use Rattle.histories.proofs.Events.{stands_begins, stands_left, stands_right}
 use Rattle.std.proofs.Common.{◌≡◌, inl, inr, ℕ, zero, suc, ◌+◌, ◌-◌, ◌<◌, ◌≤◌, Bool, true, false, List, [], ◌∷◌, ◌++◌, Some, length, get_or, slice_get, take, drop, refl, sym, ◌∙◌, ap, subst, arith, append-nil, take_all, eq-eqb}
 use Rattle.std.specs.Prelude.{flat_map}
 use Rattle.std.proofs.lemmas.Bool.{cases_Bool, cases_order, cond_both}
 use Rattle.std.proofs.lemmas.Grind.{flat_map-append}
 use Rattle.std.proofs.lemmas.List.{drop-append-le, length-drop, get_or_append_left, get_or_past, get_or_push, length-take-le, length-append, length_push, take-append-drop, take-take, take_more}
 use Rattle.std.proofs.lemmas.List.Elements.{filter-append}
-use Rattle.std.proofs.lemmas.Option.{slice_get-get_or}
+use Rattle.std.proofs.lemmas.Option.{slice_get-get_or, same_Some}
 use Rattle.std.proofs.Math.Seq.{take-append_seam}
 use Rattle.histories.specs.declared.event.Event.{Event}
 use Rattle.histories.specs.declared.event.Event.TheVariants.{Begin, End, Crash}
@@ -26,9 +27,6 @@ use Rattle.history_logs.specs.Judging.{BeginBelow}
 use Rattle.history_logs.specs.Logs.{AreNeededLines, StepOf, events_from, line_begun, lines_begun, news}
 use Rattle.history_logs.specs.Seen.{Service}
 
-some_call : (a b : Judged) → Some a ≡ Some b → a ≡ b
-some_call a b e = cc
-
 -- a call whose reply says that nothing changed, by its number
 pub idle_call : (calls : List Judged) (number : ℕ) (x : Judged) → number < length calls
     → x ≡ get_or calls number x → ((n : ℕ) → IsIdleJudged n x)
@@ -37,9 +35,9 @@ idle_call calls number x h is none old new step =
     let has = step.1 in
     let at : has.0 ≡ number = omega (arith, has.1) in
     let there : slice_get calls number ≡ Some x =
-    slice_get-get_or calls number x h ∙ ap (λ (c : Judged). Some c) (sym is) in
+    slice_get-get_or calls number x h ∙ ap Some (sym is) in
     let same : step.0 ≡ x =
-    some_call step.0 x (sym has.2 ∙ (ap (slice_get calls) at ∙ there)) in
+    same_Some step.0 x (sym has.2 ∙ (ap (slice_get calls) at ∙ there)) in
     none number old new (subst (λ (c : Judged). JudgedStep number c old new) same step.2)
 
 -- which of the first calls change nothing
@@ -54,22 +52,19 @@ pub idle_push : (calls : List Judged) (count : ℕ) (idle news : List Bool) (b :
     → IdleTo calls count idle → (b ≡ true → IsIdle (WindowStep 0 calls) count)
     → news ≡ idle ++ b ∷ [] → IdleTo calls (count + 1) news
 idle_push calls count idle news b t more new = record {
-  long = omega (arith, ap length new, length_push idle b, t.long);
+  long = omega (arith, ap length new, length_push idle b);
   idle = λ call is_so.
       let said : get_or (idle ++ b ∷ []) call false ≡ true =
       ap (λ (l : List Bool). get_or l call false) (sym new) ∙ is_so in
       elim (cases_order call count) as (λ _. IsIdle (WindowStep 0 calls) call) [
         | inl same ↦
-            subst (λ n. IsIdle (WindowStep 0 calls) n) (sym same)
-            (more (sym (get_or_push idle b false call (omega (arith, t.long, same))) ∙ said))
+            subst (IsIdle (WindowStep 0 calls)) (sym same)
+            (more (sym (get_or_push idle b false call (omega arith)) ∙ said))
         | inr (inl below) ↦
-            t.idle call
-            (sym (get_or_append_left idle (b ∷ []) false call (omega (arith, t.long, below)))
-            ∙ said)
+            t.idle call (sym (get_or_append_left idle (b ∷ []) false call (omega arith)) ∙ said)
         | inr (inr above) ↦
             let past : get_or (idle ++ b ∷ []) call false ≡ false =
-            get_or_past (idle ++ b ∷ []) call false
-            (omega (arith, above, length_push idle b, t.long)) in
+            get_or_past (idle ++ b ∷ []) call false (omega (arith, length_push idle b)) in
             absurd (cc)
       ];
 }
@@ -111,31 +106,17 @@ lines_more begins kept es i d lines news h is new =
     ∙ flat_map-append f (events_of kept (take i es)) (events_of kept (e ∷ []))))
 
 -- a call that begins is counted
-begin_counts : (c : ℕ) (es : List Event) (k : ℕ) → StandsAt es k (Begin c) → 0 < begins c es
-unfolding begins
-begin_counts c [] k at = absurd (cc)
-begin_counts c (Begin b ∷ es) zero at =
-    let same : b ≡ c = cc in rw (eq-eqb b c same) (omega arith)
-begin_counts c (End b ∷ es) zero at = absurd (cc)
-begin_counts c (Crash b ∷ es) zero at = absurd (cc)
-begin_counts c (Begin b ∷ es) (suc k) at = omega (arith, begin_counts c es k at)
-begin_counts c (End b ∷ es) (suc k) at = begin_counts c es k at
-begin_counts c (Crash b ∷ es) (suc k) at = begin_counts c es k at
-
 stands_taken : (es : List Event) (k p : ℕ) (e : Event) → StandsAt (take k es) p e
     → StandsAt es p e
-stands_taken [] zero p e at = absurd (cc)
-stands_taken [] (suc k) p e at = absurd (cc)
-stands_taken (x ∷ es) zero p e at = absurd (cc)
-stands_taken (x ∷ es) (suc k) zero e at = at
-stands_taken (x ∷ es) (suc k) (suc p) e at = stands_taken es k p e at
+stands_taken es k p e at =
+    subst (λ (l : List Event). StandsAt l p e) (take-append-drop k es)
+    (stands_left (take k es) (drop k es) p e at)
 
 stands_dropped : (es : List Event) (k p : ℕ) (e : Event) → StandsAt (drop k es) p e
     → (q : ℕ) × StandsAt es q e
-stands_dropped es zero p e at = (p, at)
-stands_dropped [] (suc k) p e at = absurd (cc)
-stands_dropped (x ∷ es) (suc k) p e at =
-    let r = stands_dropped es k p e at in (suc r.0, r.1)
+stands_dropped es k p e at =
+    let r = stands_right (take k es) (drop k es) p e at in
+    (r.0, subst (λ (l : List Event). StandsAt l r.0 e) (take-append-drop k es) r.2)
 
 module _ {S : Type 0} (Step : S → ℕ → S → Type 0) (olds : List S) (past window : List Event)
     (history : IsHistory (past ++ window)) (c : ℕ) (kept : ℕ → Bool) where
@@ -166,26 +147,20 @@ module _ (s : Service) (o : IsOrderly s) (begin index : ℕ) (within : begin ≤
   upto = take (index + 1) s.events
 
   pub past_is : take begin upto ≡ take begin s.events
-  past_is = take-take begin (index + 1) s.events (omega (arith, within))
+  past_is = take-take begin (index + 1) s.events (omega arith)
 
   pub parts : take begin upto ++ drop begin upto ≡ upto
   parts = take-append-drop begin upto
 
   pub parts_history : IsHistory (take begin upto ++ drop begin upto)
   parts_history =
-      subst (λ (l : List Event). IsHistory l) (sym parts)
-      (history_front s.events (index + 1) o.history)
+      subst IsHistory (sym parts) (history_front s.events (index + 1) o.history)
 
   pub begin_below : BeginBelow (drop begin upto) (length s.begins)
   begin_below p call at =
       let there = stands_dropped upto begin p (Begin call) at in
       let whole = stands_taken s.events (index + 1) there.0 (Begin call) there.1 in
-      omega (
-        arith,
-        o.numbered call (begin_counts call s.events there.0 whole),
-        o.counts,
-        o.all.begins,
-      )
+      omega (arith, o.numbered call (stands_begins call s.events there.0 whole))
 
   module _ (stops : IsStop (StepOf s) (news s) s.events index stop.Refused) (refused : ℕ)
       (ended : StandsAt s.events index (End refused)) where
@@ -196,24 +171,19 @@ module _ (s : Service) (o : IsOrderly s) (begin index : ℕ) (within : begin ≤
     window_last : events_from s begin index ≡ drop begin (take index s.events) ++ End refused ∷ []
     window_last =
         let there : get_or s.events index (End refused) ≡ End refused =
-        some_event _ _ (sym (slice_get-get_or s.events index (End refused) stops.within) ∙ ended) in
+        same_Some _ _ (sym (slice_get-get_or s.events index (End refused) stops.within) ∙ ended) in
         let more : upto ≡ take index s.events ++ End refused ∷ [] =
         one_more s.events index (End refused) stops.within
         ∙ ap (λ (e : Event). take index s.events ++ e ∷ []) there in
         let long : length (take index s.events) ≡ index =
-        length-take-le index s.events (omega (arith, stops.within)) in
-        ap (drop begin) more
-        ∙ drop-append-le begin (take index s.events) (End refused ∷ [])
-        (omega (arith, within, long))
-      where
-        some_event : (a b : Event) → Some a ≡ Some b → a ≡ b
-        some_event a b e = cc
+        length-take-le index s.events (omega arith) in
+        ap (drop begin) more ∙ drop-append-le begin (take index s.events) (End refused ∷ [])
+        (omega (arith, long))
 
     before : take begin s.events ++ drop begin (take index s.events) ≡ take index s.events
     before =
         ap (λ (l : List Event). l ++ drop begin (take index s.events))
-        (sym (take-take begin index s.events within))
-        ∙ take-append-drop begin (take index s.events)
+        (sym (take-take begin index s.events within)) ∙ take-append-drop begin (take index s.events)
 
     -- what is told of the calls that are left
     pub needed_lines : (kept : ℕ → Bool) (past window : List Event) (begins lines : List ℕ)
@@ -228,8 +198,7 @@ module _ (s : Service) (o : IsOrderly s) (begin index : ℕ) (within : begin ≤
         (p ∙ past_is)
         (subst (λ (l : List Event). AreNeeded (StepOf s) (news s) past l kept) w needed) in
         let history : IsHistory (take begin s.events ++ drop begin (take index s.events)) =
-        subst (λ (l : List Event). IsHistory l) (sym before)
-        (history_front s.events index o.history) in
+        subst IsHistory (sym before) (history_front s.events index o.history) in
         record {
           kept = kept;
           needed = n;
@@ -276,11 +245,10 @@ module _ (s : Service) (o : IsOrderly s) (begin index : ℕ) (within : begin ≤
         subst
         (λ (l : List Judged). HasCut (WindowStep 0 l) states (take begin (take (index + 1) evs)))
         (sym c)
-        (subst
-        (λ (l : List Watched). HasCut (StepOf s) l (take begin (take (index + 1) evs)))
+        (subst (λ (l : List Watched). HasCut (StepOf s) l (take begin (take (index + 1) evs)))
         (sym n)
         (subst (λ (l : List Event). HasCut (StepOf s) (news s) (take begin (take (index + 1) l)))
-        (sym e) (subst (λ (l : List Event). HasCut (StepOf s) (news s) l) (sym past_is) cut)))
+        (sym e) (subst (HasCut (StepOf s) (news s)) (sym past_is) cut)))
 
     module _ (stops : IsStop (StepOf s) (news s) s.events index stop.Refused) (refused : ℕ)
         (ended : StandsAt s.events index (End refused)) where
@@ -312,8 +280,7 @@ module _ (s : Service) (o : IsOrderly s) (begin index : ℕ) (within : begin ≤
           (subst (λ (l : List Watched). AreNeeded (StepOf s) l past window kept) n
           (subst (λ (l : List Judged). AreNeeded (WindowStep 0 l) states past window kept) c
           needed))
-          (is
-          ∙ ap (λ (l : List Bool). lines_begun begins (events_of (is_kept l) window)) o)
+          (is ∙ ap (λ (l : List Bool). lines_begun begins (events_of (is_kept l) window)) o)
 
 -- the window of a reply that is refused
 module _ (s : Service) (index : ℕ) (w : Window Watched) (within : index < length s.events)
@@ -322,10 +289,9 @@ module _ (s : Service) (index : ℕ) (w : Window Watched) (within : index < leng
   begin_within =
       omega (
         arith,
-        is.begins,
         ap length is.split,
         length-append is.past is.inside,
-        length-take-le index s.events (omega (arith, within)),
+        length-take-le index s.events (omega arith),
       )
 
   pub begin_cut : HasCut (StepOf s) (news s) (take w.begin s.events)

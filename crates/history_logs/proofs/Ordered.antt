@@ -2,7 +2,7 @@
 use Rattle.std.proofs.Common.{◌≡◌, ℕ, ◌+◌, ◌<◌, ◌≤◌, All, Bool, true, false, IfNone, List, [], ◌∷◌, ◌++◌, Option, Some, None, get_or, length, take, refl, sym, ◌∙◌, ap, subst, arith, take_all}
 use Rattle.std.specs.List.{AllZip}
 use Rattle.std.proofs.lemmas.List.Elements.{All-cons, All-nil}
-use Rattle.std.proofs.lemmas.List.{take_more}
+use Rattle.std.proofs.lemmas.List.{take_more, get_or_default}
 use Rattle.std.proofs.lemmas.Option.{slice_get-get_or}
 use Rattle.histories.specs.Frontier.{IsFrontOf}
 use Rattle.histories.proofs.Counting.{times_at}
@@ -20,7 +20,7 @@ use Rattle.history_logs.specs.Orders.{HasOrders, IsOrderOf}
 use Rattle.history_logs.specs.EventLines.{HasEventLines}
 use Rattle.history_logs.specs.Seen.{Service}
 use Rattle.history_logs.proofs.Found.{first_next, first_none}
-use Rattle.history_logs.proofs.Telling.{zip_push}
+use Rattle.history_logs.proofs.Telling.{zip_next}
 
 -- one call more
 pub begins_more : (begins calls : List ℕ) (i : ℕ) (lines more : List ℕ)
@@ -29,11 +29,8 @@ pub begins_more : (begins calls : List ℕ) (i : ℕ) (lines more : List ℕ)
     → AllZip (BeginsAt begins) (take (i + 1) calls) more
 begins_more begins calls i lines more all h within new =
     let call = get_or calls i 0 in
-    subst (λ (l : List ℕ). AllZip (BeginsAt begins) (take (i + 1) calls) l) (sym new)
-    (subst (λ (l : List ℕ). AllZip (BeginsAt begins) l (lines ++ get_or begins call 0 ∷ []))
-    (sym (take_more calls i 0 h))
-    (zip_push (BeginsAt begins) (take i calls) lines call (get_or begins call 0) all
-    (slice_get-get_or begins call 0 within)))
+    zip_next (BeginsAt begins) calls i call lines more (get_or begins call 0) all h
+    (get_or_default calls i 0 call h) (slice_get-get_or begins call 0 within) new
 
 module _ (s : Service) (o : IsOrderly s) (window : Window Watched) (calls : List ℕ)
     (f : IsFrontOf (StepOf s) window.front s.events (news s))
@@ -45,12 +42,7 @@ module _ (s : Service) (o : IsOrderly s) (window : Window Watched) (calls : List
   pub calls_within : All (λ call. call < length s.begins) calls
   calls_within i d h =
       let call = get_or calls i d in
-      omega (
-        arith,
-        o.numbered call (explains.3.begun call (times_at calls i d h)),
-        o.counts,
-        o.all.begins,
-      )
+      omega (arith, o.numbered call (explains.3.begun call (times_at calls i d h)))
 
   pub order_reported : (number : ℕ) (lines : List ℕ) (reported : Order) → number ≡ s.line.number
       → AllZip (BeginsAt s.begins) calls lines → reported.service ≡ number
@@ -59,7 +51,7 @@ module _ (s : Service) (o : IsOrderly s) (window : Window Watched) (calls : List
     number = b ∙ a;
     order = calls;
     explains = explains;
-    begins = subst (λ (l : List ℕ). AllZip (BeginsAt s.begins) calls l) (sym same) begins;
+    begins = subst (AllZip (BeginsAt s.begins) calls) (sym same) begins;
   }
 
 -- what has an order is explained
@@ -72,19 +64,6 @@ ordered_right (s ∷ services) (o ∷ orders) all =
     let x = all.0.explains in
     All-cons IsSeenRightly s services (x.0, all.0.order, x.1, x.2, x.3)
     (ordered_right services orders all.1)
-
--- one service more
-orders_more : (services : List Service) (i : ℕ) (d : Service) (orders more : List Order)
-    (found : Option (ℕ × Verdict)) → i < length services → d ≡ get_or services i d
-    → AreOrdered (take i services) orders
-    → (order : Order) × IsOrderOf d order × (more ≡ orders ++ order ∷ [])
-    → AreOrdered (take (i + 1) services) more
-orders_more services i d orders more found h is all added =
-    let one : take (i + 1) services ≡ take i services ++ d ∷ [] =
-    take_more services i d h ∙ ap (λ (e : Service). take i services ++ e ∷ []) (sym is) in
-    subst (λ (l : List Order). AllZip IsOrderOf (take (i + 1) services) l) (sym added.2)
-    (subst (λ (l : List Service). AllZip IsOrderOf l (orders ++ added.0 ∷ [])) (sym one)
-    (zip_push IsOrderOf (take i services) orders d added.0 all added.1))
 
 pub orders_all : (services : List Service) (i : ℕ) (orders : List Order) → length services ≤ i
     → AreOrdered (take i services) orders → AreOrdered services orders
@@ -101,7 +80,7 @@ pub orders_none : (services : List Service) (orders : List Order) → orders ≡
     → OrdersTo services 0 None orders
 orders_none services orders is = record {
   found = first_none;
-  ordered = λ none. subst (λ (l : List Order). AreOrdered [] l) (sym is) tt;
+  ordered = λ none. subst (AreOrdered []) (sym is) tt;
 }
 
 earlier_none : (one other : Option (ℕ × Verdict)) → earlier one other ≡ None
@@ -128,19 +107,16 @@ orders_next bytes services i d first found result orders more os ps h is to f ad
   found = first_next bytes services i d first found result os ps h is to.found f same;
   ordered = λ none.
       let both = earlier_none first found (sym same ∙ none) in
-      orders_more services i d orders more found h is (to.ordered both.0)
-      (none_of found ((order : Order) × IsOrderOf d order × (more ≡ orders ++ order ∷ [])) added
-      both.1);
+      let own = none_of found ((order : Order) × IsOrderOf d order
+      × (more ≡ orders ++ order ∷ [])) added both.1 in
+      zip_next IsOrderOf services i d orders more own.0 (to.ordered both.0) h is own.1 own.2;
 }
 
 -- what is found is that of a log without orders
 pub no_orders : (bytes : List ℕ) (services : List Service) (v : Verdict) (orders : List Order)
     → AreJudged services (Some v) → orders ≡ [] → HasOrders bytes v orders
 no_orders bytes services (Conforms n m) orders f none = absurd f.1.2
-no_orders bytes services (Refused reported) orders f none = none
-no_orders bytes services (ManyConfigs line) orders f none = none
-no_orders bytes services (ManyOpen line) orders f none = none
-no_orders bytes services (BadLine line e) orders f none = none
+no_orders bytes services _ orders f none = none
 
 -- where the log ends after its good lines, each service has an order
 pub orders_end : (bytes : List ℕ) (services : List Service) (orders : List Order)
@@ -149,6 +125,6 @@ pub orders_end : (bytes : List ℕ) (services : List Service) (orders : List Ord
 orders_end bytes services orders r all = (
   r.count,
   r.log,
-  subst (λ (l : List ℕ). HasGood bytes r.count r.log l) r.ends.0 r.good,
+  subst (HasGood bytes r.count r.log) r.ends.0 r.good,
   subst (λ (l : List Service). AllZip IsOrderOf l orders) (sym r.same) all,
 )

@@ -23,7 +23,7 @@ use Rattle.history_logs.specs.Seen.{Begins, Service, called, calls_answered, cal
 pub both : {X Y : Type 0} (xs : List X) (ys : List Y) (x : X) (y : Y) → length xs ≡ length ys
     → length (xs ++ x ∷ []) ≡ length (ys ++ y ∷ [])
 both xs ys x y same =
-    omega (arith, same, length-append xs (x ∷ []), length-append ys (y ∷ []))
+    omega (arith, length-append xs (x ∷ []), length-append ys (y ∷ []))
 
 -- an event that may follow a history makes it one
 pub history_push : (es : List Event) (e : Event) → IsHistory es → MayFollow es e
@@ -33,11 +33,11 @@ history_push es e h may index event at =
       | inl before ↦
           let within : index < length es = stands_within es index event before in
           subst (λ (l : List Event). MayFollow l event)
-          (sym (take-append-le index es (e ∷ []) (omega (arith, within)))) (h index event before)
+          (sym (take-append-le index es (e ∷ []) (omega arith))) (h index event before)
       | inr last ↦
           subst (λ k. MayFollow (take k (es ++ e ∷ [])) event) (sym last.0)
           (subst (λ (l : List Event). MayFollow l event) (sym (take-append_seam es (e ∷ [])))
-          (subst (λ (x : Event). MayFollow es x) last.1 may))
+          (subst (MayFollow es) last.1 may))
     ]
 
 pub orderly_new : (line : ServiceLine) → IsOrderly (unseen line)
@@ -65,7 +65,7 @@ orderly_started s start o = record {
   numbered = o.numbered;
 }
 
-length_changed : (f : Judged → Judged) (calls : List Judged) (number : ℕ)
+pub length_changed : (f : Judged → Judged) (calls : List Judged) (number : ℕ)
     → length (changed f calls number) ≡ length calls
 length_changed f [] number = refl
 length_changed f (c ∷ calls) zero = refl
@@ -87,8 +87,8 @@ fresh : (s : Service) → IsOrderly s → begins (length s.calls) s.events ≡ 0
 fresh s o =
     elim (cases_lt 0 (begins (length s.calls) s.events))
     as (λ _. begins (length s.calls) s.events ≡ 0) [
-      | inl some ↦ absurd (omega (arith, o.numbered (length s.calls) some, o.counts))
-      | inr none ↦ omega (arith, none)
+      | inl some ↦ absurd (omega (arith, o.numbered (length s.calls) some))
+      | inr none ↦ omega arith
     ]
 
 pub not_open : (s : Service) → IsOrderly s → ¬ (IsOpen s.events (length s.calls))
@@ -109,7 +109,7 @@ orderly_part s c k o =
         event_lines = both s.event_lines s.events k (Begin n) o.all.event_lines;
       };
       history = history_push s.events (Begin n) o.history may;
-      counts = omega (arith, more, o.counts, length-append s.calls (c.seen ∷ []));
+      counts = omega (arith, length-append s.calls (c.seen ∷ []));
       sound = sound_begin s.events n o.sound (fresh s o);
       numbered = numbered_more s.events (Begin n) o.numbered (next_of s.events (Begin n) may);
     }
@@ -149,8 +149,7 @@ orderly_over s number k o live = record {
   history = history_push s.events (End number) o.history live;
   counts = sym (counts_end (begun s.events) number s.events refl) ∙ o.counts;
   sound = sound_end s.events (End number) number (inl refl) o.sound live.0;
-  numbered = numbered_more s.events (End number) o.numbered
-      (next_of s.events (End number) live);
+  numbered = numbered_more s.events (End number) o.numbered (next_of s.events (End number) live);
 }
 
 pub orderly_end : (s : Service) (number : ℕ) (r : SeenReply) (k : ℕ) → IsOrderly s
@@ -218,7 +217,7 @@ pub open_alone : (s : Service) (c : LogCall) (r : SeenReply) (k x : ℕ) → IsO
     → IsOpen s.events x → IsOpen (with_end (with_begin s c k) (length s.calls) r k).events x
 open_alone s c r k x o live =
     open_ended (with_begin s c k) (length s.calls) r k x (open_begun s c k x live)
-    (λ e. not_open s o (subst (λ n. IsOpen s.events n) e live))
+    (λ e. not_open s o (subst (IsOpen s.events) e live))
 
 -- what begins makes an orderly service, in which it is open, and keeps what is open
 pub record IsBegun (s t : Service) (current : ℕ) : Type 0 where
@@ -226,7 +225,6 @@ pub record IsBegun (s t : Service) (current : ℕ) : Type 0 where
   pub now : IsOpen t.events current
   pub fresh : ¬ (IsOpen s.events current)
   pub still : (x : ℕ) → IsOpen s.events x → IsOpen t.events x
-  pub few : length t.commands ≤ length s.commands + 1
 
 begun_call : (s : Service) (c : LogCall) (k : ℕ) → IsOrderly s
     → IsBegun s (with_begin s c k) (length s.calls)
@@ -235,12 +233,11 @@ begun_call s c k o = record {
   now = open_new s c k o;
   fresh = not_open s o;
   still = λ x live. open_begun s c k x live;
-  few = omega (arith, length-append s.commands (length s.calls ∷ []));
 }
 
 -- no call from the next one on is open
 above_fresh : (s : Service) → IsOrderly s → (n : ℕ) → length s.calls ≤ n → ¬ (IsOpen s.events n)
-above_fresh s o n h live = absurd (omega (arith, o.numbered n live.0, o.counts, h))
+above_fresh s o n h live = absurd (omega (arith, o.numbered n live.0))
 
 begun_look : (s : Service) (p : Part) (k : ℕ) → IsOrderly s
     → IsBegun s (with_look s p k) (length s.calls + 1)
@@ -253,27 +250,24 @@ begun_look s p k o =
     let long : length two.calls ≡ n + 1 = length-append s.calls ((starting p).seen ∷ []) in
     record {
       orderly = orderly_part two (stopping n) k second;
-      now = subst (λ m. IsOpen (with_look s p k).events m) long
-          (open_new two (stopping n) k second);
+      now = subst (IsOpen (with_look s p k).events) long (open_new two (stopping n) k second);
       fresh = above_fresh s o (n + 1) (omega arith);
       still = λ x live.
           open_begun two (stopping n) k x
           (open_end_still one.events (End n) n x (inl refl) (open_begun s (starting p) k x live)
-          (λ e. not_open s o (subst (λ m. IsOpen s.events m) e live)));
-      few = omega (arith, length-append s.commands (n ∷ []));
+          (λ e. not_open s o (subst (IsOpen s.events) e live)));
     }
 
 pub begun_of : (s t : Service) (b : Begun) (k current : ℕ) → IsOrderly s → Begins s b k t current
     → IsBegun s t current
 begun_of s t (command c) k current o begins =
-    subst (λ (n : ℕ). IsBegun s t n) (sym begins.1)
+    subst (IsBegun s t) (sym begins.1)
     (subst (λ (x : Service). IsBegun s x (length s.calls)) (sym begins.0)
     (begun_call s (called s c) k o))
 begun_of s t (weak r) k current o (inl looks) =
-    subst (λ (n : ℕ). IsBegun s t n) (sym looks.3)
+    subst (IsBegun s t) (sym looks.3)
     (subst (λ (x : Service). IsBegun s x (length s.calls + 1)) (sym looks.2)
     (begun_look s looks.0 k o))
 begun_of s t (weak r) k current o (inr lists) =
-    subst (λ (n : ℕ). IsBegun s t n) (sym lists.2)
-    (subst (λ (x : Service). IsBegun s x (length s.calls)) (sym lists.1)
-    (begun_call s _ k o))
+    subst (IsBegun s t) (sym lists.2)
+    (subst (λ (x : Service). IsBegun s x (length s.calls)) (sym lists.1) (begun_call s _ k o))

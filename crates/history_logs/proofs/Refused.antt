@@ -79,17 +79,14 @@ begins_not (Some (caller.Calls at number)) e may bars = elim may as (λ _. ⊥) 
 ends_not : (words : List ℕ) (state : Option CallerState) (e : Expected) (at number : ℕ)
     (r : SeenReply) → RefusesEnd words state e → state ≡ Some (caller.Calls at number)
     → ¬ (Says words r)
-ends_not words None e at number r bars is says = absurd (cc)
-ends_not words (Some caller.Idle) e at number r bars is says = absurd (cc)
-ends_not words (Some caller.Dead) e at number r bars is says = absurd (cc)
 ends_not words (Some (caller.Calls b m)) e at number r bars is says = bars.1 r says
+ends_not words _ e at number r bars is says = absurd (cc)
 
 dies_not : (old new : List Service) (k : ℕ) (state : Option CallerState) (e : Expected)
     → RefusesDeath state e → ¬ (Dies old k state new)
 dies_not old new k None e bars dies = dies
-dies_not old new k (Some caller.Idle) e bars dies = bars
 dies_not old new k (Some caller.Dead) e bars dies = dies
-dies_not old new k (Some (caller.Calls b m)) e bars dies = bars
+dies_not old new k _ e bars dies = bars
 
 -- a line that is refused does not go on, and no line of its text does
 refused_not : (log : Log) (k : ℕ) (l m : Line) (new : Log) (e : Expected) → IsKept log
@@ -108,8 +105,7 @@ refused_not log k (begin a n c) (begin b o d) new e kept none bars same g =
           (subst (λ (x : List ℕ). MayBegin (log.callers x)) (sym same.1) g.4) h.1
     ]
 refused_not log k (end a v) (end b w) new e kept none bars same g =
-    ends_not v (log.callers a) e g.0 g.1 g.3 bars
-    (ap (λ (x : List ℕ). log.callers x) same.0 ∙ g.5)
+    ends_not v (log.callers a) e g.0 g.1 g.3 bars (ap log.callers same.0 ∙ g.5)
     (subst (λ (x : List ℕ). Says x g.3) (sym same.1) g.7)
 refused_not log k (crash a) (crash b) new e kept none bars same g =
     dies_not log.services new.services k (log.callers a) e bars
@@ -149,41 +145,25 @@ below_not log k text (end name words) new some lacks is g = some g.4
 below_not log k text (crash name) new some lacks is g = some g.0
 below_not log k text (given number what) new some lacks is g = some g.3
 
--- without a service only one goes on
-first_not : (log : Log) (k : ℕ) (l : Line) (new : Log) → IsKept log → log.waits ≡ None
-    → log.services ≡ [] → is_service l ≡ false → ¬ (GoesOn log k l new)
-first_not log k (service line) new kept none empty not g = absurd (cc)
-first_not log k (call number c) new kept none empty not g =
-    empty_get log.services g.0 g.1 empty g.3.there
-first_not log k (reply words) new kept none empty not g =
-    let waits = g.4 in absurd (cc)
-first_not log k (begin number name c) new kept none empty not g =
-    empty_get log.services g.0 g.1 empty g.3.there
-first_not log k (end name words) new kept none empty not g =
-    empty_get log.services g.0 g.2 empty g.6
-first_not log k (crash name) new kept none empty not g =
-    subst (λ (state : Option CallerState). Dies log.services k state new.services)
-    (kept.none empty name) g.1
-first_not log k (given number what) new kept none empty not g =
-    empty_get log.services g.0 g.1 empty g.4.there
-
+-- without a service only that of one goes on
 service_not : (log : Log) (k : ℕ) (text : List ℕ) (l : Line) (new : Log) → IsKept log
     → log.waits ≡ None → log.services ≡ []
     → ((line : ServiceLine) → IsLine (service line) → line_text (service line) ≢ text)
     → IsLine l → line_text l ≡ text → ¬ (GoesOn log k l new)
 service_not log k text (service line) new kept none empty bars p is g = bars line p is
 service_not log k text (call n c) new kept none empty bars p is g =
-    first_not log k (call n c) new kept none empty refl g
+    empty_get log.services g.0 g.1 empty g.3.there
 service_not log k text (reply w) new kept none empty bars p is g =
-    first_not log k (reply w) new kept none empty refl g
+    let waits = g.4 in absurd (cc)
 service_not log k text (begin n a c) new kept none empty bars p is g =
-    first_not log k (begin n a c) new kept none empty refl g
+    empty_get log.services g.0 g.1 empty g.3.there
 service_not log k text (end a w) new kept none empty bars p is g =
-    first_not log k (end a w) new kept none empty refl g
+    empty_get log.services g.0 g.2 empty g.6
 service_not log k text (crash a) new kept none empty bars p is g =
-    first_not log k (crash a) new kept none empty refl g
+    subst (λ (state : Option CallerState). Dies log.services k state new.services)
+    (kept.none empty a) g.1
 service_not log k text (given n s) new kept none empty bars p is g =
-    first_not log k (given n s) new kept none empty refl g
+    empty_get log.services g.0 g.1 empty g.4.there
 
 pub bad_not : (log : Log) (k : ℕ) (text : List ℕ) (e : Expected) → IsKept log
     → IsBadLine log text e → HasNoNext log k text
@@ -222,7 +202,7 @@ bad_return old new k text e note ends t kept =
 -- a list without elements
 pub nil_of : {X : Type 0} (xs : List X) → length xs ≡ 0 → xs ≡ []
 nil_of [] e = refl
-nil_of (x ∷ xs) e = absurd (omega (arith, e))
+nil_of (x ∷ xs) e = absurd (omega arith)
 
 cases_empty : {X : Type 0} (xs : List X) → (xs ≡ []) ⊎ (xs ≢ [])
 cases_empty [] = inl refl
@@ -231,14 +211,9 @@ cases_empty (x ∷ xs) = inr (λ e. absurd (cc))
 first_new : (log : Log) (l : Line) (e : Expected) → log.services ≡ [] → is_service l ≡ true
     → ¬ (IsRefused log l e)
 first_new log (service line) e empty is bars =
-    bars.1 (subst (λ (ss : List Service). IsNew line.number ss) (sym empty)
+    bars.1 (subst (IsNew line.number) (sym empty)
     (All-nil (λ (s : Service). s.line.number ≢ line.number)))
-first_new log (call n c) e empty is bars = absurd (cc)
-first_new log (reply w) e empty is bars = absurd (cc)
-first_new log (begin n a c) e empty is bars = absurd (cc)
-first_new log (end a w) e empty is bars = absurd (cc)
-first_new log (crash a) e empty is bars = absurd (cc)
-first_new log (given n s) e empty is bars = absurd (cc)
+first_new log _ e empty is bars = absurd (cc)
 
 -- a line of a log, where it is that of a service or one is above
 pub taken : (old new : Log) (k : ℕ) (text : List ℕ) (l : Line) (found : Option Expected)
@@ -255,12 +230,7 @@ taken old new k text l (Some e) p is first does = (
 
 not_service : (l : Line) (line : ServiceLine) → is_service l ≡ false → ¬ (IsAlike l (service line))
 not_service (service a) line bars same = absurd (cc)
-not_service (call n c) line bars same = same
-not_service (reply w) line bars same = same
-not_service (begin n a c) line bars same = same
-not_service (end a w) line bars same = same
-not_service (crash a) line bars same = same
-not_service (given n s) line bars same = same
+not_service _ line bars same = same
 
 -- another line where no service is above
 pub wrong_first : (old : Log) (text : List ℕ) (l : Line) → IsLine l → text ≡ line_text l

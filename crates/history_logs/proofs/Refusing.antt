@@ -23,7 +23,7 @@ use Rattle.history_logs.proofs.Starts.{says_of}
 module _ (s : Service) (o : IsOrderly s) where
   -- the calls that begin are those of the service
   begin_within : (number : ℕ) → 0 < begins number s.events → number < length s.calls
-  begin_within number h = omega (arith, o.numbered number h, o.counts)
+  begin_within number h = omega (arith, o.numbered number h)
 
   module _ (index : ℕ) (w : Window Watched) (within : index < length s.events)
       (is : IsWindowOf (StepOf s) (news s) (take index s.events) w) where
@@ -34,28 +34,21 @@ module _ (s : Service) (o : IsOrderly s) where
         let split = ap (begins number) is.split in
         let all = begins-append number (take index s.events) (drop index s.events) in
         let same = ap (begins number) (take-append-drop index s.events) in
-        omega (
-          arith,
-          begin_within number (omega (arith, live, whole, split, all, same)),
-          o.all.begins,
-        )
+        omega (arith, begin_within number (omega arith))
 
     pub window_few : length w.front.slots.items ≤ 64
     window_few = is.front.table.few
 
     pub index_within : index < length s.event_lines
-    index_within = omega (arith, within, o.all.event_lines)
+    index_within = omega arith
 
     pub window_within : w.begin < length s.event_lines
     window_within =
         omega (
           arith,
-          is.begins,
           length-append is.past is.inside,
           ap length is.split,
-          length-take-le index s.events (omega (arith, within)),
-          within,
-          o.all.event_lines,
+          length-take-le index s.events (omega arith),
         )
 
     module _ (bytes : List ℕ) (answers : HasAnswers bytes s) (call line : ℕ)
@@ -90,8 +83,7 @@ module _ (s : Service) (o : IsOrderly s) where
               window = w;
               is_window = is;
               is_reported = t;
-              needed = subst (λ (l : List ℕ). AreNeededLines s w.begin index call l) (sym them)
-                  needed;
+              needed = subst (AreNeededLines s w.begin index call) (sym them) needed;
             }
 
 -- an event that ends a call is no other
@@ -103,15 +95,9 @@ no_other es events index d same ended other =
     ap (λ (l : List Event). get_or l index d) same
     ∙ get_or_from_slice_get events index (End ended.0) d ended.1 in
     elim other as (λ _. ⊥) [
-      | inl b ↦ begin_not b.0 ended.0 (sym b.1 ∙ is)
-      | inr b ↦ crash_not b.0 ended.0 (sym b.1 ∙ is)
+      | inl b ↦ let other_event = sym b.1 ∙ is in absurd (cc)
+      | inr b ↦ let other_event = sym b.1 ∙ is in absurd (cc)
     ]
-  where
-    begin_not : (x y : ℕ) → Begin x ≡ End y → ⊥
-    begin_not x y e = absurd (cc)
-
-    crash_not : (x y : ℕ) → Crash x ≡ End y → ⊥
-    crash_not x y e = absurd (cc)
 
 -- what stands at a place
 pub read_index : (ps qs : List ℕ) (i : ℕ) → qs ≡ ps → i < length ps

@@ -11,14 +11,17 @@ two_parts old a b p q e f =
 pub four_parts : (old a b c d p q r s : List ℕ) → a ≡ old ++ p → b ≡ a ++ q → c ≡ b ++ r
     → d ≡ c ++ s → d ≡ old ++ (p ++ (q ++ (r ++ s)))
 four_parts old a b c d p q r s e f g h =
-    two_parts old a d p (q ++ (r ++ s)) e
-    (two_parts a b d q (r ++ s) f (two_parts b c d r s g h))
+    two_parts old a d p (q ++ (r ++ s)) e (two_parts a b d q (r ++ s) f (two_parts b c d r s g h))
 
 -- one item more
-pub flat_more : {A : Type 0} (f : A → List ℕ) (xs : List A) (i : ℕ) (d : A) → i < length xs
-    → d ≡ get_or xs i d → flat_map f (take (i + 1) xs) ≡ flat_map f (take i xs) ++ f d
-flat_more f xs i d h is =
-    ap (λ l. flat_map f l) (take_more xs i d h)
+pub flat_next : {A : Type 0} (f : A → List ℕ) (xs : List A) (i : ℕ) (d : A)
+    (old mid new : List ℕ) → i < length xs → d ≡ get_or xs i d
+    → mid ≡ old ++ flat_map f (take i xs) → new ≡ mid ++ f d
+    → new ≡ old ++ flat_map f (take (i + 1) xs)
+flat_next f xs i d old mid new h is before own =
+    let more = ap (flat_map f) (take_more xs i d h)
     ∙ (flat_map-append f (take i xs) (get_or xs i d ∷ [])
     ∙ ap (λ (l : List ℕ). flat_map f (take i xs) ++ l)
-    (append-nil (f (get_or xs i d)) ∙ ap f (sym is)))
+    (append-nil (f (get_or xs i d)) ∙ ap f (sym is))) in
+    two_parts old mid new (flat_map f (take i xs)) (f d) before own
+    ∙ ap (λ (l : List ℕ). old ++ l) (sym more)

@@ -3,15 +3,16 @@ use Rattle.std.proofs.Common.{◌≡◌, ◌≢◌, ◌⊎◌, ℕ, ◌+◌, ◌
 use Rattle.std.specs.List.{slice_set}
 use Rattle.std.proofs.lemmas.Bool.{cases_eq}
 use Rattle.std.proofs.lemmas.List.{get_or_past, length-append, length-set}
-use Rattle.std.proofs.lemmas.Option.{slice_get_within}
+use Rattle.std.proofs.lemmas.Option.{same_Some, slice_get_within}
 use Rattle.histories.specs.declared.front.Front.{Front}
+use Rattle.histories.specs.declared.event.Event.TheVariants.{Crash}
 use Rattle.histories.specs.Histories.{IsOpen}
+use Rattle.iox2_container.proofs.ListEdits.{get_set_other}
 use Rattle.iox2_dynamic.specs.Service as dynamic
 use Rattle.log_lines.specs.Commands.{Begun, NamedCommand}
 use Rattle.log_lines.specs.Lines.{Line}
 use Rattle.log_lines.specs.Lines.Line.{service, call, reply, begin, end, crash, given}
 use Rattle.log_lines.specs.States.{State}
-use Rattle.service_conformance.specs.declared.conformance.seen_reply.SeenReply.TheVariants as seen_reply
 use Rattle.service_conformance.specs.Judged.{Judged}
 use Rattle.service_conformance.specs.Looks.{Watched}
 use Rattle.service_descriptions.specs.declared.replay.lines.service_line.ServiceLine.{ServiceLine}
@@ -23,42 +24,44 @@ use Rattle.history_logs.specs.Reading.{Dies, Gives, GoesOn, HaveNumber, IsNamed,
 use Rattle.history_logs.specs.Seen.{Begins, HasHandles, IsKeptCall, Service, called, started, unseen, with_alone, with_begin, with_crash, with_end}
 use Rattle.history_logs.specs.Shortened.{AreShort, IsShort, IsShortLog, Keeps, Kept, front_at, shortened}
 use Rattle.history_logs.proofs.Alone.{called_stops}
-use Rattle.history_logs.proofs.AtIndex.{all_get, all_of, get_other, get_push_at, get_same, get_within, same_some}
+use Rattle.history_logs.proofs.AtIndex.{all_get, all_of, get_push_at, get_same, get_within}
 use Rattle.history_logs.proofs.Orderly.{open_new}
 use Rattle.history_logs.proofs.Refused.{nil_of}
-use Rattle.history_logs.proofs.Shortened.{called_same, kept_call, kept_start}
-use Rattle.history_logs.proofs.ShortServices.{short_begin, short_begins, short_crash, short_end, short_new, short_started, short_unseen}
+use Rattle.history_logs.proofs.Shortened.{kept_call, kept_start, short_begin, short_count, short_end, short_over}
+use Rattle.history_logs.proofs.ShortServices.{short_begins, short_new, short_started, short_unseen, same_call}
 
 -- the service that is kept at an index
 pub found_at : (services live : List Service) (fronts : List (Option (Front Watched))) (at : ℕ)
     (t : Service) → AreShort services live fronts → slice_get live at ≡ Some t
     → (s : Service) × (slice_get services at ≡ Some s) × IsShort s t (front_at fronts at)
 found_at services live fronts at t a there =
-    let s = get_within services at
-    (omega (arith, a.0, slice_get_within live at t there)) in
+    let s = get_within services at (omega (arith, a.0, slice_get_within live at t there)) in
     (s.0, s.1, a.2 at s.0 t s.1 there)
 
-short_set : (services live : List Service) (fronts : List (Option (Front Watched))) (at : ℕ)
-    (old oldt s t : Service) → AreShort services live fronts → slice_get services at ≡ Some old
-    → slice_get live at ≡ Some oldt → IsShort s t (front_at fronts at)
-    → AreShort (slice_set services at s) (slice_set live at t) fronts
-short_set services live fronts at old oldt s t a there here short = (
+-- the service at an index is another one, and has another front
+pub short_put : (services live : List Service) (old new : List (Option (Front Watched))) (at : ℕ)
+    (s x t y : Service) → AreShort services live old → slice_get services at ≡ Some x
+    → slice_get live at ≡ Some y → length new ≡ length old
+    → ((i : ℕ) → i ≢ at → front_at new i ≡ front_at old i) → IsShort s t (front_at new at)
+    → AreShort (slice_set services at s) (slice_set live at t) new
+short_put services live old new at s x t y a there here long others short = (
   length-set live at t ∙ (a.0 ∙ sym (length-set services at s)),
   omega (arith, a.1, length-set services at s),
-  λ i x y ex ey. elim (cases_eq i at) as (λ _. IsShort x y (front_at fronts i)) [
+  λ i v w ev ew. elim (cases_eq i at) as (λ _. IsShort v w (front_at new i)) [
     | inl same ↦
-        let isx : s ≡ x =
-        same_some s x (sym (get_same services at s old there)
-        ∙ (ap (λ j. slice_get (slice_set services at s) j) (sym same) ∙ ex)) in
-        let isy : t ≡ y =
-        same_some t y (sym (get_same live at t oldt here)
-        ∙ (ap (λ j. slice_get (slice_set live at t) j) (sym same) ∙ ey)) in
-        subst (λ j. IsShort x y (front_at fronts j)) (sym same)
-        (subst (λ (v : Service). IsShort v y (front_at fronts at)) isx
-        (subst (λ (v : Service). IsShort s v (front_at fronts at)) isy short))
+        let isv : s ≡ v =
+        same_Some s v (sym (get_same services at s x there)
+        ∙ (ap (slice_get (slice_set services at s)) (sym same) ∙ ev)) in
+        let isw : t ≡ w =
+        same_Some t w (sym (get_same live at t y here)
+        ∙ (ap (slice_get (slice_set live at t)) (sym same) ∙ ew)) in
+        subst (λ j. IsShort v w (front_at new j)) (sym same)
+        (subst (λ (u : Service). IsShort u w (front_at new at)) isv
+        (subst (λ (u : Service). IsShort s u (front_at new at)) isw short))
     | inr other ↦
-        a.2 i x y (sym (get_other services at i s other) ∙ ex)
-        (sym (get_other live at i t other) ∙ ey)
+        subst (IsShort v w) (sym (others i other))
+        (a.2 i v w (sym (get_set_other services at i s other) ∙ ev)
+        (sym (get_set_other live at i t other) ∙ ew))
   ],
 )
 
@@ -66,12 +69,7 @@ short_push : (services live : List Service) (fronts : List (Option (Front Watche
     (new : Service) → IsShort new new None → AreShort services live fronts
     → AreShort (services ++ new ∷ []) (live ++ new ∷ []) fronts
 short_push services live fronts new short a = (
-  omega (
-    arith,
-    a.0,
-    length-append services (new ∷ []),
-    length-append live (new ∷ []),
-  ),
+  omega (arith, a.0, length-append services (new ∷ []), length-append live (new ∷ [])),
   omega (arith, a.1, length-append services (new ∷ [])),
   λ i x y ex ey. elim (get_push_at services new i x ex)
       as (λ _. IsShort x y (front_at fronts i)) [
@@ -85,30 +83,20 @@ short_push services live fronts new short a = (
             as (λ _. IsShort x y (front_at fronts i)) [
               | inl beside ↦ absurd (omega (arith, slice_get_within live i y beside, last.0, a.0))
               | inr both ↦
-                  subst (λ (f : Option (Front Watched)). IsShort x y f)
-                  (sym (get_or_past fronts i None (omega (arith, a.1, last.0))))
+                  subst (IsShort x y) (sym (get_or_past fronts i None (omega (arith, a.1, last.0))))
                   (subst (λ (v : Service). IsShort v y None) last.1
                   (subst (λ (v : Service). IsShort new v None) both.1 short))
             ]
       ],
 )
 
--- the line of a service is kept
-line_same : (s t : Service) (front : Option (Front Watched)) → IsShort s t front
-    → t.line ≡ s.line
-line_same s t front h = ap (λ (x : Service). x.line) h.is
-
 -- the number of a service is kept at each index
-numbers_same : (services live : List Service) (fronts : List (Option (Front Watched))) (at : ℕ)
+pub numbers_same : (services live : List Service) (fronts : List (Option (Front Watched))) (at : ℕ)
     (x : Service) → AreShort services live fronts → slice_get services at ≡ Some x
     → (y : Service) × (slice_get live at ≡ Some y) × (y.line.number ≡ x.line.number)
 numbers_same services live fronts at x a there =
-    let y = get_within live at (omega (arith, a.0, slice_get_within services at x there)) in (
-      y.0,
-      y.1,
-      ap (λ (l : ServiceLine). l.number)
-          (line_same x y.0 (front_at fronts at) (a.2 at x y.0 there y.1)),
-    )
+    let y = get_within live at (omega (arith, a.0, slice_get_within services at x there)) in
+    (y.0, y.1, ap (λ (v : Service). v.line.number) (a.2 at x y.0 there y.1).is)
 
 named_same : (number : Option ℕ) (services live : List Service)
     (fronts : List (Option (Front Watched))) (at : ℕ) (s t : Service)
@@ -116,13 +104,13 @@ named_same : (number : Option ℕ) (services live : List Service)
     → slice_get services at ≡ Some s → IsNamed number live at t → IsNamed number services at s
 named_same number services live fronts at s t a short there n =
     let own : t.line.number ≡ s.line.number =
-    ap (λ (l : ServiceLine). l.number) (line_same s t (front_at fronts at) short) in
+    ap (λ (v : Service). v.line.number) short.is in
     record {
       there = there;
       named = elim n.named
           as (λ _. (number ≡ Some s.line.number)
           ⊎ ((number ≡ None) × HaveNumber s.line.number services)) [
-            | inl is ↦ inl (is ∙ ap (λ (k : ℕ). Some k) own)
+            | inl is ↦ inl (is ∙ ap Some own)
             | inr alone ↦
                 inr (
                   alone.0,
@@ -158,8 +146,8 @@ module _ (log live new : Log) (fronts : List (Option (Front Watched))) (k : ℕ)
             (omega (arith, h.services.0, slice_get_within log.services i s there)) in
             let other = all_get (λ (x : Service). x.line.number ≢ l.number) live.services i t.0 g.1
             t.1 in
-            λ e. other (ap (λ (x : ServiceLine). x.number)
-            (line_same s t.0 (front_at fronts i) (h.services.2 i s t.0 there t.1)) ∙ e)),
+            λ e. other
+            (ap (λ (v : Service). v.line.number) (h.services.2 i s t.0 there t.1).is ∙ e)),
         refl,
       ),
       subst (λ (x : Log). IsShortLog (record log { services = log.services ++ unseen l ∷ [] }) x
@@ -195,33 +183,28 @@ module _ (log live new : Log) (fronts : List (Option (Front Watched))) (k : ℕ)
     goes_reply : (words : List ℕ) → GoesOn live k (reply words) new → Goes (reply words)
     goes_reply words g =
         let at = g.0 in
-        let f = found_at log.services live.services fronts at g.2 h.services g.5 in
+        let live_one = g.2 in
+        let f = found_at log.services live.services fronts at live_one h.services g.5 in
         let s = f.0 in
         let c = called s g.1 in
-        let same : called g.2 g.1 ≡ c =
-        ap (λ (x : Service). called x g.1) f.2.is ∙ called_same s f.2.kept g.1 in
-        let waits : log.waits ≡ Some (at, g.1) = sym h.waits ∙ g.4 in
-        let none = called_stops s g.1 in
-        let b = short_begin s f.2.kept f.2.upto (front_at fronts at) f.2.keeps f.2.within c k none
-        in
+        let front = front_at fronts at in
+        let same : called live_one g.1 ≡ c = same_call s live_one front f.2 g.1 in
+        let begun = short_begin s live_one front f.2 c k (called_stops s g.1) in
         let orderly = all_get IsOrderly log.services at s kept.orderly f.1 in
-        let count : length (shortened s f.2.kept).calls ≡ length s.calls = f.2.keeps.count in
-        let e = short_end (with_begin s c k) b.kept b.upto (front_at fronts at) b.keeps b.within
-        (length s.calls) g.3 k (open_new s c k orderly).1 in
         let t = with_alone s c g.3 k in
-        let both : IsShort t (with_alone g.2 (called g.2 g.1) g.3 k) (front_at fronts at) =
-        subst (λ (x : LogCall). IsShort t (with_alone g.2 x g.3 k) (front_at fronts at)) (sym same)
-        (subst (λ (x : Service). IsShort t (with_alone x c g.3 k) (front_at fronts at)) (sym f.2.is)
-        (subst (λ n. IsShort t
-        (with_end (with_begin (shortened s f.2.kept) c k) n g.3 k) (front_at fronts at)) (sym count)
-        (subst (λ (x : Service). IsShort t
-        (with_end x (length s.calls) g.3 k) (front_at fronts at)) (sym b.is) e))) in
+        let other = with_alone live_one (called live_one g.1) g.3 k in
+        let both : IsShort t other front =
+        subst (λ (x : LogCall). IsShort t (with_alone live_one x g.3 k) front) (sym same)
+        (subst (λ n. IsShort t (with_end (with_begin live_one c k) n g.3 k) front)
+        (sym (short_count s live_one front f.2))
+        (short_end (with_begin s c k) (with_begin live_one c k) front begun (length s.calls)
+        (open_new s c k orderly).1 g.3 k)) in
         let more : Log = record log { services = slice_set log.services at t; waits = None } in (
           more,
-          (at, g.1, s, g.3, waits, f.1, g.6, refl),
+          (at, g.1, s, g.3, sym h.waits ∙ g.4, f.1, g.6, refl),
           subst (λ (x : Log). IsShortLog more x fronts) (sym g.7) (record {
-            services = short_set log.services live.services fronts at s g.2 t
-                (with_alone g.2 (called g.2 g.1) g.3 k) h.services f.1 g.5 both;
+            services = short_put log.services live.services fronts fronts at t s other live_one
+                h.services f.1 g.5 refl (λ i n. refl) both;
             callers = h.callers;
             waits = refl;
           }),
@@ -239,7 +222,8 @@ module _ (log live new : Log) (fronts : List (Option (Front Watched))) (k : ℕ)
     goes_sets at s oldt s' t there here short services waits = record {
       services = subst (λ (l : List Service). AreShort (slice_set log.services at s') l fronts)
           (sym services)
-          (short_set log.services live.services fronts at s oldt s' t h.services there here short);
+          (short_put log.services live.services fronts fronts at s' s t oldt h.services there here
+          refl (λ i n. refl) short);
       callers = refl;
       waits = waits;
     }
@@ -258,9 +242,7 @@ module _ (log live new : Log) (fronts : List (Option (Front Watched))) (k : ℕ)
         let at = g.0 in
         let f = found_at log.services live.services fronts at g.1 h.services g.3.there in
         let s = f.0 in
-        let begun = short_begins s f.2.kept f.2.upto (front_at fronts at) f.2.keeps f.2.within b k
-        g.5.0 g.5.1
-        (subst (λ (x : Service). Begins x b k g.5.0 g.5.1) f.2.is g.5.2) in (
+        let begun = short_begins s g.1 (front_at fronts at) f.2 b k g.5.0 g.5.1 g.5.2 in (
           record {
             services = slice_set log.services at begun.0;
             callers = new.callers;
@@ -271,7 +253,7 @@ module _ (log live new : Log) (fronts : List (Option (Front Watched))) (k : ℕ)
             s,
             no_waits g.2,
             named_same number log.services live.services fronts at s g.1 h.services f.2 f.1 g.3,
-            subst (λ (x : Option CallerState). MayBegin x) (does_same name) g.4,
+            subst MayBegin (does_same name) g.4,
             (begun.0, g.5.1, begun.1, refl, sets_same name (caller.Calls at g.5.1) g.5.4, refl),
           ),
           goes_sets at s g.1 begun.0 g.5.0 f.1 g.3.there begun.2 g.5.3 g.5.5,
@@ -286,14 +268,10 @@ module _ (log live new : Log) (fronts : List (Option (Front Watched))) (k : ℕ)
         let does : log.callers name ≡ Some (caller.Calls at number) =
         sym (does_same name) ∙ g.5 in
         let o = kept.opened name at number does in
-        let same : o.0 ≡ s = same_some o.0 s (sym o.1 ∙ f.1) in
+        let same : o.0 ≡ s = same_Some o.0 s (sym o.1 ∙ f.1) in
         let now = subst (λ (x : Service). IsOpen x.events number) same o.2 in
         let t = with_end s number g.3 k in
-        let e = short_end s f.2.kept f.2.upto (front_at fronts at) f.2.keeps f.2.within number g.3 k
-        now.1 in
-        let short : IsShort t (with_end g.2 number g.3 k) (front_at fronts at) =
-        subst (λ (x : Service). IsShort t (with_end x number g.3 k) (front_at fronts at))
-        (sym f.2.is) e in (
+        let short = short_end s g.2 (front_at fronts at) f.2 number now.1 g.3 k in (
           record {
             services = slice_set log.services at t;
             callers = new.callers;
@@ -339,10 +317,7 @@ module _ (log live new : Log) (fronts : List (Option (Front Watched))) (k : ℕ)
         let f = found_at log.services live.services fronts at dies.0 h.services dies.1 in
         let s = f.0 in
         let t = with_crash s number k in
-        let short : IsShort t (with_crash dies.0 number k) (front_at fronts at) =
-        subst (λ (x : Service). IsShort t (with_crash x number k) (front_at fronts at))
-        (sym f.2.is)
-        (short_crash s f.2.kept f.2.upto (front_at fronts at) f.2.keeps f.2.within number k) in
+        let short = short_over s dies.0 (front_at fronts at) f.2 (Crash number) k in
         let services = slice_set log.services at t in
         let own : Dies log.services k (Some (caller.Calls at number)) services =
         (s, f.1, refl) in (
@@ -366,12 +341,7 @@ module _ (log live new : Log) (fronts : List (Option (Front Watched))) (k : ℕ)
         let f = found_at log.services live.services fronts at x h.services named.there in
         let s = f.0 in
         let t = started s start in
-        let is = short_started s f.2.kept f.2.upto (front_at fronts at) f.2.keeps f.2.within what
-        start
-        (subst (λ (x : Service). StartsAs x what start) f.2.is starts) in
-        let short : IsShort t (started x start) (front_at fronts at) =
-        subst (λ (x : Service). IsShort t (started x start) (front_at fronts at)) (sym f.2.is)
-        is.1 in
+        let is = short_started s x (front_at fronts at) f.2 what start starts in
         let more : Log = record log { services = slice_set log.services at t } in (
           more,
           (
@@ -383,8 +353,8 @@ module _ (log live new : Log) (fronts : List (Option (Front Watched))) (k : ℕ)
             inl (is.0, refl),
           ),
           subst (λ (x : Log). IsShortLog more x fronts) (sym more_is) (record {
-            services = short_set log.services live.services fronts at s x t (started x start)
-                h.services f.1 named.there short;
+            services = short_put log.services live.services fronts fronts at t s (started x start) x
+                h.services f.1 named.there refl (λ i n. refl) is.1;
             callers = h.callers;
             waits = h.waits;
           }),
@@ -399,7 +369,7 @@ module _ (log live new : Log) (fronts : List (Option (Front Watched))) (k : ℕ)
     given_anew number what at x start waits named anew more_is =
         let f = found_at log.services live.services fronts at x h.services named.there in
         let s = f.0 in
-        let line : x.line ≡ s.line = line_same s x (front_at fronts at) f.2 in
+        let line : x.line ≡ s.line = ap (λ (v : Service). v.line) f.2.is in
         let t = started (unseen s.line) start in
         let same : started (unseen x.line) start ≡ t =
         ap (λ (l : ServiceLine). started (unseen l) start) line in
@@ -417,7 +387,7 @@ module _ (log live new : Log) (fronts : List (Option (Front Watched))) (k : ℕ)
                   arith,
                   ap (λ (y : Service). length y.calls) f.2.is,
                   f.2.keeps.count,
-                  ap (λ (l : List Judged). length l) none,
+                  ap length none,
                 ))),
                 λ name n does. anew.1 name n (does_same name ∙ does),
                 subst (λ (l : ServiceLine). Gives (unseen l).start what start) line anew.2,
@@ -477,19 +447,10 @@ short_sane log live fronts h kept = record {
       let o = all_get IsOrderly log.services at live_call.0 kept.orderly live_call.1 in (
         t.0,
         t.1,
-        omega (
-          arith,
-          o.numbered number live_call.2.0,
-          o.counts,
-          is.keeps.count,
-          ap (λ (x : Service). length x.calls) is.is,
-        ),
+        omega (arith, o.numbered number live_call.2.0, ap (λ (x : Service). length x.calls) is.is),
         subst (λ (x : Service). IsKeptCall x number) (sym is.is) (record {
-          call = kept_call live_call.0 is.kept is.upto (front_at fronts at) is.keeps number
-              (seen_reply.Count 0) 0 live_call.2.1;
-          start = λ from s.
-              kept_start live_call.0 is.kept is.upto (front_at fronts at) is.keeps number
-              (seen_reply.Count 0) 0 live_call.2.1 from s;
+          call = kept_call live_call.0 t.0 (front_at fronts at) is number live_call.2.1;
+          start = kept_start live_call.0 t.0 (front_at fronts at) is number live_call.2.1;
         }),
       );
   waits = λ at c e. omega (arith, h.services.0, kept.waits at c (sym h.waits ∙ e));
@@ -499,4 +460,4 @@ short_sane log live fronts h kept = record {
         → Keeps s k upto f → upto ≤ length s.calls → k.first ≤ length k.calls
     first_within s k upto None keeps within = omega (arith, keeps.has.0)
     first_within s k upto (Some f) keeps within =
-        omega (arith, keeps.has.first, keeps.has.most, keeps.count, within)
+        omega arith

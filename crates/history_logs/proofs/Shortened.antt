@@ -2,13 +2,13 @@
 use Rattle.std.proofs.Common.{◌≡◌, ◌≢◌, ◌⊎◌, ℕ, zero, suc, ◌+◌, ◌<◌, ◌≤◌, List, [], ◌∷◌, ◌++◌, Option, Some, None, append_assoc, get_or, length, refl, sym, ◌∙◌, ap, subst, arith, inl, inr, slice_get, take}
 use Rattle.std.specs.Option.{option_map}
 use Rattle.std.proofs.lemmas.Bool.{cases_eq, cases_lt}
-use Rattle.std.proofs.lemmas.List.{length-append}
-use Rattle.std.proofs.lemmas.Option.{slice_get_past}
+use Rattle.std.proofs.lemmas.List.{length-append, take-append-le}
 use Rattle.histories.specs.declared.event.Event.{Event}
 use Rattle.histories.specs.declared.event.Event.TheVariants.{Begin, End}
 use Rattle.histories.specs.declared.front.Front.{Front}
 use Rattle.histories.specs.Histories.{HasEnded, begun}
 use Rattle.histories.proofs.Events.{ended_still}
+use Rattle.history_logs.proofs.Orderly.{length_answered}
 use Rattle.history_windows.specs.Goings.{IsFrontAfter}
 use Rattle.iox2_container.specs.declared.container.role.Role.{Role}
 use Rattle.iox2_dynamic.specs.Service as dynamic
@@ -23,49 +23,21 @@ use Rattle.service_descriptions.specs.declared.replay.machine.command.Command.{C
 use Rattle.service_descriptions.specs.declared.replay.machine.command.Command.TheVariants as command
 use Rattle.history_logs.specs.declared.logs.service.LogCall.{LogCall}
 use Rattle.history_logs.specs.Seen.{Service, called, calls_answered, calls_shown, changed, given_at, given_in, handle_named, start_of, with_begin, with_end, with_part}
-use Rattle.history_logs.specs.Shortened.{HasFront, IsSettled, Keeps, Kept, shortened}
+use Rattle.history_logs.specs.Shortened.{HasFront, IsSettled, Keeps, Kept, shortened, IsShort}
 
 -- lists with one more at the end
-get_left : {X : Type 0} (xs ys : List X) (n : ℕ) → n < length xs
-    → slice_get (xs ++ ys) n ≡ slice_get xs n
-get_left [] ys n h = absurd (omega (arith, h))
-get_left (x ∷ xs) ys zero h = refl
-get_left (x ∷ xs) ys (suc n) h = get_left xs ys n (omega (arith, h))
-
-get_last : {X : Type 0} (xs : List X) (y : X) (n : ℕ) → n ≡ length xs
-    → slice_get (xs ++ y ∷ []) n ≡ Some y
-get_last [] y zero h = refl
-get_last [] y (suc n) h = absurd (omega (arith, h))
-get_last (x ∷ xs) y zero h = absurd (omega (arith, h))
-get_last (x ∷ xs) y (suc n) h = get_last xs y n (omega (arith, h))
-
 pub get_pushed : {X : Type 0} (xs ys : List X) (x : X) (n : ℕ) → length xs ≡ length ys
     → slice_get xs n ≡ slice_get ys n
     → slice_get (xs ++ x ∷ []) n ≡ slice_get (ys ++ x ∷ []) n
-get_pushed xs ys x n same is =
-    let more = length-append xs (x ∷ []) in
-    let others = length-append ys (x ∷ []) in
-    elim (cases_lt n (length xs))
-    as (λ _. slice_get (xs ++ x ∷ []) n ≡ slice_get (ys ++ x ∷ []) n) [
-      | inl within ↦
-          get_left xs (x ∷ []) n within
-          ∙ (is ∙ sym (get_left ys (x ∷ []) n (omega (arith, within, same))))
-      | inr past ↦ elim (cases_eq n (length xs))
-          as (λ _. slice_get (xs ++ x ∷ []) n ≡ slice_get (ys ++ x ∷ []) n) [
-            | inl last ↦ get_last xs x n last ∙ sym (get_last ys x n (last ∙ same))
-            | inr above ↦
-                slice_get_past (xs ++ x ∷ []) n (omega (arith, past, above, more))
-                ∙ sym (slice_get_past (ys ++ x ∷ []) n (omega (arith, past, above, same, others)))
-          ]
-    ]
-
-take_left : {X : Type 0} (n : ℕ) (xs ys : List X) → n ≤ length xs → take n (xs ++ ys) ≡ take n xs
-take_left zero xs ys h = refl
-take_left (suc n) [] ys h = absurd (omega (arith, h))
-take_left (suc n) (x ∷ xs) ys h = ap (λ l. x ∷ l) (take_left n xs ys (omega (arith, h)))
+get_pushed [] [] x n same is = refl
+get_pushed [] (b ∷ ys) x n same is = absurd (omega arith)
+get_pushed (a ∷ xs) [] x n same is = absurd (omega arith)
+get_pushed (a ∷ xs) (b ∷ ys) x zero same is = is
+get_pushed (a ∷ xs) (b ∷ ys) x (suc n) same is = get_pushed xs ys x n (omega arith) is
 
 -- the number with which a weak listing began, where one call more has begun
-start_left : (xs : List Judged) (c : Judged) (n start : ℕ) → start_of (xs ++ c ∷ []) n ≡ Some start
+pub start_left : (xs : List Judged) (c : Judged) (n start : ℕ)
+    → start_of (xs ++ c ∷ []) n ≡ Some start
     → (start_of xs n ≡ Some start) ⊎ ((n ≡ length xs) × (stopped c ≡ Some start))
 start_left [] c zero start is = inr (refl, is)
 start_left [] c (suc n) start is = absurd (cc)
@@ -91,19 +63,13 @@ start_get xs ys n is = sym (of_get xs n) ∙ (ap of is ∙ of_get ys n)
     of_get (z ∷ zs) (suc m) = of_get zs m
 
 -- calls of which one is another
-length_changed : (f : Judged → Judged) (xs : List Judged) (n : ℕ)
-    → length (changed f xs n) ≡ length xs
-length_changed f [] n = refl
-length_changed f (x ∷ xs) zero = refl
-length_changed f (x ∷ xs) (suc n) = ap suc (length_changed f xs n)
-
-get_changed : (f : Judged → Judged) (xs : List Judged) (n : ℕ)
+pub get_changed : (f : Judged → Judged) (xs : List Judged) (n : ℕ)
     → slice_get (changed f xs n) n ≡ option_map f (slice_get xs n)
 get_changed f [] n = refl
 get_changed f (x ∷ xs) zero = refl
 get_changed f (x ∷ xs) (suc n) = get_changed f xs n
 
-get_unchanged : (f : Judged → Judged) (xs : List Judged) (n m : ℕ) → m ≢ n
+pub get_unchanged : (f : Judged → Judged) (xs : List Judged) (n m : ℕ) → m ≢ n
     → slice_get (changed f xs n) m ≡ slice_get xs m
 get_unchanged f [] n m ne = refl
 get_unchanged f (x ∷ xs) zero zero ne = absurd (ne refl)
@@ -126,9 +92,9 @@ take_changed : (f : Judged → Judged) (xs : List Judged) (b n : ℕ) → b ≤ 
     → take b (changed f xs n) ≡ take b xs
 take_changed f [] b n h = refl
 take_changed f (x ∷ xs) zero n h = refl
-take_changed f (x ∷ xs) (suc b) zero h = absurd (omega (arith, h))
+take_changed f (x ∷ xs) (suc b) zero h = absurd (omega arith)
 take_changed f (x ∷ xs) (suc b) (suc n) h =
-    ap (λ (l : List Judged). x ∷ l) (take_changed f xs b n (omega (arith, h)))
+    ap (λ (l : List Judged). x ∷ l) (take_changed f xs b n (omega arith))
 
 start_changed : (f : Judged → Judged) → ((c : Judged) → stopped (f c) ≡ stopped c)
     → (xs : List Judged) (n m : ℕ) → start_of (changed f xs n) m ≡ start_of xs m
@@ -140,28 +106,16 @@ start_changed f same (x ∷ xs) (suc n) (suc m) = start_changed f same xs n m
 
 stopped_shown : (r : SeenReply) (c : Judged) → stopped (shown c r) ≡ stopped c
 stopped_shown r (call c) = refl
-stopped_shown r (starts p ids) = refl
-stopped_shown r (stops start seen) = refl
+stopped_shown r _ = refl
 
 stopped_answered : (r : SeenReply) (c : Judged) → stopped (judged_answered c r) ≡ stopped c
 stopped_answered r (call c) = refl
-stopped_answered r (starts p ids) = refl
-stopped_answered r (stops start seen) = refl
+stopped_answered r _ = refl
 
 -- a reply
 module _ (r : SeenReply) where
   answer : Judged → Judged
   answer c = judged_answered c r
-
-  length_shown : (xs : List Judged) (start : Option ℕ)
-      → length (calls_shown xs start r) ≡ length xs
-  length_shown xs None = refl
-  length_shown xs (Some start) = length_changed (λ c. shown c r) xs start
-
-  pub length_answered : (xs : List Judged) (n : ℕ) → length (calls_answered xs n r) ≡ length xs
-  length_answered xs n =
-      length_changed (λ c. judged_answered c r) (calls_shown xs (start_of xs n) r) n
-      ∙ length_shown xs (start_of xs n)
 
   start_shown : (xs : List Judged) (start : Option ℕ) (m : ℕ)
       → start_of (calls_shown xs start r) m ≡ start_of xs m
@@ -172,8 +126,7 @@ module _ (r : SeenReply) where
       → start_of (calls_answered xs n r) m ≡ start_of xs m
   start_answered xs n m =
       start_changed (λ c. judged_answered c r) (stopped_answered r)
-      (calls_shown xs (start_of xs n) r) n m
-      ∙ start_shown xs (start_of xs n) m
+      (calls_shown xs (start_of xs n) r) n m ∙ start_shown xs (start_of xs n) m
 
   shown_same : (xs ys : List Judged) (start : Option ℕ) (m : ℕ)
       → slice_get xs m ≡ slice_get ys m
@@ -211,40 +164,30 @@ module _ (s : Service) (kept : Kept) where
   given_same (Some number) = refl
 
   named_same : (c : Command) → handle_named (shortened s kept) c ≡ handle_named s c
-  named_same (command.Register id) = refl
   named_same (command.Deregister n) = given_same (slice_get s.commands n)
-  named_same command.Nodes = refl
-  named_same (command.Add d) = refl
   named_same (command.Release n) = given_same (slice_get s.commands n)
-  named_same (command.List r) = refl
-  named_same (command.Count r) = refl
-  named_same (command.Dead id c) = refl
-  named_same (command.Verify v) = refl
-  named_same (command.Compatible _ _) = refl
-  named_same (command.Layout p n) = refl
-  named_same (command.Places p n) = refl
+  named_same _ = refl
 
   pub called_same : (c : NamedCommand) → called (shortened s kept) c ≡ called s c
   called_same (numbered c) = rw (named_same c) refl
-  called_same (deregister slot ticket) = refl
-  called_same (release r slot ticket) = refl
+  called_same _ = refl
 
   pub gives_same : (adds : Option Role) (r : SeenReply)
       → given_in (shortened s kept) adds r ≡ given_in s adds r
-  gives_same None (reply.Handle slot ticket) = refl
-  gives_same None (reply.Word w) = refl
-  gives_same None (reply.List ids) = refl
-  gives_same None (reply.Count n) = refl
   gives_same (Some a) (reply.Handle slot ticket) = refl
-  gives_same (Some a) (reply.Word w) = refl
-  gives_same (Some a) (reply.List ids) = refl
-  gives_same (Some a) (reply.Count n) = refl
+  gives_same _ _ = refl
 
 -- one event more
-abbrev pub with_event : Kept → Event → ℕ → Kept
+abbrev with_event : Kept → Event → ℕ → Kept
 with_event kept e line = record kept {
   events = kept.events ++ e ∷ [];
   event_lines = kept.event_lines ++ line ∷ [];
+}
+
+abbrev pub with_one : Service → Event → ℕ → Service
+with_one s e line = record s {
+  events = s.events ++ e ∷ [];
+  event_lines = s.event_lines ++ line ∷ [];
 }
 
 -- where calls change that are not settled, the front stays
@@ -264,9 +207,9 @@ settled_still s t kept more upto front e k events left first start long same bef
       ∙ ap (λ (l : List Event). k.past ++ l) (sym left)));
   over = λ n h. ended n (k.over n h);
   shows = λ n from is h. ended n (k.shows n from (before n from is h) h);
-  first = omega (arith, first, k.first);
-  slots = λ slot c is. omega (arith, first, k.slots slot c is);
-  some = omega (arith, long, k.some);
+  first = omega arith;
+  slots = λ slot c is. omega (arith, k.slots slot c is);
+  some = omega arith;
   front_of = λ final is.
       subst (λ (x : dynamic.Service). IsFrontAfter (WindowStep 0 final) (unwatched x ∷ []) k.past
       front) (sym start) (k.front_of final (is ∙ same));
@@ -276,140 +219,136 @@ settled_still s t kept more upto front e k events left first start long same bef
     ended n h =
         subst (λ (l : List Event). HasEnded l n) (sym events) (ended_still s.events e n h)
 
--- a call begins
-module _ (s : Service) (kept : Kept) (upto : ℕ) (front : Option (Front Watched))
-    (k : Keeps s kept upto front)
-    (c : LogCall) (line : ℕ)
-    (next : (start : ℕ) → stopped c.seen ≡ Some start → start + 1 ≡ length s.calls)
-    (few : upto ≤ length s.calls)
-    (late : (start : ℕ) → stopped c.seen ≡ Some start → upto ≤ start)
-  where
-    abbrev pub part : Kept
-    part = record {
-      first = kept.first;
-      calls = kept.calls ++ c.seen ∷ [];
-      begins = kept.begins ++ line ∷ [];
-      events = kept.events ++ Begin (length kept.calls) ∷ [];
-      event_lines = kept.event_lines ++ line ∷ [];
-    }
+pub none_stops : (c : LogCall) (P : ℕ → Type 0) → stopped c.seen ≡ None → (start : ℕ)
+    → stopped c.seen ≡ Some start → P start
+none_stops c P none start is = absurd (cc)
 
-    part_events : (with_part s c line).events ≡ s.events ++ Begin (length kept.calls) ∷ []
-    part_events = ap (λ n. s.events ++ Begin n ∷ []) (sym k.count)
+module _ (s live : Service) (front : Option (Front Watched)) (h : IsShort s live front) where
+  pub short_count : length live.calls ≡ length s.calls
+  short_count = ap (λ (x : Service). length x.calls) h.is ∙ h.keeps.count
 
-    part_stops : (n start : ℕ) → start_of (s.calls ++ c.seen ∷ []) n ≡ Some start
-        → start + 1 ≡ n
-    part_stops n start is =
-        elim (start_left s.calls c.seen n start is) as (λ _. start + 1 ≡ n) [
-          | inl before ↦ k.stops n start before
-          | inr last ↦ next start last.1 ∙ sym last.0
-        ]
+  -- a call begins
+  module _ (c : LogCall) (line : ℕ)
+      (next : (start : ℕ) → stopped c.seen ≡ Some start → start + 1 ≡ length s.calls)
+      (late : (start : ℕ) → stopped c.seen ≡ Some start → h.upto ≤ start)
+    where
+      abbrev part : Kept
+      part = record {
+        first = h.kept.first;
+        calls = h.kept.calls ++ c.seen ∷ [];
+        begins = h.kept.begins ++ line ∷ [];
+        events = h.kept.events ++ Begin (length h.kept.calls) ∷ [];
+        event_lines = h.kept.event_lines ++ line ∷ [];
+      }
 
-    part_front : (f : Option (Front Watched)) → HasFront s kept upto f
-        → HasFront (with_part s c line) part upto f
-    part_front None is = (
-      is.0,
-      ap (λ n. kept.events ++ Begin n ∷ []) k.count
-          ∙ ap (λ (l : List Event). l ++ Begin (length s.calls) ∷ []) is.1,
-    )
-    part_front (Some f) is =
-        let low : begun is.past ≤ length s.calls = omega (arith, is.most, few) in
-        let more = length-append s.calls (c.seen ∷ []) in
-        settled_still s (with_part s c line) kept part upto f (Begin (length kept.calls)) is
-        part_events refl refl refl (omega (arith, more))
-        (take_left (begun is.past) s.calls (c.seen ∷ []) low)
-        (λ n start at below.
-        elim (start_left s.calls c.seen n start at) as (λ _. start_of s.calls n ≡ Some start) [
-          | inl before ↦ before
-          | inr last ↦ absurd (omega (arith, late start last.1, below, is.most))
-        ])
+      pub part_front : (f : Option (Front Watched)) → HasFront s h.kept h.upto f
+          → HasFront (with_part s c line) part h.upto f
+      part_front None is = (
+        is.0,
+        ap (λ n. h.kept.events ++ Begin n ∷ []) h.keeps.count
+            ∙ ap (λ (l : List Event). l ++ Begin (length s.calls) ∷ []) is.1,
+      )
+      part_front (Some f) is =
+          settled_still s (with_part s c line) h.kept part h.upto f (Begin (length h.kept.calls)) is
+          (ap (λ n. s.events ++ Begin n ∷ []) (sym h.keeps.count)) refl refl refl
+          (omega (arith, length-append s.calls (c.seen ∷ [])))
+          (take-append-le (begun is.past) s.calls (c.seen ∷ []) (omega (arith, is.most, h.within)))
+          (λ n start at below.
+          elim (start_left s.calls c.seen n start at) as (λ _. start_of s.calls n ≡ Some start) [
+            | inl before ↦ before
+            | inr last ↦ absurd (omega (arith, late start last.1, is.most))
+          ])
 
-    pub keeps_part : Keeps (with_part s c line) part upto front
-    keeps_part = record {
-      count = omega (
-        arith,
-        k.count,
-        length-append kept.calls (c.seen ∷ []),
-        length-append s.calls (c.seen ∷ []),
-      );
-      calls = λ n h. get_pushed kept.calls s.calls c.seen n k.count (k.calls n h);
-      stops = part_stops;
-      has = part_front front k.has;
-    }
+      abbrev pub short_part : IsShort (with_part s c line) (with_part live c line) front
+      short_part = record {
+        kept = part;
+        upto = h.upto;
+        within = omega (arith, h.within, length-append s.calls (c.seen ∷ []));
+        is = ap (λ (x : Service). with_part x c line) h.is;
+        keeps = record {
+          count = omega (
+            arith,
+            h.keeps.count,
+            length-append h.kept.calls (c.seen ∷ []),
+            length-append s.calls (c.seen ∷ []),
+          );
+          calls = λ n low.
+              get_pushed h.kept.calls s.calls c.seen n h.keeps.count (h.keeps.calls n low);
+          stops = λ n start at.
+              elim (start_left s.calls c.seen n start at) as (λ _. start + 1 ≡ n) [
+                | inl before ↦ h.keeps.stops n start before
+                | inr last ↦ next start last.1 ∙ sym last.0
+              ];
+          has = part_front front h.keeps.has;
+        };
+      }
 
-    pub keeps_begin : Keeps (with_begin s c line) part upto front
-    keeps_begin = record {
-      count = keeps_part.count;
-      calls = keeps_part.calls;
-      stops = part_stops;
-      has = begin_front front keeps_part.has;
-    }
-      where
-        begin_front : (f : Option (Front Watched)) → HasFront (with_part s c line) part upto f
-            → HasFront (with_begin s c line) part upto f
-        begin_front None is = is
-        begin_front (Some f) is = record {
-          past = is.past;
-          most = is.most;
-          events = is.events;
-          over = is.over;
-          shows = is.shows;
-          first = is.first;
-          slots = is.slots;
-          some = is.some;
-          front_of = is.front_of;
-        }
+  pub begin_front : (c : LogCall) (line : ℕ) (kept : Kept) (upto : ℕ) (f : Option (Front Watched))
+      → HasFront (with_part s c line) kept upto f → HasFront (with_begin s c line) kept upto f
+  begin_front c line kept upto None is = is
+  begin_front c line kept upto (Some f) is = record {
+    past = is.past;
+    most = is.most;
+    events = is.events;
+    over = is.over;
+    shows = is.shows;
+    first = is.first;
+    slots = is.slots;
+    some = is.some;
+    front_of = is.front_of;
+  }
 
-    pub begin_is : with_begin (shortened s kept) c line ≡ shortened (with_begin s c line) part
-    begin_is = rw k.count refl
+  abbrev pub short_begin : (c : LogCall) (line : ℕ) → stopped c.seen ≡ None
+      → IsShort (with_begin s c line) (with_begin live c line) front
+  short_begin c line none =
+      let p = short_part c line (none_stops c (λ start. start + 1 ≡ length s.calls) none)
+      (none_stops c (λ start. h.upto ≤ start) none) in
+      record {
+        kept = p.kept;
+        upto = h.upto;
+        within = p.within;
+        is = ap (λ (x : Service). with_begin x c line) h.is ∙ rw h.keeps.count refl;
+        keeps = record {
+          count = p.keeps.count;
+          calls = p.keeps.calls;
+          stops = p.keeps.stops;
+          has = begin_front c line p.kept h.upto front p.keeps.has;
+        };
+      }
 
-    pub part_is : with_part (shortened s kept) c line ≡ shortened (with_part s c line) part
-    part_is = refl
+  pub over_front : (e : Event) (line : ℕ) (f : Option (Front Watched)) → HasFront s h.kept h.upto f
+      → HasFront (with_one s e line) (with_event h.kept e line) h.upto f
+  over_front e line None is = (is.0, ap (λ (l : List Event). l ++ e ∷ []) is.1)
+  over_front e line (Some f) is =
+      settled_still s (with_one s e line) h.kept (with_event h.kept e line) h.upto f e is refl refl
+      refl refl (omega arith) refl (λ n from at below. at)
 
--- a call ends, or its caller dies, and its reply is not seen
-module _ (s t : Service) (kept : Kept) (upto : ℕ) (front : Option (Front Watched))
-    (k : Keeps s kept upto front)
-    (e : Event) (line : ℕ) (events : t.events ≡ s.events ++ e ∷ []) (calls : t.calls ≡ s.calls)
-    (start : t.start ≡ s.start)
-  where
-    pub keeps_over : Keeps t (with_event kept e line) upto front
-    keeps_over = record {
-      count = k.count ∙ ap (λ (l : List Judged). length l) (sym calls);
-      calls = λ n h. k.calls n h ∙ ap (λ (l : List Judged). slice_get l n) (sym calls);
-      stops = λ n from is.
-          k.stops n from (ap (λ (l : List Judged). start_of l n) (sym calls) ∙ is);
-      has = over_front front k.has;
-    }
-      where
-        over_front : (f : Option (Front Watched)) → HasFront s kept upto f
-            → HasFront t (with_event kept e line) upto f
-        over_front None is =
-            (is.0, ap (λ (l : List Event). l ++ e ∷ []) is.1 ∙ sym events)
-        over_front (Some f) is =
-            settled_still s t kept (with_event kept e line) upto f e is events refl refl start
-            (omega (arith, ap (λ (l : List Judged). length l) calls))
-            (ap (λ (l : List Judged). take (begun is.past) l) calls)
-            (λ n from at below. ap (λ (l : List Judged). start_of l n) (sym calls) ∙ at)
+  -- a call ends, or its caller dies, and its reply is not seen
+  abbrev pub short_over : (e : Event) (line : ℕ)
+      → IsShort (with_one s e line) (with_one live e line) front
+  short_over e line = record {
+    kept = with_event h.kept e line;
+    upto = h.upto;
+    within = h.within;
+    is = ap (λ (x : Service). with_one x e line) h.is;
+    keeps = record {
+      count = h.keeps.count;
+      calls = h.keeps.calls;
+      stops = h.keeps.stops;
+      has = over_front e line front h.keeps.has;
+    };
+  }
 
--- an open call is answered
-module _ (s : Service) (kept : Kept) (upto : ℕ) (front : Option (Front Watched))
-    (k : Keeps s kept upto front)
-    (number : ℕ) (r : SeenReply) (line : ℕ) (now : ¬ (HasEnded s.events number))
-  where
-    abbrev pub ended : Kept
-    ended = record kept {
-      calls = calls_answered kept.calls number r;
-      events = kept.events ++ End number ∷ [];
-      event_lines = kept.event_lines ++ line ∷ [];
-    }
-
-    late : (f : Front Watched) (is : IsSettled s kept upto f) → begun is.past ≤ number
+  -- an open call is answered
+  module _ (number : ℕ) (now : ¬ (HasEnded s.events number)) where
+    late : (f : Front Watched) (is : IsSettled s h.kept h.upto f) → begun is.past ≤ number
     late f is =
         elim (cases_lt number (begun is.past)) as (λ _. begun is.past ≤ number) [
           | inl before ↦ absurd (now (is.over number before))
           | inr after ↦ after
         ]
 
-    late_start : (f : Front Watched) (is : IsSettled s kept upto f) (from : ℕ)
+    late_start : (f : Front Watched) (is : IsSettled s h.kept h.upto f) (from : ℕ)
         → start_of s.calls number ≡ Some from → begun is.past ≤ from
     late_start f is from at =
         elim (cases_lt from (begun is.past)) as (λ _. begun is.past ≤ from) [
@@ -417,44 +356,55 @@ module _ (s : Service) (kept : Kept) (upto : ℕ) (front : Option (Front Watched
           | inr after ↦ after
         ]
 
-    low : (f : Option (Front Watched)) → HasFront s kept upto f → kept.first ≤ number
+    low : (f : Option (Front Watched)) → HasFront s h.kept h.upto f → h.kept.first ≤ number
     low None is = omega (arith, is.0)
     low (Some f) is = omega (arith, is.first, late f is)
 
-    low_start : (f : Option (Front Watched)) → HasFront s kept upto f → (from : ℕ)
-        → start_of s.calls number ≡ Some from → kept.first ≤ from
+    low_start : (f : Option (Front Watched)) → HasFront s h.kept h.upto f → (from : ℕ)
+        → start_of s.calls number ≡ Some from → h.kept.first ≤ from
     low_start None is from at = omega (arith, is.0)
     low_start (Some f) is from at = omega (arith, is.first, late_start f is from at)
 
     -- the call is kept, and the weak listing that it stops
-    pub kept_call : kept.first ≤ number
-    kept_call = low front k.has
+    pub kept_call : h.kept.first ≤ number
+    kept_call = low front h.keeps.has
 
-    pub kept_start : (from : ℕ) → start_of kept.calls number ≡ Some from → kept.first ≤ from
+    pub kept_start : (from : ℕ) → start_of h.kept.calls number ≡ Some from → h.kept.first ≤ from
     kept_start from at =
-        low_start front k.has from
-        (sym (start_get kept.calls s.calls number (k.calls number kept_call)) ∙ at)
+        low_start front h.keeps.has from
+        (sym (start_get h.kept.calls s.calls number (h.keeps.calls number kept_call)) ∙ at)
 
-    pub keeps_end : Keeps (with_end s number r line) ended upto front
-    keeps_end = record {
-      count = length_answered r kept.calls number
-          ∙ (k.count ∙ sym (length_answered r s.calls number));
-      calls = λ n h.
-          answered_same r kept.calls s.calls number n (k.calls number kept_call) (k.calls n h);
-      stops = λ n from is. k.stops n from (sym (start_answered r s.calls number n) ∙ is);
-      has = end_front front k.has;
-    }
-      where
-        end_front : (f : Option (Front Watched)) → HasFront s kept upto f
-            → HasFront (with_end s number r line) ended upto f
-        end_front None is = (is.0, ap (λ (l : List Event). l ++ End number ∷ []) is.1)
-        end_front (Some f) is =
-            settled_still s (with_end s number r line) kept ended upto f (End number) is refl refl
-            refl
-            refl (omega (arith, length_answered r s.calls number))
-            (take_answered r s.calls (begun is.past) number (late f is) (late_start f is))
-            (λ n from at below. sym (start_answered r s.calls number n) ∙ at)
+    module _ (r : SeenReply) (line : ℕ) where
+      abbrev ended : Kept
+      ended = record h.kept {
+        calls = calls_answered h.kept.calls number r;
+        events = h.kept.events ++ End number ∷ [];
+        event_lines = h.kept.event_lines ++ line ∷ [];
+      }
 
-    pub end_is : with_end (shortened s kept) number r line
-        ≡ shortened (with_end s number r line) ended
-    end_is = rw (gives_same s kept (get_or s.adds number None) r) refl
+      end_front : (f : Option (Front Watched)) → HasFront s h.kept h.upto f
+          → HasFront (with_end s number r line) ended h.upto f
+      end_front None is = (is.0, ap (λ (l : List Event). l ++ End number ∷ []) is.1)
+      end_front (Some f) is =
+          settled_still s (with_end s number r line) h.kept ended h.upto f (End number) is refl refl
+          refl refl (omega (arith, length_answered s.calls number r))
+          (take_answered r s.calls (begun is.past) number (late f is) (late_start f is))
+          (λ n from at below. sym (start_answered r s.calls number n) ∙ at)
+
+      pub short_end : IsShort (with_end s number r line) (with_end live number r line) front
+      short_end = record {
+        kept = ended;
+        upto = h.upto;
+        within = omega (arith, h.within, length_answered s.calls number r);
+        is = ap (λ (x : Service). with_end x number r line) h.is
+            ∙ rw (gives_same s h.kept (get_or s.adds number None) r) refl;
+        keeps = record {
+          count = length_answered h.kept.calls number r
+              ∙ (h.keeps.count ∙ sym (length_answered s.calls number r));
+          calls = λ n from.
+              answered_same r h.kept.calls s.calls number n (h.keeps.calls number kept_call)
+              (h.keeps.calls n from);
+          stops = λ n from is. h.keeps.stops n from (sym (start_answered r s.calls number n) ∙ is);
+          has = end_front front h.keeps.has;
+        };
+      }

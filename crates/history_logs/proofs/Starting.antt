@@ -3,7 +3,7 @@ use Rattle.std.proofs.Common.{◌≡◌, ◌≢◌, ◌<◌, ℕ, Bool, true, fa
 use Rattle.std.specs.Prelude.{◌↔◌, IsTrue, slice_get}
 use Rattle.std.specs.List.{slice_set}
 use Rattle.std.proofs.lemmas.Bool.{cases_lt}
-use Rattle.std.proofs.lemmas.Option.{slice_get-get_or}
+use Rattle.std.proofs.lemmas.Option.{same_Some, slice_get-get_or, slice_get_within, slice_get_read}
 use Rattle.iox2_dynamic.specs.Service as dynamic
 use Rattle.log_lines.specs.Lines.Line.{given}
 use Rattle.log_lines.specs.States.{State}
@@ -14,9 +14,9 @@ use Rattle.history_logs.specs.declared.logs.verdict.Expected.TheVariants as expe
 use Rattle.history_logs.specs.Good.{GivesAnew, Starts}
 use Rattle.history_logs.specs.Reading.{Does, Gives, IsNamed, Log, NoneCalls}
 use Rattle.history_logs.specs.Seen.{Service, started, unseen}
-use Rattle.history_logs.proofs.AtIndex.{same_some}
 use Rattle.history_logs.proofs.Named.{set_back}
 use Rattle.history_logs.proofs.Refused.{nil_of}
+use Rattle.std.proofs.lemmas.List.{get_or_default}
 
 -- what becomes of the start becomes of the service
 pub starts_of : (old : Service) (what : State) (start : dynamic.Service) (yes : Bool)
@@ -24,7 +24,7 @@ pub starts_of : (old : Service) (what : State) (start : dynamic.Service) (yes : 
     → Starts old what yes (started old start)
 starts_of old what start true none b = (start, (none, b), refl)
 starts_of old what start false none b =
-    ((λ other g. b.0 other g.1), ap (λ (x : dynamic.Service). started old x) b.1)
+    ((λ other g. b.0 other g.1), ap (started old) b.1)
 
 -- what is expected, where it may be given or may not
 abbrev pub expected_if : Bool → Option Expected
@@ -39,40 +39,37 @@ pub gives_on : (old new : Log) (k : ℕ) (number : Option ℕ) (what : State) (a
     → new ≡ record old { services = slice_set old.services at t }
     → Does old k (given number what) (expected_if yes) new
 gives_on old new k number what at s d t true few none named there st is =
-    let same : s ≡ d = same_some s d (sym named.there ∙ there) in (
+    let same : s ≡ d = same_Some s d (sym named.there ∙ there) in (
       at,
       d,
       st.0,
       none,
-      subst (λ (x : Service). IsNamed number old.services at x) same named,
+      subst (IsNamed number old.services at) same named,
       inl (
         st.1,
         is ∙ ap (λ (x : Service). record old { services = slice_set old.services at x }) st.2,
       ),
     )
 gives_on old new k number what at s d t false few none named there st is =
-    let same : s ≡ d = same_some s d (sym named.there ∙ there) in (
+    let same : s ≡ d = same_Some s d (sym named.there ∙ there) in (
       inr (
         refl,
         (
           at,
           d,
-          subst (λ (x : Service). IsNamed number old.services at x) same named,
+          subst (IsNamed number old.services at) same named,
           st.0,
           λ start anew. anew.0 few,
         ),
       ),
       ap (λ (x : Log). x.services) is
-          ∙ (ap (λ (x : Service). slice_set old.services at x) st.1
-          ∙ set_back old.services at d there),
+          ∙ (ap (slice_set old.services at) st.1 ∙ set_back old.services at d there),
     )
 
 -- what stands at an index is one service
 pub same_item : (ss : List Service) (at : ℕ) (s d : Service) → at < length ss
     → s ≡ get_or ss at s → d ≡ get_or ss at d → s ≡ d
-same_item ss at s d h one other =
-    same_some s d (ap (λ (x : Service). Some x) one ∙ (sym (slice_get-get_or ss at s h)
-    ∙ (slice_get-get_or ss at d h ∙ ap (λ (x : Service). Some x) (sym other))))
+same_item ss at s d h one other = one ∙ (get_or_default ss at s d h ∙ sym other)
 
 -- whether a service has calls
 pub no_calls : (s : Service) (may : Bool) → (IsTrue may ↔ (0 < length s.calls)) → may ≡ false
@@ -80,11 +77,27 @@ pub no_calls : (s : Service) (may : Bool) → (IsTrue may ↔ (0 < length s.call
 no_calls s may says not =
     elim (cases_lt 0 (length s.calls)) as (λ _. s.calls ≡ []) [
       | inl some ↦ let is = says.1 some in absurd (cc)
-      | inr none ↦ nil_of s.calls (omega (arith, none))
+      | inr none ↦ nil_of s.calls (omega arith)
     ]
 
 pub some_calls : (s : Service) → 0 < length s.calls → s.calls ≢ []
-some_calls s some none = omega (arith, some, ap (λ (l : List Judged). length l) none)
+some_calls s some none = omega (arith, ap length none)
+
+-- the same, where its number is looked up
+pub gives_first : (old new : Log) (k : ℕ) (number : Option ℕ) (what : State) (at : ℕ)
+    (ss : List Service) (x d t : Service) (has yes : Bool) → ss ≡ old.services
+    → ((s : Service) × IsNamed number ss at s) → x ≡ get_or old.services at x
+    → d ≡ get_or old.services at d → (IsTrue has ↔ (0 < length x.calls)) → has ≡ false
+    → old.waits ≡ None → Starts d what yes t
+    → new ≡ record old { services = slice_set old.services at t }
+    → Does old k (given number what) (expected_if yes) new
+gives_first old new k number what at ss x d t has may same named one other says not none st is =
+    let n = subst (λ (l : List Service). (s : Service) × IsNamed number l at s) same named in
+    let within = slice_get_within old.services at n.0 n.1.there in
+    let few = subst (λ (s : Service). s.calls ≡ [])
+    (same_item old.services at x d within one other) (no_calls x has says not) in
+    gives_on old new k number what at n.0 d t may few none n.1
+    (slice_get_read old.services (length old.services) at d refl within other) st is
 
 -- what is given below calls
 pub gives_anew : (old new : Log) (at : ℕ) (s d : Service) (what : State) (yes : Bool)
@@ -109,11 +122,6 @@ gives_anew old new at s d what false t there same some none st more still = (
   still refl,
 )
 
--- where a call is open
-pub gives_open : (old : Log) (at : ℕ) (d : Service) (what : State)
-    → ¬ (NoneCalls old.callers at) → GivesAnew old at d what (Some expected.State) old
-gives_open old at d what bars = (refl, (λ start anew. bars anew.1), refl)
-
 -- the same of the line
 pub gives_below : (old new : Log) (k : ℕ) (number : Option ℕ) (what : State) (at : ℕ)
     (s : Service) (found : Option Expected) → old.waits ≡ None → IsNamed number old.services at s
@@ -129,7 +137,7 @@ gives_below old new k number what at s (Some e) none named some g = (
       s,
       named,
       (λ start first.
-          omega (arith, some, ap (λ (l : List Judged). length l) first.0)),
+          omega (arith, ap length first.0)),
       g.1,
     ),
   ),

@@ -3,7 +3,7 @@ use Rattle.std.proofs.Common.{◌≡◌, inl, inr, ℕ, ◌+◌, ◌<◌, ◌≤
 use Rattle.std.specs.List.{Contains}
 use Rattle.std.proofs.lemmas.Bool.{cases_lt}
 use Rattle.std.proofs.lemmas.List.Quantifiers.{all_pairs_push}
-use Rattle.std.proofs.lemmas.Option.{slice_get-get_or}
+use Rattle.std.proofs.lemmas.Option.{slice_get-get_or, same_Some}
 use Rattle.histories.specs.declared.event.Event.{Event}
 use Rattle.histories.specs.declared.event.Event.TheVariants.{End}
 use Rattle.histories.specs.Histories.{Explains, IsExplained, IsOpen, IsOver, StandsAt, begins, times}
@@ -26,8 +26,7 @@ use Rattle.history_logs.specs.Seen.{Service}
 
 module _ {S : Type 0} (Step : S → ℕ → S → Type 0) (es : List Event) (olds : List S)
     (old mid new : S) (from : Contains olds old) (order : List ℕ) (call : ℕ)
-    (ex : Explains Step es old order mid) (live : IsOpen es call)
-    (step : Step mid call new) where
+    (ex : Explains Step es old order mid) (live : IsOpen es call) (step : Step mid call new) where
   -- a call that is open, and was not made, is made after an order
   made_after : times call order ≡ 0 → Explains Step es old (order ++ call ∷ []) new
   made_after fresh =
@@ -41,13 +40,13 @@ module _ {S : Type 0} (Step : S → ℕ → S → Type 0) (es : List Event) (old
                   let none : times c order ≡ 0 = subst (λ x. times x order ≡ 0) same fresh in
                   let one : times c (call ∷ []) ≡ 1 =
                   subst (λ x. times x (call ∷ []) ≡ 1) same (times_one call) in
-                  omega (arith, counts c, none, one)
-              | inr away ↦ omega (arith, counts c, away, ex.once c)
+                  omega (arith, counts c)
+              | inr away ↦ omega (arith, counts c, ex.once c)
             ];
         begun = λ c some.
             elim (cases_lt 0 (times c (call ∷ []))) as (λ _. 0 < begins c es) [
               | inl here ↦ subst (λ x. 0 < begins x es) (times_same c call here) live.0
-              | inr away ↦ ex.begun c (omega (arith, some, counts c, away))
+              | inr away ↦ ex.begun c (omega (arith, counts c))
             ];
         answered = λ c a. omega (arith, ex.answered c a, counts c);
         real_time = all_pairs_push (λ first second. ¬ (IsOver es second first)) order call
@@ -68,7 +67,7 @@ module _ {S : Type 0} (Step : S → ℕ → S → Type 0) (es : List Event) (old
           explains_end Step es (End call) old mid order call (inl refl) (λ _. made) ex,
         )
         | inr none ↦
-            let ex' = made_after (omega (arith, none)) in (
+            let ex' = made_after (omega arith) in (
               old,
               order ++ call ∷ [],
               new,
@@ -100,16 +99,12 @@ never s index number p reply o refused ended called =
     (starts p reply, (number, omega arith, called), start.1) in
     let live : IsOpen es number = o.history index (End number) ended in
     let there : get_or s.events index (End number) ≡ End number =
-    some_event _ _ (sym (slice_get-get_or s.events index (End number) refused.within) ∙ ended) in
+    same_Some _ _ (sym (slice_get-get_or s.events index (End number) refused.within) ∙ ended) in
     let more : take (index + 1) s.events ≡ es ++ End number ∷ [] =
-    one_more s.events index (End number) refused.within
-    ∙ ap (λ (e : Event). es ++ e ∷ []) there in
+    one_more s.events index (End number) refused.within ∙ ap (λ (e : Event). es ++ e ∷ []) there in
     refused.at.1
     (subst (λ (l : List Event). IsExplained (StepOf s) l (news s)) (sym more)
     (over_after (StepOf s) es (news s) x.0 x.2 start.0 x.3 x.1 number x.4 live step))
-  where
-    some_event : (a b : Event) → Some a ≡ Some b → a ≡ b
-    some_event a b e = cc
 
 -- where a reply is refused, its call has words, and they stand in the line
 pub says_of : (bytes : List ℕ) (s : Service) (index number k : ℕ) (c : Judged) → IsOrderly s

@@ -8,17 +8,11 @@ use Rattle.history_logs.specs.Reports.{Reported, errors_text, on_errors, on_outp
 
 output_is : (v : Verdict) → on_output v (report_text v) ≡ output_text v
 output_is (Conforms n m) = refl
-output_is (Refused reported) = refl
-output_is (ManyConfigs k) = refl
-output_is (ManyOpen k) = refl
-output_is (BadLine k e) = refl
+output_is _ = refl
 
 errors_is : (v : Verdict) → on_errors v (report_text v) ≡ errors_text v
 errors_is (Conforms n m) = refl
-errors_is (Refused reported) = refl
-errors_is (ManyConfigs k) = refl
-errors_is (ManyOpen k) = refl
-errors_is (BadLine k e) = refl
+errors_is _ = refl
 
 reported_plain : (log : List ℕ) (status : ℕ) (a b c d : Option (List ℕ))
     → ReportedWith false log status a b c d → Reported log status a b c d
@@ -26,10 +20,8 @@ reported_plain log status a b c d r = record {
   end = r.end;
   judged = r.judged;
   reported = r.reported;
-  output = subst (λ (t : List ℕ). Appends a b t)
-      (ap (λ (t : List ℕ). on_output r.end t) r.is ∙ output_is r.end) r.output;
-  errors = subst (λ (t : List ℕ). Appends c d t)
-      (ap (λ (t : List ℕ). on_errors r.end t) r.is ∙ errors_is r.end) r.errors;
+  output = subst (Appends a b) (ap (on_output r.end) r.is ∙ output_is r.end) r.output;
+  errors = subst (Appends c d) (ap (on_errors r.end) r.is ∙ errors_is r.end) r.errors;
 }
 
 -- the same of what the reader gives

@@ -2,7 +2,7 @@
 use Rattle.std.proofs.Common.{◌≡◌, ℕ, ◌+◌, ◌<◌, List, [], ◌∷◌, ◌++◌, Option, Some, get_or, length, slice_get, take, refl, sym, ◌∙◌, ap, subst}
 use Rattle.std.specs.List.{AllZip}
 use Rattle.std.proofs.lemmas.List.{take_more}
-use Rattle.std.proofs.lemmas.Option.{slice_get_read}
+use Rattle.std.proofs.lemmas.Option.{slice_get_read, same_Some}
 use Rattle.histories.specs.declared.front.Config.{Config}
 use Rattle.iox2_container.specs.Steps.{listed}
 use Rattle.service_conformance.specs.Judged.{AreJudgedReplies, Judged}
@@ -12,15 +12,21 @@ use Rattle.history_logs.specs.Judging.{AreLines}
 use Rattle.history_logs.specs.Logs.{IsReported}
 use Rattle.history_logs.specs.Seen.{Service}
 
-pub zip_push : {A B : Type 0} (R : A → B → Type 0) (xs : List A) (ys : List B) (x : A) (y : B)
+zip_push : {A B : Type 0} (R : A → B → Type 0) (xs : List A) (ys : List B) (x : A) (y : B)
     → AllZip R xs ys → R x y → AllZip R (xs ++ x ∷ []) (ys ++ y ∷ [])
 zip_push R [] [] x y h r = (r, tt)
 zip_push R [] (z ∷ ys) x y h r = absurd h
 zip_push R (z ∷ xs) [] x y h r = absurd h
 zip_push R (a ∷ xs) (b ∷ ys) x y h r = (h.0, zip_push R xs ys x y h.1 r)
 
-pub zip_none : {A B : Type 0} (R : A → B → Type 0) → AllZip R [] []
-zip_none R = tt
+pub zip_next : {A B : Type 0} (R : A → B → Type 0) (xs : List A) (i : ℕ) (d : A) (ys more : List B)
+    (y : B) → AllZip R (take i xs) ys → i < length xs → d ≡ get_or xs i d → R d y
+    → more ≡ ys ++ y ∷ [] → AllZip R (take (i + 1) xs) more
+zip_next {A} R xs i d ys more y all h is r new =
+    let one = take_more xs i d h ∙ ap (λ (e : A). take i xs ++ e ∷ []) (sym is) in
+    subst (AllZip R (take (i + 1) xs)) (sym new)
+    (subst (λ (l : List A). AllZip R l (ys ++ y ∷ [])) (sym one)
+    (zip_push R (take i xs) ys d y all r))
 
 -- what is told of a configuration
 pub reported_of : (s : Service) (call : ℕ) (x : Judged) (slots : List (Option ℕ))
@@ -36,8 +42,7 @@ pub reported_of : (s : Service) (call : ℕ) (x : Judged) (slots : List (Option 
 reported_of s call x slots config reported begins calls b k h is made possible nodes ports =
     let lines = subst (λ l. AreLines l slots config.waiting reported.made.items) b made in (
       x,
-      slice_get_read s.calls (length s.calls) call x refl h
-          (is ∙ ap (λ l. get_or l call x) k),
+      slice_get_read s.calls (length s.calls) call x refl h (is ∙ ap (λ l. get_or l call x) k),
       record {
         made = lines.made;
         each = lines.each;
@@ -57,23 +62,9 @@ pub reported_more : (s : Service) (call : ℕ) (x : Judged) (slots : List (Optio
     → slice_get s.calls call ≡ Some x → news ≡ reported ++ one ∷ []
     → AllZip (IsReported s x slots) (take (i + 1) configs) news
 reported_more s call x slots configs i d reported news one all h is t at new =
-    let same : t.0 ≡ x = same_call t.0 x t.1 at in
-    let here : IsReported s x slots d one = subst (λ c. IsReported s c slots d one) same t.2 in
-    let more : take (i + 1) configs ≡ take i configs ++ d ∷ [] =
-    take_more configs i d h
-    ∙ ap (λ (e : Config Watched). take i configs ++ e ∷ []) (sym is) in
-    subst (λ (l : List Configuration). AllZip (IsReported s x slots) (take (i + 1) configs) l) (sym
-    new)
-    (subst
-    (λ (l : List (Config Watched)). AllZip (IsReported s x slots) l (reported ++ one ∷ []))
-    (sym more) (zip_push (IsReported s x slots) (take i configs) reported d one all here))
-  where
-    same_call : (a b : Judged) → slice_get s.calls call ≡ Some a → slice_get s.calls call ≡ Some b
-        → a ≡ b
-    same_call a b one other = some_is a b (sym one ∙ other)
-      where
-        some_is : (a b : Judged) → Some a ≡ Some b → a ≡ b
-        some_is a b e = cc
+    let same : t.0 ≡ x = same_Some t.0 x (sym t.1 ∙ at) in
+    zip_next (IsReported s x slots) configs i d reported news one all h is
+    (subst (λ c. IsReported s c slots d one) same t.2) new
 
 -- the same configurations
 pub zip_as : (s : Service) (x : Judged) (slots others : List (Option ℕ))

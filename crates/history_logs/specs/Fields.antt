@@ -1,5 +1,6 @@
 -- What the fields of what is read tell.
-use Rattle.std.specs.Prelude.{◌≡◌, ◌≢◌, ◌==◌, ◌&&◌, ℕ, All, Bool, true, false, List, [], ◌∷◌, Option, Some, None, if◌then◌else◌, slice_get, take}
+use Rattle.std.specs.Prelude.{◌≡◌, ◌≢◌, ℕ, All, List, [], ◌∷◌, Option, Some, None, IsTrue, if◌then◌else◌, slice_get, take}
+use Rattle.std.specs.Str.{bytes_eq}
 use Rattle.log_lines.specs.declared.command.LogCommand.{LogCommand}
 use Rattle.log_lines.specs.Commands.{NamedCommand, named}
 use Rattle.history_logs.specs.declared.logs.callers.Caller.{Caller}
@@ -7,20 +8,13 @@ use Rattle.history_logs.specs.declared.logs.callers.CallerState.{CallerState}
 use Rattle.history_logs.specs.declared.logs.callers.CallerState.TheVariants as caller
 use Rattle.history_logs.specs.declared.logs.callers.Callers.{Callers}
 use Rattle.history_logs.specs.declared.logs.reading.Reading.{Reading}
-use Rattle.history_logs.specs.Reading.{Log}
-
--- whether two names are the same
-abbrev pub is_name : List ℕ → List ℕ → Bool
-is_name [] [] = true
-is_name [] (b ∷ other) = false
-is_name (a ∷ one) [] = false
-is_name (a ∷ one) (b ∷ other) = (a == b) && is_name one other
+use Rattle.history_logs.specs.Reading.{HaveOneNumber, IsSane, Log}
 
 -- what the first caller of this name does
 abbrev pub state_in : List Caller → List ℕ → Option CallerState
 state_in [] name = None
 state_in (c ∷ known) name =
-    if is_name c.name.items name then Some c.state else state_in known name
+    if bytes_eq c.name.items name then Some c.state else state_in known name
 
 -- what the callers do that they tell
 abbrev pub callers_of : Callers → List ℕ → Option CallerState
@@ -53,3 +47,8 @@ log_of r = record {
   callers = callers_of r.callers;
   waits = waits_in r.waits;
 }
+
+-- what was read is sane, and where it says that the services have one number, they have
+pub record IsReady (r : Reading) : Type 0 where
+  pub sane : IsSane (log_of r)
+  pub alike : IsTrue r.are_alike → HaveOneNumber r.services.items

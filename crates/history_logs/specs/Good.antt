@@ -29,8 +29,8 @@ abbrev pub IsOpenOn : List Service → ℕ → ℕ → Type 0
 IsOpenOn services at number =
     (s : Service) × (slice_get services at ≡ Some s) × IsOpen s.events number
 
--- What holds of all that is read: the calls that callers have open are open, each is that of one
--- caller, a call that waits for its reply is on a service, and without one no caller is known.
+-- What holds of all that is read: a call that a caller has open is open, and that of no other
+-- caller; a call that waits for its reply is on a service; where there is none, no caller is known.
 pub record IsKept (log : Log) : Type 0 where
   pub orderly : All IsOrderly log.services
   pub opened : (name : List ℕ) (at number : ℕ)

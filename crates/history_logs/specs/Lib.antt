@@ -1,5 +1,5 @@
 -- Promises: what was seen of services, what the lines of a log are, what it is judged to be, what
--- holds of all logs, what is written of it, and in which order calls took effect.
+-- holds of all logs, what is written of a log, and in which order calls took effect.
 pub mod Seen
 pub mod Reading
 pub mod Logs

@@ -45,8 +45,8 @@ pub record HasGood (bytes : List ℕ) (count : ℕ) (log : Log) (rest : List ℕ
   pub spelled : bytes ≡ text ++ rest
   pub ends : EndsThere log count rest
 
--- the calls on the service lead from one state to another; each with the reply that is seen in the
--- good lines, or with any reply where none is
+-- A call on the service leads from one state to another, with the reply that is seen in the good
+-- lines, or with any reply where none is.
 abbrev pub StepOf : Service → Watched → ℕ → Watched → Type 0
 StepOf s = WindowStep 0 s.calls
 
@@ -114,8 +114,8 @@ abbrev pub IsMade : List (Option ℕ) → Config Watched → ℕ → Type 0
 IsMade slots config number =
     (slot : ℕ) × HasSlot slots slot number × (bit_at config.waiting slot ≡ 0)
 
--- What is told of a configuration in which the call was refused: the lines in which the open calls
--- begin that were made, the replies that it could have had, and who is there.
+-- What is told of a configuration in which the call was refused: the lines in which those open
+-- calls begin that were made, the replies that it could have had, and who is there.
 pub record IsReported (s : Service) (call : Call) (slots : List (Option ℕ))
     (config : Config Watched) (reported : Configuration) : Type 0 where
   pub made : All (λ k. (number : ℕ) × IsMade slots config number × BeginsIn s number k)
@@ -143,18 +143,18 @@ lines_begun begins events = dedup eqb (flat_map (line_begun begins) events)
 abbrev pub events_from : Service → ℕ → ℕ → List Event
 events_from s begin index = drop begin (take (index + 1) s.events)
 
--- The calls that begin in these lines are needed: from the states with which the window begins, no
--- order explains their events up to the reply of the refused call, which is among them. Each other
--- call changes nothing, in whatever state it is made.
+-- The calls that begin in these lines are needed, the refused one among them. From the states with
+-- which the window begins, no order explains their events up to its reply. Each other call changes
+-- nothing, in whatever state it is made.
 pub record AreNeededLines (s : Service) (begin index refused : ℕ) (lines : List ℕ) : Type 0 where
   pub kept : ℕ → Bool
   pub needed : AreNeeded (StepOf s) (news s) (take begin s.events) (events_from s begin index) kept
   pub is_kept : kept refused ≡ true
   pub begin_in : lines ≡ lines_begun s.begins (events_of kept (events_from s begin index))
 
--- What is told of a reply that no order explains: its line and its words, the line in which the
--- window begins, the lines of the calls that are needed, and each configuration that what is above
--- it leads to.
+-- What is told of a reply that no order explains: its line and its words; the line in which the
+-- window begins, and the lines of the calls that are needed; and each configuration to which what
+-- is above it leads.
 pub record IsRefusal (services : List Service) (reported : Refusal) : Type 0 where
   pub s : Service
   pub index : ℕ
@@ -177,8 +177,8 @@ IsMissing log expected.Service = log.services ≡ []
 IsMissing log expected.Reply = log.waits ≢ None
 IsMissing log _ = ⊥
 
--- What is wrong with the text of a line where no call waits for its reply: there is no service, and
--- it is the line of none; or it is no line; or it is a line that may not come next.
+-- What is wrong with the text of a line where no call waits for its reply. Where there is no
+-- service, it is the line of none. Else it is no line, or one that may not come next.
 abbrev pub IsWrong : Log → List ℕ → Expected → Type 0
 IsWrong log text e =
     ((log.services ≡ []) × (e ≡ expected.Service)
@@ -203,8 +203,8 @@ IsBadText log text e =
     ⊎ (((¬ (EndsInReturn text)) × (log.waits ≢ None) × LacksReply text × (e ≡ expected.Reply))
     ⊎ ((¬ (EndsInReturn text)) × (log.waits ≡ None) × IsWrong log text e))
 
--- What is wrong where the good lines end: the log ends and something is missing, or its last line
--- has no newline, or the next line is not what is expected.
+-- What is wrong where the good lines end: the log ends, and something is missing; its last line has
+-- no newline; or the next line is not what is expected.
 abbrev pub IsBad : Log → List ℕ → Expected → Type 0
 IsBad log rest e =
     ((rest ≡ []) × IsMissing log e)
@@ -226,8 +226,8 @@ services_in services =
 -- order of the calls explains what was seen.
 -- Refused: of the good lines, what is seen of a service is explained above this line, and not with
 -- it; that of each of the others is explained above it, or passes a bound there.
--- ManyConfigs, ManyOpen: what is seen of all services is explained above this line, with which a
--- bound is passed; in the good lines no reply is refused.
+-- ManyConfigs, ManyOpen: what is seen of all services is explained above this line, which passes a
+-- bound; in the good lines no reply is refused.
 -- BadLine: what is seen of all services in the good lines is explained, and the line after them is
 -- not what is expected there.
 unfoldable pub Judged : List ℕ → Verdict → Type 0

@@ -18,7 +18,7 @@ use Rattle.history_logs.specs.declared.logs.verdict.Expected.{Expected}
 use Rattle.history_logs.specs.declared.logs.verdict.Expected.TheVariants as expected
 use Rattle.history_logs.specs.Seen.{Begins, HasHandles, IsKeptCall, Service, called, started, unseen, with_alone, with_crash, with_end}
 
--- What was read: the services, what each caller does (`None` where it has begun no call), and the
+-- What was read: the services; what each caller does, or `None` where it has begun no call; and the
 -- command of the call alone that waits for its reply, with the index of its service.
 pub record Log : Type 0 where
   pub services : List Service
@@ -32,6 +32,10 @@ IsNew number services = All (λ (s : Service). s.line.number ≢ number) service
 -- each of them has this number
 abbrev pub HaveNumber : ℕ → List Service → Type 0
 HaveNumber number services = All (λ (s : Service). s.line.number ≡ number) services
+
+-- they have one number
+abbrev pub HaveOneNumber : List Service → Type 0
+HaveOneNumber services = (number : ℕ) × HaveNumber number services
 
 -- none of them that stands behind the index has this number
 abbrev pub IsNewBehind : ℕ → List Service → ℕ → Type 0
@@ -112,8 +116,8 @@ AddsState old at s what start new =
 
 -- A line, which has this number, may come next, and leads to what was read then. Below a call alone
 -- its reply comes. A caller begins a call where it has none open, and ends the one that is. What is
--- given of a service stands above its calls, or below them, where none is open, and then it begins
--- anew: what was seen of it above stays for itself.
+-- given of a service stands above all calls on it. Below calls it stands where none is open, and
+-- the service begins anew: what was seen of it above stays for itself.
 abbrev pub GoesOn : Log → ℕ → Line → Log → Type 0
 GoesOn old k (service line) new =
     (old.waits ≡ None) × IsNew line.number old.services
@@ -188,9 +192,9 @@ NoneStarts log number what =
     × ((start : dynamic.Service) → ¬ (StartsAs s what start))
     × ((start : dynamic.Service) → ¬ (StartsAnewAs log at s what start))
 
--- The line may not come next, and this is expected in its place: where it is a service with the
--- number of another, or one on none of the services, a line of these; else what its caller is to
--- do, the words of a reply, or a state that the service can have.
+-- The line may not come next, and this is expected in its place: a call, where it is a service with
+-- the number of another, or a line on none of the services; else what its caller is to do, the
+-- words of a reply, or a state that the service can have.
 abbrev pub IsRefused : Log → Line → Expected → Type 0
 IsRefused log (service l) e = (e ≡ expected.Call) × (¬ (IsNew l.number log.services))
 IsRefused log (call number c) e = (e ≡ expected.Call) × IsNameless number log.services
@@ -209,8 +213,8 @@ abbrev pub Does : Log → ℕ → Line → Option Expected → Log → Type 0
 Does old k l None new = GoesOn old k l new
 Does old k l (Some e) new = IsRefused old l e × (new.services ≡ old.services)
 
--- Each service has the handles of its calls, and a call that a caller has open, or that waits for
--- its reply, is on one of them and not forgotten.
+-- Each service has the handles of its calls. A call that a caller has open, or that waits for its
+-- reply, is on one of them, and not forgotten.
 pub record IsSane (log : Log) : Type 0 where
   pub handles : All HasHandles log.services
   pub opened : (name : List ℕ) (at number : ℕ)

@@ -98,19 +98,16 @@ expected_text expected.State = codes ": a state of the service is expected" ++ 1
 expected_text expected.NoCarriageReturn =
     codes ": no carriage return is expected before the newline" ++ 10 ∷ []
 
--- the words between the numbers of the line of calls that conform
-abbrev pub calls_text : ℕ → List ℕ
-calls_text n = if n == 1 then codes " call on " else codes " calls on "
-
--- the last word of the line of calls that conform, on so many services
-abbrev pub services_text : ℕ → List ℕ
-services_text n = if n == 1 then codes " service" else codes " services"
+-- the first text where the number is 1, else the second
+abbrev pub for_count : ℕ → List ℕ → List ℕ → List ℕ
+for_count n one more = if n == 1 then one else more
 
 -- the line of so many calls that conform, on so many services
 abbrev pub conforms_text : ℕ → ℕ → List ℕ
 conforms_text n m =
     (codes "conforms, " ++ decimal n)
-    ++ ((calls_text n ++ decimal m) ++ (services_text m ++ 10 ∷ []))
+    ++ ((for_count n (codes " call on ") (codes " calls on ") ++ decimal m)
+    ++ (for_count m (codes " service") (codes " services") ++ 10 ∷ []))
 
 -- a line with what is told of it
 abbrev pub line_reported : ℕ → List ℕ → List ℕ

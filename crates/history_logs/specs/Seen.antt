@@ -25,12 +25,12 @@ use Rattle.service_descriptions.specs.Script.{first_state}
 use Rattle.service_descriptions.specs.declared.replay.machine.command.Command.{Command}
 use Rattle.service_descriptions.specs.declared.replay.machine.command.Command.TheVariants as command
 
--- A service of a log, what it is before its first call, and what was seen of it: its calls by their
--- begins, each with the role of the entry that its command adds, if it adds one, the handle that
--- its reply gave, if it gave one, and the line in which it begins; the number of the call with
--- which each command begins, since a weak listing is two of them; and the events, each with its
--- line. Of what is read as a whole no call is forgotten, and `first` is 0. Where a log is judged
--- while it is read, so many of the first calls are forgotten: what stands for them says nothing.
+-- A service of a log, what it is before its first call, and what was seen of it. Its calls stand by
+-- their begins. Each has the role of the entry that its command adds, if it adds one, the handle
+-- that its reply gave, if it gave one, and the line in which it begins. Each command has the number
+-- of the call with which it begins, since a weak listing is two calls. Each event has its line.
+-- Where a log is read as a whole, no call is forgotten, and `first` is 0. Where it is judged while
+-- it is read, so many of the first calls are forgotten: what stands for them says nothing.
 pub record Service : Type 0 where
   pub line : ServiceLine
   pub start : dynamic.Service

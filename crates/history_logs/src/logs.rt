@@ -94,20 +94,22 @@ fn check_with<P: Progress>(
 /// Judges a log of services.
 ///
 /// A log has lines of services, as `service_before` reads them, each with a number of its own, and
-/// what was seen of them, as `read_log_line` reads it. The line of a command is a call alone, of no
-/// caller, which begins and ends in the line of its reply: below it stands `= ` and the words of
-/// that, and notes may be between. `A> COMMAND` begins a call of the caller `A`, and `A< WORDS`
-/// ends it with the reply that was seen. A caller has one call open at a time. `A!` says that it
-/// died: its open call took effect above it or never, and no line of it follows. A call that is
-/// open at the end took effect or not. `7: ` before a command or a begin says that it is on the
-/// service with that number; it may be left out where no other service is above. Lines that are
-/// empty or begin with `#` may stand anywhere. Every line ends with a newline.
+/// lines of what was seen of them, as `read_log_line` reads these. Lines that are empty or begin
+/// with `#` may stand anywhere. Every line ends with a newline.
+///
+/// The line of a command is a call alone, of no caller. Below it stands `= ` and the words of its
+/// reply; notes may be between. It begins and ends in the line of its reply. `A> COMMAND` begins a
+/// call of the caller `A`, and `A< WORDS` ends it with the reply that was seen. A caller has one
+/// call open at a time. `A!` says that it died: its open call took effect above this line or never,
+/// and no line of it follows. A call that is open at the end took effect or not. `7: ` before a
+/// command or a begin names the service with that number; it may be left out where no other service
+/// is above.
 ///
 /// A line `state ..` gives what is there of a service that was in use. Above all calls on it, it
 /// says how the service begins. Below calls, where no caller has a call open on it, it begins the
-/// service anew: what was seen above is judged by itself, its number names the new one from then
-/// on, calls are numbered from 0 again, and it counts as one service. A bound that is passed ends
-/// the judging of a service only until it begins anew.
+/// service anew. What was seen above is then judged by itself, its number names the new one, and
+/// calls are numbered from 0 again; it still counts as one service. A bound that is passed ends the
+/// judging of a service only until it begins anew.
 ///
 /// `A> list? ROLE` and `A> nodes?` begin a weak listing, which need not be a snapshot: it has each
 /// id that was there all through it, and none that never was during it.
@@ -115,10 +117,10 @@ fn check_with<P: Progress>(
 /// The calls on a service are numbered by their begins, from 0. A number stands for the handle that
 /// the call's reply gave, where that reply stands above the line of the begin, else for none.
 ///
-/// A log that conforms is judged while it is read. Memory grows, beside the text, with the entries
-/// of the services, with the commands, whose handles later ones may name, with the links since no
-/// call was open, and with what lies between the begin and the end of the longest call. A log that
-/// does not conform is read once more, as a whole.
+/// A log that conforms is judged while it is read. Beside the text it takes memory for the entries
+/// of the services, for the commands and their handles, which later ones may name, for the links
+/// since no call was open, and for what lies between the begin and the end of the longest call. A
+/// log that does not conform is read once more, as a whole.
 pub fn check_log(alloc: Global, log: &[u8]) -> Result<Verdict, AllocError>
     ensures { IfOk result (Judged log.now) }
 {
@@ -172,12 +174,12 @@ fn order_read(
     }
 }
 
-/// Judges a log, as `check_log` does. Where it conforms, there is an order for each service, in the
-/// order of their lines, and for each time that one begins anew: one of those that explain what was
+/// Judges a log, as `check_log` does. Where it conforms, there is an order for each service, by
+/// their lines, and for each time that one begins anew. It is one of those that explain what was
 /// seen of it. Else there is none.
 ///
-/// What is read is kept whole, also of a log that conforms, and memory grows by one link for each
-/// call in each configuration in which it was made.
+/// All that is read is kept, also of a log that conforms. Memory grows by one link for each call in
+/// each configuration in which it was made.
 pub fn order_log(alloc: Global, log: &[u8]) -> Result<(Verdict, Vec<Order>), AllocError>
     ensures judged { IfOk result (λ found. Judged log.now found.0) }
     ensures orders { IfOk result (λ found. HasOrders log.now found.0 found.1.items) }
@@ -205,9 +207,9 @@ fn witness_read(
 }
 
 /// Judges a log, as `order_log` does: the verdict, and the text that reports it. Where the log
-/// conforms, the orders are below that: for each service its line, `service N`, and then the lines
-/// in which its calls begin, in the order in which they took effect, one a line. A service that
-/// began anew is there once more for each time.
+/// conforms, the orders are below that. Each has a line `service N`, and then the numbers of the
+/// lines in which the calls on it begin, in the order in which they took effect, one a line. A
+/// service that began anew is there once more for each time.
 pub fn witness_log(alloc: Global, log: &[u8]) -> Result<(Verdict, Vec<u8>), AllocError>
     ensures judged { IfOk result (λ found. Judged log.now found.0) }
     ensures text { IfOk result (λ found. IsWitness log.now found.0 found.1.items) }

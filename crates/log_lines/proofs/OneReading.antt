@@ -43,14 +43,14 @@ no_begin c d caller p q e =
           (begin_comes caller d q);
       is = refl;
     }) in
-    absurd (omega (arith, k))
+    absurd (omega arith)
 
 same_kind : (a b : Line) → IsLine a → IsLine b → line_text a ≡ line_text b → kind a ≡ kind b
     → IsAlike a b
 same_kind (service l) (service m) p q e k = one_service l m p q e
 same_kind (call None c) (call None d) p q e k = refl
 same_kind (call (Some m) c) (call (Some n) d) p q e k =
-    ap (λ (i : ℕ). Some i) (one_number m n (command_text c) (command_text d) p.0 q.0 e).0
+    ap Some (one_number m n (command_text c) (command_text d) p.0 q.0 e).0
 same_kind (call (Some m) c) (begin (Some n) caller d) p q e k =
     absurd (no_begin c d caller p.1 q.1
     (one_number m n (command_text c) (begin_text caller d) p.0 q.0 e).1)
@@ -67,7 +67,7 @@ same_kind (begin None a c) (begin None b d) p q e k = (
 )
 same_kind (begin (Some m) a c) (begin (Some n) b d) p q e k =
     let same = one_number m n (begin_text a c) (begin_text b d) p.0 q.0 e in (
-      ap (λ (i : ℕ). Some i) same.0,
+      ap Some same.0,
       (comes_same (begin_text a c) a (codes "> " ++ begun_text c) b
           (codes "> " ++ begun_text d) (begin_comes a c p.1)
           (subst (λ (t : List ℕ). Comes t b (codes "> " ++ begun_text d)) (sym same.1)
@@ -83,12 +83,11 @@ same_kind (crash a) (crash b) p q e k =
     (subst (λ (t : List ℕ). Comes t b (codes "!")) (sym e) (crash_comes b q))).0
 same_kind (given None s) (given None t) p q e k = (
   refl,
-  same_state s t p.1 q.1
-      (append_cancel_left (codes "state ") (state_text s) (state_text t) e),
+  same_state s t p.1 q.1 (append_cancel_left (codes "state ") (state_text s) (state_text t) e),
 )
 same_kind (given (Some m) s) (given (Some n) t) p q e k =
     let same = one_number m n (given_text s) (given_text t) p.0 q.0 e in (
-      ap (λ (i : ℕ). Some i) same.0,
+      ap Some same.0,
       same_state s t p.1 q.1
           (append_cancel_left (codes "state ") (state_text s) (state_text t) same.1),
     )
@@ -104,11 +103,11 @@ same_kind (given (Some m) s) (begin (Some n) caller c) p q e k =
 same_kind (begin (Some m) caller c) (given (Some n) s) p q e k =
     absurd (given_no_begin (given_text s) (state_text s) refl caller c p.1 p.2
     (sym (one_number m n (begin_text caller c) (given_text s) p.0 q.0 e).1))
-same_kind (given None s) (begin None a c) p q e k = absurd (omega (arith, k))
-same_kind (begin None a c) (given None s) p q e k = absurd (omega (arith, k))
-same_kind (given None s) (reply w) p q e k = absurd (omega (arith, k))
-same_kind (reply w) (given None s) p q e k = absurd (omega (arith, k))
-same_kind _ _ p q e k = absurd (omega (arith, k, kind_call, kind_begin, kind_given))
+same_kind (given None s) (begin None a c) p q e k = absurd (omega arith)
+same_kind (begin None a c) (given None s) p q e k = absurd (omega arith)
+same_kind (given None s) (reply w) p q e k = absurd (omega arith)
+same_kind (reply w) (given None s) p q e k = absurd (omega arith)
+same_kind _ _ p q e k = absurd (omega (arith, kind_call, kind_begin, kind_given))
 
 pub one_way : LinesAreReadOneWay
 one_way a b p q e =
@@ -136,18 +135,12 @@ numbered_none line rest n h is none l p e =
         none.begun caller c q.1 q.2 (one_number n m rest (begin_text caller c) h q.0 f).1
     cases (given (Some m) s) q f k =
         none.given s q.1 (one_number n m rest (given_text s) h q.0 f).1
-    cases (given None s) q f k = absurd (omega (arith, k))
-    cases (service m) q f k = absurd (omega (arith, k))
-    cases (call None c) q f k = absurd (omega (arith, k))
-    cases (reply words) q f k = absurd (omega (arith, k))
-    cases (begin None caller c) q f k = absurd (omega (arith, k))
-    cases (end caller words) q f k = absurd (omega (arith, k))
-    cases (crash caller) q f k = absurd (omega (arith, k))
+    cases _ q f k = absurd (omega arith)
 
 -- what begins with a letter or a digit is no note
 letter_no_note : (text front back : List ℕ) → Comes text front back → 0 < length front
     → ¬ (IsTrue (is_note text))
-letter_no_note text [] back c h note = absurd (omega (arith, h))
+letter_no_note text [] back c h note = absurd (omega arith)
 letter_no_note text (f ∷ fs) back c h note =
     let is : IsTrue (f == 35) = subst (λ (t : List ℕ). IsTrue (is_note t)) c.whole note in
     let same : f ≡ 35 = grind (arith, nat_tests, is) in
@@ -176,8 +169,7 @@ notes_are_none (service l) p note = absurd (cc)
 notes_are_none (call None c) p note = text_no_note c p.1 note
 notes_are_none (call (Some n) c) p note =
     letter_no_note (line_text (call (Some n) c)) (decimal n) (58 ∷ 32 ∷ command_text c)
-    (number_comes n (command_text c) p.0)
-    (decimal_nonempty n p.0) note
+    (number_comes n (command_text c) p.0) (decimal_nonempty n p.0) note
 notes_are_none (reply words) p note = absurd (cc)
 notes_are_none (begin None caller c) p note =
     letter_no_note (begin_text caller c) caller (codes "> " ++ begun_text c)

@@ -78,7 +78,7 @@ pub no_weak_role : (line rest : List ℕ) → line ≡ codes "list? " ++ rest �
     → line ≢ weak_text r
 no_weak_role line rest is none =
     no_weak line
-    (λ e. let first : 108 ≡ 110 = (cons_same (sym is ∙ e)).0 in absurd (omega (arith, first)))
+    (λ e. let first : 108 ≡ 110 = (cons_same (sym is ∙ e)).0 in absurd (omega arith))
     (λ r n e. none (r, []) n
     (append_cancel_left (codes "list? ") rest (role_word r ++ []) (sym is ∙ e)))
 
@@ -137,14 +137,14 @@ module _ (text front back : List ℕ) (c : Comes text front back) where
   begun_none rest is none = record {
     alone = λ d p e.
         let k = one_kind text 3 1 tells (subst (λ (t : List ℕ). Tells t 1) (sym e) (of_text d p)) in
-        absurd (omega (arith, k));
+        absurd (omega arith);
     begun = λ caller b p q e.
         let same = begin_same caller b p e in
-        none b (subst (λ (n : List ℕ). IsCaller n) (sym same.0) p) q
+        none b (subst IsCaller (sym same.0) p) q
         (append_cancel_left (codes "> ") rest (begun_text b) (sym is ∙ same.1));
     given = λ s p e.
         let k = one_kind text 3 5 tells (subst (λ (t : List ℕ). Tells t 5) (sym e) (of_given s)) in
-        absurd (omega (arith, k));
+        absurd (omega arith);
   }
     where
       tells : Tells text 3
@@ -173,7 +173,6 @@ module _ (text front back : List ℕ) (c : Comes text front back) where
         arith,
         line_kind text front back c l p e,
         class_end (mark back) (mark front) (get_or front 1 0) is,
-        few,
       ))
 
   -- no line of a caller whose call ends or who died
@@ -182,10 +181,10 @@ module _ (text front back : List ℕ) (c : Comes text front back) where
       → (IsCaller front → back ≢ codes "!") → (l : Line) → IsLine l → text ≢ line_text l
   ends_none is ended died (end caller words) p e =
       let same = end_same caller words p e in
-      ended words (subst (λ (n : List ℕ). IsCaller n) (sym same.0) p) same.1
+      ended words (subst IsCaller (sym same.0) p) same.1
   ends_none is ended died (crash caller) p e =
       let same = crash_same caller p e in
-      died (subst (λ (n : List ℕ). IsCaller n) (sym same.0) p) same.1
+      died (subst IsCaller (sym same.0) p) same.1
   ends_none is ended died (service l) p e = late is (service l) p e (omega arith)
   ends_none is ended died (call n d) p e = late is (call n d) p e (omega (arith, kind_call))
   ends_none is ended died (reply words) p e = late is (reply words) p e (omega arith)
@@ -206,19 +205,19 @@ module _ (text front back : List ℕ) (c : Comes text front back) where
   number_none is none (call (Some n) d) p e = none n (command_text d) p.0 e
   number_none is none (begin (Some n) caller b) p e = none n (begin_text caller b) p.0 e
   number_none is none (given (Some n) s) p e = none n (given_text s) p.0 e
-  number_none is none (service l) p e = other is (service l) p e (λ k. absurd (omega (arith, k)))
+  number_none is none (service l) p e = other is (service l) p e (λ k. absurd (omega arith))
   number_none is none (call None d) p e =
-      other is (call None d) p e (λ k. absurd (omega (arith, k)))
+      other is (call None d) p e (λ k. absurd (omega arith))
   number_none is none (reply words) p e =
-      other is (reply words) p e (λ k. absurd (omega (arith, k)))
+      other is (reply words) p e (λ k. absurd (omega arith))
   number_none is none (begin None caller b) p e =
-      other is (begin None caller b) p e (λ k. absurd (omega (arith, k)))
+      other is (begin None caller b) p e (λ k. absurd (omega arith))
   number_none is none (end caller words) p e =
-      other is (end caller words) p e (λ k. absurd (omega (arith, k)))
+      other is (end caller words) p e (λ k. absurd (omega arith))
   number_none is none (crash caller) p e =
-      other is (crash caller) p e (λ k. absurd (omega (arith, k)))
+      other is (crash caller) p e (λ k. absurd (omega arith))
   number_none is none (given None s) p e =
-      other is (given None s) p e (λ k. absurd (omega (arith, k)))
+      other is (given None s) p e (λ k. absurd (omega arith))
 
   -- no line, where none of these marks follows the letters and digits at its front
   pub plain_none : mark back ≢ 60 → mark back ≢ 33 → mark back ≢ 58
@@ -228,7 +227,7 @@ module _ (text front back : List ℕ) (c : Comes text front back) where
   plain_none x y z replies services none l p e =
       let k = line_kind text front back c l p e in
       let few = class_plain (mark back) (mark front) (get_or front 1 0) x y z in
-      each l p e (omega (arith, k, few.0)) (λ is. few.1 (sym k ∙ is))
+      each l p e (omega (arith, few.0)) (λ is. few.1 (sym k ∙ is))
     where
       each : (m : Line) → IsLine m → text ≡ line_text m → kind m ≤ 5 → kind m ≢ 2 → ⊥
       each (service m) q f few differ = services m q f
@@ -237,8 +236,8 @@ module _ (text front back : List ℕ) (c : Comes text front back) where
       each (reply words) q f few differ = replies words f
       each (begin None caller b) q f few differ = none.begun caller b q.1 q.2 f
       each (begin (Some n) caller b) q f few differ = differ refl
-      each (end caller words) q f few differ = absurd (omega (arith, few))
-      each (crash caller) q f few differ = absurd (omega (arith, few))
+      each (end caller words) q f few differ = absurd (omega arith)
+      each (crash caller) q f few differ = absurd (omega arith)
       each (given None s) q f few differ = none.given s q.1 f
       each (given (Some n) s) q f few differ = differ refl
 
@@ -253,7 +252,7 @@ given_no_command text rest is d p e =
       comes = record { whole = is; letters = refl; ends = λ h. absurd (cc) };
       is = refl;
     }) (subst (λ (t : List ℕ). Tells t 1) (sym e) (of_text d p)) in
-    absurd (omega (arith, k))
+    absurd (omega arith)
 
 pub given_no_begin : (text rest : List ℕ) → text ≡ codes "state " ++ rest → (caller : List ℕ)
     (d : Begun) → IsCaller caller → HasBegun d → text ≢ begin_text caller d
@@ -271,7 +270,7 @@ given_no_begin text rest is caller d p q e =
           (begin_comes caller d p);
       is = refl;
     }) in
-    absurd (omega (arith, k))
+    absurd (omega arith)
 
 -- nothing, where no state stands behind the word
 pub state_none : (text rest : List ℕ) → text ≡ codes "state " ++ rest

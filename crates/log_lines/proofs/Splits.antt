@@ -24,13 +24,9 @@ comes_same text a x b y p q =
 -- (6), or that the caller died (7)
 abbrev pub class_at : (after first second : ℕ) → ℕ
 class_at after first second =
-    if after == 62 then 3
-    else if after == 60 then 6
-    else if after == 33 then 7
-    else if after == 61 then 4
-    else if after == 58 then 2
-    else if first == 115 then (if second == 116 then 5 else 0)
-    else 1
+    if after == 62 then 3 else if after == 60 then 6 else if after == 33 then 7
+    else if after == 61 then 4 else if after == 58 then 2
+    else if first == 115 then (if second == 116 then 5 else 0) else 1
 
 abbrev pub class : List ℕ → List ℕ → ℕ
 class front back = class_at (mark back) (mark front) (get_or front 1 0)
@@ -48,11 +44,11 @@ abbrev pick : Bool → Bool → Bool → Bool → ℕ
 pick p q r s = if p then 3 else if q then 4 else if r then (if s then 5 else 0) else 1
 
 pick_plain : (p q r s : Bool) → (pick p q r s ≤ 5) × (pick p q r s ≢ 2)
-pick_plain true q r s = (omega arith, λ e. absurd (omega (arith, e)))
-pick_plain false true r s = (omega arith, λ e. absurd (omega (arith, e)))
-pick_plain false false true true = (omega arith, λ e. absurd (omega (arith, e)))
-pick_plain false false true false = (omega arith, λ e. absurd (omega (arith, e)))
-pick_plain false false false s = (omega arith, λ e. absurd (omega (arith, e)))
+pick_plain true q r s = (omega arith, λ e. absurd (omega arith))
+pick_plain false true r s = (omega arith, λ e. absurd (omega arith))
+pick_plain false false true true = (omega arith, λ e. absurd (omega arith))
+pick_plain false false true false = (omega arith, λ e. absurd (omega arith))
+pick_plain false false false s = (omega arith, λ e. absurd (omega arith))
 
 pub class_plain : (after first second : ℕ) → after ≢ 60 → after ≢ 33 → after ≢ 58
     → (class_at after first second ≤ 5) × (class_at after first second ≢ 2)
@@ -67,78 +63,41 @@ pub record Tells (text : List ℕ) (kind : ℕ) : Type 0 where
   pub comes : Comes text front back
   pub is : class front back ≡ kind
 
+-- a text tells what its front is
+told : {text : List ℕ} (front back : List ℕ) → Comes text front back → Tells text (class front back)
+told front back comes = record { front = front; back = back; comes = comes; is = refl }
+
 pub one_kind : (text : List ℕ) (k m : ℕ) → Tells text k → Tells text m → k ≡ m
 one_kind text k m p q =
     let same = comes_same text p.front p.back q.front q.back p.comes q.comes in
-    sym p.is ∙ (ap (λ (f : List ℕ). class f p.back) same.0
-    ∙ ap (λ (b : List ℕ). class q.front b) same.1) ∙ q.is
+    sym p.is ∙ (ap (λ (f : List ℕ). class f p.back) same.0 ∙ ap (class q.front) same.1) ∙ q.is
 
 of_command : (c : Command) → HasLine c → Tells (line_of c) 1
-of_command (command.Register id) p = record {
-  front = codes "register";
-  back = _;
-  comes = record { whole = refl; letters = refl; ends = λ e. absurd (cc) };
-  is = refl;
-}
-of_command (command.Deregister k) p = record {
-  front = codes "deregister";
-  back = _;
-  comes = record { whole = refl; letters = refl; ends = λ e. absurd (cc) };
-  is = refl;
-}
-of_command command.Nodes p = record {
-  front = codes "nodes";
-  back = [];
-  comes = record { whole = refl; letters = refl; ends = λ e. absurd (cc) };
-  is = refl;
-}
-of_command (command.Add d) p = record {
-  front = codes "add";
-  back = _;
-  comes = record { whole = refl; letters = refl; ends = λ e. absurd (cc) };
-  is = refl;
-}
-of_command (command.Release k) p = record {
-  front = codes "release";
-  back = _;
-  comes = record { whole = refl; letters = refl; ends = λ e. absurd (cc) };
-  is = refl;
-}
-of_command (command.List r) p = record {
-  front = codes "list";
-  back = _;
-  comes = record { whole = refl; letters = refl; ends = λ e. absurd (cc) };
-  is = refl;
-}
-of_command (command.Count r) p = record {
-  front = codes "count";
-  back = _;
-  comes = record { whole = refl; letters = refl; ends = λ e. absurd (cc) };
-  is = refl;
-}
-of_command (command.Dead id (ByPort kept)) p = record {
-  front = codes "dead";
-  back = _;
-  comes = record { whole = refl; letters = refl; ends = λ e. absurd (cc) };
-  is = refl;
-}
+of_command (command.Register id) p =
+    told (codes "register") _ (record { whole = refl; letters = refl; ends = λ e. absurd (cc) })
+of_command (command.Deregister k) p =
+    told (codes "deregister") _ (record { whole = refl; letters = refl; ends = λ e. absurd (cc) })
+of_command command.Nodes p =
+    told (codes "nodes") [] (record { whole = refl; letters = refl; ends = λ e. absurd (cc) })
+of_command (command.Add d) p =
+    told (codes "add") _ (record { whole = refl; letters = refl; ends = λ e. absurd (cc) })
+of_command (command.Release k) p =
+    told (codes "release") _ (record { whole = refl; letters = refl; ends = λ e. absurd (cc) })
+of_command (command.List r) p =
+    told (codes "list") _ (record { whole = refl; letters = refl; ends = λ e. absurd (cc) })
+of_command (command.Count r) p =
+    told (codes "count") _ (record { whole = refl; letters = refl; ends = λ e. absurd (cc) })
+of_command (command.Dead id (ByPort kept)) p =
+    told (codes "dead") _ (record { whole = refl; letters = refl; ends = λ e. absurd (cc) })
 of_command _ p = absurd p
 
 -- a command tells that it is one
 pub of_text : (c : NamedCommand) → HasText c → Tells (command_text c) 1
 of_text (numbered c) p = of_command c p
-of_text (deregister slot ticket) p = record {
-  front = codes "deregister";
-  back = _;
-  comes = record { whole = refl; letters = refl; ends = λ e. absurd (cc) };
-  is = refl;
-}
-of_text (release r slot ticket) p = record {
-  front = codes "release";
-  back = _;
-  comes = record { whole = refl; letters = refl; ends = λ e. absurd (cc) };
-  is = refl;
-}
+of_text (deregister slot ticket) p =
+    told (codes "deregister") _ (record { whole = refl; letters = refl; ends = λ e. absurd (cc) })
+of_text (release r slot ticket) p =
+    told (codes "release") _ (record { whole = refl; letters = refl; ends = λ e. absurd (cc) })
 
 -- a number, a colon and a space
 pub number_comes : (n : ℕ) (rest : List ℕ) → n < 2 ^ 64
@@ -167,12 +126,9 @@ crash_comes caller p =
 
 -- what is given tells that it is
 pub of_given : (s : State) → Tells (given_text s) 5
-of_given s = record {
-  front = codes "state";
-  back = codes " " ++ state_text s;
-  comes = record { whole = refl; letters = refl; ends = λ e. absurd (cc) };
-  is = refl;
-}
+of_given s =
+    told (codes "state") (codes " " ++ state_text s)
+    (record { whole = refl; letters = refl; ends = λ e. absurd (cc) })
 
 -- which line it is
 abbrev pub kind : Line → ℕ
@@ -188,56 +144,22 @@ kind (given None s) = 5
 kind (given (Some n) s) = 2
 
 pub of_line : (l : Line) → IsLine l → Tells (line_text l) (kind l)
-of_line (service l) p = record {
-  front = codes "service";
-  back = _;
-  comes = record { whole = refl; letters = refl; ends = λ e. absurd (cc) };
-  is = refl;
-}
+of_line (service l) p =
+    told (codes "service") _ (record { whole = refl; letters = refl; ends = λ e. absurd (cc) })
 of_line (call None c) p = of_text c p.1
-of_line (call (Some n) c) p = record {
-  front = decimal n;
-  back = 58 ∷ 32 ∷ command_text c;
-  comes = number_comes n (command_text c) p.0;
-  is = refl;
-}
-of_line (reply words) p = record {
-  front = [];
-  back = codes "= " ++ words;
-  comes = record { whole = refl; letters = refl; ends = λ e. absurd (cc) };
-  is = refl;
-}
-of_line (begin None caller c) p = record {
-  front = caller;
-  back = codes "> " ++ begun_text c;
-  comes = begin_comes caller c p.1;
-  is = refl;
-}
-of_line (begin (Some n) caller c) p = record {
-  front = decimal n;
-  back = 58 ∷ 32 ∷ begin_text caller c;
-  comes = number_comes n (begin_text caller c) p.0;
-  is = refl;
-}
-of_line (end caller words) p = record {
-  front = caller;
-  back = codes "< " ++ words;
-  comes = end_comes caller words p;
-  is = refl;
-}
-of_line (crash caller) p = record {
-  front = caller;
-  back = codes "!";
-  comes = crash_comes caller p;
-  is = refl;
-}
+of_line (call (Some n) c) p =
+    told (decimal n) (58 ∷ 32 ∷ command_text c) (number_comes n (command_text c) p.0)
+of_line (reply words) p =
+    told [] (codes "= " ++ words) (record { whole = refl; letters = refl; ends = λ e. absurd (cc) })
+of_line (begin None caller c) p =
+    told caller (codes "> " ++ begun_text c) (begin_comes caller c p.1)
+of_line (begin (Some n) caller c) p =
+    told (decimal n) (58 ∷ 32 ∷ begin_text caller c) (number_comes n (begin_text caller c) p.0)
+of_line (end caller words) p = told caller (codes "< " ++ words) (end_comes caller words p)
+of_line (crash caller) p = told caller (codes "!") (crash_comes caller p)
 of_line (given None s) p = of_given s
-of_line (given (Some n) s) p = record {
-  front = decimal n;
-  back = 58 ∷ 32 ∷ given_text s;
-  comes = number_comes n (given_text s) p.0;
-  is = refl;
-}
+of_line (given (Some n) s) p =
+    told (decimal n) (58 ∷ 32 ∷ given_text s) (number_comes n (given_text s) p.0)
 
 pub kind_given : (n : Option ℕ) (s : State) → (2 ≤ kind (given n s)) × (kind (given n s) ≤ 5)
 kind_given None s = (omega arith, omega arith)

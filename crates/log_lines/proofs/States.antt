@@ -47,14 +47,13 @@ same_added (command.Add details) d p same = same
 same_added _ d p same = absurd p
 
 front_of : (xs ys : List ℕ) → 0 < length xs → get_or (xs ++ ys) 0 0 ≡ get_or xs 0 0
-front_of [] ys some = absurd (omega (arith, some))
+front_of [] ys some = absurd (omega arith)
 front_of (x ∷ xs) ys some = refl
 
 -- an entry begins with a digit
 digit_first : (n : ℕ) (rest : List ℕ) → n < 2 ^ 64 → IsDigit (get_or (decimal n ++ rest) 0 0)
 digit_first n rest h =
-    subst (λ b. IsDigit b) (sym (front_of (decimal n) rest (decimal_nonempty n h)))
-    (decimal_first n h)
+    subst IsDigit (sym (front_of (decimal n) rest (decimal_nonempty n h))) (decimal_first n h)
 
 no_digit : (x text : List ℕ) → ¬ (IsDigit (get_or x 0 0)) → IsDigit (get_or text 0 0) → x ≢ text
 no_digit x text none is e = none (subst (λ (l : List ℕ). IsDigit (get_or l 0 0)) (sym e) is)
@@ -67,11 +66,7 @@ role_no_digit _ rest p digit = omega arith
 nodes_no_role : (r : Role) (x y : List ℕ) → r ≢ role.Node → codes "nodes " ++ y ≢ role_word r ++ x
 nodes_no_role role.Node x y p e = p refl
 nodes_no_role _ x y p e =
-    absurd (omega (
-      arith,
-      ap (λ (l : List ℕ). get_or l 0 0) e,
-      ap (λ (l : List ℕ). get_or l 2 0) e,
-    ))
+    absurd (omega (arith, ap (λ (l : List ℕ). get_or l 0 0) e, ap (λ (l : List ℕ). get_or l 2 0) e))
 
 pub same_state : (s t : State) → HasState s → HasState t → state_text s ≡ state_text t → s ≡ t
 same_state (nodes a l) (nodes b m) p q e =
@@ -80,19 +75,18 @@ same_state (nodes a l) (nodes b m) p q e =
     (append_cancel_left (codes "nodes ") (decimal a ++ locked_word l) (decimal b ++ locked_word
     m) e)
     in
-    ap (λ n. nodes n l) same.0 ∙ ap (λ k. nodes b k) (word_one l m same.1)
+    ap (λ n. nodes n l) same.0 ∙ ap (nodes b) (word_one l m same.1)
 same_state (ports r a) (ports s b) p q e =
     let same = role_one.same (r, codes " " ++ decimal a) (s, codes " " ++ decimal b) p.0 q.0 e in
     ap (λ (x : Role). ports x a) same.0
-    ∙ ap (λ n. ports s n) (decimal_injective a b p.1 q.1 (cons_same same.1).1)
+    ∙ ap (ports s) (decimal_injective a b p.1 q.1 (cons_same same.1).1)
 same_state (entry a t c) (entry b u d) p q e =
     let same =
     numbers_same a t b u (codes " " ++ line_of c) (codes " " ++ line_of d) p.0.0 p.0.1 q.0.0 q.0.1
     (space_ends (line_of c)) (space_ends (line_of d)) e in
     let is =
     same_added c d p.2 (one_command c d p.1 q.1 (cons_same same.2).1) in
-    ap (λ n. entry n t c) same.0
-    ∙ (ap (λ n. entry b n c) same.1 ∙ ap (λ (x : Command). entry b u x) is)
+    ap (λ n. entry n t c) same.0 ∙ (ap (λ n. entry b n c) same.1 ∙ ap (entry b u) is)
 same_state (nodes a l) (ports r b) p q e =
     absurd (nodes_no_role r (codes " " ++ decimal b) (decimal a ++ locked_word l) q.0 e)
 same_state (ports r b) (nodes a l) p q e =
@@ -137,8 +131,7 @@ no_entry text rest slot ticket p q ends is none s t c h e =
 pub no_added : (rest : List ℕ) (d : Command) → HasLine d → rest ≡ line_of d
     → (¬ (AddsEntry d)) → (c : Command) → HasLine c → AddsEntry c → rest ≢ line_of c
 no_added rest d p is none c q adds e =
-    none (subst (λ (x : Command). AddsEntry x)
-    (same_added c d adds (one_command c d q p (sym e ∙ is))) adds)
+    none (subst AddsEntry (same_added c d adds (one_command c d q p (sym e ∙ is))) adds)
 
 -- nothing that may be given
 pub no_state : (text : List ℕ) → ((a : ℕ × Bool) → HasNodes a → text ≢ nodes_text a)

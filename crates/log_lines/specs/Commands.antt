@@ -10,8 +10,8 @@ use Rattle.log_lines.specs.declared.command.BegunCall.TheVariants as spelled_beg
 use Rattle.log_lines.specs.declared.command.LogCommand.{LogCommand}
 use Rattle.log_lines.specs.declared.command.LogCommand.TheVariants as spelled
 
--- A command: one that scripts have, in which a removal names an earlier command by its number, or a
--- removal that names its handle by slot and ticket.
+-- A command as scripts have it, in which a removal names an earlier command by its number; or a
+-- removal that names its handle.
 pub data NamedCommand : Type 0 where
   numbered : Command → NamedCommand
   deregister : (slot ticket : ℕ) → NamedCommand

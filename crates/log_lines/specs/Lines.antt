@@ -61,9 +61,14 @@ begin_text caller begun = caller ++ (codes "> " ++ begun_text begun)
 abbrev pub given_text : State → List ℕ
 given_text s = codes "state " ++ state_text s
 
--- A line that says something: a service; a call alone, on the service of a number or on the only
--- one; the words of its reply; the begin of a caller's call; its end, with the words of the reply;
--- that the caller died; or what is given of a service that was in use.
+-- A line that says something.
+-- service: a service is there
+-- call: a call alone, on the service of a number or on the only one
+-- reply: the words of its reply
+-- begin: a call of a caller begins
+-- end: it ends, with the words of its reply
+-- crash: the caller died
+-- given: what is there of a service that was in use
 pub data Line : Type 0 where
   service : ServiceLine → Line
   call : Option ℕ → NamedCommand → Line

@@ -10,9 +10,10 @@ use Rattle.log_lines.specs.declared.state.LogState.{LogState}
 use Rattle.log_lines.specs.declared.state.LogState.TheVariants as spelled
 use Rattle.log_lines.specs.Commands.{IsHandle}
 
--- What a line gives: how many tickets of the nodes were used, and whether the service is locked;
--- how many tickets of the ports of a role were used; or an entry, with its slot, its ticket and the
--- command that adds it.
+-- What a line gives.
+-- nodes: how many tickets of the nodes were used, and whether the service is locked
+-- ports: how many tickets of the ports of a role were used
+-- entry: an entry, with its slot, its ticket and the command that adds it
 pub data State : Type 0 where
   nodes : (used : ℕ) → (locked : Bool) → State
   ports : Role → (used : ℕ) → State

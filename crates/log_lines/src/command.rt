@@ -46,8 +46,8 @@ fn handle_of(bytes: &[u8]) -> Option<(usize, u64)>
     Some((slot as usize, ticket))
 }
 
-/// Parses a command as a line of a log has it, or returns `None` where it is not the text of one.
-/// That is what the line of a call alone has, on the only service.
+/// Parses the line of a call alone that names no service: a command as scripts have it, or a
+/// removal that names its handle. Returns `None` where no command has this text.
 #[inline(always)]
 pub fn read_command(alloc: Global, line: &[u8]) -> Result<Option<LogCommand>, AllocError>
     ensures { IfOk result (λ found. Reads HasText command_text (option_map named found) line.now) }

@@ -204,16 +204,19 @@ fn service_of(alloc: Global, line: &[u8]) -> Result<Option<ServiceLine>, AllocEr
     Ok(Some(service))
 }
 
-/// Parses a line without its newline, or returns `None` where it is not the text of one.
+/// Parses a line without its newline. Returns `None` where no line has this text.
 ///
 /// The lines are those of services, the commands of scripts, `= WORDS`, `CALLER> COMMAND`,
-/// `CALLER< WORDS` and `CALLER!`. A caller's name is one to sixteen ASCII letters and digits.
-/// Before a command or a caller that begins one, `7: ` says that it is on the service with this
-/// number. Removals may also be `deregister SLOT TICKET` and `release ROLE SLOT TICKET`, and a
-/// caller may also begin a weak listing, `list? ROLE` or `nodes?`. What is given of a service that
-/// was in use is `state nodes USED`, `state nodes USED locked`, `state ROLE USED`,
-/// `state SLOT TICKET register NODE` and `state SLOT TICKET add ROLE PORT NODE`, also with `7: `
-/// before it. No line has two readings.
+/// `CALLER< WORDS` and `CALLER!`. A caller's name is one to sixteen ASCII letters and digits. A
+/// removal may also be `deregister SLOT TICKET` or `release ROLE SLOT TICKET`. A caller may also
+/// begin a weak listing, `list? ROLE` or `nodes?`.
+///
+/// These lines give what is there of a service that was in use: `state nodes USED`,
+/// `state nodes USED locked`, `state ROLE USED`, `state SLOT TICKET register NODE` and
+/// `state SLOT TICKET add ROLE PORT NODE`.
+///
+/// `7: ` before a command, the begin of a call or a `state` names the service with this number. No
+/// line has two readings.
 #[inline(always)]
 pub fn read_log_line(alloc: Global, line: &[u8]) -> Result<Option<LogLine<'_>>, AllocError>
     ensures { IfOk result (λ found. Reads IsLine line_text (option_map line_seen found) line.now) }

@@ -105,9 +105,9 @@ fn are_explained(
 /// Judges a log while it is read, and forgets what has settled. Returns the verdict if the log
 /// conforms.
 ///
-/// What is kept are the entries of the services, the commands and their handles, which later ones
-/// may name, the links since no call was open, and what lies between the begin and the end of the
-/// longest call.
+/// It keeps the entries of the services, the commands and their handles, which later ones may name,
+/// the links since no call was open, and what lies between the begin and the end of the longest
+/// call.
 pub(super) fn find_conforming<P: Progress>(
     alloc: Global,
     log: &[u8],

@@ -1,7 +1,7 @@
 //! The services that lines name by their numbers.
-ghost use Rattle.std.specs.Prelude.{◌≡◌, None, Some, IfNone, IfSome, IsFalse, IsTrue, slice_get};
+ghost use Rattle.std.specs.Prelude.{◌≡◌, ◌≤◌, None, Some, IfNone, IfSome, IsFalse, IsTrue, length, slice_get, take};
 ghost use Rattle.history_logs.specs.Logs.{services_in};
-ghost use Rattle.history_logs.specs.Reading.{HaveNumber, IsNameless, IsNamed, IsNew, IsNewBehind};
+ghost use Rattle.history_logs.specs.Reading.{HaveNumber, HaveOneNumber, IsNameless, IsNamed, IsNew, IsNewBehind};
 ghost use Rattle.history_logs.specs.Seen.{Service};
 
 use super::service::LogService;
@@ -49,8 +49,20 @@ pub(super) fn count_services(services: &[LogService]) -> usize
     count
 }
 
+/// Whether all services have one number, where those below this index have.
+pub(super) fn stay_alike(services: &[LogService], known: usize) -> bool
+    requires { known ≤ length services.now }
+    ensures { IsTrue result → HaveOneNumber (take known services.now) → HaveOneNumber services.now }
+{
+    if known == services.len() {
+        return true;
+    }
+    have_number(&services[known..], services[0].line().number)
+}
+
 /// The index of the last service, where all have one number.
-fn only_service(services: &[LogService]) -> Option<usize>
+fn only_service(services: &[LogService], are_alike: bool) -> Option<usize>
+    requires { IsTrue are_alike → HaveOneNumber services.now }
     ensures some { IfSome result (λ at. (s : Service) × IsNamed None services.now at s) }
     ensures none { IfNone result (IsNameless None services.now) }
 {
@@ -58,20 +70,26 @@ fn only_service(services: &[LogService]) -> Option<usize>
         return None;
     }
     let last = services.len() - 1;
-    if !have_number(services, services[last].line().number) {
-        return None;
+    if are_alike || have_number(services, services[last].line().number) {
+        return Some(last);
     }
-    Some(last)
+    None
 }
 
-/// The index of the service that a call is on, before which this number stands, or none.
+/// The index of the service that a call is on, before which this number stands, or none. A yes says
+/// that all services have one number.
 #[inline(always)]
-pub(super) fn service_named(services: &[LogService], number: Option<u64>) -> Option<usize>
+pub(super) fn service_named(
+    services: &[LogService],
+    are_alike: bool,
+    number: Option<u64>,
+) -> Option<usize>
+    requires { IsTrue are_alike → HaveOneNumber services.now }
     ensures some { IfSome result (λ at. (s : Service) × IsNamed number services.now at s) }
     ensures none { IfNone result (IsNameless number services.now) }
 {
     match number {
         Some(number) => position_of(services, number),
-        None => only_service(services),
+        None => only_service(services, are_alike),
     }
 }

@@ -108,8 +108,8 @@ fn lines_begun(
     Ok(lines)
 }
 
-/// The lines in which the calls begin that are needed in the window that begins after so many
-/// events, where the reply in the event of this index is refused.
+/// The reply in the event of this index is refused, in the window that begins after so many events.
+/// Returns the lines in which the calls begin that are needed there.
 pub(super) fn lines_needed(
     alloc: Global,
     service: &LogService,

@@ -72,8 +72,8 @@ fn order_service(
     }
 }
 
-/// For each service an order of the calls on it that explains what was seen of it, or what was
-/// found before all else, where there is not one for each.
+/// For each service an order of the calls on it that explains what was seen of it. Where there is
+/// not one for each, what was found before all else.
 pub(super) fn order_services(
     alloc: Global,
     log: &[u8],

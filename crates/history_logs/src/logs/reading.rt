@@ -6,17 +6,17 @@ ghost use Rattle.log_lines.specs.Lines.Line.{service as service_line, call as ca
 ghost use Rattle.log_lines.specs.Lines.Line.{begin as begin_line, end as end_line, crash as crash_line};
 ghost use Rattle.log_lines.specs.Lines.Line.{given as given_line};
 ghost use Rattle.log_lines.specs.States.{state_seen};
-ghost use Rattle.history_logs.specs.Fields.{callers_of, log_of};
+ghost use Rattle.history_logs.specs.Fields.{IsReady, callers_of, log_of};
 ghost use Rattle.log_lines.specs.Lines.{IsLine, Line, line_seen, line_text};
 ghost use Rattle.history_logs.specs.Good.{GivesAnew, IsReadTo, SaysIn, Takes, TakesLine};
 ghost use Rattle.history_logs.specs.Good.{TakesNext, is_service};
 ghost use Rattle.history_logs.specs.Logs.{EndsInReturn, IsMissing, IsWrong, LacksReply};
 ghost use Rattle.history_logs.specs.Progress.{AddsCounts};
-ghost use Rattle.history_logs.specs.Reading.{Does, IsSane};
+ghost use Rattle.history_logs.specs.Reading.{Does, HaveOneNumber};
 ghost use Rattle.history_logs.specs.Seen.{Service};
 
 use super::callers::{CallerState, Callers, refuses_begin};
-use super::named::{position_of, service_named};
+use super::named::{position_of, service_named, stay_alike};
 use super::progress::Progress;
 use super::service::LogService;
 use super::verdict::Expected;
@@ -31,6 +31,9 @@ use std::alloc::{AllocError, Global};
 pub(super) struct Reading {
     /// The services, and what was seen of each.
     pub(super) services: Vec<LogService>,
+    /// Whether all services have one number. Without this, a line that names none would look at
+    /// each service.
+    pub(super) are_alike: bool,
     /// The callers.
     pub(super) callers: Callers,
     /// The index of the service of the call alone that waits for its reply, and its command.
@@ -79,9 +82,11 @@ impl Reading {
         ensures services { result.services.items ≡ [] }
         ensures callers { (name : List ℕ) → callers_of result.callers name ≡ None }
         ensures waits { (log_of result).waits ≡ None }
+        ensures alike { HaveOneNumber result.services.items }
     {
         Reading {
             services: Vec::new(alloc),
+            are_alike: true,
             callers: Callers::new(alloc),
             waits: None,
         }
@@ -136,11 +141,12 @@ impl Reading {
         number: Option<u64>,
         given: LogState,
     ) -> Result<Option<Expected>, AllocError>
-        requires { (log_of self.old).waits ≡ None }
+        requires waits { (log_of self.old).waits ≡ None }
+        requires ready { IsReady self.old }
         ensures { IfOk result (λ found. (k : ℕ) → Does (log_of self.old) k
             (given_line number (state_seen given)) found (log_of self.new)) }
     {
-        let Some(at) = service_named(&self.services, number) else {
+        let Some(at) = service_named(&self.services, self.are_alike, number) else {
             return Ok(Some(Expected::Call));
         };
         if self.services[at].has_calls() {
@@ -156,11 +162,12 @@ impl Reading {
     /// A call alone. Returns what is expected instead, if it may not come.
     #[inline(always)]
     fn call(&mut self, number: Option<u64>, command: LogCommand) -> Option<Expected>
-        requires { (log_of self.old).waits ≡ None }
+        requires waits { (log_of self.old).waits ≡ None }
+        requires ready { IsReady self.old }
         ensures { (k : ℕ) → Does (log_of self.old) k
             (call_line number (named_command command)) result (log_of self.new) }
     {
-        let Some(at) = service_named(&self.services, number) else {
+        let Some(at) = service_named(&self.services, self.are_alike, number) else {
             return Some(Expected::Call);
         };
         self.waits = Some((at, command));
@@ -178,11 +185,11 @@ impl Reading {
         line: usize,
     ) -> Result<Option<Expected>, AllocError>
         requires waits { (log_of self.old).waits ≡ None }
-        requires sane { IsSane (log_of self.old) }
+        requires ready { IsReady self.old }
         ensures { IfOk result (λ found. Does (log_of self.old) line
             (begin_line number caller.now (begun_in begun)) found (log_of self.new)) }
     {
-        let Some(at) = service_named(&self.services, number) else {
+        let Some(at) = service_named(&self.services, self.are_alike, number) else {
             return Ok(Some(Expected::Call));
         };
         if let Some(expected) = refuses_begin(self.callers.state_of(caller)) {
@@ -205,7 +212,7 @@ impl Reading {
         line: usize,
     ) -> Result<Option<Expected>, AllocError>
         requires waits { (log_of self.old).waits ≡ None }
-        requires sane { IsSane (log_of self.old) }
+        requires ready { IsReady self.old }
         ensures { IfOk result (λ found. Does (log_of self.old) line
             (end_line caller.now words.now) found (log_of self.new)) }
     {
@@ -233,7 +240,7 @@ impl Reading {
         line: usize,
     ) -> Result<Option<Expected>, AllocError>
         requires waits { (log_of self.old).waits ≡ None }
-        requires sane { IsSane (log_of self.old) }
+        requires ready { IsReady self.old }
         ensures { IfOk result (λ found. Does (log_of self.old) line
             (crash_line caller.now) found (log_of self.new)) }
     {
@@ -262,7 +269,7 @@ impl Reading {
         line: usize,
     ) -> Result<Option<Expected>, AllocError>
         requires waits { (log_of self.old).waits ≡ None }
-        requires sane { IsSane (log_of self.old) }
+        requires ready { IsReady self.old }
         ensures { IfOk result (λ found.
             Does (log_of self.old) line (line_seen read.entry) found (log_of self.new)) }
     {
@@ -302,7 +309,7 @@ impl Reading {
         line: usize,
     ) -> Result<Option<Expected>, AllocError>
         requires waits { (log_of self.old).waits ≡ None }
-        requires sane { IsSane (log_of self.old) }
+        requires ready { IsReady self.old }
         ensures { IfOk result (λ found.
             TakesNext (log_of self.old) line text.now found (log_of self.new)) }
     {
@@ -325,7 +332,7 @@ impl Reading {
         line: usize,
     ) -> Result<Option<Expected>, AllocError>
         requires waits { (log_of self.old).waits ≡ None }
-        requires sane { IsSane (log_of self.old) }
+        requires ready { IsReady self.old }
         ensures { IfOk result (λ found.
             TakesNext (log_of self.old) line text.now found (log_of self.new)) }
     {
@@ -348,7 +355,7 @@ impl Reading {
         text: &[u8],
         line: usize,
     ) -> Result<Option<Expected>, AllocError>
-        requires { IsSane (log_of self.old) }
+        requires { IsReady self.old }
         ensures { IfOk result (λ found.
             TakesLine (log_of self.old) line text.now found (log_of self.new)) }
     {
@@ -377,14 +384,18 @@ impl Reading {
         text: &[u8],
         line: usize,
     ) -> Result<Option<Expected>, AllocError>
-        requires { IsSane (log_of self.old) }
-        ensures { IfOk result (λ found.
+        requires { IsReady self.old }
+        ensures read { IfOk result (λ found.
             Takes (log_of self.old) line text.now found (log_of self.new)) }
+        ensures alike { IfOk result (λ found. IfNone found
+            (IsTrue self.new.are_alike → HaveOneNumber self.new.services.items)) }
     {
         if is_note(text) {
             return Ok(None);
         }
+        let (known, were_alike) = (self.services.len(), self.are_alike);
         let Some(expected) = self.go(alloc, text, line)? else {
+            self.are_alike = were_alike && stay_alike(&self.services, known);
             return Ok(None);
         };
         if ends_in_return(text) {

@@ -1,11 +1,10 @@
 //! The texts of verdicts.
 ghost use Rattle.std.specs.Prelude.{◌≡◌, ◌++◌, OnOk, codes, decimal};
 ghost use Rattle.std.specs.List.{flat_map};
-ghost use Rattle.history_logs.specs.Reports.{attached_text, calls_text, choice_text, config_text};
-ghost use Rattle.history_logs.specs.Reports.{conforms_text, expected_text, lists_text, number_word};
-ghost use Rattle.history_logs.specs.Reports.{line_of, made_text, next_text, order_text};
-ghost use Rattle.history_logs.specs.Reports.{possible_text, refusal_text, report_text, services_text};
-ghost use Rattle.history_logs.specs.Reports.{window_text};
+ghost use Rattle.history_logs.specs.Reports.{attached_text, choice_text, config_text};
+ghost use Rattle.history_logs.specs.Reports.{conforms_text, expected_text, for_count, lists_text};
+ghost use Rattle.history_logs.specs.Reports.{line_of, made_text, next_text, number_word, order_text};
+ghost use Rattle.history_logs.specs.Reports.{possible_text, refusal_text, report_text, window_text};
 ghost use Rattle.service_descriptions.specs.Replies.{id_word, port_word, text_of};
 
 use super::verdict::{Configuration, Expected, Order, Refusal, Verdict};
@@ -238,26 +237,11 @@ fn expected_text(expected: Expected) -> &'static [u8]
     }
 }
 
-/// The words between the numbers of the report on calls that conform.
-fn calls_text(calls: usize) -> &'static [u8]
-    ensures { result.now ≡ calls_text calls }
+/// The first text where the count is 1, else the second.
+fn for_count(count: usize, one: &'static [u8], more: &'static [u8]) -> &'static [u8]
+    ensures { result.now ≡ for_count count one.now more.now }
 {
-    if calls == 1 {
-        b" call on "
-    } else {
-        b" calls on "
-    }
-}
-
-/// The last word of the report on calls that conform.
-fn services_text(services: usize) -> &'static [u8]
-    ensures { result.now ≡ services_text services }
-{
-    if services == 1 {
-        b" service"
-    } else {
-        b" services"
-    }
+    if count == 1 { one } else { more }
 }
 
 /// Appends that so many calls conform, on so many services.
@@ -265,8 +249,12 @@ fn append_conforms(calls: usize, services: usize, out: &mut Vec<u8>) -> Result<(
     ensures { OnOk result (out.new.items ≡ out.old.items ++ conforms_text calls services) }
 {
     append_number(b"conforms, ", calls as u64, out)?;
-    append_number(calls_text(calls), services as u64, out)?;
-    out.extend_from_slice(services_text(services))?;
+    append_number(
+        for_count(calls, b" call on ", b" calls on "),
+        services as u64,
+        out,
+    )?;
+    out.extend_from_slice(for_count(services, b" service", b" services"))?;
     out.push(b'\n')?;
     Ok(())
 }

@@ -29,10 +29,11 @@ pub(super) struct LogCall {
     pub(super) adds: Option<Role>,
 }
 
-/// A service of a log, what it is before its first call, and what was seen of it: how many of its
-/// calls are forgotten, the calls behind those by their begins, the roles of the entries that they
-/// add, the handles that their replies gave, the line in which each begins, the call with which
-/// each command begins, what happened, and the line of each event.
+/// A service of a log, what it is before its first call, and what was seen of it. So many of its
+/// first calls are forgotten. The calls behind those stand by their begins. Each call, also one
+/// that is forgotten, has the role of the entry that it adds, and the handle that its reply gave.
+/// While none is forgotten, each call has the line in which it begins, and each event its own. Each
+/// command has the number of the call with which it begins.
 #[derive(Drop)]
 pub(super) struct LogService {
     line: ServiceLine,

@@ -206,7 +206,7 @@ pub(super) fn settle(
     ensures { IfOk result (λ yes. IsTrue yes
         → Stays service.old front.old service.new front.new) }
 {
-    if !service.has_calls() {
+    if !service.has_calls() || service.events().is_empty() {
         return Ok(true);
     }
     let mut next = front_or_begin(alloc, service, front.take())?;

@@ -151,15 +151,16 @@ fn answer<R: Source, W: Sink, E: Sink, P: Progress>(
 /// - 0: orders of the calls explain the replies. `conforms, N calls on M services` was written to
 ///   `output`.
 /// - 1: none do. The first reply that none explains was written to `output`: its line, its words,
-///   the line from which the window is open, and for each configuration which open calls were made,
-///   every reply that the call could have had, and the nodes and ports that are there.
-/// - 2: a line is not what it should be, or a bound is passed with it, so the log is not decided.
-///   The number of the line, and what is expected or which bound it is, was written to `errors`.
-/// - 3: memory was refused, and `no memory` was written to `errors`; or a read, a write or a flush
-///   failed, for any cause, and it was tried to write `a stream failed` to `errors`.
+///   the line from which the window is open, and the lines of the calls that are needed. Below them
+///   stands of each configuration which open calls were made, each reply that the call could have
+///   had, and the nodes and ports that are there.
+/// - 2: a line is not what it should be, or passes a bound, so the log is not decided. The number
+///   of the line was written to `errors`, with what is expected there or the bound.
+/// - 3: memory was refused, and `no memory` was written to `errors`. Or a read, a write or a flush
+///   failed, for any cause, and `a stream failed` was written to `errors`, if that took it.
 ///
-/// Progress counts the lines as they are read, from the first one again where a log that does not
-/// conform is read once more, and ends before the first of this is written.
+/// Progress counts the lines as they are read. Where a log does not conform, it counts from the
+/// first line again. It ends before the report is written.
 pub fn check_streams<R: Source, W: Sink, E: Sink, P: Progress>(
     alloc: Global,
     input: &mut R,

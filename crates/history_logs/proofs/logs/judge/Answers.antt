@@ -7,21 +7,19 @@ use Rattle.history_logs.proofs.logs.judge.Goals as goal
 pub judge_services-requires : goal.judge_services-requires
 judge_services-requires c = record {
   orderly = c.requires.orderly;
-  placed = placed_of c.args.log.now c.args.services.now c.args.bad c.requires;
+  placed = placed_of _ _ _ c.requires;
 }
 
 pub end_verdict-requires : goal.end_verdict-requires
 end_verdict-requires c =
-    let few = few_calls c.args.log.now c.args.services.now c.args.bad c.requires in
-    omega (arith, few)
+    let few = few_calls _ _ _ c.requires in
+    omega arith
 
 pub returns-in-Some : goal.returns-in-Some
 returns-in-Some c =
-    judged_found c.args.log.now c.args.services.now c.args.bad c.in-Some.verdict c.requires
-    (rw c.in-Some.is at c.in_ok-verdict.ensures)
+    judged_found _ _ _ _ c.requires (rw c.in-Some.is at c.in_ok-verdict.ensures)
 
 pub returns-in-None : goal.returns-in-None
 returns-in-None c =
-    subst (λ v. Judged c.args.log.now v) (sym c.end_verdict.ensures)
-    (judged_end c.args.log.now c.args.services.now c.args.bad c.requires
-    (rw c.in-None.is at c.in_ok-verdict.ensures))
+    subst (Judged c.args.log.now) (sym c.end_verdict.ensures)
+    (judged_end _ _ _ c.requires (rw c.in-None.is at c.in_ok-verdict.ensures))

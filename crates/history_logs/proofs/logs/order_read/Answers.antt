@@ -10,43 +10,40 @@ use Rattle.history_logs.proofs.logs.order_read.Goals as goal
 pub order_services-requires : goal.order_services-requires
 order_services-requires c = record {
   orderly = c.requires.orderly;
-  placed = placed_of c.args.log.now c.args.services.now c.args.bad c.requires;
+  placed = placed_of _ _ _ c.requires;
 }
 
 pub end_verdict-requires : goal.end_verdict-requires
 end_verdict-requires c =
-    let few = few_calls c.args.log.now c.args.services.now c.args.bad c.requires in
-    omega (arith, few)
+    let few = few_calls _ _ _ c.requires in
+    omega arith
 
 pub returns-in-Err-clause-judged : goal.returns-in-Err-clause-judged
 returns-in-Err-clause-judged c =
-    judged_found c.args.log.now c.args.services.now c.args.bad c.in-Err.verdict c.requires
-    (rw c.in-Err.is at c.in_ok-orders.ensures.found)
+    judged_found _ _ _ _ c.requires (rw c.in-Err.is at c.in_ok-orders.ensures.found)
 
 pub returns-in-Err-clause-orders : goal.returns-in-Err-clause-orders
 returns-in-Err-clause-orders c =
-    no_orders c.args.log.now c.args.services.now c.in-Err.verdict _
-    (rw c.in-Err.is at c.in_ok-orders.ensures.found) c.new-in-Err.ensures.items
+    no_orders _ _ _ _ (rw c.in-Err.is at c.in_ok-orders.ensures.found) c.new-in-Err.ensures.items
 
 pub returns-in-Some-clause-judged : goal.returns-in-Some-clause-judged
 returns-in-Some-clause-judged c =
     let all = rw c.in-Ok.is at c.in_ok-orders.ensures.orders in
-    judged_bad c.args.log.now c.args.services.now c.in-Some.line c.in-Some.expected
-    (subst (λ b. IsReadTo c.args.log.now c.args.services.now b) c.in-Some.is c.requires)
-    (ordered_right c.args.services.now c.in-Ok.orders.items all)
+    judged_bad _ _ _ _ (subst (IsReadTo c.args.log.now c.args.services.now) c.in-Some.is c.requires)
+    (ordered_right _ _ all)
 
 pub returns-in-None-clause-judged : goal.returns-in-None-clause-judged
 returns-in-None-clause-judged c =
     let all = rw c.in-Ok.is at c.in_ok-orders.ensures.orders in
-    subst (λ v. Judged c.args.log.now v) (sym c.end_verdict.ensures)
-    (judged_end c.args.log.now c.args.services.now None
-    (subst (λ b. IsReadTo c.args.log.now c.args.services.now b) c.in-None.is c.requires)
-    (ordered_right c.args.services.now c.in-Ok.orders.items all))
+    subst (Judged c.args.log.now) (sym c.end_verdict.ensures)
+    (judged_end _ _ None
+    (subst (IsReadTo c.args.log.now c.args.services.now) c.in-None.is c.requires)
+    (ordered_right _ _ all))
 
 pub returns-in-None-clause-orders : goal.returns-in-None-clause-orders
 returns-in-None-clause-orders c =
     let orders = c.in-Ok.orders.items in
     let all = rw c.in-Ok.is at c.in_ok-orders.ensures.orders in
     subst (λ v. HasOrders c.args.log.now v orders) (sym c.end_verdict.ensures)
-    (orders_end c.args.log.now c.args.services.now orders
-    (subst (λ b. IsReadTo c.args.log.now c.args.services.now b) c.in-None.is c.requires) all)
+    (orders_end _ _ orders
+    (subst (IsReadTo c.args.log.now c.args.services.now) c.in-None.is c.requires) all)

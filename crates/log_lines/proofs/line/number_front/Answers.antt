@@ -4,8 +4,7 @@ use Rattle.log_lines.proofs.line.number_front.Goals as goal
 
 pub returns-in_default-clause-none : goal.returns-in_default-clause-none
 returns-in_default-clause-none c number rest fits e =
-    c.in_default.ensures.read (number, codes ": " ++ rest)
-    (omega (arith, fits), fits, λ digit. omega arith)
+    c.in_default.ensures.read (number, codes ": " ++ rest) (omega arith, fits, λ digit. omega arith)
     (e ∙ append_assoc (decimal number) (codes ": ") rest)
 
 pub returns-in_default-after_word-clause-none : goal.returns-in_default-after_word-clause-none

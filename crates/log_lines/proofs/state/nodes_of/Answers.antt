@@ -9,6 +9,6 @@ pub returns-in_default-read-2 : goal.returns-in_default-read-2
 returns-in_default-read-2 c =
     no_nodes c.args.text.now c.in-Some.rest.now c.in-Some.ensures.some
     (λ used p e. c.in_default-read.ensures.read ((used, tt), [])
-    ((omega (arith, p), p, λ digit. omega arith), refl) e)
+    ((omega arith, p, λ digit. omega arith), refl) e)
     (λ used p e. c.in_default-read-2.ensures.read ((used, tt), [])
-    ((omega (arith, p), p, λ digit. omega arith), refl) e)
+    ((omega arith, p, λ digit. omega arith), refl) e)

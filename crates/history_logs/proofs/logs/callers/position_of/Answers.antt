@@ -11,18 +11,16 @@ returns-then-eq-clause-some c =
     record {
       c = d;
       there = slice_get-get_or c.args.known.now c.loop-at.at d c.loop-at-test.true
-          ∙ ap (λ (e : Caller). Some e) (sym c.index-known-at.is);
+          ∙ ap Some (sym c.index-known-at.is);
       named = ap (λ (e : Caller). e.name.items) c.index-known-at.is
-          ∙ (sym c.as_slice.ensures.value
-          ∙ same_bytes c.as_slice.result.now c.args.name.now (sym c.eq.ensures ∙ c.if-eq.true));
+          ∙ (sym c.as_slice.ensures.value ∙ same_bytes _ _ (sym c.eq.ensures ∙ c.if-eq.true));
       first = c.loop-at.invariant;
     }
 
 pub loop-at-preserved : goal.loop-at-preserved
 loop-at-preserved c =
-    unknown_more c.args.known.now c.args.name.now c.loop-at.at c.index-known-at.result
-    c.loop-at-test.true c.loop-at.invariant c.index-known-at.is
-    (λ e. other_bytes c.as_slice.result.now c.args.name.now (sym c.eq.ensures ∙ c.if-eq.false)
+    unknown_more _ _ _ _ c.loop-at-test.true c.loop-at.invariant c.index-known-at.is
+    (λ e. other_bytes _ _ (sym c.eq.ensures ∙ c.if-eq.false)
     (c.as_slice.ensures.value ∙ (sym (ap (λ (x : Caller). x.name.items) c.index-known-at.is) ∙ e)))
 
 pub returns-clause-none : goal.returns-clause-none

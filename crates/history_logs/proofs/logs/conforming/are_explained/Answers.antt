@@ -10,8 +10,7 @@ use Rattle.history_logs.proofs.logs.conforming.are_explained.Goals as goal
 
 pub loop-at-init : goal.loop-at-init
 loop-at-init c =
-    right_to_none c.args.services.now c.args.fronts.now.items c.add_fronts.new.fronts.items
-    c.in_ok-add_fronts.ensures.count c.in_ok-add_fronts.ensures.same
+    right_to_none _ _ _ c.in_ok-add_fronts.ensures.count c.in_ok-add_fronts.ensures.same
 
 pub is_explained-requires : goal.is_explained-requires
 is_explained-requires c =
@@ -20,15 +19,13 @@ is_explained-requires c =
     let at = c.loop-at.at in
     let inv = c.loop-at.invariant in
     let within : at < length live = c.loop-at-test.true in
-    let inside : at < length left = omega (arith, within, inv.long) in
+    let inside : at < length left = omega arith in
     let t : Service = c.index-services-at.result in
     let here : slice_get live at ≡ Some t =
-    slice_get-get_or live at t within
-    ∙ ap (λ (s : Service). Some s) (sym c.index-services-at.is) in
-    subst (λ (f : Option (Front Watched)). HasShort t f)
-    (front_is left at c.index_mut.result.now inside c.index_mut.ensures.value
-    ∙ sym c.take.ensures.value)
-    (right_short live c.args.fronts.now.items left at t here inv c.requires)
+    slice_get-get_or live at t within ∙ ap Some (sym c.index-services-at.is) in
+    subst (HasShort t)
+    (front_is left at _ inside c.index_mut.ensures.value ∙ sym c.take.ensures.value)
+    (right_short live _ left at t here inv c.requires)
 
 pub loop-at-preserved : goal.loop-at-preserved
 loop-at-preserved c =
@@ -37,19 +34,16 @@ loop-at-preserved c =
     let at = c.loop-at.at in
     let inv = c.loop-at.invariant in
     let within : at < length live = c.loop-at-test.true in
-    let inside : at < length left = omega (arith, within, inv.long) in
+    let inside : at < length left = omega arith in
     let t : Service = c.index-services-at.result in
     let here : slice_get live at ≡ Some t =
-    slice_get-get_or live at t within
-    ∙ ap (λ (s : Service). Some s) (sym c.index-services-at.is) in
+    slice_get-get_or live at t within ∙ ap Some (sym c.index-services-at.is) in
     let is : IsRightShort t (front_at left at) =
-    subst (λ (f : Option (Front Watched)). IsRightShort t f)
-    (c.take.ensures.value
-    ∙ sym (front_is left at c.index_mut.result.now inside c.index_mut.ensures.value))
+    subst (IsRightShort t)
+    (c.take.ensures.value ∙ sym (front_is left at _ inside c.index_mut.ensures.value))
     (c.in_ok-is_explained.ensures (search rules)) in
-    right_to_more live c.args.fronts.now.items left at t here inv c.take.new.self is
+    right_to_more live _ left at t here inv _ is
 
 pub returns : goal.returns
 returns c = λ yes.
-    right_all c.args.services.now c.args.fronts.now.items c.loop-at.fronts.items c.loop-at.at
-    (search rules) c.loop-at.invariant
+    right_all _ _ _ _ (search rules) c.loop-at.invariant

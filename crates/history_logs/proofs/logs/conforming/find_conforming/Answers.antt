@@ -5,11 +5,11 @@ use Rattle.service_conformance.specs.Looks.{Watched}
 use Rattle.history_logs.specs.Fields.{callers_of, log_of, waits_in}
 use Rattle.history_logs.specs.Judging.{end_verdict}
 use Rattle.history_logs.specs.Logs.{Judged}
-use Rattle.history_logs.specs.Reading.{Log}
+use Rattle.history_logs.specs.Reading.{Log, HaveOneNumber}
 use Rattle.history_logs.specs.Seen.{Service}
 use Rattle.history_logs.specs.Settling.{AreRightShort, HaveShort, IsShortAbove, StayAll}
 use Rattle.history_logs.proofs.Above.{above_new}
-use Rattle.history_logs.proofs.Conforming.{above_sane, above_short, few_short, judged_short, no_more, short_more, short_none, short_stays}
+use Rattle.history_logs.proofs.Conforming.{above_sane, above_short, few_short, judged_short, no_more, short_more, short_none, short_stays, alike_stays}
 use Rattle.history_logs.proofs.Counts.{counts_more, no_counts}
 use Rattle.history_logs.proofs.logs.conforming.find_conforming.Goals as goal
 
@@ -23,12 +23,14 @@ loop-text-init g c =
           (short_none bytes log read.services read.waits
           (above_new bytes log read.services read.callers read.waits)),
       no_counts (g.P.Progress.contents c.args.progress.now),
+      λ _. read.alike,
     )
 
 pub read-requires : goal.read-requires
-read-requires g c =
-    above_sane c.args.log.now (log_of c.loop-text.reading) c.loop-text.fronts.items
-    c.loop-text.rest.now c.loop-text.line c.loop-text.invariant.0
+read-requires g c = record {
+  sane = above_sane _ (log_of c.loop-text.reading) _ _ _ c.loop-text.invariant.0;
+  alike = c.loop-text.invariant.2;
+}
 
 pub settle_at-requires : goal.settle_at-requires
 settle_at-requires g c =
@@ -37,9 +39,9 @@ settle_at-requires g c =
     let more = short_more c.args.log.now (log_of c.loop-text.reading) fronts
     c.loop-text.rest.now c.loop-text.line c.loop-text.invariant.0 new c.in-Some.text.now
     c.in-Some.after.now (search rules) (search rules)
-    (rw c.in-None.is at c.in_ok-read.ensures) in
+    (rw c.in-None.is at c.in_ok-read.ensures.read) in
     subst (λ (l : List Service). HaveShort l fronts) (sym c.deref_mut.ensures.value)
-    (above_short c.args.log.now new fronts c.in-Some.after.now (c.loop-text.line + 1) more)
+    (above_short _ new fronts _ (c.loop-text.line + 1) more)
 
 pub returns-in_err-settle_at-clause-progress : goal.returns-in_err-settle_at-clause-progress
 returns-in_err-settle_at-clause-progress g c =
@@ -57,7 +59,7 @@ loop-text-preserved g c =
     let more = short_more c.args.log.now (log_of c.loop-text.reading) fronts
     c.loop-text.rest.now c.loop-text.line c.loop-text.invariant.0 read c.in-Some.text.now
     c.in-Some.after.now (search rules) (search rules)
-    (rw c.in-None.is at c.in_ok-read.ensures) in
+    (rw c.in-None.is at c.in_ok-read.ensures.read) in
     let new : Log =
     record {
       services = c.settle_at.new.services;
@@ -69,25 +71,23 @@ loop-text-preserved g c =
     c.deref_mut.ensures.value (c.in_ok-settle_at.ensures (search rules)) in
     let old = c.read.new.self.services in
     let long : length c.settle_at.new.services ≡ length old.items =
-    omega (
-      arith,
-      c.settle_at.auto.services,
-      ap (λ (l : List Service). length l) c.deref_mut.ensures.value,
-    ) in (
+    omega (arith, ap length c.deref_mut.ensures.value) in
+    let put = sym (put_back c.settle_at.new.services old.items old.len long old.ok.0) in (
       subst (λ (l : List Service). IsShortAbove c.args.log.now (record new { services = l }) next
-          c.in-Some.after.now (c.loop-text.line + 1))
-          (sym (put_back c.settle_at.new.services old.items old.len long old.ok.0))
-          (short_stays c.args.log.now read fronts c.in-Some.after.now (c.loop-text.line + 1) more
-          new next refl refl stay),
+          c.in-Some.after.now (c.loop-text.line + 1)) put
+          (short_stays _ read fronts _ (c.loop-text.line + 1) more new next refl refl stay),
       counts_more _ _ _ c.loop-text.invariant.1 c.count.ensures,
+      λ is. subst HaveOneNumber put
+          (alike_stays read.services new.services fronts next
+          (above_short _ read fronts _ (c.loop-text.line + 1) more)
+          stay ((rw c.in-None.is at c.in_ok-read.ensures.alike) is)),
     )
 
 pub end_verdict-requires : goal.end_verdict-requires
 end_verdict-requires g c =
-    let few = few_short c.args.log.now (log_of c.loop-text.reading) c.loop-text.fronts.items
-    c.loop-text.rest.now c.loop-text.line c.loop-text.invariant.0 in
+    let few = few_short _ (log_of c.loop-text.reading) _ _ _ c.loop-text.invariant.0 in
     subst (λ (l : List Service). sum_by (λ (s : Service). length s.commands) l < 2 ^ 64)
-    (sym c.deref-2.ensures.value) (omega (arith, few, c.loop-text.auto.line-fits))
+    (sym c.deref-2.ensures.value) (omega arith)
 
 pub returns-clause-judged : goal.returns-clause-judged
 returns-clause-judged g c =
@@ -96,10 +96,8 @@ returns-clause-judged g c =
     let right : AreRightShort live.services fronts =
     subst (λ (l : List Service). AreRightShort l fronts) c.deref.ensures.value
     (c.in_ok-are_explained.ensures (search rules)) in
-    subst (λ v. Judged c.args.log.now v) (sym c.end_verdict.ensures)
+    subst (Judged c.args.log.now) (sym c.end_verdict.ensures)
     (subst (λ (l : List Service). Judged c.args.log.now (end_verdict l None))
     (sym c.deref-2.ensures.value)
-    (judged_short c.args.log.now live fronts c.loop-text.rest.now c.loop-text.line
-    c.loop-text.invariant.0
-    (no_more c.loop-text.rest.now c.if-not-is_empty.ensures)
+    (judged_short _ live fronts _ _ c.loop-text.invariant.0 (no_more _ c.if-not-is_empty.ensures)
     (search rules) (search rules) right))

@@ -15,14 +15,13 @@ settle-requires c =
     let mid = c.loop-at.fronts.items in
     let at = c.loop-at.at in
     let inv = c.loop-at.invariant in
-    let within : at < length live = omega (arith, c.loop-at-test.true, inv.0) in
-    let inside : at < length mid = omega (arith, c.loop-at-test.true, inv.1) in
+    let within : at < length live = omega (arith, inv.0) in
+    let inside : at < length mid = omega (arith, inv.1) in
     let t : Service = get_or live at c.index-services-at.result in
     let here : slice_get live at ≡ Some t =
     slice_get-get_or live at c.index-services-at.result within in
-    subst (λ (f : Option (Front Watched)). HasShort t f)
-    (front_is mid at c.index_mut.result.now inside c.index_mut.ensures.value)
-    (has_short c.args.services.now live c.args.fronts.now.items mid at t here inv.2 c.requires)
+    subst (HasShort t) (front_is mid at _ inside c.index_mut.ensures.value)
+    (has_short _ live _ mid at t here inv.2 c.requires)
 
 pub loop-at-preserved : goal.loop-at-preserved
 loop-at-preserved c =
@@ -30,8 +29,8 @@ loop-at-preserved c =
     let mid = c.loop-at.fronts.items in
     let at = c.loop-at.at in
     let inv = c.loop-at.invariant in
-    let within : at < length live = omega (arith, c.loop-at-test.true, inv.0) in
-    let inside : at < length mid = omega (arith, c.loop-at-test.true, inv.1) in
+    let within : at < length live = omega (arith, inv.0) in
+    let inside : at < length mid = omega (arith, inv.1) in
     let t : Service = get_or live at c.index-services-at.result in
     let here : slice_get live at ≡ Some t =
     slice_get-get_or live at c.index-services-at.result within in
@@ -39,10 +38,9 @@ loop-at-preserved c =
     let front = c.settle.new.front in
     let stays : Stays t (front_at mid at) next front =
     subst (λ (f : Option (Front Watched)). Stays t f next front)
-    (sym (front_is mid at c.index_mut.result.now inside c.index_mut.ensures.value))
+    (sym (front_is mid at _ inside c.index_mut.ensures.value))
     (c.in_ok-settle.ensures (search rules)) in (
       length-set live at next ∙ inv.0,
       length-set mid at front ∙ inv.1,
-      stay_set c.args.services.now live c.args.fronts.now.items mid at t here inv.2 next front
-          inside stays,
+      stay_set _ live _ mid at t here inv.2 next front inside stays,
     )

@@ -13,9 +13,7 @@ returns c = λ l.
     let call = c.in-Some.call in
     let has = c.in-Some.is in
     let made =
-    not_waiting waiting slot c.is_waiting.result c.is_waiting.ensures.1 c.if-is_waiting.false in
+    not_waiting waiting slot _ c.is_waiting.ensures.1 c.if-is_waiting.false in
     let at = slice_get-get_or begins call 0 (c.requires.below slot call has) in
-    subst (λ (items : List ℕ). AreLinesTo begins slots waiting (slot + 1) items)
-    (sym c.in_ok-push.ensures.items)
-    (lines_more begins slots waiting slot call (get_or begins call 0) c.args.lines.now.items l has
-    made at)
+    subst (AreLinesTo begins slots waiting (slot + 1)) (sym c.in_ok-push.ensures.items)
+    (lines_more begins slots waiting slot call (get_or begins call 0) _ l has made at)

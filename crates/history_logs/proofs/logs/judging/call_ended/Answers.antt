@@ -3,5 +3,4 @@ use Rattle.history_logs.proofs.logs.judging.call_ended.Goals as goal
 
 pub unreachable-requires : goal.unreachable-requires
 unreachable-requires c =
-    no_other c.events.result.now c.args.service.now.events c.args.index _ c.events.ensures
-    c.requires.ended c.in-Begin.is
+    no_other _ _ _ _ c.events.ensures c.requires.ended c.in-Begin.is

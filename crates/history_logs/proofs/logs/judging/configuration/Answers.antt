@@ -6,8 +6,7 @@ use Rattle.history_logs.proofs.logs.judging.configuration.Goals as goal
 
 pub returns : goal.returns
 returns c =
-    reported_of c.args.service.now c.args.call c.index-calls-call.result c.args.slots.now
-    c.args.config.now _ c.begins.result.now c.calls.result.now c.begins.ensures c.calls.ensures
+    reported_of _ _ _ _ _ _ _ _ c.begins.ensures c.calls.ensures
     c.requires.within c.index-calls-call.is c.in_ok-lines_made.ensures
     c.in_ok-possible_replies.ensures
     (c.in_ok-nodes_listed.ensures

@@ -11,8 +11,7 @@ judge_windows-requires c =
     let states = c.deref.ensures.value ∙ c.in_ok-states.ensures in
     record {
       some = omega (arith, ap length states);
-      history = subst (λ (l : List Event). IsHistory l) (sym c.events.ensures)
-          c.requires.orderly.history;
+      history = subst IsHistory (sym c.events.ensures) c.requires.orderly.history;
     }
 
 pub reported_of-requires : goal.reported_of-requires
@@ -23,8 +22,8 @@ reported_of-requires c =
     record {
       orderly = c.requires.orderly;
       placed = c.requires.placed;
-      found = verdict_of s c.calls.result.now c.deref.result.now c.events.result.now
-          c.in_ok-found.found c.calls.ensures states c.events.ensures c.in_ok-found.ensures.verdict;
+      found = verdict_of s _ _ _
+          _ c.calls.ensures states c.events.ensures c.in_ok-found.ensures.verdict;
     }
 
 pub returns : goal.returns
@@ -33,10 +32,9 @@ returns c =
     let found = c.in_ok-found.found in
     let states : c.deref.result.now ≡ news s =
     c.deref.ensures.value ∙ c.in_ok-states.ensures in
-    if_ok _ _ c.reported_of.result c.reported_of.ensures (λ reported is.
-    explored s c.args.cut found reported
-    (verdict_of s c.calls.result.now c.deref.result.now c.events.result.now found c.calls.ensures
-    states c.events.ensures c.in_ok-found.ensures.verdict)
+    if_ok _ _ _ c.reported_of.ensures (λ reported is.
+    explored s _ found reported
+    (verdict_of s _ _ _ found c.calls.ensures states c.events.ensures c.in_ok-found.ensures.verdict)
     (λ never.
-    whole_of s c.calls.result.now c.deref.result.now c.events.result.now found c.calls.ensures
+    whole_of s _ _ _ found c.calls.ensures
     states c.events.ensures (c.in_ok-found.ensures.whole never)) is)

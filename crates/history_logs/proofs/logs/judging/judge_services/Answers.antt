@@ -8,30 +8,25 @@ loop-service-init c = first_none
 
 pub judge_service-requires-clause-orderly : goal.judge_service-requires-clause-orderly
 judge_service-requires-clause-orderly c =
-    item_of IsOrderly c.args.services.now c.loop-service.service-index c.service-item.result
-    c.requires.orderly c.loop-service-test.true c.service-item.is
+    item_of IsOrderly _ _ _ c.requires.orderly c.loop-service-test.true c.service-item.is
 
 pub judge_service-requires-clause-placed : goal.judge_service-requires-clause-placed
 judge_service-requires-clause-placed c =
-    item_of (HasEventLines c.args.log.now) c.args.services.now c.loop-service.service-index
-    c.service-item.result c.requires.placed c.loop-service-test.true c.service-item.is
+    item_of (HasEventLines c.args.log.now) _ _
+    _ c.requires.placed c.loop-service-test.true c.service-item.is
 
 pub loop-service-preserved : goal.loop-service-preserved
 loop-service-preserved c =
-    first_next c.args.log.now c.args.services.now c.loop-service.service-index c.service-item.result
-    c.loop-service.first c.in_ok-judge_service.field-0 c.earlier-first.result c.requires.orderly
-    c.requires.placed
-    c.loop-service-test.true c.service-item.is c.loop-service.invariant
+    first_next _ _ _ _ _ _ _ c.requires.orderly
+    c.requires.placed c.loop-service-test.true c.service-item.is c.loop-service.invariant
     c.in_ok-judge_service.ensures c.earlier-first.ensures
 
 pub returns-in-Some : goal.returns-in-Some
 returns-in-Some c = (
   c.in-Some.field-0-0,
-  first_whole c.args.services.now c.loop-service.service-index c.loop-service.first _
-      c.loop-service-test.false c.loop-service.invariant c.in-Some.is,
+  first_whole _ _ _ _ c.loop-service-test.false c.loop-service.invariant c.in-Some.is,
 )
 
 pub returns-in-None : goal.returns-in-None
 returns-in-None c =
-    first_whole c.args.services.now c.loop-service.service-index c.loop-service.first _
-    c.loop-service-test.false c.loop-service.invariant c.in-None.is
+    first_whole _ _ _ _ c.loop-service-test.false c.loop-service.invariant c.in-None.is

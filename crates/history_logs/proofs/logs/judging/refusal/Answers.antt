@@ -11,14 +11,9 @@ returns c =
       given = (refl, refl);
       reported = λ x at.
           record {
-            ended = read_index s.event_lines c.event_lines.result.now c.args.index
-                c.event_lines.ensures
-                c.requires.index;
-            opened = read_index s.event_lines c.event_lines-2.result.now c.args.window.now.begin
-                c.event_lines-2.ensures c.requires.begin;
-            configurations = zip_as s x front.slots.items c.deref.result.now front.configs.items
-                c.deref-2.result.now c.in_ok-configurations.configurations.items
-                c.deref.ensures.value c.deref-2.ensures.value
-                (c.in_ok-configurations.ensures x at);
+            ended = read_index s.event_lines _ _ c.event_lines.ensures c.requires.index;
+            opened = read_index s.event_lines _ _ c.event_lines-2.ensures c.requires.begin;
+            configurations = zip_as s x front.slots.items _ front.configs.items _ _
+                c.deref.ensures.value c.deref-2.ensures.value (c.in_ok-configurations.ensures x at);
           };
     }

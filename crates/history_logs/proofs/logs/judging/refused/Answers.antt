@@ -12,8 +12,7 @@ call_ended-call-requires c = record {
 
 pub line_at-line-requires : goal.line_at-line-requires
 line_at-line-requires c =
-    index_within c.args.service.now c.requires.orderly c.args.index c.args.window.now
-    c.requires.stops.within c.requires.window
+    index_within _ c.requires.orderly _ _ c.requires.stops.within c.requires.window
 
 pub lines_needed-requires : goal.lines_needed-requires
 lines_needed-requires c =
@@ -22,8 +21,8 @@ lines_needed-requires c =
     record {
       orderly = c.requires.orderly;
       stops = c.requires.stops;
-      within = begin_within s c.args.index w c.requires.stops.within c.requires.window;
-      cut = begin_cut s c.args.index w c.requires.stops.within c.requires.window;
+      within = begin_within s _ w c.requires.stops.within c.requires.window;
+      cut = begin_cut s _ w c.requires.stops.within c.requires.window;
       ended = c.call_ended-call.ensures;
     }
 
@@ -35,24 +34,22 @@ refusal-requires c =
     let within = c.requires.stops.within in
     let is = c.requires.window in
     record {
-      few = window_few s o c.args.index w within is;
-      below = window_below s o c.args.index w within is;
-      within = call_within s o c.args.index w within is c.args.log.now c.requires.placed.answers
-          c.call_ended-call.result c.line_at-line.result c.call_ended-call.ensures
-          c.line_at-line.ensures;
-      index = index_within s o c.args.index w within is;
-      begin = window_within s o c.args.index w within is;
+      few = window_few s o _ w within is;
+      below = window_below s o _ w within is;
+      within = call_within s o _ w within is _ c.requires.placed.answers
+          _ _ c.call_ended-call.ensures c.line_at-line.ensures;
+      index = index_within s o _ w within is;
+      begin = window_within s o _ w within is;
       whole = o.all.whole;
     }
 
 pub returns : goal.returns
 returns c =
     let s = c.args.service.now in
-    if_both _ _ _ c.refusal.result c.refusal.ensures.given c.refusal.ensures.reported
+    if_both _ _ _ _ c.refusal.ensures.given c.refusal.ensures.reported
     (λ reported its tells.
-    refused_in s c.requires.orderly c.args.index c.args.window.now c.requires.stops.within
-    c.requires.window c.args.log.now c.requires.placed.answers c.call_ended-call.result
-    c.line_at-line.result
-    c.call_ended-call.ensures c.line_at-line.ensures c.in_ok-words.words.items c.in_ok-words.ensures
-    c.requires.stops c.in_ok-needed.needed.items c.in_ok-needed.ensures reported
+    refused_in s c.requires.orderly _ _ c.requires.stops.within
+    c.requires.window _ c.requires.placed.answers _ _
+    c.call_ended-call.ensures c.line_at-line.ensures _ c.in_ok-words.ensures
+    c.requires.stops _ c.in_ok-needed.ensures reported
     (ap (λ v. v.items) its.0) (ap (λ v. v.items) its.1) tells)

@@ -15,19 +15,11 @@ refused-requires c =
 
 pub line_at-line-requires : goal.line_at-line-requires
 line_at-line-requires c =
-    line_within c.args.service.now c.in-ManyConfigs.index stop.ManyConfigs c.requires.orderly
-    (rw c.in-ManyConfigs.is at c.requires.found)
+    line_within _ _ stop.ManyConfigs c.requires.orderly (rw c.in-ManyConfigs.is at c.requires.found)
 
 pub line_at-line-requires-in-ManyOpen : goal.line_at-line-requires-in-ManyOpen
 line_at-line-requires-in-ManyOpen c =
-    line_within c.args.service.now c.in-ManyOpen.index stop.ManyOpen c.requires.orderly
-    (rw c.in-ManyOpen.is at c.requires.found)
-
-pub returns-in-Explained : goal.returns-in-Explained
-returns-in-Explained c = c.in-Explained.is
-
-pub returns-in_ok-reported-in-Refused : goal.returns-in_ok-reported-in-Refused
-returns-in_ok-reported-in-Refused c = c.in_ok-reported-in-Refused.ensures
+    line_within _ _ stop.ManyOpen c.requires.orderly (rw c.in-ManyOpen.is at c.requires.found)
 
 pub returns-in-ManyConfigs : goal.returns-in-ManyConfigs
 returns-in-ManyConfigs c = (

@@ -16,12 +16,12 @@ returns-in-Some c =
     let split = c.in-Some.ensures.read.1 in
     if_ok _ _ c.words_read.result c.words_read.ensures (λ v says. λ seen words is a at.
     says seen words is a
-    (line_first rest c.in-Some.text.now c.in-Some.field-0-1.now (line_text seen) none split
-    (cut_to c.args.log.now rest c.args.line (line_text seen) e c.after_lines-rest.ensures at)))
+    (line_first rest _ _ (line_text seen) none split
+    (cut_to _ rest _ (line_text seen) e c.after_lines-rest.ensures at)))
 
 pub returns-in-None : goal.returns-in-None
 returns-in-None c = λ seen words is a at.
     let rest = c.after_lines-rest.result.now in
     let e : suc (c.args.line - 1) ≡ c.args.line = omega arith in
     absurd (no_line rest (suc zero) (line_text seen) c.in-None.ensures.none
-    (cut_to c.args.log.now rest c.args.line (line_text seen) e c.after_lines-rest.ensures at))
+    (cut_to _ rest _ (line_text seen) e c.after_lines-rest.ensures at))

@@ -7,7 +7,7 @@ pub returns-in-Some : goal.returns-in-Some
 returns-in-Some c =
     let read = rw c.in-Some.is at c.in_ok-line.ensures in
     if_ok _ _ c.from_slice.result c.from_slice.ensures.items (λ v is.
-    words_said c.args.text.now (line_seen c.in-Some.line) c.words_of.result.now v.items read
+    words_said _ (line_seen c.in-Some.line) _ v.items read
     c.words_of.ensures is)
 
 pub returns-in-None : goal.returns-in-None

@@ -14,29 +14,19 @@ loop-at-preserved c =
     → c.loop-at.count + cond known 0 1 + services_in (drop (c.loop-at.at + 1) xs)
     ≡ services_in xs =
     λ known says.
-    count_left xs c.loop-at.at c.loop-at.count c.line.result.now.number c.index-services-at.result
-    c.position_of.result known c.loop-at-test.true c.index-services-at.is
+    count_left xs _ _ _ _ _ known c.loop-at-test.true c.index-services-at.is
     (ap (λ (l : ServiceLine). l.number) c.line.ensures) says c.position_of.ensures.some
-    c.position_of.ensures.none
-    c.loop-at.invariant.0 in
+    c.position_of.ensures.none c.loop-at.invariant.0 in
     let few = c.loop-at.invariant.1 in
     elim c.if-is_none.branch
     as (λ _. (c.if-is_none.count + services_in (drop (c.loop-at.at + 1) xs) ≡ services_in xs)
     × (c.if-is_none.count ≤ c.loop-at.at + 1)) [
       | then-is_none w ↦ (
-        omega (
-          arith,
-          w.count-is,
-          left false (c.is_none.ensures ∙ ap not w.if-is_none.true),
-        ),
-        omega (arith, w.count-is, few),
+        omega (arith, left false (c.is_none.ensures ∙ ap not w.if-is_none.true)),
+        omega arith,
       )
       | else-is_none w ↦ (
-        omega (
-          arith,
-          w.count-is,
-          left true (c.is_none.ensures ∙ ap not w.if-is_none.false),
-        ),
-        omega (arith, w.count-is, few),
+        omega (arith, left true (c.is_none.ensures ∙ ap not w.if-is_none.false)),
+        omega arith,
       )
     ]

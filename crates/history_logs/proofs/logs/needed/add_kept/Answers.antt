@@ -5,11 +5,9 @@ use Rattle.history_logs.proofs.logs.needed.add_kept.Goals as goal
 
 pub returns-then-not-is_kept : goal.returns-then-not-is_kept
 returns-then-not-is_kept c =
-    line_left c.args.begins.now c.args.lines.now.items (is_kept c.args.left_out.now) c.args.call
-    (sym c.if-not-is_kept.ensures)
+    line_left _ _ (is_kept c.args.left_out.now) _ (sym c.if-not-is_kept.ensures)
 
 pub returns : goal.returns
 returns c =
-    line_kept c.args.begins.now c.args.lines.now.items c.push.new.self.items
-    (is_kept c.args.left_out.now) c.args.call _ (sym c.if-not-is_kept.ensures) refl
+    line_kept _ _ _ (is_kept c.args.left_out.now) _ _ (sym c.if-not-is_kept.ensures) refl
     c.in_ok-push.ensures.items

@@ -3,5 +3,4 @@ use Rattle.history_logs.proofs.logs.needed.is_idle.Goals as goal
 
 pub returns : goal.returns
 returns c said =
-    idle_call c.args.calls.now c.args.number c.index-calls-number.result c.requires
-    c.index-calls-number.is (c.changes_nothing.ensures said)
+    idle_call _ _ _ c.requires c.index-calls-number.is (c.changes_nothing.ensures said)

@@ -12,12 +12,11 @@ pub add_begun-requires : goal.add_begun-requires
 add_begun-requires c call is =
     c.requires c.loop-event.event-index call
     (slice_get-get_or c.args.events.now c.loop-event.event-index _ c.loop-event-test.true
-    ∙ ap (λ (e : Event). Some e) is)
+    ∙ ap Some is)
 
 pub loop-event-preserved : goal.loop-event-preserved
 loop-event-preserved c =
-    lines_more c.args.begins.now (is_kept c.args.left_out.now) c.args.events.now
-    c.loop-event.event-index _ c.loop-event.lines.items _ c.loop-event-test.true
+    lines_more _ (is_kept c.args.left_out.now) _ _ _ _ _ c.loop-event-test.true
     c.loop-event.invariant c.in_ok-add_begun.ensures
 
 pub returns : goal.returns
@@ -26,4 +25,4 @@ returns c =
     ∙ ap (dedup eqb) (c.loop-event.invariant
     ∙ ap (λ (l : List Event). flat_map (line_begun c.args.begins.now)
     (events_of (is_kept c.args.left_out.now) l))
-    (take_all c.loop-event.event-index c.args.events.now (omega (arith, c.loop-event-test.false))))
+    (take_all c.loop-event.event-index c.args.events.now (omega arith)))

@@ -12,31 +12,26 @@ calls_left_out-requires c =
     let states = c.deref.ensures.value ∙ c.in_ok-states.ensures in
     record {
       some = omega (arith, ap length states);
-      history = given_history s o c.args.begin c.args.index c.requires.within c.events.result.now
-          c.events.ensures;
-      cut = given_cut s o c.args.begin c.args.index c.requires.within c.calls.result.now
-          c.deref.result.now c.events.result.now c.calls.ensures states c.events.ensures
+      history = given_history s o _ _ c.requires.within _ c.events.ensures;
+      cut = given_cut s o _ _ c.requires.within _ _ _ c.calls.ensures states c.events.ensures
           c.requires.cut;
-      refused = given_refused s o c.args.begin c.args.index c.requires.within c.calls.result.now
-          c.deref.result.now c.events.result.now c.calls.ensures states c.events.ensures
-          c.requires.stops c.args.refused c.requires.ended;
+      refused = given_refused s o _ _ c.requires.within _
+          _ _ c.calls.ensures states c.events.ensures c.requires.stops _ c.requires.ended;
       idle = subst (λ (l : List Judged). AreIdle (WindowStep 0 l) c.deref-2.result.now)
           (c.calls-2.ensures ∙ sym c.calls.ensures)
-          (subst (λ (l : List Bool). AreIdle (WindowStep 0 c.calls-2.result.now) l)
+          (subst (AreIdle (WindowStep 0 c.calls-2.result.now))
           (sym c.deref-2.ensures.value) c.in_ok-idle.ensures);
     }
 
 pub lines_begun-requires : goal.lines_begun-requires
 lines_begun-requires c =
-    given_below c.args.service.now c.requires.orderly c.args.begin c.args.index c.requires.within
-    c.events.result.now c.begins.result.now c.events.ensures c.begins.ensures
+    given_below _ c.requires.orderly _ _ c.requires.within _ _ c.events.ensures c.begins.ensures
 
 pub returns : goal.returns
 returns c =
     if_ok _ _ c.lines_begun.result c.lines_begun.ensures
-    (λ lines is. given_lines c.args.service.now c.requires.orderly c.args.begin c.args.index
-    c.requires.within c.calls.result.now c.deref.result.now c.events.result.now c.calls.ensures
+    (λ lines is. given_lines _ c.requires.orderly _ _
+    c.requires.within _ _ _ c.calls.ensures
     (c.deref.ensures.value ∙ c.in_ok-states.ensures) c.events.ensures c.requires.stops
-    c.args.refused c.requires.ended c.in_ok-left_out.left_out.items c.deref-3.result.now
-    c.begins.result.now lines.items c.begins.ensures c.deref-3.ensures.value
+    _ c.requires.ended _ _ _ lines.items c.begins.ensures c.deref-3.ensures.value
     c.in_ok-left_out.ensures is)

@@ -8,7 +8,7 @@ pub lines_of-requires : goal.lines_of-requires
 lines_of-requires c =
     let s = c.args.service.now in
     subst (λ (l : List ℕ). All (λ call. call < length l) c.deref.result.now) (sym c.begins.ensures)
-    (subst (λ (l : List ℕ). All (λ call. call < length s.begins) l) (sym c.deref.ensures.value)
+    (subst (All (λ call. call < length s.begins)) (sym c.deref.ensures.value)
     (calls_within s c.requires.orderly c.args.window.now c.in_ok-calls.calls.items c.requires.front
     c.requires.some c.in_ok-calls.ensures))
 

@@ -5,35 +5,29 @@ use Rattle.history_logs.proofs.Ordered.{orders_all, orders_next, orders_none}
 use Rattle.history_logs.proofs.logs.ordering.order_services.Goals as goal
 
 pub loop-service-init : goal.loop-service-init
-loop-service-init c = orders_none c.args.services.now c.new-orders.result.items
-    c.new-orders.ensures.items
+loop-service-init c = orders_none _ _ c.new-orders.ensures.items
 
 pub order_service-requires-clause-orderly : goal.order_service-requires-clause-orderly
 order_service-requires-clause-orderly c =
-    item_of IsOrderly c.args.services.now c.loop-service.service-index c.service-item.result
-    c.requires.orderly c.loop-service-test.true c.service-item.is
+    item_of IsOrderly _ _ _ c.requires.orderly c.loop-service-test.true c.service-item.is
 
 pub order_service-requires-clause-placed : goal.order_service-requires-clause-placed
 order_service-requires-clause-placed c =
-    item_of (HasEventLines c.args.log.now) c.args.services.now c.loop-service.service-index
-    c.service-item.result c.requires.placed c.loop-service-test.true c.service-item.is
+    item_of (HasEventLines c.args.log.now) _ _
+    _ c.requires.placed c.loop-service-test.true c.service-item.is
 
 pub loop-service-preserved : goal.loop-service-preserved
 loop-service-preserved c =
-    orders_next c.args.log.now c.args.services.now c.loop-service.service-index
-    c.service-item.result c.loop-service.first c.in_ok-order_service.field-0 c.earlier-first.result
-    c.loop-service.orders.items c.order_service.new.orders.items c.requires.orderly
+    orders_next _ _ _ _ _ _ _ _ _ c.requires.orderly
     c.requires.placed c.loop-service-test.true c.service-item.is c.loop-service.invariant
     c.in_ok-order_service.ensures.found c.in_ok-order_service.ensures.order c.earlier-first.ensures
 
 pub returns-in-Some-clause-found : goal.returns-in-Some-clause-found
 returns-in-Some-clause-found c = (
   c.in-Some.field-0-0,
-  first_whole c.args.services.now c.loop-service.service-index c.loop-service.first _
-      c.loop-service-test.false c.loop-service.invariant.found c.in-Some.is,
+  first_whole _ _ _ _ c.loop-service-test.false c.loop-service.invariant.found c.in-Some.is,
 )
 
 pub returns-in-None-clause-orders : goal.returns-in-None-clause-orders
 returns-in-None-clause-orders c =
-    orders_all c.args.services.now c.loop-service.service-index c.loop-service.orders.items
-    c.loop-service-test.false (c.loop-service.invariant.ordered c.in-None.is)
+    orders_all _ _ _ c.loop-service-test.false (c.loop-service.invariant.ordered c.in-None.is)

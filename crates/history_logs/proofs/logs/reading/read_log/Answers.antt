@@ -7,9 +7,10 @@ use Rattle.history_logs.proofs.logs.reading.read_log.Goals as goal
 
 pub loop-text-init : goal.loop-text-init
 loop-text-init g c = (
-  above_new c.args.log.now (log_of c.new-reading.result) c.new-reading.ensures.services
+  above_new _ (log_of c.new-reading.result) c.new-reading.ensures.services
       c.new-reading.ensures.callers c.new-reading.ensures.waits,
   no_counts (g.P.Progress.contents c.args.progress.now),
+  λ _. c.new-reading.ensures.alike,
 )
 
 pub returns-in-Some-2-clause-read : goal.returns-in-Some-2-clause-read
@@ -17,21 +18,24 @@ returns-in-Some-2-clause-read g c =
     read_bad c.args.log.now (log_of c.loop-text.reading) (log_of c.read.new.self)
     c.loop-text.rest.now c.loop-text.line c.in-Some.text.now c.in-Some.after.now
     c.in-Some-2.expected c.loop-text.invariant.0 (search rules) (search rules)
-    (rw c.in-Some-2.is at c.in_ok-expected.ensures)
+    (rw c.in-Some-2.is at c.in_ok-expected.ensures.read)
 
 pub loop-text-preserved : goal.loop-text-preserved
 loop-text-preserved g c = (
-  above_more c.args.log.now (log_of c.loop-text.reading) (log_of c.read.new.self)
-      c.loop-text.rest.now c.loop-text.line c.in-Some.text.now c.in-Some.after.now
+  above_more _ (log_of c.loop-text.reading) (log_of c.read.new.self) _ _ _ _
       c.loop-text.invariant.0 (search rules) (search rules)
-      (rw c.in_default-2.is at c.in_ok-expected.ensures),
+      (rw c.in_default-2.is at c.in_ok-expected.ensures.read),
   counts_more _ _ _ c.loop-text.invariant.1 c.count.ensures,
+  rw c.in_default-2.is at c.in_ok-expected.ensures.alike,
 )
 
 pub returns-then-not-is_empty-clause-read : goal.returns-then-not-is_empty-clause-read
 returns-then-not-is_empty-clause-read g c =
-    read_newline c.args.log.now (log_of c.loop-text.reading) c.loop-text.rest.now c.loop-text.line
+    read_newline _ (log_of c.loop-text.reading) _ _
     c.loop-text.invariant.0 (search rules) (search rules)
 
 pub read-requires : goal.read-requires
-read-requires g c = sane_of (log_of c.loop-text.reading) c.loop-text.invariant.0.kept
+read-requires g c = record {
+  sane = sane_of (log_of c.loop-text.reading) c.loop-text.invariant.0.kept;
+  alike = c.loop-text.invariant.2;
+}

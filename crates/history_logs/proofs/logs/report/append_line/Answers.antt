@@ -5,6 +5,5 @@ use Rattle.history_logs.proofs.logs.report.append_line.Goals as goal
 pub returns : goal.returns
 returns c =
     let one = c.append_number.new.out.items in
-    two_parts c.args.out.now.items one c.extend_from_slice.new.self.items
-    (codes "line " ++ decimal c.args.line) c.args.text.now c.in_ok-append_number.ensures
+    two_parts _ one _ (codes "line " ++ decimal c.args.line) _ c.in_ok-append_number.ensures
     c.in_ok-extend_from_slice.ensures.items

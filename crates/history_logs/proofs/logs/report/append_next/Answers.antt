@@ -10,8 +10,7 @@ returns c =
     let two = c.append_number-2.new.out.items in
     let three = c.extend_from_slice.new.self.items in
     let none : three ≡ two ++ codes " and none of:" = search rules in
-    four_parts c.args.out.now.items c.append_number.new.out.items two three
-    c.append_numbers.new.out.items (codes "handle SLOT " ++ decimal next.ticket)
+    four_parts _ _ two three _ (codes "handle SLOT " ++ decimal next.ticket)
     (codes ", SLOT below " ++ decimal next.capacity) (codes " and none of:")
     (flat_map number_word next.taken.items) c.in_ok-append_number.ensures
     c.in_ok-append_number-2.ensures none

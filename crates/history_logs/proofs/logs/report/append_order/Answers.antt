@@ -11,7 +11,7 @@ returns c =
     let two = c.push.new.self.items in
     let lines = flat_map line_of c.deref.result.now in
     let end : two ≡ one ++ 10 ∷ [] = search rules in
-    two_parts c.args.out.now.items one c.append_lines.new.out.items
+    two_parts _ one _
     (codes "service " ++ decimal order.service) (10 ∷ flat_map line_of order.lines.items)
     c.in_ok-append_number.ensures
     (c.in_ok-append_lines.ensures

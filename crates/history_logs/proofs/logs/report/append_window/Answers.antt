@@ -12,7 +12,7 @@ returns c =
     let three = c.append_numbers.new.out.items in
     let front = 10 ∷ codes "needed: lines" in
     let lines = flat_map number_word c.args.needed.now in
-    two_parts c.args.out.now.items one three
+    two_parts _ one three
     ((10 ∷ codes "window: from line ") ++ decimal c.args.window) (front ++ lines)
     c.in_ok-append_number.ensures
     (two_parts one two three front lines c.in_ok-extend_from_slice.ensures.items

@@ -14,7 +14,7 @@ returns c =
     let m : Calls =
     record { alloc = c.args.alloc; first = c.first.result; calls = c.kept.result } in
     let states : c.deref.result.now ≡ news live = c.deref.ensures.value ∙ c.in_ok-states.ensures in
-    if_ok _ _ c.first_front.result c.first_front.ensures (λ front f.
+    if_ok _ _ _ c.first_front.ensures (λ front f.
     began live front c.requires.some (λ final.
     subst (λ (l : List Watched). IsFrontAfter (WindowStep 0 final) l [] front) states
     (f (record m { first = 0; calls = record m.calls { now = final } }))))

@@ -7,10 +7,8 @@ loop-at-init c = last_none c.args.first c.args.events.now
 
 pub loop-at-preserved : goal.loop-at-preserved
 loop-at-preserved c =
-    last_more c.args.first c.args.events.now c.loop-at.at _ c.loop-at.last
-    c.behind_begun-last.result (search rules) c.loop-at.invariant c.behind_begun-last.ensures
+    last_more _ _ _ _ _ _ (search rules) c.loop-at.invariant c.behind_begun-last.ensures
 
 pub returns : goal.returns
 returns c =
-    last_all c.args.first c.args.events.now c.loop-at.at c.loop-at.last (search rules)
-    c.loop-at.invariant
+    last_all _ _ _ _ (search rules) c.loop-at.invariant

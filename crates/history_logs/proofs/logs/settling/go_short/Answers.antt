@@ -25,8 +25,7 @@ go_on-requires c =
       record {
         history = history_of live s front c.args.count o k c.events.result.now c.events.ensures;
         agrees = agrees_of live s front c.args.count o k c.events.result.now c.events.ensures
-            c.first.result c.kept.result.now c.first.ensures c.kept.ensures s.calls
-            (λ n is. refl);
+            c.first.result c.kept.result.now c.first.ensures c.kept.ensures s.calls (λ n is. refl);
         front_of = own_front live s front c.args.count o k;
       },
     )

@@ -8,8 +8,7 @@ use Rattle.history_logs.proofs.logs.callers.Callers.set.Goals as goal
 pub returns-in-Some : goal.returns-in-Some
 returns-in-Some c =
     let n : Caller = record { name = c.index_mut.result.now.name; state = c.args.state } in
-    set_known c.args.name.now c.args.state c.args.self.now.known.items c.in-Some.at
-    c.index_mut.result.now n (rw c.deref.ensures.value at c.in-Some.ensures.some)
+    set_known _ _ _ _ _ n (rw c.deref.ensures.value at c.in-Some.ensures.some)
     c.index_mut.ensures.value refl refl
 
 pub returns : goal.returns
@@ -19,5 +18,5 @@ returns c =
     (λ (l : List Caller). Sets (state_in c.args.self.now.known.items) c.args.name.now c.args.state
     (state_in l))
     (sym c.in_ok-push.ensures.items)
-    (push_known c.args.name.now c.args.state c.args.self.now.known.items n
+    (push_known _ _ _ n
     (rw c.deref.ensures.value at c.in_default.ensures.none) c.in_ok-name.ensures.items refl)

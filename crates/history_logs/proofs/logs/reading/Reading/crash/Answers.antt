@@ -14,18 +14,17 @@ returns-in_ok-set-in-Some-Calls c =
     let services = c.args.self.now.services.items in
     let does : callers_of c.args.self.now.callers c.args.caller.now
     ≡ Some (Calls arm.at arm.number) =
-    sym c.state_of.ensures
-    ∙ (arm.is ∙ ap (λ (s : CallerState). Some s) arm.field-0-is) in
-    let found = c.requires.sane.opened c.args.caller.now arm.at arm.number does in
+    sym c.state_of.ensures ∙ (arm.is ∙ ap Some arm.field-0-is) in
+    let found = c.requires.ready.sane.opened c.args.caller.now arm.at arm.number does in
     let d = c.index_mut.result.now in
     let there =
     slice_get-get_or services arm.at d (slice_get_within services arm.at found.0 found.1)
-    ∙ ap (λ (s : Service). Some s) (sym c.index_mut.ensures.value) in
+    ∙ ap Some (sym c.index_mut.ensures.value) in
     let dies : Dies services c.args.line (Some (Calls arm.at arm.number))
     (slice_set services arm.at c.crash.new.self) = (
       d,
       there,
-      ap (λ (s : Service). slice_set services arm.at s) c.in_ok-crash-in-Some-Calls.ensures,
+      ap (slice_set services arm.at) c.in_ok-crash-in-Some-Calls.ensures,
     ) in (
       c.requires.waits,
       subst (λ (state : Option CallerState). Dies services c.args.line state

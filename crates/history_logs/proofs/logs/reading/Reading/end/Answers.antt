@@ -15,13 +15,12 @@ returns-in_ok-set-in-Some-Calls c =
     let read = rw c.in-Some.is at c.in_ok-reply-in-Some-Calls.ensures.some in
     let does : callers_of c.args.self.now.callers c.args.caller.now
     ≡ Some (Calls arm.at arm.number) =
-    sym c.state_of.ensures
-    ∙ (arm.is ∙ ap (λ (s : CallerState). Some s) arm.field-0-is) in
-    let found = c.requires.sane.opened c.args.caller.now arm.at arm.number does in
+    sym c.state_of.ensures ∙ (arm.is ∙ ap Some arm.field-0-is) in
+    let found = c.requires.ready.sane.opened c.args.caller.now arm.at arm.number does in
     let d = c.index_mut.result.now in
     let there =
     slice_get-get_or services arm.at d (slice_get_within services arm.at found.0 found.1)
-    ∙ ap (λ (s : Service). Some s) (sym c.index_mut.ensures.value) in (
+    ∙ ap Some (sym c.index_mut.ensures.value) in (
       arm.at,
       arm.number,
       d,
@@ -30,7 +29,7 @@ returns-in_ok-set-in-Some-Calls c =
       does,
       there,
       record { is = read.1; text = read.0 },
-      ap (λ (s : Service). slice_set services arm.at s) c.in_ok-end-in-Some-Calls.ensures,
+      ap (slice_set services arm.at) c.in_ok-end-in-Some-Calls.ensures,
       c.in_ok-set-in-Some-Calls.ensures,
       c.requires.waits,
     )

@@ -15,8 +15,8 @@ returns-then-not-branch c s there =
     c.index.ensures ∙ get_or_from_slice_get c.args.self.now.services.items c.args.at s d there in
     let bars : c.in_ok-give.field-0 ≡ false = search rules in
     let made : c.new-anew.result ≡ unseen d.line = c.new-anew.ensures ∙ ap unseen c.line.ensures in
-    gives_anew (log_of c.args.self.now) (log_of c.args.self.now) c.args.at d s
-    (state_seen c.args.given) false c.give.new.self there same
+    gives_anew (log_of c.args.self.now) (log_of c.args.self.now) _ d s
+    (state_seen c.args.given) false _ there same
     (some_calls s (c.requires.calls s there)) (c.has_open_on.ensures.no c.if-has_open_on.false)
     (subst (λ (x : Service). Starts x (state_seen c.args.given) false c.give.new.self) made
     (rw bars at c.in_ok-give.ensures)) (λ e. absurd (cc)) (λ e. refl)
@@ -35,8 +35,8 @@ returns c s there =
       callers = callers;
       waits = waits;
     } in
-    gives_anew (log_of c.args.self.now) new c.args.at d s (state_seen c.args.given) true
-    c.give.new.self there same (some_calls s (c.requires.calls s there))
+    gives_anew (log_of c.args.self.now) new _ d s (state_seen c.args.given) true
+    _ there same (some_calls s (c.requires.calls s there))
     (c.has_open_on.ensures.no c.if-has_open_on.false)
     (subst (λ (x : Service). Starts x (state_seen c.args.given) true c.give.new.self) made
     (rw may at c.in_ok-give.ensures))

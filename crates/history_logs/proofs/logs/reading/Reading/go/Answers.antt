@@ -18,11 +18,10 @@ returns c =
     let waits = ap waits_in own in
     let d : Service = c.index_mut.result.now in
     let there : slice_get services at ≡ Some d =
-    slice_get-get_or services at d (c.requires.waits at (named command) waits)
-    ∙ ap (λ (s : Service). Some s) (sym c.index_mut.ensures.value) in
+    slice_get-get_or services at d (c.requires.sane.waits at (named command) waits)
+    ∙ ap Some (sym c.index_mut.ensures.value) in
     let gone : c.take.new.self ≡ None = search rules in
-    replied (log_of old) _ at (named command) d c.in-Some.reply c.args.line c.args.text.now waits
-    there (search rules)
+    replied (log_of old) _ at (named command) d _ _ _ waits there (search rules)
     (ap (λ (w : Option (ℕ × LogCommand)). record (log_of old) {
       services = slice_set services at c.alone.new.self;
       waits = waits_in w;
@@ -34,5 +33,5 @@ returns c =
 
 pub returns-then-is_none : goal.returns-then-is_none
 returns-then-is_none c =
-    ok_next c.next.result (log_of c.args.self.now) _ c.args.line c.args.text.now
+    ok_next _ (log_of c.args.self.now) _ _ _
     (waits_in c.args.self.now.waits) (search rules) (search rules) c.next.ensures

@@ -11,6 +11,5 @@ returns-in-Some c =
     let command = named c.in-Some.command in
     let p : HasText command = search rules in
     let is : c.args.text.now ≡ command_text command = search rules in
-    taken (log_of c.args.self.now) (log_of c.call.new.self) c.args.line c.args.text.now
-    (call None command) c.call.result (tt, p) is
+    taken (log_of c.args.self.now) (log_of c.call.new.self) _ _ (call None command) _ (tt, p) is
     (λ empty. absurd (search rules)) (c.call.ensures c.args.line)

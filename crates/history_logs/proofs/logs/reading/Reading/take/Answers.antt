@@ -8,30 +8,29 @@ use Rattle.history_logs.proofs.logs.reading.Reading.take.Goals as goal
 
 pub returns-in-Service : goal.returns-in-Service
 returns-in-Service c =
-    ok_at c.service.result _ _ (line_seen c.args.read) (service c.in-Service.service) c.args.line
+    ok_at _ _ _ (line_seen c.args.read) (service c.in-Service.service) _
     (ap line_seen c.in-Service.is) c.service.ensures
 
 pub returns-in-Begin : goal.returns-in-Begin
 returns-in-Begin c =
     let arm = c.in-Begin in
-    ok_is c.begin.result _ _ (line_seen c.args.read)
-    (begin arm.number arm.caller.now (begun_in arm.begun)) c.args.line (ap line_seen arm.is)
-    c.begin.ensures
+    ok_is _ _ _ (line_seen c.args.read)
+    (begin arm.number arm.caller.now (begun_in arm.begun)) _ (ap line_seen arm.is) c.begin.ensures
 
 pub returns-in-End : goal.returns-in-End
 returns-in-End c =
     let arm = c.in-End in
-    ok_is c.end.result _ _ (line_seen c.args.read) (end arm.caller.now arm.words.now) c.args.line
+    ok_is _ _ _ (line_seen c.args.read) (end arm.caller.now arm.words.now) _
     (ap line_seen arm.is) c.end.ensures
 
 pub returns-in-Crash : goal.returns-in-Crash
 returns-in-Crash c =
     let arm = c.in-Crash in
-    ok_is c.crash.result _ _ (line_seen c.args.read) (crash arm.caller.now) c.args.line
+    ok_is _ _ _ (line_seen c.args.read) (crash arm.caller.now) _
     (ap line_seen arm.is) c.crash.ensures
 
 pub returns-in-State : goal.returns-in-State
 returns-in-State c =
     let arm = c.in-State in
-    ok_at c.given.result _ _ (line_seen c.args.read) (given arm.number (state_seen arm.given))
-    c.args.line (ap line_seen arm.is) c.given.ensures
+    ok_at _ _ _ (line_seen c.args.read) (given arm.number (state_seen arm.given))
+    _ (ap line_seen arm.is) c.given.ensures

@@ -14,10 +14,8 @@ returns c =
     let call : LogCall = called s command in
     let is : c.call-call.result ≡ call = c.call-call.ensures in
     let adds = ap (λ (x : LogCall). x.adds) is in
-    alone_made s call c.args.reply c.args.line c.requires (called_stops s command)
-    c.begin.new.self c.finish.new.self
-    (record { seen = c.answer.new.self; adds = c.call-call.result.adds }) c.given_in-gives.result
-    c.in_ok-number.number
+    alone_made s call _ _ c.requires (called_stops s command) _ _
+    (record { seen = c.answer.new.self; adds = c.call-call.result.adds }) _ _
     (c.answer.ensures ∙ ap (λ (x : LogCall). judged_answered x.seen c.args.reply) is) adds
     (c.given_in-gives.ensures ∙ ap (λ (a : Option Role). given_in s a c.args.reply) adds)
     c.in_ok-number.ensures.begun c.in_ok-number.ensures.number c.in_ok-finish.ensures

@@ -32,8 +32,6 @@ index_mut-requires-2 c =
     c.requires.kept in
     omega (
       arith,
-      within,
-      kept.call,
       length-append (replicate first forgotten) calls,
       length-replicate first forgotten,
       ap length c.in_ok-show.ensures,
@@ -49,11 +47,9 @@ returns c =
     let kept = subst (λ (v : Service). IsKeptCall v c.args.number) (sym view) c.requires.kept in
     let within = c.requires.within in
     let adds = c.requires.handles.adds in
-    end_is old c.args.number c.args.line c.args.reply _
-    c.index.result.now c.given_in-given.result c.push.new.self.items c.push-2.new.self.items
+    end_is old _ _ _ _ _ _ _ _
     (subst (λ (v : Service). c.args.number < length v.adds) (sym view) (omega arith))
-    (answered_over first calls c.args.number c.args.reply kept.call kept.start
-    c.show.new.calls.items c.in_ok-show.ensures c.index_mut-2.result.now c.answer.new.self
+    (answered_over first calls _ _ kept.call kept.start _ c.in_ok-show.ensures _ _
     c.index_mut-2.ensures.value c.answer.ensures)
     c.index.ensures
     (subst (λ (v : Service). c.given_in-given.result ≡ given_in v c.index.result.now c.args.reply)

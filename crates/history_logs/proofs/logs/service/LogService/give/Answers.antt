@@ -11,5 +11,5 @@ returns c =
     let s = service_of c.self.inside in
     let none : length s.calls ≡ 0 = search rules in
     rw (← c.self.view_is)
-    (if_ok _ _ c.give.result c.give.ensures
-    (λ may b. starts_of s (state_seen c.args.given) c.give.new.start may (nil_of s.calls none) b))
+    (if_ok _ _ _ c.give.ensures
+    (λ may b. starts_of s (state_seen c.args.given) _ may (nil_of s.calls none) b))

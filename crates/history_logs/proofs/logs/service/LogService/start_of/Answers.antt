@@ -6,21 +6,17 @@ use Rattle.history_logs.proofs.logs.service.LogService.start_of.Goals as goal
 pub returns-then-number-self : goal.returns-then-number-self
 returns-then-number-self c =
     subst (λ (v : Service). None ≡ start_of v.calls c.args.number) c.self.view_is
-    (sym (start_under c.self.inside.first forgotten c.self.inside.calls.items c.args.number
-    (omega (arith, c.if-number-self.true)) refl))
+    (sym (start_under c.self.inside.first forgotten c.self.inside.calls.items _ (omega arith) refl))
 
 pub returns-then-at-len : goal.returns-then-at-len
 returns-then-at-len c =
     subst (λ (v : Service). None ≡ start_of v.calls c.args.number) c.self.view_is
-    (sym (start_over c.self.inside.first forgotten c.self.inside.calls.items c.args.number
-    (omega (arith, c.if-number-self.false))
-    ∙ start_past c.self.inside.calls.items _ (omega (arith, c.if-at-len.true, c.len.ensures))))
+    (sym (start_over c.self.inside.first forgotten c.self.inside.calls.items _ (omega arith)
+    ∙ start_past c.self.inside.calls.items _ (omega arith)))
 
 pub returns : goal.returns
 returns c =
     subst (λ (v : Service). c.stopped.result ≡ start_of v.calls c.args.number) c.self.view_is
     (c.stopped.ensures
-    ∙ (sym (start_at c.self.inside.calls.items _ c.index.result.now
-    (omega (arith, c.if-at-len.false, c.len.ensures)) c.index.ensures)
-    ∙ sym (start_over c.self.inside.first forgotten c.self.inside.calls.items c.args.number
-    (omega (arith, c.if-number-self.false)))))
+    ∙ (sym (start_at c.self.inside.calls.items _ _ (omega arith) c.index.ensures)
+    ∙ sym (start_over c.self.inside.first forgotten c.self.inside.calls.items _ (omega arith))))
