@@ -402,8 +402,8 @@ IOX2SD_CHECKED iox2sd_text_answer iox2sd_id_text(iox2sd_id id, uint8_t *out, siz
 
 /* The id of which iox2sd_id_text writes this text. It may be that of no node.
  * Errors: IOX2SD_STATUS_NULL; IOX2SD_STATUS_EMPTY; IOX2SD_STATUS_TOO_LONG, for more than 32 bytes;
- * IOX2SD_STATUS_ILLEGAL_BYTE, where a byte is not one of the digits 0 to 9 and a to f, or 0 stands
- * before other digits. */
+ * IOX2SD_STATUS_ILLEGAL_BYTE, where it is the text of no id: a byte is not one of the digits 0 to 9
+ * and a to f, or 0 stands before other digits. */
 IOX2SD_CHECKED iox2sd_id_answer iox2sd_id_from_text(const uint8_t *text, size_t length);
 IOX2SD_CHECKED iox2sd_id_answer iox2sd_id_from_text_str(const char *text);
 

@@ -164,8 +164,8 @@ typedef struct iox2sd_config_write_answer {
 
 /* Reads the text of a file of settings, which is TOML 1.1. Its tables and arrays may be at most 32
  * deep in one another: so many parts of the line's header, dots of its keys, arrays and inline
- * tables. A key that it does not have has its default, and all bytes of `out` are written. A text
- * of NULL and 0 is an empty one.
+ * tables. A key that it does not have has its default. All fields of `out` are written, and zeros
+ * behind each text. A text of NULL and 0 is an empty one.
  * Errors, after which `out` is as it was: IOX2SD_STATUS_NULL; IOX2SD_STATUS_NOT_UTF8;
  * IOX2SD_STATUS_TOO_DEEP and then IOX2SD_STATUS_NOT_TOML, each with the line and the column; and
  * of the first key, in the order of the file, whose value is not allowed, with its position:

@@ -1,5 +1,5 @@
 -- The text of a file of settings: its settings, or what is wrong with it.
-use Rattle.std.specs.Prelude.{◌≡◌, ◌⊎◌, ◌≤◌, ◌<◌, ℕ, List, [], ◌∷◌, ◌++◌, map, drop, length, Option, Some, None}
+use Rattle.std.specs.Prelude.{◌≡◌, ◌⊎◌, ℕ, Bool, List, [], ◌∷◌, map, length, Option, Some, None}
 use Rattle.config_report.specs.Findings.{IsText, IsUnread}
 use Rattle.config_report.specs.declared.check.Unread.{Unread}
 use Rattle.iox2_config.specs.declared.config.Config.{Config}
@@ -7,7 +7,7 @@ use Rattle.iox2_config_file.specs.Answers.{ReadsAll}
 use Rattle.iox2_config_file.specs.Read.{fault_view}
 use Rattle.iox2_config_file.specs.declared.fault.SettingFault.{SettingFault}
 use Rattle.iox2_config_file.specs.declared.read.FileContents.{FileContents}
-use Rattle.iox2sd_common.specs.Answers.{count_answer}
+use Rattle.iox2sd_common.specs.Answers.{count_answer, fit_status, Writes}
 use Rattle.iox2sd_common.specs.Status.{code}
 use Rattle.iox2sd_common.specs.declared.answers.CountAnswer.{CountAnswer}
 use Rattle.iox2sd_common.specs.declared.status.Status.{Status}
@@ -65,16 +65,11 @@ Settles bytes contents (Some config) old answer new =
 Settles bytes contents None old answer new =
     (known : Known) × TellsFirst bytes contents.faults.items known × Keeps known old answer new
 
--- the same, by what the file has
-abbrev pub ReadsContents : List ℕ → FileContents → PlainConfig → KnownAnswer → PlainConfig → Type 0
-ReadsContents bytes contents old answer new =
-    Settles bytes contents contents.config old answer new
-
 -- the settings of the file are those of this struct, or it is as it was
 abbrev pub ReadsInto : List ℕ → PlainConfig → KnownAnswer → PlainConfig → Type 0
 ReadsInto bytes old answer new =
     (IsText bytes × (contents : FileContents) × ReadsAll bytes contents
-    × ReadsContents bytes contents old answer new)
+    × Settles bytes contents contents.config old answer new)
     ⊎ ((unread : Unread) × IsUnread bytes unread × Keeps (c_unread unread) old answer new)
 
 -- the same of the first struct, where there is one
@@ -86,10 +81,8 @@ Answers bytes (old ∷ rest) answer after =
 -- these faults stand at the front of the array, or they do not fit there and it is as it was
 abbrev pub PutsFaults : List PlainFault → List PlainFault → CountAnswer → List PlainFault → Type 0
 PutsFaults listed old answer new =
-    ((length listed ≤ length old) × (answer ≡ count_answer status.Done (length listed))
-    × (new ≡ listed ++ drop (length listed) old))
-    ⊎ ((length old < length listed)
-    × (answer ≡ count_answer status.BufferTooShort (length listed)) × (new ≡ old))
+    (fits : Bool) × Writes listed old fits new
+    × (answer ≡ count_answer (fit_status fits) (length listed))
 
 -- this status refuses, and the array is as it was
 abbrev pub RefusesCount : Status → List PlainFault → CountAnswer → List PlainFault → Type 0

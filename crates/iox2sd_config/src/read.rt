@@ -6,7 +6,7 @@ ghost use Rattle.iox2_config_file.specs.Answers.{ReadsAll};
 ghost use Rattle.iox2_config_file.specs.Read.{fault_view};
 ghost use Rattle.iox2sd_config.specs.Faults.{known_of, c_fault};
 ghost use Rattle.iox2sd_config.specs.Files.{Answers, ListsFaults, PutsFaults, PutsListed};
-ghost use Rattle.iox2sd_config.specs.Files.{ReadsContents, ReadsInto, ReportsFile, TellsFirst};
+ghost use Rattle.iox2sd_config.specs.Files.{ReadsInto, ReportsFile, Settles, TellsFirst};
 ghost use Rattle.iox2sd_config.specs.Files.{fault_place, known_answer, read_answer, refused_answer};
 ghost use Rattle.toml.specs.Parse.{parse_document};
 
@@ -127,7 +127,8 @@ fn read_contents(
     place: &mut PlainConfig,
 ) -> ConfigAnswer
     requires { ReadsAll text.now contents.now }
-    ensures { ReadsContents text.now contents.now place.old (known_answer result) place.new }
+    ensures { Settles text.now contents.now contents.now.config place.old (known_answer result)
+        place.new }
 {
     match &contents.config {
         Some(config) => {

@@ -1,9 +1,10 @@
 -- Whether texts are names, keys, values and paths, and which byte is wrong.
-use Rattle.std.specs.Prelude.{◌≡◌, ◌≢◌, ℕ, List, [], Option, Some, None, Result, Ok, Err, All, IsTrue, MatchBool, nat_eq, slice_get, take, ⊤, ◌⊎◌}
+use Rattle.std.specs.Prelude.{◌≡◌, ◌≢◌, ℕ, List, [], Option, Some, None, Result, Ok, Err, IsTrue, MatchBool, nat_eq, ⊤, ◌⊎◌}
 use Rattle.std.specs.List.{starts_with}
 use lib.Chars.{codes}
 use Rattle.iox2sd_values.specs.Prelude.{EndsPlain, IsAllowed, IsPlain, IsRestricted, MakesLegal, MakesName, PlaceAnswer, SemanticStringError, is_restricted}
 use Rattle.iox2_texts.specs.Text.{IsTextByte}
+use Rattle.iox2_texts.specs.Verify.{Misses}
 use Rattle.iox2_texts.specs.declared.bounded.SemanticStringError.TheVariants.{InvalidContent, ExceedsMaximumLength}
 use Rattle.iox2sd_common.specs.Answers.{place_answer}
 use Rattle.iox2sd_common.specs.declared.status.Status.TheVariants as status
@@ -29,16 +30,6 @@ IsLegal alphabet.Text b = IsTextByte b
 IsLegal alphabet.FileName b = IsTextByte b × (b ≢ 47)
 IsLegal alphabet.Restricted b = IsTrue (is_restricted b)
 
--- the byte at the place is none of the alphabet, and each before it is one
-abbrev pub IsFirstIllegal : Alphabet → List ℕ → ℕ → Type 0
-IsFirstIllegal a bytes i =
-    (b : ℕ) × (slice_get bytes i ≡ Some b) × (¬ (IsLegal a b)) × All (IsLegal a) (take i bytes)
-
--- the place of the first byte outside the alphabet
-abbrev pub FindsIllegal : Alphabet → List ℕ → Option ℕ → Type 0
-FindsIllegal a bytes (Some i) = IsFirstIllegal a bytes i
-FindsIllegal a bytes None = All (IsLegal a) bytes
-
 -- the answer on a text of an invalid content that is not empty, by its first illegal byte
 abbrev pub content_answer : Option ℕ → PlaceAnswer
 content_answer (Some i) = place_answer status.IllegalByte i
@@ -50,7 +41,7 @@ abbrev pub Refused : SemanticStringError → List ℕ → Alphabet → ℕ → P
 Refused ExceedsMaximumLength bytes a most answer = answer ≡ place_answer status.TooLong most
 Refused InvalidContent bytes a most answer =
     ((bytes ≡ []) × (answer ≡ place_answer status.Empty 0))
-    ⊎ ((bytes ≢ []) × (found : Option ℕ) × FindsIllegal a bytes found
+    ⊎ ((bytes ≢ []) × (found : Option ℕ) × Misses (IsLegal a) bytes found
     × (answer ≡ content_answer found))
 
 -- the answer on what the making gave

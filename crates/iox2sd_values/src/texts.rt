@@ -3,7 +3,8 @@
 ghost use Rattle.std.specs.Prelude.{◌≡◌, ◌↔◌, IsTrue};
 ghost use Rattle.iox2_texts.specs.Name.{IsName, MakesName};
 ghost use Rattle.iox2_texts.specs.Text.{IsText};
-ghost use Rattle.iox2sd_values.specs.Texts.{IsLegal, FindsIllegal, Refused, ChecksText};
+ghost use Rattle.iox2_texts.specs.Verify.{Misses};
+ghost use Rattle.iox2sd_values.specs.Texts.{IsLegal, Refused, ChecksText};
 ghost use Rattle.iox2sd_values.specs.Texts.{ChecksName};
 ghost use Rattle.iox2sd_values.specs.Texts.{MakesPath, MakesFileName, MakesFilePath, MakesRestricted};
 
@@ -40,7 +41,7 @@ impl Alphabet {
 
 /// The index of the first byte that the text may not have.
 fn first_illegal(text: &[u8], alphabet: Alphabet) -> Option<usize>
-    ensures { FindsIllegal alphabet text.now result }
+    ensures { Misses (IsLegal alphabet) text.now result }
 {
     for (i, byte) in text.iter().enumerate() {
         if !alphabet.has(*byte) {

@@ -1,6 +1,8 @@
 -- Files, by their names, what is found in them, and which settings of two of them differ.
 use Rattle.std.specs.Prelude.{◌≡◌, ◌≢◌, ◌⊎◌, ℕ, List, codes, Result, Ok, Err, Vec, Bool, true, false, [], ◌∷◌, ◌++◌, map, if◌then◌else◌, Some, None, String, string_bytes, option_to_list}
 use Rattle.std.specs.declared.alloc.Global.{Global}
+use Rattle.std.specs.declared.io.ErrorKind.{ErrorKind}
+use Rattle.std.specs.declared.io.ErrorKind.TheVariants as kind
 use Rattle.settings_check.specs.declared.found.FileError.{FileError}
 use Rattle.settings_check.specs.declared.found.FileError.TheVariants.{NotFound, PermissionDenied, IsADirectory, Other}
 use Rattle.iox2_config.specs.declared.config.Config.{Config}
@@ -26,7 +28,14 @@ abbrev pub given_bytes : Result (Vec ℕ Global) FileError → Result (List ℕ)
 given_bytes (Ok bytes) = Ok bytes.items
 given_bytes (Err why) = Err why
 
--- why a file cannot be read
+-- why a file cannot be read, by the kind of the system's error
+abbrev pub cause_of : ErrorKind → FileError
+cause_of kind.NotFound = NotFound
+cause_of kind.PermissionDenied = PermissionDenied
+cause_of kind.IsADirectory = IsADirectory
+cause_of _ = Other
+
+-- the same in words
 abbrev pub why_text : FileError → List ℕ
 why_text NotFound = codes "there is no such file"
 why_text PermissionDenied = codes "it may not be read"

@@ -4,7 +4,8 @@ ghost use Rattle.std.specs.Prelude.{map, option_to_list};
 ghost use Rattle.config_report.specs.Text.{Adds, SettingsGive};
 ghost use Rattle.iox2_config_file.specs.Settings.{settings_in};
 ghost use Rattle.iox2_config_file.specs.Write.{value_view};
-ghost use Rattle.settings_check.specs.Found.{given_bytes, why_text, report_of, reports_of};
+ghost use Rattle.settings_check.specs.Found.{given_bytes, cause_of, why_text, report_of};
+ghost use Rattle.settings_check.specs.Found.{reports_of};
 ghost use Rattle.settings_check.specs.Found.{found_view, AddsGiven, AddsFile, AreFound, Said};
 ghost use Rattle.settings_check.specs.Found.{difference, is_shared, difference_severity};
 ghost use Rattle.settings_check.specs.Found.{AreAllDifferences, IsDifference, sharing_text};
@@ -64,7 +65,9 @@ impl<R: fs::Files> Files for R {
 }
 
 /// Why a file cannot be read, by the kind of an error of the system.
-fn cause_of(kind: ErrorKind) -> FileError {
+fn cause_of(kind: ErrorKind) -> FileError
+    ensures { result ≡ cause_of kind }
+{
     match kind {
         ErrorKind::NotFound => FileError::NotFound,
         ErrorKind::PermissionDenied => FileError::PermissionDenied,

@@ -1,5 +1,5 @@
 use Rattle.std.proofs.Common.{◌∙◌, ap, inl, inr, refl, subst}
-use Rattle.iox2sd_config.specs.Files.{ReadsContents, known_answer, refused_answer}
+use Rattle.iox2sd_config.specs.Files.{Settles, known_answer, refused_answer}
 use Rattle.iox2sd_config.proofs.read.read_into.Goals as goal
 
 pub read_contents-requires : goal.read_contents-requires
@@ -13,7 +13,8 @@ returns-in-Ok c =
       c.in-Ok.ensures.ok.1,
       c.in-Ok.contents,
       c.in-Ok.ensures.ok.2,
-      subst (λ t. ReadsContents t c.in-Ok.contents c.args.place.now answer place)
+      subst
+          (λ t. Settles t c.in-Ok.contents c.in-Ok.contents.config c.args.place.now answer place)
           c.in-Ok.ensures.ok.0 c.read_contents.ensures,
     )
 
