@@ -96,12 +96,21 @@ words_of (Answered line words) = words.now
 words_of (Died line) = codes "died"
 words_of Open = codes "open"
 
+-- the begin of what is drawn of a call of this class
+unfoldable pub group_text : List ℕ → List ℕ
+group_text class = codes "<g class=\"" ++ (class ++ codes "\">\n")
+
+-- the whole words of a call, which a browser shows where the pointer is
+unfoldable pub title_text : Bar → List ℕ
+title_text b =
+    element_text (codes "<title>") b.command.now (codes ": ")
+    ++ element_text [] (words_of b.end) (codes "</title>\n")
+
 -- the outline of a bar from one place to another, which is open on the right
-unfoldable pub outline_text : List ℕ → ℕ → ℕ → ℕ → List ℕ
-outline_text class from to y =
-    codes "<g class=\"" ++ (class ++ (codes "\"><path class=\"bar\" d=\"M" ++ (decimal to
-    ++ (codes " " ++ (decimal y ++ (codes "H" ++ (decimal from ++ (codes "v44H" ++ (decimal to
-    ++ codes "\"/>\n")))))))))
+unfoldable pub outline_text : ℕ → ℕ → ℕ → List ℕ
+outline_text from to y =
+    codes "<path class=\"bar\" d=\"M" ++ (decimal to ++ (codes " " ++ (decimal y
+    ++ (codes "H" ++ (decimal from ++ (codes "v44H" ++ (decimal to ++ codes "\"/>\n")))))))
 
 -- the right end of a bar: a line where the call was answered, a cross where its caller died, and
 -- none where it is open
@@ -130,8 +139,9 @@ words_text b =
 -- a call from its left border to its right one
 unfoldable pub drawn_text : List ℕ → ℕ → ℕ → ℕ → Bar → List ℕ
 drawn_text class from to y b =
-    outline_text class from to y
-    ++ (end_text to y b.end ++ (frame_text from (to - from) y ++ words_text b))
+    group_text class
+    ++ (title_text b ++ (outline_text from to y
+    ++ (end_text to y b.end ++ (frame_text from (to - from) y ++ words_text b))))
 
 -- a call, which has a class of its own where its reply is the one that is refused
 unfoldable pub bar_text : List Bar → Option ℕ → Bar → List ℕ
@@ -146,9 +156,9 @@ circle_text x y number =
     ++ (codes "\" r=\"9\"/><text class=\"number\" x=\"" ++ (decimal x ++ (codes "\" y=\""
     ++ (decimal y ++ (codes "\" dy=\"4\">" ++ (decimal number ++ codes "</text>\n")))))))))
 
--- the point at which a call took effect, on the lower border of its bar: its number in the order
+-- the point at which a call took effect, right below its bar: its number in the order
 unfoldable pub point_text : List Bar → Point → List ℕ
-point_text bars p = circle_text (point_of bars p.line p.part) (top p.row + 44) p.number
+point_text bars p = circle_text (point_of bars p.line p.part) (top p.row + 53) p.number
 
 -- the names of some callers, one a row
 abbrev pub rows_text : List (Bor (List ℕ)) → List ℕ

@@ -38,10 +38,10 @@ const REFUSED: Row = Row {
         "<tspan x=\"12\" dy=\"64\">B</tspan>\n<tspan x=\"12\" dy=\"64\">A</tspan>\n</text>",
         "x=\"130\" y=\"62\" dx=\"5\">9</text>",
         "x=\"720\" y=\"62\" dx=\"5\">15</text>",
-        "<g class=\"refused\"><path class=\"bar\" d=\"M834 76H134v44H834\"/>\n<path class=\"end\" d=\"M834 76v44\"/>",
+        "<g class=\"refused\">\n<title>add listener 1.0.0.12 1.0.0.1: handle 1 1</title>\n<path class=\"bar\" d=\"M834 76H134v44H834\"/>\n<path class=\"end\" d=\"M834 76v44\"/>",
         ">add listener 1.0.0.12 1.0.0.1</text>\n<text class=\"reply\" x=\"7\" y=\"36\">handle 1 1</text>",
-        "<g class=\"call\"><path class=\"bar\" d=\"M480 140H252v44H480\"/>",
-        "<g class=\"call\"><path class=\"bar\" d=\"M716 140H488v44H716\"/>",
+        "</title>\n<path class=\"bar\" d=\"M480 140H252v44H480\"/>",
+        "</title>\n<path class=\"bar\" d=\"M716 140H488v44H716\"/>",
         ">possible: handle SLOT 2, SLOT below 2 and none of: 0</tspan>",
     ],
 };
@@ -64,10 +64,11 @@ const WHOLE: Row = Row {
         // Open in line 12, the last of ten columns, up to the right border.
         "<path class=\"bar\" d=\"M1310 268H1196v44H1310\"/>\n<svg x=\"1196\"",
         ">open</text>",
+        "<g class=\"call\">\n<title>register 1.0.0.1: handle 0 0</title>\n",
         // The listener with ticket 0 came first: in line 5, before that of line 4.
-        "<circle class=\"point\" cx=\"189\" cy=\"120\" r=\"9\"/><text class=\"number\" x=\"189\" y=\"120\" dy=\"4\">1</text>",
-        "<circle class=\"point\" cx=\"425\" cy=\"248\" r=\"9\"/><text class=\"number\" x=\"425\" y=\"248\" dy=\"4\">2</text>",
-        "<circle class=\"point\" cx=\"444\" cy=\"184\" r=\"9\"/><text class=\"number\" x=\"444\" y=\"184\" dy=\"4\">3</text>",
+        "<circle class=\"point\" cx=\"189\" cy=\"129\" r=\"9\"/><text class=\"number\" x=\"189\" y=\"129\" dy=\"4\">1</text>",
+        "<circle class=\"point\" cx=\"425\" cy=\"257\" r=\"9\"/><text class=\"number\" x=\"425\" y=\"257\" dy=\"4\">2</text>",
+        "<circle class=\"point\" cx=\"444\" cy=\"193\" r=\"9\"/><text class=\"number\" x=\"444\" y=\"193\" dy=\"4\">3</text>",
     ],
 };
 

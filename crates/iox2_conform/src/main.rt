@@ -28,8 +28,8 @@ in the order of time. `A> COMMAND` begins a call of the caller A, `A< WORDS` end
 that was seen, and `A!` says that A died. A command with `= WORDS` below it is a call that overlaps
 nothing. Where there are several services, `7: ` before a command or a begin names the one with the
 number 7. Writes whether an order of the calls, each between its begin and its end, explains all
-replies by the proved machine. If not, it writes the first reply that none explains, the line from
-which calls overlap, every reply that the call could have had, and who was attached then.
+replies by the sequential specification. If not, it writes the first reply that none explains, the
+line from which calls overlap, each reply that the call could have had, and who was attached then.
 
   svg        write a picture instead: the calls that overlap the refused reply, or all calls of a
              log that conforms, with the points at which they took effect
@@ -49,7 +49,8 @@ memory was refused or reading or writing failed.
 const VERSION: &str = "iox2-conform 0.1.0 (iceoryx2 0.9.3)\n";
 
 /// What is reported of arguments that the program does not know.
-const BAD_ARGUMENT: &str = "bad argument: iox2-conform --help says how it is used\n";
+const BAD_ARGUMENT: &str = "bad argument: expected svg, --witness, --progress, --help, --version, \
+    or no argument; the log is read from standard input\n";
 
 /// Judges the log that the reader gives, or writes how the program is used or its version, and
 /// returns its status. The first argument is the program's name. What progress writes goes to a

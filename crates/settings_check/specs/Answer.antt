@@ -44,9 +44,11 @@ status_of strict seen =
 abbrev pub unread_text : Seen → List ℕ
 unread_text seen = flat_map unread_line seen.unread
 
--- what was found is reported: to the output, and the files that cannot be read to the errors
-pub record IsChecked (way : Style) (strict : Bool) (seen : Seen) (answer : Answer) : Type 0 where
-  pub output : string_bytes answer.output ≡ lines_in way seen.said ++ end_text way seen.said
+-- what was found is reported, of which so many are errors of the files: to the output, and the
+-- files that cannot be read to the errors
+pub record IsChecked (way : Style) (strict : Bool) (faults : ℕ) (seen : Seen) (answer : Answer)
+    : Type 0 where
+  pub output : string_bytes answer.output ≡ lines_in way seen.said ++ end_text way faults seen.said
   pub errors : string_bytes answer.errors ≡ unread_text seen
   pub status : answer.status ≡ status_of strict seen
 
@@ -77,8 +79,10 @@ AddsCompared files old new =
 abbrev pub AnswersTask : Task → Style → Bool → List (String Global) → Seen → Answer → Type 0
 AnswersTask task.Show way strict files seen answer = IsShown strict seen answer
 AnswersTask task.Compare way strict files seen answer =
-    (compared : Seen) × AddsCompared files seen compared × IsChecked way strict compared answer
-AnswersTask other way strict files seen answer = IsChecked way strict seen answer
+    (compared : Seen) × AddsCompared files seen compared
+    × IsChecked way strict (errors_in seen.said) compared answer
+AnswersTask other way strict files seen answer =
+    IsChecked way strict (errors_in seen.said) seen answer
 
 -- the files are read, and what is found in them is answered
 abbrev pub AnswersFiles : (List ℕ → Result (List ℕ) FileError → Type 0) → Bool → List ℕ → Request

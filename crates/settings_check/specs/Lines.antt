@@ -103,24 +103,24 @@ warnings_in said = count_by (λ s. not (is_error s)) said
 abbrev pub plural : ℕ → List ℕ
 plural n = if nat_eq n 1 then [] else codes "s"
 
--- what is not looked for where there are so many errors
+-- what is not looked for where the files have so many errors
 abbrev pub unsought : ℕ → List ℕ
 unsought errors =
     if nat_eq errors 0 then []
     else codes "; contradictions are looked for in files without errors"
 
--- the line that counts them
-abbrev pub counts_text : List Said → List ℕ
-counts_text said =
+-- the line that counts them, where so many are errors of the files
+abbrev pub counts_text : ℕ → List Said → List ℕ
+counts_text faults said =
     decimal (errors_in said) ++ (codes " error" ++ (plural (errors_in said)
     ++ (codes ", " ++ (decimal (warnings_in said) ++ (codes " warning"
-    ++ (plural (warnings_in said) ++ (unsought (errors_in said) ++ codes "\n")))))))
+    ++ (plural (warnings_in said) ++ (unsought faults ++ codes "\n")))))))
 
 -- the last line, which counts the findings: there is none among objects of JSON
-abbrev pub end_text : Style → List Said → List ℕ
-end_text style.Plain said = counts_text said
-end_text style.Coloured said = counts_text said
-end_text style.Json said = []
+abbrev pub end_text : Style → ℕ → List Said → List ℕ
+end_text style.Plain faults said = counts_text faults said
+end_text style.Coloured faults said = counts_text faults said
+end_text style.Json faults said = []
 
 -- the line of a file that cannot be read
 abbrev pub unread_line : List ℕ × FileError → List ℕ

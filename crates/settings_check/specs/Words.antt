@@ -78,11 +78,19 @@ abbrev pub after_files : List (List ℕ) → Option (Chosen × List (List ℕ))
 after_files files = option_map (λ p. (p.0, files ++ p.1))
 
 -- how many files a task takes
-abbrev pub fits : Task → ℕ → Bool
-fits task.Check n = nat_lt 0 n
-fits task.Show n = nat_eq n 1
-fits task.Compare n = nat_eq n 2
-fits other n = nat_eq n 0
+abbrev pub takes_files : Task → ℕ → Bool
+takes_files task.Check n = nat_lt 0 n
+takes_files task.Show n = nat_eq n 1
+takes_files task.Compare n = nat_eq n 2
+takes_files other n = nat_eq n 0
+
+-- a task has a use for the options that were chosen beside it: a format is of lists of findings,
+-- and what is written of no file has no warning
+abbrev pub takes_options : Task → Chosen → Bool
+takes_options task.Show o = not (is_some o.format)
+takes_options task.DefaultFile o = not o.strict && not (is_some o.format)
+takes_options task.Schema o = not o.strict && not (is_some o.format)
+takes_options other o = true
 
 -- the arguments
 abbrev pub words_of : IntoIter (String Global) Global → List (List ℕ)
@@ -96,18 +104,22 @@ texts_of files = map string_bytes files
 abbrev pub task_in : Chosen → Task
 task_in o = unwrap_or o.task task.Check
 
+-- the task takes the other options and so many files
+abbrev pub fits : Chosen → ℕ → Bool
+fits o n = takes_files (task_in o) n && takes_options (task_in o) o
+
 -- what was said is a request
 abbrev pub IsRequest : Option (Chosen × List (List ℕ)) → Request → Type 0
 IsRequest None request = ⊥
 IsRequest (Some (o, files)) request =
     (request.strict ≡ o.strict) × (request.format ≡ unwrap_or o.format Text)
     × (request.task ≡ task_in o) × (texts_of request.files.items ≡ files)
-    × (fits (task_in o) (length files) ≡ true)
+    × (fits o (length files) ≡ true)
 
 -- what was said is none
 abbrev pub IsNoRequest : Option (Chosen × List (List ℕ)) → Type 0
 IsNoRequest None = Unit {0}
-IsNoRequest (Some (o, files)) = fits (task_in o) (length files) ≡ false
+IsNoRequest (Some (o, files)) = fits o (length files) ≡ false
 
 -- what options and files request, where no format is awaited
 abbrev pub RequestsWith : Chosen → List (List ℕ) → Result Request RequestError → Type 0

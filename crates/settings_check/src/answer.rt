@@ -98,19 +98,20 @@ fn status_of(strict: bool, found: &Found<'_>) -> Status
     }
 }
 
-/// What was found is reported.
+/// What was found is reported, of which so many are errors of the files.
 fn checked(
     alloc: Global,
     style: Style,
     strict: bool,
+    faults: usize,
     found: &Found<'_>,
 ) -> Result<Answer, AllocError>
-    ensures { IfOk result (IsChecked style strict (found_view found.now)) }
+    ensures { IfOk result (IsChecked style strict faults (found_view found.now)) }
 {
     let mut output = String::new(alloc);
     let mut errors = String::new(alloc);
     write_lines(alloc, &mut output, style, found.reports.as_slice())?;
-    write_end(&mut output, style, found.reports.as_slice())?;
+    write_end(&mut output, style, faults, found.reports.as_slice())?;
     write_unread(alloc, &mut errors, found.unread.as_slice())?;
     Ok(Answer {
         output,
@@ -194,13 +195,14 @@ fn answer_files<F: Files>(
     let names = request.files.as_slice();
     let style = style_of(request.format, coloured);
     let mut found = find_in(alloc, files, input, names)?;
+    let faults = errors_in(found.reports.as_slice());
     match request.task {
         Task::Show => shown(alloc, request.strict, &found),
         Task::Compare => {
             add_compared(alloc, &mut found, names)?;
-            checked(alloc, style, request.strict, &found)
+            checked(alloc, style, request.strict, faults, &found)
         }
-        _ => checked(alloc, style, request.strict, &found),
+        _ => checked(alloc, style, request.strict, faults, &found),
     }
 }
 

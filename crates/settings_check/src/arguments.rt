@@ -3,8 +3,8 @@ ghost use Rattle.std.specs.Prelude.{◌≡◌, ◌∷◌, ◌++◌, [], ℕ, Lis
 ghost use Rattle.std.specs.Prelude.{string_bytes};
 ghost use Rattle.settings_check.specs.Words.{word_of, names_file};
 ghost use Rattle.settings_check.specs.Words.{chosen_with, format_with, option_with, said, after_files};
-ghost use Rattle.settings_check.specs.Words.{fits, IsBadArguments, Requests, RequestsIn, RequestsWith};
-ghost use Rattle.settings_check.specs.Words.{texts_of, words_of};
+ghost use Rattle.settings_check.specs.Words.{IsBadArguments, Requests, RequestsIn, RequestsWith};
+ghost use Rattle.settings_check.specs.Words.{takes_files, takes_options, texts_of, words_of};
 
 use std::alloc::Global;
 use std::env::Args;
@@ -181,8 +181,8 @@ fn take_word(chosen: Chosen, files: &mut Vec<String>, word: String) -> Result<Ch
 }
 
 /// Whether a task takes so many files.
-fn fits(task: Task, files: usize) -> bool
-    ensures { result ≡ fits task files }
+fn takes_files(task: Task, files: usize) -> bool
+    ensures { result ≡ takes_files task files }
 {
     match task {
         Task::Check => files > 0,
@@ -192,12 +192,27 @@ fn fits(task: Task, files: usize) -> bool
     }
 }
 
+/// Whether a task has a use for the options that were chosen beside it: a format is of lists of
+/// findings, and what is written of no file has no warning.
+fn takes_options(task: Task, chosen: Chosen) -> bool
+    ensures { result ≡ takes_options task chosen }
+{
+    match task {
+        Task::Show => chosen.format.is_none(),
+        Task::DefaultFile | Task::Schema => !chosen.strict && chosen.format.is_none(),
+        Task::Check | Task::Compare | Task::Help | Task::Version => true,
+    }
+}
+
 /// The request of options and files.
 fn request_with(chosen: Chosen, files: Vec<String>) -> Result<Request, RequestError>
     ensures { RequestsWith chosen (texts_of files.items) result }
 {
     let task = chosen.task.unwrap_or(Task::Check);
-    if chosen.awaits_format || !fits(task, files.len()) {
+    if chosen.awaits_format {
+        return Err(RequestError::BadArguments);
+    }
+    if !takes_files(task, files.len()) || !takes_options(task, chosen) {
         return Err(RequestError::BadArguments);
     }
     Ok(Request {

@@ -211,7 +211,7 @@ fn plural(count: usize) -> &'static str
     if count == 1 { "" } else { "s" }
 }
 
-/// What is not looked for where there are so many errors.
+/// What is not looked for where the files have so many errors.
 fn unsought(errors: usize) -> &'static str
     ensures { result.now ≡ unsought errors }
 {
@@ -222,14 +222,15 @@ fn unsought(errors: usize) -> &'static str
     }
 }
 
-/// Appends how many errors and warnings there are, for a person.
+/// Appends how many errors and warnings there are, for a person. So many are errors of the files.
 pub(crate) fn write_end(
     out: &mut String,
     style: Style,
+    faults: usize,
     reports: &[Report<'_>],
 ) -> Result<(), AllocError>
-    ensures { OnOk result
-        (string_bytes out.new ≡ string_bytes out.old ++ end_text style (reports_of reports.now)) }
+    ensures { OnOk result (string_bytes out.new
+        ≡ string_bytes out.old ++ end_text style faults (reports_of reports.now)) }
 {
     match style {
         Style::Json => Ok(()),
@@ -238,7 +239,7 @@ pub(crate) fn write_end(
             let warnings = warnings_in(reports);
             let more_errors = plural(errors);
             let more_warnings = plural(warnings);
-            let unsought = unsought(errors);
+            let unsought = unsought(faults);
             write!(
                 out,
                 "{errors} error{more_errors}, {warnings} warning{more_warnings}{unsought}\n"

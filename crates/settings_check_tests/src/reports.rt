@@ -101,7 +101,7 @@ const RUNS: [Run<'_>; 10] = [
          one: error: global.node.monitor-suffix: is \".node_monitor\" here and \".seen\" in the \
          other file, and must be the same in all processes of one system\n\
          one: warning: defaults.event.max-nodes: is 5 here and 36 in the other file\n\
-         2 errors, 1 warning; contradictions are looked for in files without errors\n",
+         2 errors, 1 warning\n",
         "",
     ),
     (
@@ -125,7 +125,7 @@ const RUNS: [Run<'_>; 10] = [
          one: error: global.prefix: is \"one_\" here and \"iox2_\" in the other file, and must be \
          the same in all processes of one system\n\
          one: warning: defaults.event.max-nodes: is 5 here and 36 in the other file\n\
-         1 error, 2 warnings; contradictions are looked for in files without errors\n",
+         1 error, 2 warnings\n",
         "",
     ),
     (&["--version"], 0, "iox2-check 0.1.0 (iceoryx2 0.9.3)\n", ""),

@@ -4,7 +4,7 @@ use super::running::{Known, run};
 use std::test::Fail;
 
 /// Words, and the status of a run on files `a` and `b` without settings.
-const STATUSES: [(&[&str], u8); 30] = [
+const STATUSES: [(&[&str], u8); 35] = [
     (&["a"], 0),
     (&["a", "b", "a"], 0),
     (&["-"], 0),
@@ -16,16 +16,21 @@ const STATUSES: [(&[&str], u8); 30] = [
     (&["a", "--format", "json"], 0),
     (&["--show", "a"], 0),
     (&["a", "--show"], 0),
+    (&["--strict", "--show", "a"], 0),
     (&["--compare", "a", "b"], 0),
     (&["a", "--compare", "b"], 0),
     (&["--default"], 0),
     (&["--schema"], 0),
     (&["--help"], 0),
+    (&["--help", "--strict"], 0),
     (&["--version"], 0),
     (&[], 2),
     (&["--strict"], 2),
     (&["--show"], 2),
     (&["--show", "a", "b"], 2),
+    (&["--show", "--format", "json", "a"], 2),
+    (&["--default", "--strict"], 2),
+    (&["--schema", "--format", "json"], 2),
     (&["--compare", "a"], 2),
     (&["--compare", "a", "b", "a"], 2),
     (&["--default", "a"], 2),

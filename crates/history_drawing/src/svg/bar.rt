@@ -1,7 +1,8 @@
 //! Calls as bars, and the points at which they took effect.
 ghost use Rattle.std.specs.Prelude.{◌≡◌, ◌++◌, ◌≤◌, OnOk, length, string_bytes};
-ghost use Rattle.history_drawing.specs.Svg.{bar_text, circle_text, class_text, drawn_text, end_text, frame_text};
-ghost use Rattle.history_drawing.specs.Svg.{is_refused, outline_text, point_text, words_of, words_text};
+ghost use Rattle.history_drawing.specs.Svg.{bar_text, circle_text, class_text, drawn_text, end_text};
+ghost use Rattle.history_drawing.specs.Svg.{frame_text, group_text, is_refused, outline_text, point_text};
+ghost use Rattle.history_drawing.specs.Svg.{title_text, words_of, words_text};
 
 use super::frame::write_element;
 use super::place::{begin_of, end_of, point_of, top};
@@ -36,22 +37,30 @@ fn words_of<'a>(end: &BarEnd<'a>) -> &'a [u8]
     }
 }
 
+/// Appends the begin of what is drawn of a call of this class.
+#[tactic(auto, unfolding(crate::specs::Svg::group_text))]
+fn write_group(out: &mut String, class: &str) -> Result<(), AllocError>
+    ensures { OnOk result (string_bytes out.new ≡ string_bytes out.old ++ group_text class.now) }
+{
+    writeln!(out, "<g class=\"{class}\">")
+}
+
+/// Appends the whole words of a call, which a browser shows where the pointer is.
+#[tactic(auto, unfolding(crate::specs::Svg::title_text))]
+fn write_title(out: &mut String, bar: &Bar<'_>) -> Result<(), AllocError>
+    ensures { OnOk result (string_bytes out.new ≡ string_bytes out.old ++ title_text bar.now) }
+{
+    write_element(out, "<title>", bar.command, ": ")?;
+    write_element(out, "", words_of(&bar.end), "</title>\n")?;
+    Ok(())
+}
+
 /// Appends the outline of a bar, which has no line on the right.
 #[tactic(auto, unfolding(crate::specs::Svg::outline_text))]
-fn write_outline(
-    out: &mut String,
-    class: &str,
-    from: usize,
-    to: usize,
-    y: usize,
-) -> Result<(), AllocError>
-    ensures { OnOk result (string_bytes out.new
-        ≡ string_bytes out.old ++ outline_text class.now from to y) }
+fn write_outline(out: &mut String, from: usize, to: usize, y: usize) -> Result<(), AllocError>
+    ensures { OnOk result (string_bytes out.new ≡ string_bytes out.old ++ outline_text from to y) }
 {
-    writeln!(
-        out,
-        "<g class=\"{class}\"><path class=\"bar\" d=\"M{to} {y}H{from}v44H{to}\"/>"
-    )
+    writeln!(out, "<path class=\"bar\" d=\"M{to} {y}H{from}v44H{to}\"/>")
 }
 
 /// Appends the right end of a bar: a line where the call was answered, a cross where its caller
@@ -109,7 +118,9 @@ fn write_drawn(
     ensures { OnOk result (string_bytes out.new
         ≡ string_bytes out.old ++ drawn_text class.now from to y bar.now) }
 {
-    write_outline(out, class, from, to, y)?;
+    write_group(out, class)?;
+    write_title(out, bar)?;
+    write_outline(out, from, to, y)?;
     write_end(out, to, y, &bar.end)?;
     write_frame(out, from, to.saturating_sub(from), y)?;
     write_words(out, bar)?;
@@ -146,7 +157,7 @@ fn write_circle(out: &mut String, x: usize, y: usize, number: usize) -> Result<(
     )
 }
 
-/// Appends the point at which a call took effect.
+/// Appends the point at which a call took effect, right below its bar.
 #[tactic(auto, unfolding(crate::specs::Svg::point_text))]
 pub(super) fn write_point(
     out: &mut String,
@@ -160,5 +171,5 @@ pub(super) fn write_point(
         ≡ string_bytes out.old ++ point_text bars.now point.now) }
 {
     let x = point_of(bars, point.line, point.part);
-    write_circle(out, x, top(point.row) + 44, point.number)
+    write_circle(out, x, top(point.row) + 53, point.number)
 }
