@@ -1,13 +1,13 @@
 -- A call alone.
-use Rattle.std.proofs.Common.{◌≡◌, ℕ, zero, suc, ◌+◌, List, [], ◌∷◌, ◌++◌, Option, Some, None, get_or, length, refl, sym, ◌∙◌, ap, arith}
+use Rattle.std.proofs.Common.{◌≡◌, ℕ, List, [], ◌∷◌, ◌++◌, Option, Some, None, get_or, length, refl, ◌∙◌, ap}
 use Rattle.std.specs.List.{slice_set}
 use Rattle.iox2_container.specs.declared.container.role.Role.{Role}
 use Rattle.iox2_container.specs.Handle.{Handle}
 use Rattle.log_lines.specs.Commands.{NamedCommand}
-use Rattle.log_lines.specs.Commands.NamedCommand.{numbered, deregister, release}
+use Rattle.log_lines.specs.Commands.NamedCommand.{numbered}
 use Rattle.service_conformance.specs.declared.conformance.seen_reply.SeenReply.{SeenReply}
 use Rattle.service_conformance.specs.declared.conformance.seen_reply.SeenReply.TheVariants as reply
-use Rattle.service_conformance.specs.Judged.{Judged, judged_answered, shown, stopped}
+use Rattle.service_conformance.specs.Judged.{Judged, judged_answered, stopped}
 use Rattle.history_logs.specs.declared.logs.service.LogCall.{LogCall}
 use Rattle.history_logs.specs.Seen.{HasHandles, Service, called, calls_answered, calls_shown, changed, given_in, start_of, with_alone, with_begin, with_begun, with_over}
 use Rattle.std.proofs.Math.Seq.{set-append_seam}

@@ -1,5 +1,5 @@
 -- Elements at an index.
-use Rattle.std.proofs.Common.{◌≡◌, ◌≢◌, ◌⊎◌, ℕ, zero, suc, ◌<◌, List, [], ◌∷◌, ◌++◌, All, Option, Some, length, refl, ap, subst, arith, inl, inr, slice_get, ◌∙◌, get_or}
+use Rattle.std.proofs.Common.{◌≡◌, ◌⊎◌, ℕ, zero, suc, ◌<◌, List, [], ◌∷◌, ◌++◌, All, Some, length, refl, ap, subst, arith, inl, inr, slice_get, ◌∙◌, get_or}
 use Rattle.std.specs.List.{slice_set}
 use Rattle.std.proofs.lemmas.Option.{same_Some, slice_get_within, get_or_from_slice_get, slice_get-get_or}
 use Rattle.iox2_container.proofs.ListEdits.{get_set_same}

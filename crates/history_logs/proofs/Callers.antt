@@ -1,8 +1,6 @@
 -- What callers do.
-use Rattle.std.proofs.Common.{◌≡◌, ◌≢◌, ℕ, zero, suc, ◌+◌, ◌<◌, ◌≤◌, ◌⊎◌, List, [], ◌∷◌, ◌++◌, Bool, bytes_eq, true, false, Option, Some, None, drop, length, get_or, set, take, refl, sym, ◌∙◌, ap, subst, arith, if◌then◌else◌, inl, inr, take_all, drop-cons}
-use Rattle.std.specs.Prelude.{◌==◌, ◌&&◌}
+use Rattle.std.proofs.Common.{◌≡◌, ◌≢◌, ℕ, suc, ◌+◌, ◌<◌, ◌≤◌, ◌⊎◌, List, [], ◌∷◌, ◌++◌, Bool, bytes_eq, true, false, Option, Some, None, drop, length, get_or, set, take, refl, sym, ◌∙◌, ap, subst, arith, if◌then◌else◌, inl, inr, take_all, drop-cons}
 use Rattle.std.specs.List.{slice_get}
-use Rattle.std.proofs.lemmas.Bool.Decides.{nat_tests}
 use Rattle.std.proofs.lemmas.List.{take-append-drop, take_more, append-nil, length-take-le}
 use Rattle.std.proofs.lemmas.Slice.Eq.{bytes_eq-Decides}
 use Rattle.std.proofs.lemmas.List.Elements.{All-head, All-push, All-tail}

@@ -17,7 +17,7 @@ use Rattle.history_windows.specs.Windows.{IsStop, IsVerdict, IsWhole}
 use Rattle.service_conformance.specs.Judged.{Judged, WindowStep}
 use Rattle.service_conformance.specs.Looks.{Watched}
 use Rattle.history_logs.specs.declared.logs.verdict.Verdict.{Verdict}
-use Rattle.history_logs.specs.declared.logs.verdict.Verdict.TheVariants.{Conforms, Refused, ManyConfigs, ManyOpen, BadLine}
+use Rattle.history_logs.specs.declared.logs.verdict.Verdict.TheVariants.{Refused, ManyConfigs, ManyOpen}
 use Rattle.history_logs.specs.Good.{IsOrderly}
 use Rattle.history_logs.specs.EventLines.{HasEventLines}
 use Rattle.history_logs.specs.Judging.{Explores, IsFirstFound, IsFound, IsFoundOf, IsNotBefore, IsReportOf, comes_before, earlier, is_refused}

@@ -2,7 +2,7 @@
 use Rattle.std.proofs.Common.{◌≡◌, ℕ, Bool, false, IsTrue, ◌+◌, ◌≤◌, List, [], ◌∷◌, ◌++◌, Contains, IsPermutation, Option, Some, inl, inr, length, slice_get, subst, sym, arith, ◌∙◌}
 use Rattle.std.specs.Int.{bit_at}
 use Rattle.std.proofs.lemmas.Bool.{cases_lt}
-use Rattle.std.proofs.lemmas.List.Elements.{All-nil, All-push, Contains-append_left, Contains-push}
+use Rattle.std.proofs.lemmas.List.Elements.{All-push, Contains-append_left, Contains-push}
 use Rattle.std.proofs.lemmas.List.Sorted.{All-permutation, Contains-permutation}
 use Rattle.histories.specs.Frontier.{HasSlot}
 use Rattle.histories.proofs.Bits.{bit_cases, slot_once, slot_within}

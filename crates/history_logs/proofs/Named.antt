@@ -5,11 +5,11 @@ use Rattle.std.specs.Prelude.{slice_get}
 use Rattle.std.specs.List.{list_any, slice_set}
 use Rattle.std.specs.Option.{is_some}
 use Rattle.std.specs.Set.{unique_keys}
-use Rattle.std.proofs.lemmas.Bool.{cases_eq, cases_order}
+use Rattle.std.proofs.lemmas.Bool.{cases_order}
 use Rattle.std.proofs.lemmas.List.Elements.{All-head, All-tail, All-append}
-use Rattle.std.proofs.lemmas.Option.{get_or_from_slice_get, same_Some, slice_get-get_or, slice_get_within}
+use Rattle.std.proofs.lemmas.Option.{same_Some, slice_get_within}
 use Rattle.history_logs.specs.Logs.{services_in}
-use Rattle.history_logs.specs.Reading.{HaveNumber, IsNamed, IsNameless, IsNew, IsNewBehind, HaveOneNumber}
+use Rattle.history_logs.specs.Reading.{HaveNumber, IsNamed, IsNew, IsNewBehind, HaveOneNumber}
 use Rattle.history_logs.specs.Seen.{Service}
 use Rattle.std.proofs.lemmas.List.{get_or-take, length-take-le, take-append-drop}
 

@@ -1,5 +1,5 @@
 -- What settles while a log is read.
-use Rattle.std.proofs.Common.{◌≡◌, ◌⊎◌, ℕ, zero, suc, ◌+◌, ◌-◌, ◌<◌, ◌≤◌, List, [], ◌∷◌, ◌++◌, Some, None, append_assoc, drop, get_or, length, replicate, refl, sym, ◌∙◌, ap, subst, arith, inl, inr, slice_get, take, eqb, eq-eqb, true, Option}
+use Rattle.std.proofs.Common.{◌≡◌, ◌⊎◌, ℕ, zero, suc, ◌+◌, ◌<◌, ◌≤◌, List, [], ◌∷◌, ◌++◌, Some, None, append_assoc, drop, get_or, length, replicate, refl, sym, ◌∙◌, ap, subst, arith, inl, inr, slice_get, take, eqb, eq-eqb, true, Option}
 use Rattle.std.proofs.lemmas.Bool.{cases_lt}
 use Rattle.std.proofs.lemmas.List.{length-append, take-append-drop, take-take}
 use Rattle.std.proofs.Math.Seq.{take-append_seam}

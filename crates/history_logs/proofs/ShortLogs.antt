@@ -1,5 +1,5 @@
 -- What is kept of a log after one line more.
-use Rattle.std.proofs.Common.{◌≡◌, ◌≢◌, ◌⊎◌, ℕ, ◌+◌, ◌≤◌, List, [], ◌∷◌, ◌++◌, Option, Some, None, length, refl, sym, ◌∙◌, ap, subst, arith, inl, inr, slice_get}
+use Rattle.std.proofs.Common.{◌≡◌, ◌≢◌, ◌⊎◌, ℕ, ◌≤◌, List, [], ◌∷◌, ◌++◌, Option, Some, None, length, refl, sym, ◌∙◌, ap, subst, arith, inl, inr, slice_get}
 use Rattle.std.specs.List.{slice_set}
 use Rattle.std.proofs.lemmas.Bool.{cases_eq}
 use Rattle.std.proofs.lemmas.List.{get_or_past, length-append, length-set}
@@ -13,7 +13,6 @@ use Rattle.log_lines.specs.Commands.{Begun, NamedCommand}
 use Rattle.log_lines.specs.Lines.{Line}
 use Rattle.log_lines.specs.Lines.Line.{service, call, reply, begin, end, crash, given}
 use Rattle.log_lines.specs.States.{State}
-use Rattle.service_conformance.specs.Judged.{Judged}
 use Rattle.service_conformance.specs.Looks.{Watched}
 use Rattle.service_descriptions.specs.declared.replay.lines.service_line.ServiceLine.{ServiceLine}
 use Rattle.history_logs.specs.declared.logs.callers.CallerState.{CallerState}
@@ -21,8 +20,8 @@ use Rattle.history_logs.specs.declared.logs.callers.CallerState.TheVariants as c
 use Rattle.history_logs.specs.declared.logs.service.LogCall.{LogCall}
 use Rattle.history_logs.specs.Good.{IsKept, IsOrderly}
 use Rattle.history_logs.specs.Reading.{Dies, Gives, GoesOn, HaveNumber, IsNamed, IsSane, Log, MayBegin, Sets, StartsAnewAs, StartsAs}
-use Rattle.history_logs.specs.Seen.{Begins, HasHandles, IsKeptCall, Service, called, started, unseen, with_alone, with_begin, with_crash, with_end}
-use Rattle.history_logs.specs.Shortened.{AreShort, IsShort, IsShortLog, Keeps, Kept, front_at, shortened}
+use Rattle.history_logs.specs.Seen.{HasHandles, IsKeptCall, Service, called, started, unseen, with_alone, with_begin, with_crash, with_end}
+use Rattle.history_logs.specs.Shortened.{AreShort, IsShort, IsShortLog, Keeps, Kept, front_at}
 use Rattle.history_logs.proofs.Alone.{called_stops}
 use Rattle.history_logs.proofs.AtIndex.{all_get, all_of, get_push_at, get_same, get_within}
 use Rattle.history_logs.proofs.Orderly.{open_new}
