@@ -1,16 +1,16 @@
 -- What callers do.
 use Rattle.std.proofs.Common.{◌≡◌, ◌≢◌, ℕ, suc, ◌+◌, ◌<◌, ◌≤◌, ◌⊎◌, List, [], ◌∷◌, ◌++◌, Bool, bytes_eq, true, false, Option, Some, None, drop, length, get_or, set, take, refl, sym, ◌∙◌, ap, subst, arith, if◌then◌else◌, inl, inr, take_all, drop-cons}
+use Rattle.std.proofs.Math.Seq.{set-append_seam}
 use Rattle.std.specs.List.{slice_get}
-use Rattle.std.proofs.lemmas.List.{take-append-drop, take_more, append-nil, length-take-le}
+use Rattle.std.proofs.lemmas.List.{append-nil, length-take-le, take-append-drop, take_more}
 use Rattle.std.proofs.lemmas.Slice.Eq.{bytes_eq-Decides}
 use Rattle.std.proofs.lemmas.List.Elements.{All-head, All-push, All-tail}
+use Rattle.std.proofs.lemmas.Option.{get_or_from_slice_get, same_Some, slice_get_within}
 use Rattle.history_logs.specs.declared.logs.callers.Caller.{Caller}
 use Rattle.history_logs.specs.declared.logs.callers.CallerState.{CallerState}
 use Rattle.history_logs.specs.declared.logs.callers.CallerState.TheVariants as caller
 use Rattle.history_logs.specs.Fields.{HasName, IsOn, IsUnknown, state_in}
 use Rattle.history_logs.specs.Reading.{NoneCalls, Sets}
-use Rattle.std.proofs.Math.Seq.{set-append_seam}
-use Rattle.std.proofs.lemmas.Option.{same_Some, get_or_from_slice_get, slice_get_within}
 
 pub same_bytes : (a b : List ℕ) → bytes_eq a b ≡ true → a ≡ b
 same_bytes a b e = (bytes_eq-Decides a b).0 e
@@ -43,8 +43,7 @@ own_in name [] back n named none =
     rw is refl
 own_in name (d ∷ front) back n named none =
     let not : bytes_eq d.name.items name ≡ false =
-    other_name d.name.items name
-    (All-head (λ (x : Caller). x.name.items ≢ name) d front none) in
+    other_name d.name.items name (All-head (λ (x : Caller). x.name.items ≢ name) d front none) in
     rw not (own_in name front back n named
     (All-tail (λ (x : Caller). x.name.items ≢ name) d front none))
 
@@ -64,8 +63,7 @@ others_in name (d ∷ front) back n other named ne =
 split_at : (known : List Caller) (at : ℕ) (c : Caller) → slice_get known at ≡ Some c
     → known ≡ take at known ++ c ∷ drop (suc at) known
 split_at known at c there =
-    sym (take-append-drop at known)
-    ∙ ap (λ (l : List Caller). take at known ++ l)
+    sym (take-append-drop at known) ∙ ap (λ (l : List Caller). take at known ++ l)
     (drop-cons known at c (slice_get_within known at c there)
     ∙ ap (λ (x : Caller). x ∷ drop (suc at) known) (get_or_from_slice_get known at c c there))
 

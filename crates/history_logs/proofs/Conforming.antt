@@ -3,7 +3,7 @@ use Rattle.std.proofs.Common.{◌≡◌, ◌≢◌, ℕ, ◌+◌, ◌<◌, ◌�
 use Rattle.std.specs.Prelude.{◌==◌, sum_by}
 use Rattle.std.specs.List.{slice_set}
 use Rattle.std.proofs.lemmas.Bool.{cases_lt}
-use Rattle.std.proofs.lemmas.List.{length-set, get_or_default}
+use Rattle.std.proofs.lemmas.List.{get_or_default, length-set}
 use Rattle.std.proofs.lemmas.List.Elements.{All-nil, Contains-push}
 use Rattle.std.proofs.lemmas.List.Sums.{sum-map}
 use Rattle.std.proofs.lemmas.Option.{slice_get_within}
@@ -26,9 +26,9 @@ use Rattle.history_logs.specs.Shortened.{AreShort, IsShort, IsShortLog, front_at
 use Rattle.history_logs.proofs.Above.{above_more, read_whole}
 use Rattle.history_logs.proofs.AtIndex.{all_get, all_of}
 use Rattle.history_logs.proofs.Judgements.{judged_conforms}
-use Rattle.history_logs.proofs.Named.{same_count, map_same, set_back}
+use Rattle.history_logs.proofs.Named.{map_same, same_count, set_back}
 use Rattle.history_logs.proofs.Settled.{events_split}
-use Rattle.history_logs.proofs.ShortLogs.{found_at, goes_line, numbers_same, short_sane, short_put}
+use Rattle.history_logs.proofs.ShortLogs.{found_at, goes_line, numbers_same, short_put, short_sane}
 
 -- where no call was seen, nothing was
 explained_none : (s : Service) → IsOrderly s → length s.calls ≡ 0 → IsSeenRightly s

@@ -21,7 +21,7 @@ use Rattle.service_conformance.specs.Looks.{Watched, unwatched}
 use Rattle.history_logs.specs.Good.{IsOrderly}
 use Rattle.history_logs.specs.Logs.{StepOf, news}
 use Rattle.history_logs.specs.Seen.{Service, forgetting, forgotten, start_of}
-use Rattle.history_logs.specs.Settling.{AreOver, IsBehindBegun, Stays, GoesShort}
+use Rattle.history_logs.specs.Settling.{AreOver, GoesShort, IsBehindBegun, Stays}
 use Rattle.history_logs.specs.Shortened.{IsShort, Kept}
 use Rattle.history_logs.proofs.Shortened.{start_get}
 use Rattle.history_logs.proofs.Forgotten.{get_forgotten, length_forgotten, step_same}

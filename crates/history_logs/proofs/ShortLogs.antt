@@ -5,8 +5,8 @@ use Rattle.std.proofs.lemmas.Bool.{cases_eq}
 use Rattle.std.proofs.lemmas.List.{get_or_past, length-append, length-set}
 use Rattle.std.proofs.lemmas.Option.{same_Some, slice_get_within}
 use Rattle.histories.specs.declared.front.Front.{Front}
-use Rattle.histories.specs.declared.event.Event.TheVariants.{Crash}
 use Rattle.histories.specs.Histories.{IsOpen}
+use Rattle.histories.specs.declared.event.Event.TheVariants.{Crash}
 use Rattle.iox2_container.proofs.ListEdits.{get_set_other}
 use Rattle.iox2_dynamic.specs.Service as dynamic
 use Rattle.log_lines.specs.Commands.{Begun, NamedCommand}
@@ -27,7 +27,7 @@ use Rattle.history_logs.proofs.AtIndex.{all_get, all_of, get_push_at, get_same, 
 use Rattle.history_logs.proofs.Orderly.{open_new}
 use Rattle.history_logs.proofs.Refused.{nil_of}
 use Rattle.history_logs.proofs.Shortened.{kept_call, kept_start, short_begin, short_count, short_end, short_over}
-use Rattle.history_logs.proofs.ShortServices.{short_begins, short_new, short_started, short_unseen, same_call}
+use Rattle.history_logs.proofs.ShortServices.{same_call, short_begins, short_new, short_started, short_unseen}
 
 -- the service that is kept at an index
 pub found_at : (services live : List Service) (fronts : List (Option (Front Watched))) (at : ℕ)

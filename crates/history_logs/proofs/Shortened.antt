@@ -8,7 +8,6 @@ use Rattle.histories.specs.declared.event.Event.TheVariants.{Begin, End}
 use Rattle.histories.specs.declared.front.Front.{Front}
 use Rattle.histories.specs.Histories.{HasEnded, begun}
 use Rattle.histories.proofs.Events.{ended_still}
-use Rattle.history_logs.proofs.Orderly.{length_answered}
 use Rattle.history_windows.specs.Goings.{IsFrontAfter}
 use Rattle.iox2_container.specs.declared.container.role.Role.{Role}
 use Rattle.iox2_dynamic.specs.Service as dynamic
@@ -23,7 +22,8 @@ use Rattle.service_descriptions.specs.declared.replay.machine.command.Command.{C
 use Rattle.service_descriptions.specs.declared.replay.machine.command.Command.TheVariants as command
 use Rattle.history_logs.specs.declared.logs.service.LogCall.{LogCall}
 use Rattle.history_logs.specs.Seen.{Service, called, calls_answered, calls_shown, changed, given_at, given_in, handle_named, start_of, with_begin, with_end, with_part}
-use Rattle.history_logs.specs.Shortened.{HasFront, IsSettled, Kept, shortened, IsShort}
+use Rattle.history_logs.specs.Shortened.{HasFront, IsSettled, IsShort, Kept, shortened}
+use Rattle.history_logs.proofs.Orderly.{length_answered}
 
 -- lists with one more at the end
 pub get_pushed : {X : Type 0} (xs ys : List X) (x : X) (n : ℕ) → length xs ≡ length ys
