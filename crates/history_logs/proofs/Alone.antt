@@ -1,17 +1,17 @@
 -- A call alone.
-use Rattle.std.proofs.Common.{◌≡◌, ℕ, zero, suc, ◌+◌, List, [], ◌∷◌, ◌++◌, Option, Some, None, get_or, length, refl, sym, ◌∙◌, ap, arith}
+use Rattle.std.proofs.Common.{◌≡◌, ℕ, List, [], ◌∷◌, ◌++◌, Option, Some, None, get_or, length, refl, ◌∙◌, ap}
+use Rattle.std.proofs.Math.Seq.{set-append_seam}
+use Rattle.std.proofs.lemmas.List.{get_or_push}
 use Rattle.std.specs.List.{slice_set}
 use Rattle.iox2_container.specs.declared.container.role.Role.{Role}
 use Rattle.iox2_container.specs.Handle.{Handle}
 use Rattle.log_lines.specs.Commands.{NamedCommand}
-use Rattle.log_lines.specs.Commands.NamedCommand.{numbered, deregister, release}
+use Rattle.log_lines.specs.Commands.NamedCommand.{numbered}
 use Rattle.service_conformance.specs.declared.conformance.seen_reply.SeenReply.{SeenReply}
 use Rattle.service_conformance.specs.declared.conformance.seen_reply.SeenReply.TheVariants as reply
-use Rattle.service_conformance.specs.Judged.{Judged, judged_answered, shown, stopped}
+use Rattle.service_conformance.specs.Judged.{Judged, judged_answered, stopped}
 use Rattle.history_logs.specs.declared.logs.service.LogCall.{LogCall}
 use Rattle.history_logs.specs.Seen.{HasHandles, Service, called, calls_answered, calls_shown, changed, given_in, start_of, with_alone, with_begin, with_begun, with_over}
-use Rattle.std.proofs.Math.Seq.{set-append_seam}
-use Rattle.std.proofs.lemmas.List.{get_or_push}
 
 -- a command is no weak listing that stops
 pub called_stops : (s : Service) (c : NamedCommand) → stopped (called s c).seen ≡ None

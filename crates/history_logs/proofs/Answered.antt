@@ -2,8 +2,10 @@
 use Rattle.std.proofs.Common.{◌≡◌, ◌≢◌, ℕ, zero, suc, ◌+◌, ◌<◌, ◌≤◌, All, AllPairs, List, [], ◌∷◌, ◌++◌, Option, Some, None, length, slice_get, refl, sym, ◌∙◌, ap, subst, arith, inl, inr, append_assoc}
 use Rattle.std.specs.List.{slice_set}
 use Rattle.std.proofs.lemmas.Bool.{cases_eq}
-use Rattle.std.proofs.lemmas.List.Elements.{All-head, All-nil, All-push, All-set, All-tail, All-weaker}
+use Rattle.std.proofs.lemmas.List.Elements.{All-nil, All-push, All-set, All-weaker}
 use Rattle.std.proofs.lemmas.List.Quantifiers.{all_pairs_push}
+use Rattle.std.proofs.lemmas.Option.{same_Some}
+use Rattle.std.specs.Option.{option_map}
 use Rattle.histories.specs.declared.event.Event.{Event}
 use Rattle.histories.specs.declared.event.Event.TheVariants.{Begin, End, Crash}
 use Rattle.histories.specs.Histories.{IsOpen, StandsAt}
@@ -27,13 +29,11 @@ use Rattle.history_logs.specs.Reading.{Dies, GoesOn, HasRead, Log, Says}
 use Rattle.history_logs.specs.Reading.HasRead.{nothing as none_read, note as note_read, line as line_read}
 use Rattle.history_logs.specs.declared.logs.callers.CallerState.{CallerState}
 use Rattle.history_logs.specs.declared.logs.callers.CallerState.TheVariants as caller
-use Rattle.history_logs.proofs.AtIndex.{all_get, get_within, get_left, get_last, get_push}
+use Rattle.history_logs.proofs.AtIndex.{all_get, get_last, get_left, get_push, get_within}
 use Rattle.history_logs.proofs.Kept.{kept_new, kept_step}
-use Rattle.history_logs.proofs.Orderly.{open_new, both}
-use Rattle.history_logs.proofs.Shortened.{get_changed, get_unchanged}
+use Rattle.history_logs.proofs.Orderly.{both, open_new}
 use Rattle.history_logs.specs.Seen.{Begins, Service, called, calls_answered, calls_shown, changed, start_of, started, starting, stopping, unseen, with_alone, with_begin, with_crash, with_end, with_look, with_over, with_part}
-use Rattle.std.proofs.lemmas.Option.{same_Some}
-use Rattle.std.specs.Option.{option_map}
+use Rattle.history_logs.proofs.Shortened.{get_changed, get_unchanged}
 
 -- so it is above a line: the events stand in these lines, and replies where their calls end,
 -- whatever follows

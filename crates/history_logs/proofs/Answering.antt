@@ -1,15 +1,15 @@
 -- Calls that are answered.
 use Rattle.std.proofs.Common.{◌≡◌, ℕ, zero, suc, List, [], ◌∷◌, Option, Some, None, ◌+◌, ◌<◌, ◌≤◌, ◌-◌, ◌++◌, drop, replicate, get_or, length, set, slice_get, refl, sym, ◌∙◌, ap, arith}
-use Rattle.std.proofs.lemmas.List.{get_or_past, length-replicate, get_or_default}
+use Rattle.std.proofs.lemmas.List.{get_or_default, get_or_past, length-replicate}
 use Rattle.std.proofs.Math.Seq.{drop-append-add}
 use Rattle.histories.specs.declared.event.Event.{Event}
 use Rattle.histories.specs.declared.event.Event.TheVariants.{End}
-use Rattle.history_logs.proofs.Orderly.{length_changed}
 use Rattle.iox2_container.specs.declared.container.role.Role.{Role}
 use Rattle.iox2_container.specs.Handle.{Handle}
 use Rattle.service_conformance.specs.declared.conformance.seen_reply.SeenReply.{SeenReply}
 use Rattle.service_conformance.specs.Judged.{Judged, judged_answered, shown, stopped}
 use Rattle.history_logs.specs.Seen.{Service, calls_answered, calls_shown, calls_shown_from, changed, forgetting, forgotten, given_by, given_in, start_of, with_end}
+use Rattle.history_logs.proofs.Orderly.{length_changed}
 
 pub changed_at : (f : Judged → Judged) (calls : List Judged) (number : ℕ) (c n : Judged)
     → c ≡ get_or calls number c → n ≡ f c → set calls number n ≡ changed f calls number

@@ -1,7 +1,8 @@
 -- Elements at an index.
-use Rattle.std.proofs.Common.{◌≡◌, ◌≢◌, ◌⊎◌, ℕ, zero, suc, ◌<◌, List, [], ◌∷◌, ◌++◌, All, Option, Some, length, refl, ap, subst, arith, inl, inr, slice_get, ◌∙◌, get_or}
+use Rattle.std.proofs.Common.{◌≡◌, ◌⊎◌, ℕ, zero, suc, ◌<◌, List, [], ◌∷◌, ◌++◌, All, Some, length, refl, ap, subst, arith, inl, inr, slice_get, ◌∙◌, get_or, sym}
+use Rattle.std.proofs.lemmas.List.{get_or_push, length_push}
+use Rattle.std.proofs.lemmas.Option.{get_or_from_slice_get, same_Some, slice_get-get_or, slice_get_read, slice_get_within}
 use Rattle.std.specs.List.{slice_set}
-use Rattle.std.proofs.lemmas.Option.{same_Some, slice_get_within, get_or_from_slice_get, slice_get-get_or}
 use Rattle.iox2_container.proofs.ListEdits.{get_set_same}
 
 pub get_same : {X : Type 0} (xs : List X) (i : ℕ) (a b : X) → slice_get xs i ≡ Some b
@@ -16,10 +17,9 @@ get_left (x ∷ xs) ys (suc n) h = get_left xs ys n (omega arith)
 
 pub get_last : {X : Type 0} (xs : List X) (y : X) (n : ℕ) → n ≡ length xs
     → slice_get (xs ++ y ∷ []) n ≡ Some y
-get_last [] y zero h = refl
-get_last [] y (suc n) h = absurd (omega arith)
-get_last (x ∷ xs) y zero h = absurd (omega arith)
-get_last (x ∷ xs) y (suc n) h = get_last xs y n (omega arith)
+get_last xs y n h =
+    slice_get_read (xs ++ y ∷ []) (length (xs ++ y ∷ [])) n y refl
+    (omega (arith, length_push xs y)) (sym (get_or_push xs y y n (sym h)))
 
 pub get_push : {X : Type 0} (xs : List X) (y : X) (i : ℕ) (x : X) → slice_get xs i ≡ Some x
     → slice_get (xs ++ y ∷ []) i ≡ Some x

@@ -1,17 +1,16 @@
 -- What callers do.
-use Rattle.std.proofs.Common.{◌≡◌, ◌≢◌, ℕ, zero, suc, ◌+◌, ◌<◌, ◌≤◌, ◌⊎◌, List, [], ◌∷◌, ◌++◌, Bool, bytes_eq, true, false, Option, Some, None, drop, length, get_or, set, take, refl, sym, ◌∙◌, ap, subst, arith, if◌then◌else◌, inl, inr, take_all}
-use Rattle.std.specs.Prelude.{◌==◌, ◌&&◌}
+use Rattle.std.proofs.Common.{◌≡◌, ◌≢◌, ℕ, suc, ◌+◌, ◌<◌, ◌≤◌, ◌⊎◌, List, [], ◌∷◌, ◌++◌, Bool, bytes_eq, true, false, Option, Some, None, drop, length, get_or, set, take, refl, sym, ◌∙◌, ap, subst, arith, if◌then◌else◌, inl, inr, take_all, drop-cons}
+use Rattle.std.proofs.Math.Seq.{set-append_seam}
 use Rattle.std.specs.List.{slice_get}
-use Rattle.std.proofs.lemmas.Bool.Decides.{nat_tests}
-use Rattle.std.proofs.lemmas.List.{take-append-drop, take_more}
+use Rattle.std.proofs.lemmas.List.{append-nil, length-take-le, take-append-drop, take_more}
 use Rattle.std.proofs.lemmas.Slice.Eq.{bytes_eq-Decides}
 use Rattle.std.proofs.lemmas.List.Elements.{All-head, All-push, All-tail}
+use Rattle.std.proofs.lemmas.Option.{get_or_from_slice_get, same_Some, slice_get_within}
 use Rattle.history_logs.specs.declared.logs.callers.Caller.{Caller}
 use Rattle.history_logs.specs.declared.logs.callers.CallerState.{CallerState}
 use Rattle.history_logs.specs.declared.logs.callers.CallerState.TheVariants as caller
 use Rattle.history_logs.specs.Fields.{HasName, IsOn, IsUnknown, state_in}
 use Rattle.history_logs.specs.Reading.{NoneCalls, Sets}
-use Rattle.std.proofs.lemmas.Option.{same_Some, get_or_from_slice_get}
 
 pub same_bytes : (a b : List ℕ) → bytes_eq a b ≡ true → a ≡ b
 same_bytes a b e = (bytes_eq-Decides a b).0 e
@@ -35,27 +34,45 @@ unknown_state (c ∷ known) name none =
     other_name c.name.items name (All-head (λ (d : Caller). d.name.items ≢ name) c known none) in
     rw not (unknown_state known name (All-tail (λ (d : Caller). d.name.items ≢ name) c known none))
 
+-- the first caller of a name does what the name does
+own_in : (name : List ℕ) (front back : List Caller) (n : Caller) → n.name.items ≡ name
+    → IsUnknown front name → state_in (front ++ n ∷ back) name ≡ Some n.state
+own_in name [] back n named none =
+    let is : bytes_eq n.name.items name ≡ true =
+    subst (λ (m : List ℕ). bytes_eq n.name.items m ≡ true) named (same_name n.name.items) in
+    rw is refl
+own_in name (d ∷ front) back n named none =
+    let not : bytes_eq d.name.items name ≡ false =
+    other_name d.name.items name (All-head (λ (x : Caller). x.name.items ≢ name) d front none) in
+    rw not (own_in name front back n named
+    (All-tail (λ (x : Caller). x.name.items ≢ name) d front none))
+
+-- and the others what they do without it
+others_in : (name : List ℕ) (front back : List Caller) (n : Caller) (other : List ℕ)
+    → n.name.items ≡ name → other ≢ name
+    → state_in (front ++ n ∷ back) other ≡ state_in (front ++ back) other
+others_in name [] back n other named ne =
+    let not : bytes_eq n.name.items other ≡ false =
+    other_name n.name.items other (λ e. ne (sym e ∙ named)) in
+    rw not refl
+others_in name (d ∷ front) back n other named ne =
+    ap (λ (o : Option CallerState). if bytes_eq d.name.items other then Some d.state else o)
+    (others_in name front back n other named ne)
+
+-- the callers around the one at an index
+split_at : (known : List Caller) (at : ℕ) (c : Caller) → slice_get known at ≡ Some c
+    → known ≡ take at known ++ c ∷ drop (suc at) known
+split_at known at c there =
+    sym (take-append-drop at known) ∙ ap (λ (l : List Caller). take at known ++ l)
+    (drop-cons known at c (slice_get_within known at c there)
+    ∙ ap (λ (x : Caller). x ∷ drop (suc at) known) (get_or_from_slice_get known at c c there))
+
 -- what the caller does that stands at the index
 pub known_state : (known : List Caller) (name : List ℕ) (at : ℕ) (h : HasName known name at)
     → state_in known name ≡ Some h.c.state
-known_state known name at h = go known at h.c h.there h.named h.first
-  where
-    go : (known : List Caller) (at : ℕ) (c : Caller) → slice_get known at ≡ Some c
-        → c.name.items ≡ name → IsUnknown (take at known) name
-        → state_in known name ≡ Some c.state
-    go [] at c there named first = absurd (cc)
-    go (d ∷ known) zero c there named first =
-        let same : d ≡ c = same_Some d c there in
-        let is : bytes_eq d.name.items name ≡ true =
-        subst (λ (n : List ℕ). bytes_eq d.name.items n ≡ true)
-        (ap (λ (x : Caller). x.name.items) same ∙ named) (same_name d.name.items) in
-        rw is (ap (λ (x : Caller). Some x.state) same)
-    go (d ∷ known) (suc at) c there named first =
-        let not : bytes_eq d.name.items name ≡ false =
-        other_name d.name.items name
-        (All-head (λ (x : Caller). x.name.items ≢ name) d (take at known) first) in
-        rw not (go known at c there named
-        (All-tail (λ (x : Caller). x.name.items ≢ name) d (take at known) first))
+known_state known name at h =
+    ap (λ (l : List Caller). state_in l name) (split_at known at h.c h.there)
+    ∙ own_in name (take at known) (drop (suc at) known) h.c h.named h.first
 
 pub other_bytes : (a b : List ℕ) → bytes_eq a b ≡ false → a ≢ b
 other_bytes a b e same = let yes = (bytes_eq-Decides a b).1 same in absurd (cc)
@@ -72,77 +89,39 @@ state_at known name at d h is =
     ∙ sym (known_state known name at h)
 
 -- the first caller of the name does something else from now on
-module _ (name : List ℕ) (state : CallerState) where
-  own_set : (known : List Caller) (at : ℕ) (c n : Caller) → slice_get known at ≡ Some c
-      → n.name.items ≡ name → n.state ≡ state → IsUnknown (take at known) name
-      → state_in (set known at n) name ≡ Some state
-  own_set [] at c n there named does first = absurd (cc)
-  own_set (d ∷ known) zero c n there named does first =
-      let is : bytes_eq n.name.items name ≡ true =
-      subst (λ (m : List ℕ). bytes_eq n.name.items m ≡ true) named (same_name n.name.items) in
-      rw is (ap Some does)
-  own_set (d ∷ known) (suc at) c n there named does first =
-      let not : bytes_eq d.name.items name ≡ false =
-      other_name d.name.items name
-      (All-head (λ (x : Caller). x.name.items ≢ name) d (take at known) first) in
-      rw not (own_set known at c n there named does
-      (All-tail (λ (x : Caller). x.name.items ≢ name) d (take at known) first))
+pub set_known : (name : List ℕ) (state : CallerState) (known : List Caller) (at : ℕ)
+    (d n : Caller) → HasName known name at → d ≡ get_or known at d → n.name.items ≡ d.name.items
+    → n.state ≡ state → Sets (state_in known) name state (state_in (set known at n))
+set_known name state known at d n h is same does =
+    let front = take at known in
+    let back = drop (suc at) known in
+    let split = split_at known at h.c h.there in
+    let long : length front ≡ at =
+    length-take-le at known (omega (arith, slice_get_within known at h.c h.there)) in
+    let put : set known at n ≡ front ++ n ∷ back =
+    ap (λ (l : List Caller). set l at n) split
+    ∙ (ap (λ i. set (front ++ h.c ∷ back) i n) (sym long) ∙ set-append_seam front h.c back n) in
+    let named : n.name.items ≡ name =
+    same ∙ (ap (λ (x : Caller). x.name.items) (known_at known at h.c d h.there is) ∙ h.named) in
+    record {
+      own = ap (λ (l : List Caller). state_in l name) put
+          ∙ (own_in name front back n named h.first ∙ ap Some does);
+      others = λ other ne.
+          ap (λ (l : List Caller). state_in l other) put
+          ∙ (others_in name front back n other named ne
+          ∙ sym (ap (λ (l : List Caller). state_in l other) split
+          ∙ others_in name front back h.c other h.named ne));
+    }
 
-  others_set : (known : List Caller) (at : ℕ) (c n : Caller) (other : List ℕ)
-      → slice_get known at ≡ Some c → c.name.items ≡ name → n.name.items ≡ name → other ≢ name
-      → state_in (set known at n) other ≡ state_in known other
-  others_set [] at c n other there was named ne = absurd (cc)
-  others_set (d ∷ known) zero c n other there was named ne =
-      let new : bytes_eq n.name.items other ≡ false =
-      other_name n.name.items other (λ e. ne (sym e ∙ named)) in
-      let old : bytes_eq d.name.items other ≡ false =
-      other_name d.name.items other
-      (λ e. ne (sym e ∙ (ap (λ (x : Caller). x.name.items) (same_Some d c there) ∙ was))) in
-      rw (new, old) refl
-  others_set (d ∷ known) (suc at) c n other there was named ne =
-      ap (λ (o : Option CallerState). if bytes_eq d.name.items other then Some d.state else o)
-      (others_set known at c n other there was named ne)
-
-  pub set_known : (known : List Caller) (at : ℕ) (d n : Caller) → HasName known name at
-      → d ≡ get_or known at d → n.name.items ≡ d.name.items → n.state ≡ state
-      → Sets (state_in known) name state (state_in (set known at n))
-  set_known known at d n h is same does =
-      let named : n.name.items ≡ name =
-      same ∙ (ap (λ (x : Caller). x.name.items) (known_at known at h.c d h.there is) ∙ h.named) in
-      record {
-        own = own_set known at h.c n h.there named does h.first;
-        others = λ other ne. others_set known at h.c n other h.there h.named named ne;
-      }
-
-  own_push : (known : List Caller) (n : Caller) → n.name.items ≡ name → n.state ≡ state
-      → IsUnknown known name → state_in (known ++ n ∷ []) name ≡ Some state
-  own_push [] n named does none =
-      let is : bytes_eq n.name.items name ≡ true =
-      subst (λ (m : List ℕ). bytes_eq n.name.items m ≡ true) named (same_name n.name.items) in
-      rw is (ap Some does)
-  own_push (d ∷ known) n named does none =
-      let not : bytes_eq d.name.items name ≡ false =
-      other_name d.name.items name (All-head (λ (x : Caller). x.name.items ≢ name) d known none) in
-      rw not (own_push known n named does
-      (All-tail (λ (x : Caller). x.name.items ≢ name) d known none))
-
-  others_push : (known : List Caller) (n : Caller) (other : List ℕ) → n.name.items ≡ name
-      → other ≢ name → state_in (known ++ n ∷ []) other ≡ state_in known other
-  others_push [] n other named ne =
-      let not : bytes_eq n.name.items other ≡ false =
-      other_name n.name.items other (λ e. ne (sym e ∙ named)) in
-      rw not refl
-  others_push (d ∷ known) n other named ne =
-      ap (λ (o : Option CallerState). if bytes_eq d.name.items other then Some d.state else o)
-      (others_push known n other named ne)
-
-  pub push_known : (known : List Caller) (n : Caller) → IsUnknown known name
-      → n.name.items ≡ name → n.state ≡ state
-      → Sets (state_in known) name state (state_in (known ++ n ∷ []))
-  push_known known n none named does = record {
-    own = own_push known n named does none;
-    others = λ other ne. others_push known n other named ne;
-  }
+pub push_known : (name : List ℕ) (state : CallerState) (known : List Caller) (n : Caller)
+    → IsUnknown known name → n.name.items ≡ name → n.state ≡ state
+    → Sets (state_in known) name state (state_in (known ++ n ∷ []))
+push_known name state known n none named does = record {
+  own = own_in name known [] n named none ∙ ap Some does;
+  others = λ other ne.
+      others_in name known [] n other named ne
+      ∙ ap (λ (l : List Caller). state_in l other) (append-nil known);
+}
 
 -- one caller more that has another name
 pub unknown_more : (known : List Caller) (name : List ℕ) (at : ℕ) (d : Caller)

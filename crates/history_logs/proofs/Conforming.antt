@@ -1,12 +1,12 @@
 -- What settles of all services while a log is read.
-use Rattle.std.proofs.Common.{◌≡◌, ◌≢◌, ℕ, zero, suc, ◌+◌, ◌<◌, ◌≤◌, true, List, [], ◌∷◌, ◌++◌, All, Option, Some, None, get_or, get_or-set_other, get_or-set_same, length, refl, sym, ◌∙◌, ap, subst, arith, inl, inr, slice_get, take, take_all, sum}
+use Rattle.std.proofs.Common.{◌≡◌, ◌≢◌, ℕ, ◌+◌, ◌<◌, ◌≤◌, true, List, [], ◌∷◌, ◌++◌, All, Option, Some, None, get_or, get_or-set_other, get_or-set_same, length, refl, sym, ◌∙◌, ap, subst, arith, inl, inr, slice_get, take, take_all, sum}
 use Rattle.std.specs.Prelude.{◌==◌, sum_by}
 use Rattle.std.specs.List.{slice_set}
-use Rattle.std.proofs.lemmas.Bool.{cases_eq, cases_lt}
-use Rattle.std.proofs.lemmas.List.{length-set, get_or_default}
+use Rattle.std.proofs.lemmas.Bool.{cases_lt}
+use Rattle.std.proofs.lemmas.List.{get_or_default, length-set}
 use Rattle.std.proofs.lemmas.List.Elements.{All-nil, Contains-push}
 use Rattle.std.proofs.lemmas.List.Sums.{sum-map}
-use Rattle.std.proofs.lemmas.Option.{same_Some, slice_get-get_or, slice_get_within}
+use Rattle.std.proofs.lemmas.Option.{slice_get_within}
 use Rattle.histories.specs.declared.event.Event.{Event}
 use Rattle.histories.specs.declared.event.Event.TheVariants.{Begin, End, Crash}
 use Rattle.histories.specs.declared.front.Front.{Front}
@@ -14,7 +14,6 @@ use Rattle.histories.specs.Histories.{IsExplained, begun}
 use Rattle.histories.proofs.Events.{begins_none}
 use Rattle.histories.proofs.Frontiers.{explains_none}
 use Rattle.history_windows.proofs.Growing.{goes_explained}
-use Rattle.iox2_container.proofs.ListEdits.{get_set_other}
 use Rattle.line_streams.specs.Spelling.{HasNo}
 use Rattle.service_conformance.specs.Looks.{Watched, unwatched}
 use Rattle.history_logs.specs.Good.{IsAbove, IsOrderly, IsReadTo, Takes}
@@ -24,12 +23,12 @@ use Rattle.history_logs.specs.Reading.{HaveOneNumber, IsSane, Log}
 use Rattle.history_logs.specs.Seen.{Service}
 use Rattle.history_logs.specs.Settling.{AreRightShort, AreSameFronts, GoesShort, HasShort, HaveShort, IsRightShort, IsShortAbove, StayAll, Stays}
 use Rattle.history_logs.specs.Shortened.{AreShort, IsShort, IsShortLog, front_at}
-use Rattle.history_logs.proofs.Above.{above_more, above_room, read_whole}
-use Rattle.history_logs.proofs.AtIndex.{all_get, all_of, get_same, get_within}
+use Rattle.history_logs.proofs.Above.{above_more, read_whole}
+use Rattle.history_logs.proofs.AtIndex.{all_get, all_of}
 use Rattle.history_logs.proofs.Judgements.{judged_conforms}
-use Rattle.history_logs.proofs.Named.{same_count, map_same, set_back}
+use Rattle.history_logs.proofs.Named.{map_same, same_count, set_back}
 use Rattle.history_logs.proofs.Settled.{events_split}
-use Rattle.history_logs.proofs.ShortLogs.{found_at, goes_line, numbers_same, short_sane, short_put}
+use Rattle.history_logs.proofs.ShortLogs.{found_at, goes_line, numbers_same, short_put, short_sane}
 
 -- where no call was seen, nothing was
 explained_none : (s : Service) → IsOrderly s → length s.calls ≡ 0 → IsSeenRightly s

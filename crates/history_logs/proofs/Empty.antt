@@ -2,7 +2,6 @@
 use Rattle.std.proofs.Common.{◌≡◌, ◌⊎◌, ◌++◌, ◌∷◌, [], ℕ, Bool, false, List, sym, ◌∙◌, ap, inl, inr, refl}
 use Rattle.std.specs.List.{slice_set}
 use Rattle.iox2_container.specs.State.{RegistryState}
-use Rattle.iox2_dynamic.specs.declared.dynamic_config.port_details.PortDetails.{PortDetails}
 use Rattle.iox2_dynamic.specs.Service as dynamic
 use Rattle.log_lines.specs.States.{State}
 use Rattle.log_lines.specs.States.State.{nodes, ports, entry}

@@ -3,7 +3,7 @@ use Rattle.std.proofs.Common.{◌≡◌, ℕ, zero, suc, ◌+◌, ◌-◌, ◌<�
 use Rattle.std.proofs.lemmas.Bool.{cases_lt, ltb-false, ltb-true, le-ltb}
 use Rattle.std.proofs.lemmas.List.Elements.{All-nil, All-push, All-take, Contains-append_left, Contains-push}
 use Rattle.std.proofs.lemmas.List.{take_more}
-use Rattle.std.proofs.lemmas.Option.{get_or_from_slice_get, slice_get_within, same_Some}
+use Rattle.std.proofs.lemmas.Option.{get_or_from_slice_get, same_Some, slice_get_within}
 use Rattle.histories.specs.declared.event.Event.{Event}
 use Rattle.histories.specs.Histories.{IsExplained}
 use Rattle.histories.proofs.Verdicts.{explained_take}
@@ -17,7 +17,7 @@ use Rattle.history_windows.specs.Windows.{IsStop, IsVerdict, IsWhole}
 use Rattle.service_conformance.specs.Judged.{Judged, WindowStep}
 use Rattle.service_conformance.specs.Looks.{Watched}
 use Rattle.history_logs.specs.declared.logs.verdict.Verdict.{Verdict}
-use Rattle.history_logs.specs.declared.logs.verdict.Verdict.TheVariants.{Conforms, Refused, ManyConfigs, ManyOpen, BadLine}
+use Rattle.history_logs.specs.declared.logs.verdict.Verdict.TheVariants.{ManyConfigs, ManyOpen, Refused}
 use Rattle.history_logs.specs.Good.{IsOrderly}
 use Rattle.history_logs.specs.EventLines.{HasEventLines}
 use Rattle.history_logs.specs.Judging.{Explores, IsFirstFound, IsFound, IsFoundOf, IsNotBefore, IsReportOf, comes_before, earlier, is_refused}

@@ -2,6 +2,7 @@
 use Rattle.std.proofs.Common.{◌≡◌, ℕ, ◌+◌, ◌<◌, ◌≤◌, All, Contains, List, Option, Some, None, length, get_or, sum_by, take, refl, sym, ◌∙◌, ap, subst}
 use Rattle.std.proofs.lemmas.List.Elements.{All-weaker}
 use Rattle.std.proofs.lemmas.List.Sums.{sum_by_more, sum_by_more_le}
+use Rattle.std.proofs.lemmas.Option.{same_Some}
 use Rattle.history_windows.specs.declared.window.Stop.{Stop}
 use Rattle.history_windows.specs.declared.window.Stop.TheVariants as stop
 use Rattle.history_logs.specs.declared.logs.verdict.Expected.{Expected}
@@ -11,20 +12,36 @@ use Rattle.history_logs.specs.declared.logs.verdict.Verdict.TheVariants.{Conform
 use Rattle.history_logs.specs.Good.{IsReadTo}
 use Rattle.history_logs.specs.Judging.{AreJudged, IsNotBefore, IsRefusedIn, end_verdict}
 use Rattle.history_logs.specs.Logs.{HasGood, IsRefusal, IsRightAbove, IsSeenRightly, Judged, NoneRefused, NoneRefusedAbove, StopsAt, StopsIn, services_in}
+use Rattle.history_logs.specs.Reading.{Log}
 use Rattle.history_logs.specs.Seen.{Service}
 use Rattle.history_logs.proofs.Named.{some_service}
-use Rattle.std.proofs.lemmas.Option.{same_Some}
 
-stops_at : (services : List Service) (k line : ℕ) (s : Service) (index : ℕ) (why : Stop)
-    → Contains services s → StopsIn s k index why → line ≡ k → All (IsRightAbove k) services
-    → All NoneRefused services → StopsAt services line s index why
-stops_at services k line s index why has stops same above others = record {
-  is = has;
-  stops = stops.stops;
-  there = stops.there ∙ ap Some (sym same);
-  above = subst (λ n. All (IsRightAbove n) services) (sym same) above;
-  others = others;
-}
+-- a bound is passed, and nothing comes before it
+bound_passed : (bytes : List ℕ) (services : List Service) (bad : Option (ℕ × Expected))
+    (k line : ℕ) (v : Verdict) (why : Stop) (s : Service) → IsReadTo bytes services bad
+    → Contains services s → line ≡ k → (x : (index : ℕ) × StopsIn s k index why)
+    → All (IsNotBefore k v) services
+    → ((t : Service) → IsNotBefore k v t → IsRightAbove k t × NoneRefused t)
+    → (count : ℕ) × (log : Log) × (rest : List ℕ) × HasGood bytes count log rest
+    × ((t : Service) × (index : ℕ) × StopsAt log.services line t index why)
+bound_passed bytes services bad k line v why s r has same x before right = (
+  r.count,
+  r.log,
+  r.rest,
+  r.good,
+  (
+    s,
+    x.0,
+    subst (λ (ss : List Service). StopsAt ss line s x.0 why) (sym r.same) (record {
+      is = has;
+      stops = x.1.stops;
+      there = x.1.there ∙ ap Some (sym same);
+      above = subst (λ n. All (IsRightAbove n) services) (sym same)
+          (All-weaker (IsNotBefore k v) (IsRightAbove k) (λ t y. (right t y).0) services before);
+      others = All-weaker (IsNotBefore k v) NoneRefused (λ t y. (right t y).1) services before;
+    }),
+  ),
+)
 
 refusal_of : (services : List Service) (k : ℕ) (s : Service) (reported : Refusal)
     → Contains services s → IsRefusedIn s k reported → All (NoneRefusedAbove k) services
@@ -66,36 +83,12 @@ judged_found bytes services bad (Refused reported) r f = (
   subst (λ (ss : List Service). IsRefusal ss reported) (sym r.same)
       (refusal_of services f.0 f.1.0 reported f.1.1 f.1.2 f.1.3),
 )
-judged_found bytes services bad (ManyConfigs line) r f = (
-  r.count,
-  r.log,
-  r.rest,
-  r.good,
-  (
-    f.1.0,
-    f.1.2.1.0,
-    subst (λ (ss : List Service). StopsAt ss line f.1.0 f.1.2.1.0 stop.ManyConfigs) (sym r.same)
-        (stops_at services f.0 line f.1.0 f.1.2.1.0 stop.ManyConfigs f.1.1 f.1.2.1.1 f.1.2.0
-        (All-weaker (IsNotBefore f.0 (ManyConfigs line)) (IsRightAbove f.0) (λ s x. x.0) services
-        f.1.3)
-        (All-weaker (IsNotBefore f.0 (ManyConfigs line)) NoneRefused (λ s x. x.1) services f.1.3)),
-  ),
-)
-judged_found bytes services bad (ManyOpen line) r f = (
-  r.count,
-  r.log,
-  r.rest,
-  r.good,
-  (
-    f.1.0,
-    f.1.2.1.0,
-    subst (λ (ss : List Service). StopsAt ss line f.1.0 f.1.2.1.0 stop.ManyOpen) (sym r.same)
-        (stops_at services f.0 line f.1.0 f.1.2.1.0 stop.ManyOpen f.1.1 f.1.2.1.1 f.1.2.0
-        (All-weaker (IsNotBefore f.0 (ManyOpen line)) (IsRightAbove f.0) (λ s x. x.0) services
-        f.1.3)
-        (All-weaker (IsNotBefore f.0 (ManyOpen line)) NoneRefused (λ s x. x.1) services f.1.3)),
-  ),
-)
+judged_found bytes services bad (ManyConfigs line) r f =
+    bound_passed bytes services bad f.0 line (ManyConfigs line) stop.ManyConfigs f.1.0 r f.1.1
+    f.1.2.0 f.1.2.1 f.1.3 (λ t x. x)
+judged_found bytes services bad (ManyOpen line) r f =
+    bound_passed bytes services bad f.0 line (ManyOpen line) stop.ManyOpen f.1.0 r f.1.1 f.1.2.0
+    f.1.2.1 f.1.3 (λ t x. x)
 judged_found bytes services bad (BadLine line e) r f = absurd f.1.2
 
 -- nothing was found, and no line is bad

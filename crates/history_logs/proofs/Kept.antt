@@ -1,30 +1,29 @@
 -- What holds of all that is read holds after one line more.
-use Rattle.std.proofs.Common.{◌≡◌, ◌≢◌, ◌⊎◌, ℕ, zero, suc, ◌+◌, ◌<◌, ◌≤◌, List, [], ◌∷◌, ◌++◌, All, Bool, bytes_eq, true, false, Option, Some, None, get_or, length, refl, sym, ◌∙◌, ap, subst, arith, inl, inr, take, take_all}
+use Rattle.std.proofs.Common.{◌≡◌, ◌≢◌, ◌⊎◌, ℕ, ◌+◌, ◌<◌, ◌≤◌, List, [], ◌∷◌, ◌++◌, All, Bool, bytes_eq, true, false, Option, Some, None, length, refl, sym, ◌∙◌, ap, subst, arith, inl, inr, take, take_all}
+use Rattle.std.proofs.Math.Seq.{take-append_seam, take-length}
 use Rattle.std.specs.Prelude.{slice_get, sum_by}
 use Rattle.std.specs.List.{slice_set}
 use Rattle.std.proofs.lemmas.Bool.{cases_eq}
 use Rattle.std.proofs.lemmas.List.{length-append, length-set}
-use Rattle.std.proofs.lemmas.List.Elements.{All-head, All-nil, All-push, All-set, All-tail, All-weaker}
-use Rattle.std.proofs.lemmas.List.Sums.{sum_by_push, sum_by-set}
-use Rattle.std.proofs.lemmas.Option.{same_Some, slice_get-get_or, slice_get_within, get_or_from_slice_get}
-use Rattle.histories.specs.declared.event.Event.{Event}
+use Rattle.std.proofs.lemmas.List.Elements.{All-nil, All-push, All-set, All-weaker}
+use Rattle.std.proofs.lemmas.List.Sums.{sum_by-set, sum_by_push}
+use Rattle.std.proofs.lemmas.Option.{get_or_from_slice_get, same_Some, slice_get_within}
 use Rattle.histories.specs.Histories.{IsOpen}
 use Rattle.iox2_container.proofs.ListEdits.{get_set_other}
 use Rattle.log_lines.specs.Commands.{Begun, NamedCommand}
 use Rattle.log_lines.specs.Commands.Begun.{command, weak}
 use Rattle.log_lines.specs.Lines.{Line}
 use Rattle.log_lines.specs.Lines.Line.{service, call, reply, begin, end, crash, given}
+use Rattle.service_descriptions.specs.declared.replay.lines.service_line.ServiceLine.{ServiceLine}
 use Rattle.history_logs.specs.declared.logs.callers.CallerState.{CallerState}
 use Rattle.history_logs.specs.declared.logs.callers.CallerState.TheVariants as caller
 use Rattle.history_logs.specs.Good.{IsKept, IsOpenOn, IsOrderly, TakesLine}
 use Rattle.history_logs.specs.Logs.{calls_in}
-use Rattle.history_logs.specs.Reading.{Dies, GoesOn, IsSane, Log, Sets, HaveOneNumber}
-use Rattle.history_logs.specs.Seen.{Begins, HasHandles, Service, called, started, unseen, with_alone, with_begin, with_crash, with_end}
+use Rattle.history_logs.specs.Reading.{Dies, GoesOn, HaveOneNumber, IsSane, Log, Sets}
+use Rattle.history_logs.specs.Seen.{Begins, HasHandles, Service, called, started, unseen, with_alone, with_crash, with_end}
 use Rattle.history_logs.proofs.AtIndex.{all_get, get_push, get_same}
 use Rattle.history_logs.proofs.Callers.{other_bytes, same_bytes}
 use Rattle.history_logs.proofs.Orderly.{begun_of, open_alone, open_crashed, open_ended, orderly_alone, orderly_crash, orderly_end, orderly_new, orderly_started}
-use Rattle.service_descriptions.specs.declared.replay.lines.service_line.ServiceLine.{ServiceLine}
-use Rattle.std.proofs.Math.Seq.{take-append_seam, take-length}
 
 cases_name : (a b : List ℕ) → (a ≡ b) ⊎ (a ≢ b)
 cases_name a b = cases (bytes_eq a b) refl

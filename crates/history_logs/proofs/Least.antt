@@ -1,16 +1,15 @@
 -- The least call that is open, the last one that begins, and calls that are over.
-use Rattle.std.proofs.Common.{◌≡◌, ◌⊎◌, ℕ, ◌+◌, ◌<◌, ◌≤◌, List, [], ◌∷◌, ◌++◌, Option, Some, None, drop, get_or, length, refl, sym, ◌∙◌, ap, subst, arith, inl, inr, take, take_all}
+use Rattle.std.proofs.Common.{◌≡◌, ◌⊎◌, ℕ, ◌+◌, ◌<◌, ◌≤◌, List, [], ◌∷◌, ◌++◌, Option, Some, None, get_or, length, refl, sym, ◌∙◌, ap, subst, arith, inl, inr, take, take_all}
 use Rattle.std.proofs.lemmas.Bool.{cases_eq, cases_lt}
-use Rattle.std.proofs.lemmas.List.{get_or_past, take-append-drop}
+use Rattle.std.proofs.lemmas.List.{get_or_past}
 use Rattle.histories.specs.declared.event.Event.{Event}
 use Rattle.histories.specs.declared.event.Event.TheVariants.{Begin, End, Crash}
 use Rattle.histories.specs.Frontier.{HasSlot}
-use Rattle.histories.specs.Histories.{HasEnded, begins}
+use Rattle.histories.specs.Histories.{begins}
 use Rattle.histories.proofs.Counting.{times_same}
 use Rattle.histories.proofs.Cutting.{begins-append}
 use Rattle.histories.proofs.Events.{begins_begin, begins_none}
 use Rattle.histories.proofs.Verdicts.{one_more}
-use Rattle.history_windows.proofs.Joins.{ended_right}
 use Rattle.history_logs.specs.Seen.{Service}
 use Rattle.history_logs.specs.Settling.{AreOver, IsBehind, IsBehindBegun, IsOverIn}
 use Rattle.history_logs.proofs.Settled.{begins-one}

@@ -5,7 +5,7 @@ use Rattle.line_streams.specs.Spelling.{HasNo}
 use Rattle.line_streams.proofs.Places.{has_one}
 use Rattle.log_lines.specs.Laws.{IsAlike}
 use Rattle.log_lines.specs.Lines.{IsLine, Line, line_text}
-use Rattle.log_lines.specs.Lines.Line.{service, call, reply, begin, end, crash, given}
+use Rattle.log_lines.specs.Lines.Line.{end, reply}
 use Rattle.log_lines.proofs.OneReading.{one_way}
 use Rattle.history_logs.specs.EventLines.{Answers, IsLineAt}
 

@@ -1,17 +1,17 @@
 -- Services that are named.
-use Rattle.history_logs.proofs.AtIndex.{all_get, get_within}
 use Rattle.std.proofs.Common.{◌≡◌, ◌≢◌, ℕ, zero, suc, ◌+◌, ◌<◌, ◌≤◌, ◌-◌, List, [], ◌∷◌, Bool, true, false, ◌||◌, Option, Some, None, IfNone, IfSome, add-one, cond, drop, drop-cons, eqb, get_or, length, length-drop, map, refl, sym, ◌∙◌, ap, subst, arith, eq-eqb, inl, inr, ne_eqb, take, take_all, All}
 use Rattle.std.specs.Prelude.{slice_get}
 use Rattle.std.specs.List.{list_any, slice_set}
 use Rattle.std.specs.Option.{is_some}
 use Rattle.std.specs.Set.{unique_keys}
-use Rattle.std.proofs.lemmas.Bool.{cases_eq, cases_order}
-use Rattle.std.proofs.lemmas.List.Elements.{All-head, All-tail, All-append}
-use Rattle.std.proofs.lemmas.Option.{get_or_from_slice_get, same_Some, slice_get-get_or, slice_get_within}
-use Rattle.history_logs.specs.Logs.{services_in}
-use Rattle.history_logs.specs.Reading.{HaveNumber, IsNamed, IsNameless, IsNew, IsNewBehind, HaveOneNumber}
-use Rattle.history_logs.specs.Seen.{Service}
+use Rattle.std.proofs.lemmas.Bool.{cases_order}
+use Rattle.std.proofs.lemmas.List.Elements.{All-append, All-head, All-tail}
 use Rattle.std.proofs.lemmas.List.{get_or-take, length-take-le, take-append-drop}
+use Rattle.std.proofs.lemmas.Option.{same_Some, slice_get_within}
+use Rattle.history_logs.specs.Logs.{services_in}
+use Rattle.history_logs.specs.Reading.{HaveNumber, HaveOneNumber, IsNamed, IsNew, IsNewBehind}
+use Rattle.history_logs.specs.Seen.{Service}
+use Rattle.history_logs.proofs.AtIndex.{all_get, get_within}
 
 -- the number of a service
 abbrev number_of : Service → ℕ

@@ -1,15 +1,15 @@
 -- The calls that a refused reply needs.
-use Rattle.histories.proofs.Events.{stands_begins, stands_left, stands_right}
-use Rattle.std.proofs.Common.{◌≡◌, inl, inr, ℕ, zero, suc, ◌+◌, ◌-◌, ◌<◌, ◌≤◌, Bool, true, false, List, [], ◌∷◌, ◌++◌, Some, length, get_or, slice_get, take, drop, refl, sym, ◌∙◌, ap, subst, arith, append-nil, take_all, eq-eqb}
+use Rattle.std.proofs.Common.{◌≡◌, inl, inr, ℕ, ◌+◌, ◌-◌, ◌<◌, ◌≤◌, Bool, true, false, List, [], ◌∷◌, ◌++◌, Some, length, get_or, slice_get, take, drop, refl, sym, ◌∙◌, ap, subst, arith, append-nil, take_all}
 use Rattle.std.specs.Prelude.{flat_map}
 use Rattle.std.proofs.lemmas.Bool.{cases_Bool, cases_order, cond_both}
 use Rattle.std.proofs.lemmas.Grind.{flat_map-append}
 use Rattle.std.proofs.lemmas.List.{drop-append-le, length-drop, get_or_append_left, get_or_past, get_or_push, length-take-le, length-append, length_push, take-append-drop, take-take, take_more}
 use Rattle.std.proofs.lemmas.List.Elements.{filter-append}
-use Rattle.std.proofs.lemmas.Option.{slice_get-get_or, same_Some}
+use Rattle.std.proofs.lemmas.Option.{same_Some, slice_get-get_or}
 use Rattle.std.proofs.Math.Seq.{take-append_seam}
+use Rattle.histories.proofs.Events.{stands_begins, stands_left, stands_right}
 use Rattle.histories.specs.declared.event.Event.{Event}
-use Rattle.histories.specs.declared.event.Event.TheVariants.{Begin, End, Crash}
+use Rattle.histories.specs.declared.event.Event.TheVariants.{Begin, End}
 use Rattle.histories.specs.Frontier.{IsIdle}
 use Rattle.histories.specs.Histories.{IsExplained, IsHistory, StandsAt, begins}
 use Rattle.histories.proofs.Verdicts.{one_more}

@@ -1,8 +1,8 @@
 -- The lines of calls, in the order in which they took effect.
-use Rattle.std.proofs.Common.{◌≡◌, ℕ, ◌+◌, ◌<◌, ◌≤◌, All, Bool, true, false, IfNone, List, [], ◌∷◌, ◌++◌, Option, Some, None, get_or, length, take, refl, sym, ◌∙◌, ap, subst, arith, take_all}
+use Rattle.std.proofs.Common.{◌≡◌, ℕ, ◌+◌, ◌<◌, ◌≤◌, All, Bool, true, false, IfNone, List, [], ◌∷◌, ◌++◌, Option, Some, None, get_or, length, take, refl, sym, ◌∙◌, subst, arith, take_all}
 use Rattle.std.specs.List.{AllZip}
 use Rattle.std.proofs.lemmas.List.Elements.{All-cons, All-nil}
-use Rattle.std.proofs.lemmas.List.{take_more, get_or_default}
+use Rattle.std.proofs.lemmas.List.{get_or_default}
 use Rattle.std.proofs.lemmas.Option.{slice_get-get_or}
 use Rattle.histories.specs.Frontier.{IsFrontOf}
 use Rattle.histories.proofs.Counting.{times_at}
@@ -12,7 +12,7 @@ use Rattle.history_windows.proofs.Ordering.{first_explains}
 use Rattle.service_conformance.specs.Looks.{Watched}
 use Rattle.history_logs.specs.declared.logs.verdict.Order.{Order}
 use Rattle.history_logs.specs.declared.logs.verdict.Verdict.{Verdict}
-use Rattle.history_logs.specs.declared.logs.verdict.Verdict.TheVariants.{Conforms, Refused, ManyConfigs, ManyOpen, BadLine}
+use Rattle.history_logs.specs.declared.logs.verdict.Verdict.TheVariants.{Conforms}
 use Rattle.history_logs.specs.Good.{IsOrderly, IsReadTo}
 use Rattle.history_logs.specs.Judging.{AreJudged, AreOrdered, IsFirstFound, IsFoundOf, comes_before, earlier, end_verdict}
 use Rattle.history_logs.specs.Logs.{BeginsAt, HasGood, IsSeenRightly, StepOf, news}

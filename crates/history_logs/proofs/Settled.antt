@@ -1,5 +1,5 @@
 -- What settles while a log is read.
-use Rattle.std.proofs.Common.{◌≡◌, ◌⊎◌, ℕ, zero, suc, ◌+◌, ◌-◌, ◌<◌, ◌≤◌, List, [], ◌∷◌, ◌++◌, Some, None, append_assoc, drop, get_or, length, replicate, refl, sym, ◌∙◌, ap, subst, arith, inl, inr, slice_get, take, eqb, eq-eqb, true, Option}
+use Rattle.std.proofs.Common.{◌≡◌, ◌⊎◌, ℕ, zero, suc, ◌+◌, ◌<◌, ◌≤◌, List, [], ◌∷◌, ◌++◌, Some, None, append_assoc, drop, get_or, length, replicate, refl, sym, ◌∙◌, ap, subst, arith, inl, inr, slice_get, take, eqb, eq-eqb, true, Option}
 use Rattle.std.proofs.lemmas.Bool.{cases_lt}
 use Rattle.std.proofs.lemmas.List.{length-append, take-append-drop, take-take}
 use Rattle.std.proofs.Math.Seq.{take-append_seam}
@@ -21,7 +21,7 @@ use Rattle.service_conformance.specs.Looks.{Watched, unwatched}
 use Rattle.history_logs.specs.Good.{IsOrderly}
 use Rattle.history_logs.specs.Logs.{StepOf, news}
 use Rattle.history_logs.specs.Seen.{Service, forgetting, forgotten, start_of}
-use Rattle.history_logs.specs.Settling.{AreOver, IsBehindBegun, Stays, GoesShort}
+use Rattle.history_logs.specs.Settling.{AreOver, GoesShort, IsBehindBegun, Stays}
 use Rattle.history_logs.specs.Shortened.{IsShort, Kept}
 use Rattle.history_logs.proofs.Shortened.{start_get}
 use Rattle.history_logs.proofs.Forgotten.{get_forgotten, length_forgotten, step_same}

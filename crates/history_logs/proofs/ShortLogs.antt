@@ -1,19 +1,18 @@
 -- What is kept of a log after one line more.
-use Rattle.std.proofs.Common.{◌≡◌, ◌≢◌, ◌⊎◌, ℕ, ◌+◌, ◌≤◌, List, [], ◌∷◌, ◌++◌, Option, Some, None, length, refl, sym, ◌∙◌, ap, subst, arith, inl, inr, slice_get}
+use Rattle.std.proofs.Common.{◌≡◌, ◌≢◌, ◌⊎◌, ℕ, ◌≤◌, List, [], ◌∷◌, ◌++◌, Option, Some, None, length, refl, sym, ◌∙◌, ap, subst, arith, inl, inr, slice_get}
 use Rattle.std.specs.List.{slice_set}
 use Rattle.std.proofs.lemmas.Bool.{cases_eq}
 use Rattle.std.proofs.lemmas.List.{get_or_past, length-append, length-set}
 use Rattle.std.proofs.lemmas.Option.{same_Some, slice_get_within}
 use Rattle.histories.specs.declared.front.Front.{Front}
-use Rattle.histories.specs.declared.event.Event.TheVariants.{Crash}
 use Rattle.histories.specs.Histories.{IsOpen}
+use Rattle.histories.specs.declared.event.Event.TheVariants.{Crash}
 use Rattle.iox2_container.proofs.ListEdits.{get_set_other}
 use Rattle.iox2_dynamic.specs.Service as dynamic
 use Rattle.log_lines.specs.Commands.{Begun, NamedCommand}
 use Rattle.log_lines.specs.Lines.{Line}
 use Rattle.log_lines.specs.Lines.Line.{service, call, reply, begin, end, crash, given}
 use Rattle.log_lines.specs.States.{State}
-use Rattle.service_conformance.specs.Judged.{Judged}
 use Rattle.service_conformance.specs.Looks.{Watched}
 use Rattle.service_descriptions.specs.declared.replay.lines.service_line.ServiceLine.{ServiceLine}
 use Rattle.history_logs.specs.declared.logs.callers.CallerState.{CallerState}
@@ -21,14 +20,14 @@ use Rattle.history_logs.specs.declared.logs.callers.CallerState.TheVariants as c
 use Rattle.history_logs.specs.declared.logs.service.LogCall.{LogCall}
 use Rattle.history_logs.specs.Good.{IsKept, IsOrderly}
 use Rattle.history_logs.specs.Reading.{Dies, Gives, GoesOn, HaveNumber, IsNamed, IsSane, Log, MayBegin, Sets, StartsAnewAs, StartsAs}
-use Rattle.history_logs.specs.Seen.{Begins, HasHandles, IsKeptCall, Service, called, started, unseen, with_alone, with_begin, with_crash, with_end}
-use Rattle.history_logs.specs.Shortened.{AreShort, IsShort, IsShortLog, Keeps, Kept, front_at, shortened}
+use Rattle.history_logs.specs.Seen.{HasHandles, IsKeptCall, Service, called, started, unseen, with_alone, with_begin, with_crash, with_end}
+use Rattle.history_logs.specs.Shortened.{AreShort, IsShort, IsShortLog, Keeps, Kept, front_at}
 use Rattle.history_logs.proofs.Alone.{called_stops}
 use Rattle.history_logs.proofs.AtIndex.{all_get, all_of, get_push_at, get_same, get_within}
 use Rattle.history_logs.proofs.Orderly.{open_new}
 use Rattle.history_logs.proofs.Refused.{nil_of}
 use Rattle.history_logs.proofs.Shortened.{kept_call, kept_start, short_begin, short_count, short_end, short_over}
-use Rattle.history_logs.proofs.ShortServices.{short_begins, short_new, short_started, short_unseen, same_call}
+use Rattle.history_logs.proofs.ShortServices.{same_call, short_begins, short_new, short_started, short_unseen}
 
 -- the service that is kept at an index
 pub found_at : (services live : List Service) (fronts : List (Option (Front Watched))) (at : ℕ)

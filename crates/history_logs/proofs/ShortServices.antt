@@ -1,29 +1,27 @@
 -- What is kept of a service after one line more.
-use Rattle.std.proofs.Common.{◌≡◌, ℕ, ◌+◌, ◌≤◌, List, [], ◌∷◌, ◌++◌, Option, Some, None, length, refl, sym, ◌∙◌, ap, subst, arith, inl, inr}
+use Rattle.std.proofs.Common.{◌≡◌, ℕ, ◌+◌, ◌≤◌, [], ◌∷◌, Option, Some, None, length, refl, sym, ◌∙◌, ap, subst, arith, inl, inr}
 use Rattle.std.proofs.lemmas.List.{length-append}
 use Rattle.std.proofs.lemmas.Option.{same_Some}
-use Rattle.histories.specs.declared.event.Event.TheVariants.{Begin, End, Crash}
+use Rattle.histories.specs.declared.event.Event.TheVariants.{End}
 use Rattle.histories.specs.declared.front.Front.{Front}
-use Rattle.histories.specs.Histories.{HasEnded}
 use Rattle.iox2_dynamic.specs.Service as dynamic
 use Rattle.log_lines.specs.Commands.{Begun, NamedCommand}
 use Rattle.log_lines.specs.Commands.Begun.{command as begun_command, weak}
 use Rattle.log_lines.specs.Commands.NamedCommand.{numbered}
 use Rattle.log_lines.specs.States.{State}
 use Rattle.service_conformance.specs.declared.conformance.possible.Part.{Part}
-use Rattle.service_conformance.specs.declared.conformance.seen_reply.SeenReply.{SeenReply}
-use Rattle.service_conformance.specs.Judged.{Judged, stopped}
+use Rattle.service_conformance.specs.Judged.{stopped}
 use Rattle.service_conformance.specs.Looks.{Watched}
+use Rattle.service_conformance.specs.Sides.{HasPart, LacksPart}
 use Rattle.service_descriptions.specs.declared.replay.lines.service_line.ServiceLine.{ServiceLine}
 use Rattle.service_descriptions.specs.declared.replay.machine.command.Command.TheVariants as command
 use Rattle.history_logs.specs.declared.logs.service.LogCall.{LogCall}
-use Rattle.history_logs.specs.Reading.{StartsAs, Gives}
-use Rattle.history_logs.specs.Seen.{Begins, Service, called, started, starting, stopping, unseen, with_begin, with_crash, with_end, with_look, with_over, with_part}
-use Rattle.history_logs.specs.Shortened.{HasFront, IsShort, Keeps, Kept, shortened}
+use Rattle.history_logs.specs.Reading.{Gives, StartsAs}
+use Rattle.history_logs.specs.Seen.{Begins, Service, called, started, starting, stopping, unseen, with_begin, with_look, with_over, with_part}
+use Rattle.history_logs.specs.Shortened.{HasFront, IsShort}
 use Rattle.history_logs.proofs.Alone.{called_stops}
 use Rattle.history_logs.proofs.Refused.{nil_of}
 use Rattle.history_logs.proofs.Shortened.{called_same, short_begin, short_count, short_over, short_part}
-use Rattle.service_conformance.specs.Sides.{HasPart, LacksPart}
 
 -- a service that is kept so
 module _ (s live : Service) (front : Option (Front Watched)) (h : IsShort s live front) where

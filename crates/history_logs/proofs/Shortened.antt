@@ -8,22 +8,22 @@ use Rattle.histories.specs.declared.event.Event.TheVariants.{Begin, End}
 use Rattle.histories.specs.declared.front.Front.{Front}
 use Rattle.histories.specs.Histories.{HasEnded, begun}
 use Rattle.histories.proofs.Events.{ended_still}
-use Rattle.history_logs.proofs.Orderly.{length_answered}
 use Rattle.history_windows.specs.Goings.{IsFrontAfter}
 use Rattle.iox2_container.specs.declared.container.role.Role.{Role}
 use Rattle.iox2_dynamic.specs.Service as dynamic
 use Rattle.log_lines.specs.Commands.{NamedCommand}
-use Rattle.log_lines.specs.Commands.NamedCommand.{numbered, deregister, release}
+use Rattle.log_lines.specs.Commands.NamedCommand.{numbered}
 use Rattle.service_conformance.specs.declared.conformance.seen_reply.SeenReply.{SeenReply}
 use Rattle.service_conformance.specs.declared.conformance.seen_reply.SeenReply.TheVariants as reply
 use Rattle.service_conformance.specs.Judged.{Judged, WindowStep, judged_answered, shown, stopped}
-use Rattle.service_conformance.specs.Judged.Judged.{call, starts, stops}
+use Rattle.service_conformance.specs.Judged.Judged.{call}
 use Rattle.service_conformance.specs.Looks.{Watched, unwatched}
 use Rattle.service_descriptions.specs.declared.replay.machine.command.Command.{Command}
 use Rattle.service_descriptions.specs.declared.replay.machine.command.Command.TheVariants as command
 use Rattle.history_logs.specs.declared.logs.service.LogCall.{LogCall}
 use Rattle.history_logs.specs.Seen.{Service, called, calls_answered, calls_shown, changed, given_at, given_in, handle_named, start_of, with_begin, with_end, with_part}
-use Rattle.history_logs.specs.Shortened.{HasFront, IsSettled, Keeps, Kept, shortened, IsShort}
+use Rattle.history_logs.specs.Shortened.{HasFront, IsSettled, IsShort, Kept, shortened}
+use Rattle.history_logs.proofs.Orderly.{length_answered}
 
 -- lists with one more at the end
 pub get_pushed : {X : Type 0} (xs ys : List X) (x : X) (n : ℕ) → length xs ≡ length ys
@@ -114,9 +114,6 @@ stopped_answered r _ = refl
 
 -- a reply
 module _ (r : SeenReply) where
-  answer : Judged → Judged
-  answer c = judged_answered c r
-
   start_shown : (xs : List Judged) (start : Option ℕ) (m : ℕ)
       → start_of (calls_shown xs start r) m ≡ start_of xs m
   start_shown xs None m = refl

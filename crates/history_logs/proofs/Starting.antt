@@ -3,12 +3,12 @@ use Rattle.std.proofs.Common.{◌≡◌, ◌≢◌, ◌<◌, ℕ, Bool, true, fa
 use Rattle.std.specs.Prelude.{◌↔◌, IsTrue, slice_get}
 use Rattle.std.specs.List.{slice_set}
 use Rattle.std.proofs.lemmas.Bool.{cases_lt}
-use Rattle.std.proofs.lemmas.Option.{same_Some, slice_get-get_or, slice_get_within, slice_get_read}
+use Rattle.std.proofs.lemmas.List.{get_or_default}
+use Rattle.std.proofs.lemmas.Option.{same_Some, slice_get_read, slice_get_within}
 use Rattle.iox2_dynamic.specs.Service as dynamic
 use Rattle.log_lines.specs.Lines.Line.{given}
 use Rattle.log_lines.specs.States.{State}
 use Rattle.service_conformance.specs.Given.{Becomes}
-use Rattle.service_conformance.specs.Judged.{Judged}
 use Rattle.history_logs.specs.declared.logs.verdict.Expected.{Expected}
 use Rattle.history_logs.specs.declared.logs.verdict.Expected.TheVariants as expected
 use Rattle.history_logs.specs.Good.{GivesAnew, Starts}
@@ -16,7 +16,6 @@ use Rattle.history_logs.specs.Reading.{Does, Gives, IsNamed, Log, NoneCalls}
 use Rattle.history_logs.specs.Seen.{Service, started, unseen}
 use Rattle.history_logs.proofs.Named.{set_back}
 use Rattle.history_logs.proofs.Refused.{nil_of}
-use Rattle.std.proofs.lemmas.List.{get_or_default}
 
 -- what becomes of the start becomes of the service
 pub starts_of : (old : Service) (what : State) (start : dynamic.Service) (yes : Bool)

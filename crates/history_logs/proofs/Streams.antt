@@ -2,7 +2,7 @@
 use Rattle.std.proofs.Common.{◌≡◌, ℕ, false, IfSome, List, Option, Some, None, ◌∙◌, ap, refl, subst}
 use Rattle.std.specs.Io.KnownBytes.{Appends}
 use Rattle.history_logs.specs.declared.logs.verdict.Verdict.{Verdict}
-use Rattle.history_logs.specs.declared.logs.verdict.Verdict.TheVariants.{Conforms, Refused, ManyConfigs, ManyOpen, BadLine}
+use Rattle.history_logs.specs.declared.logs.verdict.Verdict.TheVariants.{Conforms}
 use Rattle.history_logs.specs.Orders.{ReportedWith}
 use Rattle.history_logs.specs.Reports.{Reported, errors_text, on_errors, on_output, output_text, report_text}
 

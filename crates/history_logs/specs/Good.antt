@@ -6,7 +6,7 @@ use Rattle.iox2_dynamic.specs.Service as dynamic
 use Rattle.log_lines.specs.Commands.{NamedCommand}
 use Rattle.log_lines.specs.Lines.{IsLine, Line, is_note, line_text}
 use Rattle.log_lines.specs.States.{State}
-use Rattle.log_lines.specs.Lines.Line.{reply, service}
+use Rattle.log_lines.specs.Lines.Line.{service}
 use Rattle.service_conformance.specs.declared.conformance.seen_reply.SeenReply.{SeenReply}
 use Rattle.history_logs.specs.declared.logs.callers.CallerState.TheVariants as caller
 use Rattle.history_logs.specs.declared.logs.verdict.Expected.TheVariants as expected

@@ -50,6 +50,7 @@ pub(super) fn count_services(services: &[LogService]) -> usize
 }
 
 /// Whether all services have one number, where those below this index have.
+#[inline(always)]
 pub(super) fn stay_alike(services: &[LogService], known: usize) -> bool
     requires { known ≤ length services.now }
     ensures { IsTrue result → HaveOneNumber (take known services.now) → HaveOneNumber services.now }

@@ -1,7 +1,5 @@
-use Rattle.std.proofs.Common.{rules, ◌∙◌, ◌<◌, ◌≡◌, Option, Some, ap, arith, length, slice_get, subst, sym}
+use Rattle.std.proofs.Common.{rules, ◌∙◌, ◌<◌, ◌≡◌, Some, ap, arith, length, slice_get, subst, sym}
 use Rattle.std.proofs.lemmas.Option.{slice_get-get_or}
-use Rattle.histories.specs.declared.front.Front.{Front}
-use Rattle.service_conformance.specs.Looks.{Watched}
 use Rattle.history_logs.specs.Seen.{Service}
 use Rattle.history_logs.specs.Settling.{HasShort, IsRightShort}
 use Rattle.history_logs.specs.Shortened.{front_at}

@@ -5,11 +5,11 @@ use Rattle.service_conformance.specs.Looks.{Watched}
 use Rattle.history_logs.specs.Fields.{callers_of, log_of, waits_in}
 use Rattle.history_logs.specs.Judging.{end_verdict}
 use Rattle.history_logs.specs.Logs.{Judged}
-use Rattle.history_logs.specs.Reading.{Log, HaveOneNumber}
+use Rattle.history_logs.specs.Reading.{HaveOneNumber, Log}
 use Rattle.history_logs.specs.Seen.{Service}
 use Rattle.history_logs.specs.Settling.{AreRightShort, HaveShort, IsShortAbove, StayAll}
 use Rattle.history_logs.proofs.Above.{above_new}
-use Rattle.history_logs.proofs.Conforming.{above_sane, above_short, few_short, judged_short, no_more, short_more, short_none, short_stays, alike_stays}
+use Rattle.history_logs.proofs.Conforming.{above_sane, above_short, alike_stays, few_short, judged_short, no_more, short_more, short_none, short_stays}
 use Rattle.history_logs.proofs.Counts.{counts_more, no_counts}
 use Rattle.history_logs.proofs.logs.conforming.find_conforming.Goals as goal
 

@@ -1,4 +1,4 @@
-use Rattle.std.proofs.Common.{◌+◌, ℕ, List, sym, subst, get_or}
+use Rattle.std.proofs.Common.{◌+◌, sym, subst, get_or}
 use Rattle.std.proofs.lemmas.Option.{slice_get-get_or}
 use Rattle.history_logs.specs.Judging.{AreLinesTo}
 use Rattle.history_logs.proofs.MadeLines.{lines_more, not_waiting}

@@ -1,5 +1,4 @@
-use Rattle.std.proofs.Common.{◌≡◌, ◌∙◌, List, length, ap, sym, subst, arith}
-use Rattle.histories.specs.declared.event.Event.{Event}
+use Rattle.std.proofs.Common.{◌≡◌, ◌∙◌, length, ap, sym, subst, arith}
 use Rattle.histories.specs.Histories.{IsHistory}
 use Rattle.history_logs.specs.Logs.{news}
 use Rattle.history_logs.proofs.LinesAt.{if_ok}

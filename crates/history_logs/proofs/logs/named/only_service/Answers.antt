@@ -1,8 +1,8 @@
 use Rattle.std.proofs.Common.{◌<◌, length, rules}
 use Rattle.history_logs.specs.Reading.{HaveOneNumber}
 use Rattle.history_logs.proofs.Named.{last_named}
-use Rattle.history_logs.proofs.logs.named.only_service.Goals.{then-are_alike-via-then-are_alike, then-are_alike-via-else-are_alike+then-have_number}
 use Rattle.history_logs.proofs.logs.named.only_service.Goals as goal
+use Rattle.history_logs.proofs.logs.named.only_service.Goals.{then-are_alike-via-else-are_alike+then-have_number, then-are_alike-via-then-are_alike}
 
 pub returns-then-are_alike-clause-some : goal.returns-then-are_alike-clause-some
 returns-then-are_alike-clause-some c =

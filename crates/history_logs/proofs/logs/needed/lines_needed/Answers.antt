@@ -1,4 +1,4 @@
-use Rattle.std.proofs.Common.{Bool, List, ◌∙◌, ap, arith, length, subst, sym}
+use Rattle.std.proofs.Common.{List, ◌∙◌, ap, arith, length, subst, sym}
 use Rattle.service_conformance.specs.Judged.{Judged, WindowStep}
 use Rattle.history_windows.specs.Needed.{AreIdle}
 use Rattle.history_logs.proofs.LinesAt.{if_ok}

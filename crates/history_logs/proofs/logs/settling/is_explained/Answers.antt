@@ -1,5 +1,4 @@
-use Rattle.std.proofs.Common.{rules, List, ap, arith, length, ◌≤◌}
-use Rattle.histories.specs.declared.event.Event.{Event}
+use Rattle.std.proofs.Common.{rules, ap, arith, length, ◌≤◌}
 use Rattle.history_logs.proofs.Conforming.{right_after, right_none}
 use Rattle.history_logs.proofs.LinesAt.{if_ok}
 use Rattle.history_logs.proofs.logs.settling.is_explained.Goals as goal

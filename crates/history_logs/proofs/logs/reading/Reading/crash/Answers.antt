@@ -5,7 +5,6 @@ use Rattle.history_logs.specs.declared.logs.callers.CallerState.{CallerState}
 use Rattle.history_logs.specs.declared.logs.callers.CallerState.TheVariants.{Calls}
 use Rattle.history_logs.specs.Fields.{callers_of}
 use Rattle.history_logs.specs.Reading.{Dies}
-use Rattle.history_logs.specs.Seen.{Service}
 use Rattle.history_logs.proofs.logs.reading.Reading.crash.Goals as goal
 
 pub returns-in_ok-set-in-Some-Calls : goal.returns-in_ok-set-in-Some-Calls

@@ -1,10 +1,8 @@
 use Rattle.std.proofs.Common.{◌≡◌, Some, ap, sym, ◌∙◌}
 use Rattle.std.specs.List.{slice_set}
 use Rattle.std.proofs.lemmas.Option.{slice_get-get_or, slice_get_within}
-use Rattle.history_logs.specs.declared.logs.callers.CallerState.{CallerState}
 use Rattle.history_logs.specs.declared.logs.callers.CallerState.TheVariants.{Calls}
 use Rattle.history_logs.specs.Fields.{callers_of}
-use Rattle.history_logs.specs.Seen.{Service}
 use Rattle.history_logs.proofs.logs.reading.Reading.end.Goals as goal
 
 pub returns-in_ok-set-in-Some-Calls : goal.returns-in_ok-set-in-Some-Calls

@@ -4,7 +4,7 @@ use Rattle.history_logs.specs.Reading.{HaveOneNumber}
 use Rattle.history_logs.specs.Seen.{Service}
 use Rattle.history_logs.proofs.Kept.{alike_line}
 use Rattle.history_logs.proofs.Refused.{bad_line, bad_return}
-use Rattle.history_logs.proofs.logs.reading.Reading.read.Goals.{then-were_alike, else-were_alike}
+use Rattle.history_logs.proofs.logs.reading.Reading.read.Goals.{else-were_alike, then-were_alike}
 use Rattle.history_logs.proofs.logs.reading.Reading.read.Goals as goal
 
 pub returns-then-ends_in_return-clause-read : goal.returns-then-ends_in_return-clause-read
