@@ -93,6 +93,7 @@ suffix_contradictions [] = []
 suffix_contradictions (s ∷ ss) = flat_map (same_suffix s) ss ++ suffix_contradictions ss
 
 -- prefix, hash text and suffix have more than 255 bytes: SHA-1 gives a hash text of 27 bytes
+-- (`sha1_texts_are_file_names` of `iox2_config`)
 abbrev pub is_long : List ℕ → List ℕ → Bool
 is_long prefix suffix = nat_lt 255 (length prefix + 27 + length suffix)
 

@@ -62,11 +62,15 @@ letters (a ∷ b ∷ c ∷ rest) bytes =
     (omega arith) (omega arith) (omega arith) (omega arith))
     (letters rest (λ i. bytes (suc (suc (suc i)))))
 
--- the text of twenty bytes
+-- the text of twenty bytes is the name of a file, and has 27 bytes
+pub record NamesFile (text : List ℕ) : Type 0 where
+  pub restricted : IsRestrictedName 64 text
+  pub size : length text ≡ 27
+
 pub twenty_bytes : (m : List ℕ) → length m ≡ 20 → IsBytes m
-    → IsRestrictedName 64 (encode_of url_safe_no_pad m)
+    → NamesFile (encode_of url_safe_no_pad m)
 twenty_bytes m long bytes =
     let text : List ℕ = encode_symbols alphabet m in
     let size : length text ≡ 27 = length-encode_symbols alphabet m ∙ rw long refl in
     let all : All Letter text = letters m bytes in
-    rw (append-nil text) (grind arith)
+    rw (append-nil text) (record { restricted = grind arith; size = size })

@@ -1,5 +1,5 @@
 //! Laws of the definitions that the contracts cite, and of comparisons.
-ghost use Rattle.std.specs.Prelude.{◌≡◌, ◌↔◌, IsTrue, IsOkAnd, fold, map};
+ghost use Rattle.std.specs.Prelude.{◌≡◌, ◌↔◌, IsTrue, IsOkAnd, fold, length, map};
 ghost use Rattle.iox2_texts.specs.Pair.{text_cmp, text_writes};
 ghost use Rattle.iox2_config.specs.Compatible.{IsCompatibleToItself, IsCompatibleThrough};
 ghost use Rattle.iox2_config.specs.Compatible.{AreEqualBothWays};
@@ -25,9 +25,10 @@ pub fn hash_inputs_differ()
     ensures { HashInputsDiffer }
 {}
 
-/// The SHA-1 text of each input can be the name of a file: it is 27 letters, digits, `-` and `_`.
+/// The SHA-1 text of each input can be the name of a file, and has 27 bytes.
 pub fn sha1_texts_are_file_names(input: &[u8])
-    ensures { IsRestrictedName 64 (sha1_text input.now) }
+    ensures restricted { IsRestrictedName 64 (sha1_text input.now) }
+    ensures size { length (sha1_text input.now) ≡ 27 }
 {
     let _digest = Sha1::digest(input);
 }

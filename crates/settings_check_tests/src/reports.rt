@@ -1,5 +1,6 @@
 //! What is written of files.
 
+use super::expected::help::HELP;
 use super::running::{Known, run};
 use std::alloc::{AllocError, Global};
 use std::test::Fail;
@@ -153,6 +154,14 @@ fn files_are_reported(rt: HostRuntime) -> Result<(), Fail> {
         let is_reported = reports(rt.alloc(), words, *status, output, errors)?;
         assert_eq!(rt; is_reported, true);
     }
+    Ok(())
+}
+
+/// The text of `--help` is written.
+#[test]
+fn help_is_written(rt: HostRuntime) -> Result<(), Fail> {
+    let is_reported = reports(rt.alloc(), &["--help"], 0, HELP, "")?;
+    assert_eq!(rt; is_reported, true);
     Ok(())
 }
 
