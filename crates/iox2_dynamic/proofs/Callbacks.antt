@@ -21,6 +21,6 @@ CanListIn-from_always g a b p role f m =
       second = λ e. CanVisit-from_always g f (listed p.second.registry) m;
     }
 
--- what a caller's proofs need whose callback may
--- always be called: to be named by `using` on a crate
+-- what the proof of a function needs that passes a callback which
+-- may always be called: to be named by `using` on that function
 pub ruleset callbacks = (container_callbacks, CanListIn-from_total, CanListIn-from_always)
