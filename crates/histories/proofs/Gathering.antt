@@ -1,5 +1,5 @@
 -- Configurations that are gathered, and put into chains.
-use Rattle.histories.proofs.Words.{◌≡◌, Option, ℕ, ◌+◌, ◌<◌, ◌⊎◌, List, [], ◌∷◌, ◌++◌, length, take, get_or, refl, sym, ◌∙◌, ap, subst, arith, inl, inr, true, false, ◌≢◌, ◌-◌, ◌≤◌, Bool, All, drop, set, replicate, bit_at, Contains, cases_order, cases_eq, cases_lt, take_more, get_or-drop, get_or-replicate, get_or-set_other, get_or-set_same, get_or_default, get_or_past, length-drop, length-replicate, length_push, All-contains, Contains-append_left, Contains-push, Contains-push_cases, all_pairs_push, Config, AreAll, IsSame, IsWaiting, Path, cleared, no_path, path_more, path_of, FromOne, Gathers, IsCopy, IsDone, IsDropped, IsFirst, IsKnown, IsMadeIn, IsNextAt, IsNextBeside, IsNextIn, IsNextOther, IsAt, IsWith, Spot, spot_of, AreChained, AreLinked, AreOther, chain_at, chain_of, get_or-append, get_or-append_seam}
+use Rattle.histories.proofs.Words.{◌≡◌, Option, ℕ, ◌+◌, ◌%◌, ◌<◌, ◌⊎◌, List, [], ◌∷◌, ◌++◌, length, take, get_or, refl, sym, ◌∙◌, ap, subst, arith, inl, inr, true, false, ◌≢◌, ◌-◌, ◌≤◌, Bool, All, drop, set, replicate, bit_at, Contains, cases_order, cases_eq, cases_lt, take_more, get_or-drop, get_or-replicate, get_or-set_other, get_or-set_same, get_or_default, get_or_past, length-drop, length-replicate, length_push, All-contains, Contains-append_left, Contains-push, Contains-push_cases, all_pairs_push, Config, AreAll, IsSame, IsWaiting, Path, cleared, no_path, path_more, path_of, FromOne, Gathers, IsCopy, IsDone, IsDropped, IsFirst, IsKnown, IsMadeIn, IsNextAt, IsNextBeside, IsNextIn, IsNextOther, IsAt, IsWith, Spot, spot_of, AreChained, AreLinked, AreOther, chain_at, chain_of, get_or-append, get_or-append_seam}
 use Rattle.histories.specs.Gathering.{IsNext}
 use Rattle.histories.proofs.Bits.{slot_once}
 use Rattle.histories.proofs.Places.{less_of, nothing_in, only}
@@ -294,27 +294,35 @@ linked_more chain heads before number is within l =
 pub copies : (count index number : ℕ) → get_or (replicate count number) index number ≡ number
 copies count index number = grind (arith, cases_lt, get_or-replicate, get_or_past, length-replicate)
 
-module _ {S : Type 0} where
+-- the same configurations are in one chain
+chain_same : {S : Type 0} (hash : S → ℕ) (a b : Config S) → IsSame a b
+    → chain_of hash a ≡ chain_of hash b
+chain_same hash a b same =
+    ap (λ s. (a.waiting % 1021 + hash s % 1021) % 1021) same.0
+    ∙ ap (λ w. (w % 1021 + hash b.state % 1021) % 1021) same.1
+
+module _ {S : Type 0} (hash : S → ℕ) where
   -- a configuration more, which is in no chain yet
   pub chained_push : (configs : List (Config S)) (config : Config S) (heads before : List ℕ)
-      → AreChained configs heads before → AreChained (configs ++ config ∷ []) heads before
+      → AreChained hash configs heads before
+      → AreChained hash (configs ++ config ∷ []) heads before
   chained_push configs config heads before c = (
     omega (arith, c.0, length_push configs config),
-    λ d. linked_as _ _ _ _ (λ index h. ap (λ (k : Config S). chain_of k.waiting)
+    λ d. linked_as _ _ _ _ (λ index h. ap (chain_of hash)
         (get_or-append configs (config ∷ []) d index (omega (arith, h, c.0)))) (c.1 d),
   )
 
   -- where none is in a chain
   pub chained_none : (configs : List (Config S)) (heads before : List ℕ) → length before ≡ 0
-      → ((number : ℕ) → get_or heads number 0 ≡ 0) → AreChained configs heads before
+      → ((number : ℕ) → get_or heads number 0 ≡ 0) → AreChained hash configs heads before
   chained_none configs heads before none empty = grind (arith, linked_none)
 
   -- one configuration more is in its chain
   pub chained_more : (configs : List (Config S)) (item : Config S) (heads before : List ℕ)
-      (number : ℕ) → number ≡ chain_of item.waiting
+      (number : ℕ) → number ≡ chain_of hash item
       → item ≡ get_or configs (length before) item → number < length heads
-      → length before < length configs → AreChained configs heads before
-      → AreChained configs (set heads number (length before + 1))
+      → length before < length configs → AreChained hash configs heads before
+      → AreChained hash configs (set heads number (length before + 1))
       (before ++ get_or heads number 0 ∷ [])
   chained_more configs item heads before number is at within more c =
       grind (arith, length_push, linked_more, get_or_default, within)
@@ -324,23 +332,24 @@ module _ {S : Type 0} where
       (left : ℕ) : Type 0 where
     pub within : left ≤ length before
     pub here : (index : ℕ) (d : Config S) → left ≡ index + 1
-        → chain_at configs d index ≡ chain_of config.waiting
+        → chain_at hash configs d index ≡ chain_of hash config
     pub others : AreOther configs left (length before) config
 
   pub following_head : (configs : List (Config S)) (heads before : List ℕ) (config : Config S)
-      (left : ℕ) → left ≡ get_or heads (chain_of config.waiting) 0
-      → AreChained configs heads before → IsFollowing configs before config left
+      (left : ℕ) → left ≡ get_or heads (chain_of hash config) 0
+      → AreChained hash configs heads before → IsFollowing configs before config left
   following_head configs heads before config left is c =
       let linked = c.1 config in record {
         within = elim (cases_eq left 0) [
           | inl none ↦ omega (arith, none)
           | inr some ↦
-              let at = linked.head (chain_of config.waiting) (left - 1) (omega (arith, is, some)) in
+              let at = linked.head (chain_of hash config) (left - 1) (omega (arith, is, some)) in
               omega (arith, at.0, some)
         ];
-        here = λ index d e. ((c.1 d).head (chain_of config.waiting) index (sym is ∙ e)).1;
+        here = λ index d e. ((c.1 d).head (chain_of hash config) index (sym is ∙ e)).1;
         others = λ index d from below same.
-            let chained : chain_at configs d index ≡ chain_of config.waiting = ap chain_of same.1 in
+            let chained : chain_at hash configs d index ≡ chain_of hash config =
+            chain_same hash (get_or configs index d) config same in
             absurd (omega (
               arith,
               from,
@@ -353,7 +362,7 @@ module _ {S : Type 0} where
   pub following_more : (configs : List (Config S)) (heads before : List ℕ)
       (config known : Config S) (at left next : ℕ) → left ≡ at + 1
       → next ≡ get_or before at 0 → known ≡ get_or configs at known
-      → ¬ (IsSame known config) → AreChained configs heads before
+      → ¬ (IsSame known config) → AreChained hash configs heads before
       → IsFollowing configs before config left
       → IsFollowing configs before config next × (next < left)
   following_more configs heads before config known at left next one is item other c f =
@@ -371,8 +380,8 @@ module _ {S : Type 0} where
               elim (cases_order index at) [
                 | inl e ↦ grind (arith, get_or_default)
                 | inr (inl before_) ↦
-                    let chained : chain_at configs d index ≡ chain_at configs d at =
-                    ap chain_of same.1 ∙ sym (f.here at d one) in
+                    let chained : chain_at hash configs d index ≡ chain_at hash configs d at =
+                    chain_same hash (get_or configs index d) config same ∙ sym (f.here at d one) in
                     absurd (omega (arith, from, is, (c.1 d).kept index at before_ below chained))
                 | inr (inr behind) ↦ grind arith
               ];
@@ -380,6 +389,7 @@ module _ {S : Type 0} where
         less,
       )
 
+module _ {S : Type 0} where
   -- the first ones are others, and so are the rest
   pub all_other : (configs : List (Config S)) (config : Config S) (from : ℕ)
       → AreOther configs 0 from config → All (λ known. ¬ (IsSame known config)) (drop from configs)

@@ -357,13 +357,13 @@ Finishes old slot configs new result =
     × (((4096 < length configs) × (result ≡ advance.ManyConfigs))
     ⊎ AreLaidIn old.links.items configs new result)
 
--- the chain of a set of slots
-abbrev pub chain_of : ℕ → ℕ
-chain_of set = set % 1021
+-- the chain of a configuration, by the calls that wait and the state
+abbrev pub chain_of : {S : Type 0} → (S → ℕ) → Config S → ℕ
+chain_of hash config = (config.waiting % 1021 + hash config.state % 1021) % 1021
 
 -- the chain of the configuration at a place
-abbrev pub chain_at : {S : Type 0} → List (Config S) → Config S → ℕ → ℕ
-chain_at configs d index = chain_of (get_or configs index d).waiting
+abbrev pub chain_at : {S : Type 0} → (S → ℕ) → List (Config S) → Config S → ℕ → ℕ
+chain_at hash configs d index = chain_of hash (get_or configs index d)
 
 -- Places below the length of `before` are in chains. The head of a chain is above each of its
 -- places, and one above the last of them. The number of a place is above each earlier place of its
@@ -378,10 +378,10 @@ pub record AreLinked (chain : ℕ → ℕ) (heads before : List ℕ) : Type 0 wh
       → (index < at) × (chain index ≡ chain at)
 
 -- the first configurations are in chains
-abbrev pub AreChained : {S : Type 0} → List (Config S) → List ℕ → List ℕ → Type 0
-AreChained {S} configs heads before =
+abbrev pub AreChained : {S : Type 0} → (S → ℕ) → List (Config S) → List ℕ → List ℕ → Type 0
+AreChained {S} hash configs heads before =
     (length before ≤ length configs)
-    × ((d : Config S) → AreLinked (chain_at configs d) heads before)
+    × ((d : Config S) → AreLinked (chain_at hash configs d) heads before)
 
 -- the configurations between two places are others than this one
 abbrev pub AreOther : {S : Type 0} → List (Config S) → ℕ → ℕ → Config S → Type 0

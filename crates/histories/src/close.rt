@@ -35,7 +35,7 @@ fn make_state<M: Machine>(
     slot: usize,
     call: usize,
     state: M::State,
-    next: &mut Gathered<M::State>,
+    next: &mut Gathered<M>,
 ) -> Result<(), AllocError>
     requires { slot < 64 }
     ensures { OnOk result (Gathers (IsNextIn config.now slot call (state ∷ [])) next.old next.new) }
@@ -50,7 +50,7 @@ fn make_state<M: Machine>(
         return Ok(());
     }
     made.made = with_call(alloc, &config.made, call)?;
-    add_new(alloc, next, made)
+    add_new(alloc, machine, next, made)
 }
 
 /// The same for each of these states.
@@ -61,7 +61,7 @@ fn make_states<M: Machine>(
     slot: usize,
     call: usize,
     states: Vec<M::State>,
-    next: &mut Gathered<M::State>,
+    next: &mut Gathered<M>,
 ) -> Result<(), AllocError>
     requires { slot < 64 }
     ensures { OnOk result (Gathers (IsNextIn config.now slot call states.items) next.old next.new) }
@@ -94,7 +94,7 @@ fn make_call<M: Machine>(
     config: &Config<M::State>,
     slot: usize,
     call: usize,
-    next: &mut Gathered<M::State>,
+    next: &mut Gathered<M>,
 ) -> Result<(), AllocError>
     requires within { slot < 64 }
     requires waits { IsWaiting slots.now config.now.waiting slot call }
@@ -117,7 +117,7 @@ fn make_other<M: Machine>(
     config: &Config<M::State>,
     slot: usize,
     other: usize,
-    next: &mut Gathered<M::State>,
+    next: &mut Gathered<M>,
 ) -> Result<(), AllocError>
     requires few { length slots.now ≤ 64 }
     requires within { other < length slots.now }
@@ -153,7 +153,7 @@ fn make_last<M: Machine>(
     slots: &[Option<usize>],
     config: Config<M::State>,
     slot: usize,
-    next: &mut Gathered<M::State>,
+    next: &mut Gathered<M>,
 ) -> Result<(), AllocError>
     requires few { length slots.now ≤ 64 }
     requires within { slot < length slots.now }
@@ -284,7 +284,7 @@ fn make_calls<M: Machine>(
     slots: &[Option<usize>],
     config: Config<M::State>,
     slot: usize,
-    next: &mut Gathered<M::State>,
+    next: &mut Gathered<M>,
 ) -> Result<(), AllocError>
     requires few { length slots.now ≤ 64 }
     requires within { slot < length slots.now }
@@ -310,8 +310,8 @@ fn close_one<M: Machine>(
     slots: &[Option<usize>],
     config: Config<M::State>,
     slot: usize,
-    done: &mut Gathered<M::State>,
-    next: &mut Gathered<M::State>,
+    done: &mut Gathered<M>,
+    next: &mut Gathered<M>,
 ) -> Result<(), AllocError>
     requires few { length slots.now ≤ 64 }
     requires within { slot < length slots.now }
@@ -331,7 +331,7 @@ fn close_round<M: Machine>(
     slots: &[Option<usize>],
     layer: Vec<Config<M::State>>,
     slot: usize,
-    done: &mut Gathered<M::State>,
+    done: &mut Gathered<M>,
 ) -> Result<Vec<Config<M::State>>, AllocError>
     requires few { length slots.now ≤ 64 }
     requires within { slot < length slots.now }
@@ -354,7 +354,7 @@ fn close_settled<M: Machine>(
     slots: &[Option<usize>],
     layer: Vec<Config<M::State>>,
     slot: usize,
-    done: &mut Gathered<M::State>,
+    done: &mut Gathered<M>,
 ) -> Result<Vec<Config<M::State>>, AllocError>
     requires few { length slots.now ≤ 64 }
     requires within { slot < length slots.now }
@@ -407,7 +407,7 @@ fn drop_one<M: Machine>(
     machine: &M,
     config: &Config<M::State>,
     slot: usize,
-    more: &mut Gathered<M::State>,
+    more: &mut Gathered<M>,
 ) -> Result<(), AllocError>
     requires within { slot < 64 }
     ensures { OnOk result (Gathers (IsDropped slot config.now) more.old more.new) }

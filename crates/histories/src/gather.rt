@@ -1,7 +1,7 @@
 //! Configurations that are gathered, each once.
 //!
-//! Where they are many, they are in chains by the calls that wait. A chain goes from its last
-//! configuration to the one before it. Links name how many configurations there are up to the one
+//! Where they are many, they are in chains by the calls that wait and the state. A chain goes from
+//! its last configuration to the one before it. Links name how many configurations there are up to the one
 //! that they lead to, or 0 at the end.
 ghost use Rattle.std.specs.Prelude.{◌≡◌, ◌+◌, ◌<◌, ◌≤◌, ◌↔◌, ◌∷◌, List, [], IfOk, IsFalse, IsTrue, OnOk, false, get_or, length};
 ghost use Rattle.histories.specs.declared.front.Link.{Link};
@@ -16,18 +16,18 @@ use std::marker::Model;
 /// How many chains there are: a prime number, so that each slot counts.
 const CHAINS: usize = 1021;
 
-/// The chain of a set of slots.
-fn chain_of(set: u64) -> usize
-    ensures { result ≡ chain_of set }
+/// The chain of a configuration.
+fn chain_of<M: Machine>(machine: &M, config: &Config<M::State>) -> usize
+    ensures { result ≡ chain_of M.hash config.now }
 {
-    (set % CHAINS as u64) as usize
+    let hash = machine.hash_of(&config.state) % CHAINS as u64;
+    ((config.waiting % CHAINS as u64 + hash) % CHAINS as u64) as usize
 }
 
-/// Where the chain of the set begins.
-fn head_of(heads: &[usize], set: u64) -> usize
-    ensures { result ≡ get_or heads.now (chain_of set) 0 }
+/// Where the chain of this number begins.
+fn head_of(heads: &[usize], chain: usize) -> usize
+    ensures { result ≡ get_or heads.now chain 0 }
 {
-    let chain = chain_of(set);
     if chain < heads.len() { heads[chain] } else { 0 }
 }
 
@@ -46,11 +46,11 @@ fn is_in_chain<M: Machine>(
     before: &[usize],
     config: &Config<M::State>,
 ) -> bool
-    requires { AreChained configs.now heads.now before.now }
+    requires { AreChained M.hash configs.now heads.now before.now }
     ensures yes { IsTrue result → HasSame configs.now config.now }
     ensures no { IsFalse result → AreOther configs.now 0 (length before.now) config.now }
 {
-    let mut left = head_of(heads, config.waiting);
+    let mut left = head_of(heads, chain_of(machine, config));
     while left > 0 {
         let at = left - 1;
         if is_same(machine, &configs[at], config) {
@@ -63,83 +63,87 @@ fn is_in_chain<M: Machine>(
 
 /// Puts one more configuration into its chain.
 #[tactic(auto, using(crate::proofs::Gathering::chained_more))]
-fn link<S>(
-    configs: &[Config<S>],
+fn link<M: Machine>(
+    machine: &M,
+    configs: &[Config<M::State>],
     heads: &mut [usize],
     before: &mut Vec<usize>,
 ) -> Result<(), AllocError>
-    requires chained { AreChained configs.now heads.old before.old.items }
+    requires chained { AreChained M.hash configs.now heads.old before.old.items }
     requires more { length before.old.items < length configs.now }
     requires all { length heads.old ≡ 1021 }
-    ensures chained { AreChained configs.now heads.new before.new.items }
+    ensures chained { AreChained M.hash configs.now heads.new before.new.items }
     ensures all { length heads.new ≡ 1021 }
     ensures one { OnOk result (length before.new.items ≡ length before.old.items + 1) }
 {
     let index = before.len();
-    let chain = chain_of(configs[index].waiting);
+    let chain = chain_of(machine, &configs[index]);
     before.push(heads[chain])?;
     heads[chain] = index + 1;
     Ok(())
 }
 
 /// Puts all configurations that are in none into their chains.
-fn link_rest<S>(
-    configs: &[Config<S>],
+fn link_rest<M: Machine>(
+    machine: &M,
+    configs: &[Config<M::State>],
     heads: &mut [usize],
     before: &mut Vec<usize>,
 ) -> Result<(), AllocError>
-    requires chained { AreChained configs.now heads.old before.old.items }
+    requires chained { AreChained M.hash configs.now heads.old before.old.items }
     requires all { length heads.old ≡ 1021 }
-    ensures { AreChained configs.now heads.new before.new.items }
+    ensures { AreChained M.hash configs.now heads.new before.new.items }
 {
     while before.len() < configs.len() {
-        link(configs, heads, before)?;
+        link(machine, configs, heads, before)?;
     }
     Ok(())
 }
 
 /// Puts all configurations into their chains.
-fn link_all<S>(
+fn link_all<M: Machine>(
     alloc: Global,
-    configs: &[Config<S>],
+    machine: &M,
+    configs: &[Config<M::State>],
     heads: &mut Vec<usize>,
     before: &mut Vec<usize>,
 ) -> Result<(), AllocError>
-    requires { AreChained configs.now heads.old.items before.old.items }
-    ensures { AreChained configs.now heads.new.items before.new.items }
+    requires { AreChained M.hash configs.now heads.old.items before.old.items }
+    ensures { AreChained M.hash configs.now heads.new.items before.new.items }
 {
     if heads.len() == CHAINS {
-        return link_rest(configs, heads, before);
+        return link_rest(machine, configs, heads, before);
     }
     *heads = vec![in alloc; 0; CHAINS]?;
     before.clear();
-    link_rest(configs, heads, before)
+    link_rest(machine, configs, heads, before)
 }
 
 /// So many configurations are looked through one by one.
 const FEW: usize = 32;
 
-/// Configurations, each once. Where they are many, most are in chains by the calls that wait.
+/// Configurations, each once. Where they are many, most are in chains by the calls that wait and
+/// the state.
 #[derive(Drop)]
-pub struct Gathered<S> {
-    configs: Vec<Config<S>>,
+pub struct Gathered<M: Machine> {
+    configs: Vec<Config<M::State>>,
     heads: Vec<usize>,
     before: Vec<usize>,
 }
 
-impl<S> Model for Gathered<S> {
+impl<M: Machine> Model for Gathered<M> {
     ghost use Rattle.std.specs.Prelude.{List};
     ghost use Rattle.histories.specs.declared.front.Config.{Config};
     ghost use Rattle.histories.specs.Gathering.{AreChained};
 
-    ghost Value = { List (Config S) };
+    ghost Value = { List (Config M.State) };
 
     ghost view = { λ g. g.configs.items };
 
-    ghost invariant = { λ g. AreChained g.configs.items g.heads.items g.before.items };
+    ghost invariant = { λ g. AreChained M.hash g.configs.items g.heads.items g.before.items };
 }
 
-impl<S> Gathered<S> {
+impl<M: Machine> Gathered<M> {
     /// No configuration.
     pub fn new(alloc: Global) -> Self
         ensures { result ≡ [] }
@@ -155,7 +159,7 @@ impl<S> Gathered<S> {
     }
 
     /// These configurations.
-    pub fn of(alloc: Global, configs: Vec<Config<S>>) -> Self
+    pub fn of(alloc: Global, configs: Vec<Config<M::State>>) -> Self
         ensures { result ≡ configs.items }
     {
         Gathered {
@@ -166,7 +170,7 @@ impl<S> Gathered<S> {
     }
 
     /// The configurations.
-    pub fn into_configs(self) -> Vec<Config<S>>
+    pub fn into_configs(self) -> Vec<Config<M::State>>
         ensures { result.items ≡ self }
     {
         let Gathered {
@@ -178,13 +182,19 @@ impl<S> Gathered<S> {
     }
 
     /// Puts configurations into chains once many of them are in none.
-    fn link_many(&mut self, alloc: Global) -> Result<(), AllocError>
+    fn link_many(&mut self, alloc: Global, machine: &M) -> Result<(), AllocError>
         ensures { self.new ≡ self.old }
     {
         if self.configs.len() - self.before.len() < FEW {
             return Ok(());
         }
-        link_all(alloc, &self.configs, &mut self.heads, &mut self.before)
+        link_all(
+            alloc,
+            machine,
+            &self.configs,
+            &mut self.heads,
+            &mut self.before,
+        )
     }
 }
 
@@ -212,7 +222,7 @@ fn is_known<M: Machine>(
     before: &[usize],
     config: &Config<M::State>,
 ) -> bool
-    requires { AreChained configs.now heads.now before.now }
+    requires { AreChained M.hash configs.now heads.now before.now }
     ensures { IsKnown configs.now config.now result }
 {
     if is_in_chain(machine, configs, heads, before, config) {
@@ -224,7 +234,7 @@ fn is_known<M: Machine>(
 /// Whether one of the configurations that were gathered is the same.
 pub fn has_same<M: Machine>(
     machine: &M,
-    gathered: &Gathered<M::State>,
+    gathered: &Gathered<M>,
     config: &Config<M::State>,
 ) -> bool
     ensures { IsKnown gathered.now config.now result }
@@ -240,16 +250,17 @@ pub fn has_same<M: Machine>(
 
 /// Adds a configuration, where none is the same.
 #[tactic(auto, using(crate::proofs::Gathering::gathers_new))]
-pub fn add_new<S: Drop>(
+pub fn add_new<M: Machine>(
     alloc: Global,
-    gathered: &mut Gathered<S>,
-    config: Config<S>,
+    machine: &M,
+    gathered: &mut Gathered<M>,
+    config: Config<M::State>,
 ) -> Result<(), AllocError>
     requires { IsKnown gathered.old config false }
     ensures { OnOk result (Gathers (IsCopy config) gathered.old gathered.new) }
 {
     gathered.configs.push(config)?;
-    gathered.link_many(alloc)
+    gathered.link_many(alloc, machine)
 }
 
 /// Adds a configuration, unless there is the same.
@@ -257,7 +268,7 @@ pub fn add_new<S: Drop>(
 pub fn add<M: Machine>(
     alloc: Global,
     machine: &M,
-    gathered: &mut Gathered<M::State>,
+    gathered: &mut Gathered<M>,
     config: Config<M::State>,
 ) -> Result<(), AllocError>
     ensures { OnOk result (Gathers (IsCopy config) gathered.old gathered.new) }
@@ -265,7 +276,7 @@ pub fn add<M: Machine>(
     if has_same(machine, gathered, &config) {
         return Ok(());
     }
-    add_new(alloc, gathered, config)
+    add_new(alloc, machine, gathered, config)
 }
 
 /// The first configurations, and of the others those that are not there yet.

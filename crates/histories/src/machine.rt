@@ -15,6 +15,9 @@ pub trait Machine {
     /// seen, or, where none was seen, with any reply.
     ghost Step: { Self → Self.State → ℕ → Self.State → Type 0 };
 
+    /// A number by which a state is found among many. Other states may have the same.
+    ghost hash: { Self.State → ℕ };
+
     /// All states that the call may leave.
     fn follow(&self, state: &Self::State, call: usize) -> Result<Left<Self::State>, AllocError>
         ensures { IfOk result (λ left. AreAll (Step self.now state.now call) (states_in left)) };
@@ -46,6 +49,10 @@ pub trait Machine {
     /// A copy of the state.
     fn copied(&self, state: &Self::State) -> Result<Self::State, AllocError>
         ensures { IfOk result (λ copy. copy ≡ state.now) };
+
+    /// The number by which the state is found.
+    fn hash_of(&self, state: &Self::State) -> u64
+        ensures { result ≡ hash state.now };
 
     /// Whether two states are the same.
     fn same(&self, one: &Self::State, other: &Self::State) -> bool

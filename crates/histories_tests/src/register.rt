@@ -98,6 +98,8 @@ impl Machine for Recorded {
 
     ghost Step = { λ m value call new. MakesCall (slice_get m.calls.items call) value new };
 
+    ghost hash = { λ value. value };
+
     fn follow(&self, value: &u64, call: usize) -> Result<Left<u64>, AllocError> {
         match self.calls.get(call) {
             Some(access) => Ok(all_after(access, *value)),
@@ -135,6 +137,10 @@ impl Machine for Recorded {
 
     fn copied(&self, value: &u64) -> Result<u64, AllocError> {
         Ok(*value)
+    }
+
+    fn hash_of(&self, value: &u64) -> u64 {
+        *value
     }
 
     fn same(&self, one: &u64, other: &u64) -> bool {

@@ -1,6 +1,7 @@
 //! The calls of a history, as a machine.
 ghost use Rattle.std.specs.Prelude.{IfNone, IfSome};
 ghost use Rattle.service_conformance.specs.Calls.{HasNumber, LacksNumber};
+ghost use Rattle.service_conformance.specs.Hashes.{service_hash};
 ghost use Rattle.service_conformance.specs.Judged.{WindowStep};
 ghost use Rattle.service_conformance.specs.Movers.{ChangesAt};
 
@@ -44,6 +45,8 @@ impl<'a> Machine for Calls<'a> {
     type State = WatchedService;
 
     ghost Step = { λ m old call new. WindowStep m.first m.calls.now old call new };
+
+    ghost hash = { λ state. service_hash state.service };
 
     #[tactic(auto, using(crate::proofs::Judged::window_followed))]
     fn follow(
@@ -92,6 +95,10 @@ impl<'a> Machine for Calls<'a> {
 
     fn copied(&self, state: &WatchedService) -> Result<WatchedService, AllocError> {
         state.copied(self.alloc)
+    }
+
+    fn hash_of(&self, state: &WatchedService) -> u64 {
+        state.service().hash()
     }
 
     fn same(&self, one: &WatchedService, other: &WatchedService) -> bool {

@@ -13,11 +13,14 @@ ghost use Rattle.service_conformance.specs.Dead.{stays, without_node, without_po
 ghost use Rattle.service_conformance.specs.Entries.{MayGive, Refuses, StandsAt};
 ghost use Rattle.service_conformance.specs.Given.{Becomes, IsBefore, IsUnused, MayStand, StandsLast};
 ghost use Rattle.service_conformance.specs.Given.{UsedSo, slot_entry};
+ghost use Rattle.service_conformance.specs.Hashes.{entries_hash};
 ghost use Rattle.service_conformance.specs.Words.{IsNextHandle, TellsHandle, handle_words};
 
 use super::possible::NextHandle;
 use super::same::{Same, are_same};
-use super::slot_entry::{SlotEntry, details_of, free_position, position_with, put, slots_of};
+use super::slot_entry::{
+    SlotEntry, details_of, entries_hash, free_position, position_with, put, slots_of,
+};
 use iox2_container::container::{ContainerAddFailure, ContainerHandle, ReleaseMode, Role};
 use iox2_dynamic::dynamic_config::PortDetails;
 use iox2_ids::identifiers::UniqueNodeId;
@@ -110,6 +113,13 @@ impl<T: Copy> RegistryCheck<T> {
             locked: self.locked,
             entries: Vec::from_slice(alloc, &self.entries)?,
         })
+    }
+
+    /// The number with the slots of its entries in turn.
+    pub(super) fn hash_after(&self, hash: u64) -> u64
+        ensures { result ≡ entries_hash hash self.now.entries }
+    {
+        entries_hash(hash, &self.entries)
     }
 
     /// Whether it is locked.

@@ -10,6 +10,7 @@ ghost use Rattle.service_conformance.specs.Given.{GivesPorts};
 ghost use Rattle.service_conformance.specs.Quiet.{ports_at_rest, quiet};
 ghost use Rattle.iox2_dynamic.specs.PortsState.{side_of};
 ghost use Rattle.service_conformance.specs.Sides.{HasPart, LacksPart, ports_at};
+ghost use Rattle.service_conformance.specs.Hashes.{service_hash};
 
 mod following;
 mod replies_possible;
@@ -157,6 +158,14 @@ impl ServiceCheck {
             first: self.first.copied(alloc)?,
             second: self.second.copied(alloc)?,
         })
+    }
+
+    /// The number by which the service is found among many: the slots count that are taken.
+    pub(super) fn hash(&self) -> u64
+        ensures { result ≡ service_hash self.now }
+    {
+        self.second
+            .hash_after(self.first.hash_after(self.nodes.hash_after(0)))
     }
 
     /// Whether two services hold the same. The pattern says what the roles of the ports do, and is

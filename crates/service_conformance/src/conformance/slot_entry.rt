@@ -6,6 +6,7 @@ ghost use Rattle.iox2_container.specs.Steps.{is_of};
 ghost use Rattle.iox2_dynamic.specs.Details.{node_of};
 ghost use Rattle.service_conformance.specs.Dead.{goes, is_kept, stays};
 ghost use Rattle.service_conformance.specs.Entries.{HasAt, IsAt, IsFreePosition, entry_at};
+ghost use Rattle.service_conformance.specs.Hashes.{entries_hash};
 
 use super::same::Same;
 use iox2_container::container::ContainerHandle;
@@ -59,6 +60,17 @@ impl<T: Copy + Same> Same for SlotEntry<T> {
     fn same(&self, other: &Self) -> bool {
         self.slot == other.slot && self.ticket == other.ticket && self.details.same(&other.details)
     }
+}
+
+/// The number with the slots of these entries in turn.
+pub(super) fn entries_hash<T: Copy>(start: u64, entries: &[SlotEntry<T>]) -> u64
+    ensures { result ≡ entries_hash start entries.now }
+{
+    let mut hash = start;
+    for entry in entries {
+        hash = (hash % 1021 * 31 + entry.slot() as u64 % 1021) % 1021;
+    }
+    hash
 }
 
 /// The position that an entry of this slot would have, or `None` where the slot is taken.

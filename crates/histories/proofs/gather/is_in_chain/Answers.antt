@@ -3,17 +3,17 @@ use Rattle.histories.proofs.Gathering.{following_head, following_more}
 use Rattle.histories.proofs.gather.is_in_chain.Goals as goal
 
 pub loop-left-init : goal.loop-left-init
-loop-left-init g c = following_head _ _ _ _ _ c.head_of-left.ensures c.requires
+loop-left-init g c = following_head g.M.Machine.hash _ _ _ _ _ (rw c.chain_of.ensures at c.head_of-left.ensures) c.requires
 
 pub loop-left-preserved : goal.loop-left-preserved
 loop-left-preserved g c =
-    (following_more _ _ _ _ _ _ _ _
+    (following_more g.M.Machine.hash _ _ _ _ _ _ _ _
     (omega (arith, c.loop-left-test.true)) refl c.index-configs-at.is
     (λ same. cc (c.is_same.ensures.1 same, c.if-is_same.false)) c.requires c.loop-left.invariant).0
 
 pub loop-left-smaller : goal.loop-left-smaller
 loop-left-smaller g c =
-    (following_more _ _ _ _ _ _ _ _
+    (following_more g.M.Machine.hash _ _ _ _ _ _ _ _
     (omega (arith, c.loop-left-test.true)) refl c.index-configs-at.is
     (λ same. cc (c.is_same.ensures.1 same, c.if-is_same.false)) c.requires c.loop-left.invariant).1
 
