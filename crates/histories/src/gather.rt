@@ -1,8 +1,8 @@
 //! Configurations that are gathered, each once.
 //!
 //! Where they are many, they are in chains by the calls that wait and the state. A chain goes from
-//! its last configuration to the one before it. Links name how many configurations there are up to the one
-//! that they lead to, or 0 at the end.
+//! its last configuration to the one before it. Links name how many configurations there are up to
+//! the one that they lead to, or 0 at the end.
 ghost use Rattle.std.specs.Prelude.{◌≡◌, ◌+◌, ◌<◌, ◌≤◌, ◌↔◌, ◌∷◌, List, [], IfOk, IsFalse, IsTrue, OnOk, false, get_or, length};
 ghost use Rattle.histories.specs.declared.front.Link.{Link};
 ghost use Rattle.histories.specs.Gathering.{AreChained, AreOther, FromOne, Gathers, HasSame, IsCopy, IsKnown, chain_of};
@@ -232,11 +232,7 @@ fn is_known<M: Machine>(
 }
 
 /// Whether one of the configurations that were gathered is the same.
-pub fn has_same<M: Machine>(
-    machine: &M,
-    gathered: &Gathered<M>,
-    config: &Config<M::State>,
-) -> bool
+pub fn has_same<M: Machine>(machine: &M, gathered: &Gathered<M>, config: &Config<M::State>) -> bool
     ensures { IsKnown gathered.now config.now result }
 {
     is_known(

@@ -3,7 +3,9 @@ use Rattle.histories.proofs.Gathering.{following_head, following_more}
 use Rattle.histories.proofs.gather.is_in_chain.Goals as goal
 
 pub loop-left-init : goal.loop-left-init
-loop-left-init g c = following_head g.M.Machine.hash _ _ _ _ _ (rw c.chain_of.ensures at c.head_of-left.ensures) c.requires
+loop-left-init g c =
+    following_head g.M.Machine.hash _ _ _ _ _
+    (rw c.chain_of.ensures at c.head_of-left.ensures) c.requires
 
 pub loop-left-preserved : goal.loop-left-preserved
 loop-left-preserved g c =
