@@ -6,7 +6,7 @@ use Rattle.std.specs.Bool.{Decides}
 use Rattle.std.specs.Cmp.{booleans_Decides, unsigned_Decides}
 use Rattle.iox2_texts.specs.contracts.attribute.verifier.AttributeVerificationErrorPartialEq.TheImpl as fault
 use Rattle.iox2_texts.specs.declared.attribute.verifier.AttributeVerificationError.{AttributeVerificationError}
-use Rattle.iox2_ids.specs.contracts.identifiers.node_id.UniqueNodeIdPartialEq.TheImpl as node
+use Rattle.iox2_ids.specs.contracts.identifiers.unique_id.UniqueNodeIdPartialEq.TheImpl as node
 use Rattle.iox2_config.proofs.Equality.{EqualityTest, decided, numbers, pairs, structs}
 use Rattle.iox2_config.specs.SampleLayoutParts.{SampleLayoutParts}
 use Rattle.iox2_config.specs.contracts.types.sample_layout.SampleLayoutPartialEq.TheImpl as room
