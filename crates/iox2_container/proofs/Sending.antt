@@ -13,17 +13,17 @@ use Rattle.std.specs.contracts.prelude.UsizeDebug.TheImpl as UsizeDebug
 use Rattle.std.specs.declared.clone.Clone.{Ghosts as CloneGhosts}
 use Rattle.std.specs.declared.fmt.Debug.{Ghosts as DebugGhosts}
 use Rattle.iox2_container.specs.contracts.container.cell.Cell as Cell
-use Rattle.iox2_container.specs.contracts.container.free.free_list.FreeList as FreeList
-use Rattle.iox2_container.specs.contracts.container.free.free_list.FreeListSlotAllocator.TheImpl as FreeListSlotAllocator
-use Rattle.iox2_container.specs.contracts.container.header.RegistryHeader as RegistryHeader
+use Rattle.iox2_container.specs.contracts.container.free.FreeList as FreeList
+use Rattle.iox2_container.specs.contracts.container.free.FreeListSlotAllocator.TheImpl as FreeListSlotAllocator
+use Rattle.iox2_container.specs.contracts.container.counted_map.RegistryHeader as RegistryHeader
 use Rattle.iox2_container.specs.contracts.container.slot_map.SlotMap as SlotMap
 use Rattle.iox2_container.specs.contracts.container.slot_map.SlotMap.TheInside as SlotMapInside
 use Rattle.iox2_container.specs.contracts.container.counted_map.CountedMap.TheInside as Inside
-use Rattle.iox2_container.specs.contracts.container.slot_map.places.Places as Places
-use Rattle.iox2_container.specs.contracts.container.slot_map.places.Places.TheInside as PlacesInside
+use Rattle.iox2_container.specs.contracts.container.slots.Places as Places
+use Rattle.iox2_container.specs.contracts.container.slots.Places.TheInside as PlacesInside
 use Rattle.iox2_container.specs.contracts.container.slots.Slots as Slots
 use Rattle.iox2_container.specs.contracts.container.touches.Touches as Touches
-use Rattle.iox2_container.specs.declared.container.free.slot_allocator.SlotAllocator.{Ghosts as SlotAllocatorGhosts}
+use Rattle.iox2_container.specs.declared.container.free.SlotAllocator.{Ghosts as SlotAllocatorGhosts}
 
 Touches-send : IsSend Touches.the_row
 Touches-send = owning_send Touches.the_type tt (λ d. tt) (λ k x w. tt)

@@ -1,7 +1,7 @@
 -- What a change does to slots of which the free ones are in a list.
 use Rattle.iox2_container.proofs.Prelude.{[], ◌+◌, ◌<◌, ◌∙◌, ◌∷◌, ◌≡◌, ◌≢◌, ◌≤◌, All, All-cons, All-head, All-nil, All-tail, List, None, Option, Some, ℕ, ap, arith, length, length-set, map, map-set, refl, replicate, slice_get, slice_get_within, slice_set, subst, sym}
 use Rattle.iox2_container.specs.Prelude.{Entry, Free, IsFreeAt, IsFreeList, IsTakenAt, LeadsThrough, Linked, PutsFirst, Taken, TakesFirst, TakesLastFreed, entries_from, shown}
-use Rattle.iox2_container.specs.declared.container.free.free_list.FreeList.{FreeList}
+use Rattle.iox2_container.specs.declared.container.free.FreeList.{FreeList}
 use Rattle.iox2_container.proofs.CellEntries.{gains_write, gains_clear, nothing_stands}
 use Rattle.iox2_container.proofs.Gaining.{length-InsertsOne}
 use Rattle.iox2_container.proofs.FreeList.{threads_free, taken_apart, threads_kept, threads_freed, cell_free, shown_free, replicate_free, taken_at}

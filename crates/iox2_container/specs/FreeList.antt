@@ -2,7 +2,7 @@
 use Rattle.std.specs.Prelude.{◌≡◌, ◌≢◌, ℕ, ◌+◌, ◌≤◌, ◌<◌, Option, Some, None, List, [], ◌∷◌, length, map, slice_get, All, ⊤}
 use Rattle.iox2_container.specs.declared.container.cell.Cell.{Cell}
 use Rattle.iox2_container.specs.declared.container.cell.Cell.TheVariants.{Taken, Free}
-use Rattle.iox2_container.specs.declared.container.free.free_list.FreeList.{FreeList}
+use Rattle.iox2_container.specs.declared.container.free.FreeList.{FreeList}
 use Rattle.iox2_container.specs.Places.{entries_from}
 use Rattle.iox2_container.specs.Cells.{shown}
 

@@ -1,6 +1,6 @@
 -- What a header and slots say together.
 use Rattle.std.specs.Prelude.{◌≡◌, ◌+◌, ℕ, All, Option, List, length}
-use Rattle.iox2_container.specs.declared.container.header.RegistryHeader.{RegistryHeader}
+use Rattle.iox2_container.specs.declared.container.counted_map.RegistryHeader.{RegistryHeader}
 use Rattle.iox2_container.specs.declared.container.cell.Occupant.{Occupant}
 use Rattle.iox2_container.specs.State.{RegistryState, IsRegistry}
 use Rattle.iox2_container.specs.Places.{entries_from}

@@ -25,7 +25,7 @@ pub use Rattle.iox2_container.specs.declared.container.release.ReleaseMode.{Rele
 pub use Rattle.iox2_container.specs.declared.container.release.ReleaseMode.TheVariants.{Default, LockIfLastIndex}
 pub use Rattle.iox2_container.specs.declared.container.release.ReleaseState.{ReleaseState}
 pub use Rattle.iox2_container.specs.declared.container.role.Role.{Role}
-pub use Rattle.iox2_container.specs.declared.container.header.RegistryHeader.{RegistryHeader}
+pub use Rattle.iox2_container.specs.declared.container.counted_map.RegistryHeader.{RegistryHeader}
 pub use Rattle.iox2_container.specs.declared.container.cell.Cell.{Cell}
 pub use Rattle.iox2_container.specs.declared.container.cell.Cell.TheVariants.{Free, Taken}
 pub use Rattle.iox2_container.specs.declared.container.cell.Occupant.{Occupant}

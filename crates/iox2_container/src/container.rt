@@ -7,7 +7,6 @@ mod comparison;
 mod counted_map;
 mod free;
 mod handle;
-mod header;
 mod listing;
 mod passes;
 mod queries;

@@ -5,7 +5,7 @@ use denote.Enum.Enum.{Enum}
 use denote.Param.Send.{IsSend, enum_send, recorded_send, sendable, view_send}
 use denote.Param.SendFields.{declared_send}
 use Rattle.std.specs.declared.clone.Clone.{Ghosts as CloneGhosts}
-use Rattle.iox2_ids.specs.contracts.identifiers.node_id.UniqueNodeId as NodeId
+use Rattle.iox2_ids.specs.contracts.identifiers.unique_id.UniqueNodeId as NodeId
 use Rattle.iox2_container.proofs.Sending.{ListContainer-send}
 use Rattle.iox2_dynamic.specs.contracts.dynamic_config.details.ClientDetails as Client
 use Rattle.iox2_dynamic.specs.contracts.dynamic_config.details.ListenerDetails as Listener

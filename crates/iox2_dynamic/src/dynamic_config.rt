@@ -9,7 +9,6 @@ pub mod event;
 mod listing;
 mod pattern;
 mod port_details;
-mod port_kind;
 pub mod publish_subscribe;
 mod questions;
 mod recovery;
@@ -21,12 +20,11 @@ mod settings;
 pub use answers::{AttachError, DeregisterError, DeregisterNodeState, RegisterNodeResult};
 pub use cleanup::PortCleanupAction;
 pub use details::{
-    ClientDetails, ListenerDetails, NotifierDetails, PublisherDetails, ReaderDetails,
+    ClientDetails, ListenerDetails, NotifierDetails, PortKind, PublisherDetails, ReaderDetails,
     ServerDetails, SubscriberDetails, WriterDetails,
 };
 pub use pattern::{MessagingPattern, PortRegistries};
 pub use port_details::PortDetails;
-pub use port_kind::PortKind;
 pub use roles::PortRoles;
 pub use service::DynamicConfig;
 pub use settings::MessagingPatternSettings;

@@ -2,7 +2,7 @@
 //! library without global state.
 //!
 //! `include/iox2sd.h` declares each export for C and C++, and says what a caller owes.
-#![tactic(auto, using(iox2_dynamic::proofs::Callbacks::callbacks))]
+#![tactic(auto)]
 
 ghost use Rattle.std.specs.Prelude.{◌≡◌};
 ghost use Rattle.iox2sd.specs.About.{the_abi, TellsStatus};

@@ -3,8 +3,8 @@
 ghost use Rattle.std.specs.Prelude.{◌≡◌, None};
 ghost use Rattle.iox2sd.specs.Answers.{handle_answer, number_answer, roles_answer, id_answer};
 ghost use Rattle.iox2sd.specs.Answers.{port_answer, told_death, death_answer};
-ghost use Rattle.iox2sd.specs.Ports.{role_number, ReadsRole, c_handle, no_handle, ReadsHandle};
-ghost use Rattle.iox2sd.specs.Ports.{segment_number, ReadsSegment, ReadsPort, blank, c_port};
+ghost use Rattle.iox2sd.specs.Ports.{ReadsRole, c_handle, no_handle, ReadsHandle};
+ghost use Rattle.iox2sd.specs.Ports.{ReadsSegment, ReadsPort, blank, c_port};
 
 use crate::service::roles::Counts;
 use iox2_config::config::DataSegmentType;
@@ -34,13 +34,6 @@ pub struct Handle {
     pub ticket: u64,
 }
 
-/// The number of a role.
-pub(crate) fn role_number(role: Role) -> u64
-    ensures { result ≡ role_number role }
-{
-    role as u64
-}
-
 /// The role of a number.
 pub(crate) fn role_of(number: u64) -> Option<Role>
     ensures { ReadsRole number result }
@@ -67,7 +60,7 @@ impl Handle {
         let (service, role, slot, ticket) = handle.into_parts();
         Handle {
             service,
-            role: role_number(role),
+            role: role as u64,
             slot,
             ticket,
         }
@@ -136,13 +129,6 @@ pub struct Port {
     pub max_number_of_segments: u8,
 }
 
-/// The number of a kind of data segment.
-fn segment_number(segment: DataSegmentType) -> u32
-    ensures { result ≡ segment_number segment }
-{
-    segment as u32
-}
-
 /// The kind of data segment of this number.
 fn segment_of(number: u32) -> Option<DataSegmentType>
     ensures { ReadsSegment number result }
@@ -161,7 +147,7 @@ impl Port {
         ensures { result ≡ blank details.now }
     {
         Port {
-            role: role_number(details.role()),
+            role: details.role() as u64,
             port: Id::of_number(details.port_id().value()),
             node: Id::of_number(details.node_id().value()),
             ..Port::default()
@@ -178,7 +164,7 @@ impl Port {
             PortDetails::Publisher(details) => Port {
                 number_of_samples: details.number_of_samples,
                 max_slice_len: details.max_slice_len,
-                data_segment: segment_number(details.data_segment_type),
+                data_segment: details.data_segment_type as u32,
                 max_number_of_segments: details.max_number_of_segments,
                 ..blank
             },
@@ -190,7 +176,7 @@ impl Port {
                 request_buffer_size: details.request_buffer_size,
                 number_of_responses: details.number_of_responses,
                 max_slice_len: details.max_slice_len,
-                data_segment: segment_number(details.data_segment_type),
+                data_segment: details.data_segment_type as u32,
                 max_number_of_segments: details.max_number_of_segments,
                 ..blank
             },
@@ -198,7 +184,7 @@ impl Port {
                 number_of_requests: details.number_of_requests,
                 response_buffer_size: details.response_buffer_size,
                 max_slice_len: details.max_slice_len,
-                data_segment: segment_number(details.data_segment_type),
+                data_segment: details.data_segment_type as u32,
                 max_number_of_segments: details.max_number_of_segments,
                 ..blank
             },

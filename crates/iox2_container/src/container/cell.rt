@@ -15,19 +15,6 @@ fn is_equal(one: u64, other: u64) -> bool
     one == other
 }
 
-/// Whether the numbers of two ids are equal. The lower halves, which
-/// differ most since the counters are there, are compared first.
-#[inline(always)]
-fn is_same(one: u128, other: u128) -> bool
-    ensures { result ≡ (one == other) }
-{
-    const HALF: u128 = 1 << 64;
-    if (one % HALF) as u64 != (other % HALF) as u64 {
-        return false;
-    }
-    is_equal((one / HALF) as u64, (other / HALF) as u64)
-}
-
 /// The entry of a slot: details and ticket.
 #[derive(Clone, Copy)]
 pub struct Occupant<T: Copy> {
@@ -55,13 +42,19 @@ impl<T: Copy, N: Copy> Cell<T, N> {
 }
 
 impl<T: Attached + Copy, N: Copy> Cell<T, N> {
-    /// Whether its entry is the node's.
+    /// Whether its entry is the node's. Of the numbers of two ids the lower halves, which differ
+    /// most since the counters are there, are compared first.
     #[inline(always)]
     pub(crate) fn is_of(&self, node: &UniqueNodeId) -> bool
         ensures { result ≡ cell_is_of T.node node.now (shown self.now) }
     {
+        const HALF: u128 = 1 << 64;
         match self {
-            Cell::Taken { details, .. } => is_same(details.node_id().value(), node.value()),
+            Cell::Taken { details, .. } => {
+                let (one, other) = (details.node_id().value(), node.value());
+                (one % HALF) as u64 == (other % HALF) as u64
+                    && is_equal((one / HALF) as u64, (other / HALF) as u64)
+            }
             Cell::Free(_) => false,
         }
     }

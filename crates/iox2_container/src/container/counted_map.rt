@@ -1,24 +1,63 @@
 //! A container as its changes see it.
-ghost use Rattle.std.specs.Prelude.{◌≡◌, ◌+◌, ◌≤◌, IfOk, length};
+ghost use Rattle.std.specs.Prelude.{◌≡◌, ◌+◌, ◌-◌, ◌≤◌, ◌<◌, ◌↔◌, IfOk, IsTrue, length};
 ghost use Rattle.std.specs.Fn.{CalledAt, TakesAt};
 ghost use Rattle.iox2_container.specs.Callbacks.{CanBeAsked};
 ghost use Rattle.iox2_container.specs.Changes.{Adds, Removes, RecoversBy};
 ghost use Rattle.iox2_container.specs.ContainerState.{fresh};
 ghost use Rattle.iox2_container.specs.State.{IsRegistry};
-ghost use Rattle.iox2_container.specs.Steps.{asked_about, is_of};
+ghost use Rattle.iox2_container.specs.Steps.{asked_about, is_of, lock_after, release_state};
 
 use super::attached::Attached;
 use super::free::SlotAllocator;
 use super::handle::ContainerHandle;
-use super::header::RegistryHeader;
 use super::passes::{sweep, take_out};
 use super::refusal::{ContainerAddFailure, ContainerRemoveError};
 use super::release::{ReleaseMode, ReleaseState};
 use super::role::Role;
-use super::slot_map::places::Places;
+use super::slots::Places;
 use iox2_ids::identifiers::UniqueNodeId;
 use std::alloc::{AllocError, Global};
 use std::marker::Model;
+
+/// What a container knows beside its slots: whose it is, how many entries it has, how many tickets
+/// it issued and may issue, and whether it is locked.
+#[derive(Debug, Drop)]
+pub struct RegistryHeader {
+    pub(super) service: u64,
+    pub(super) role: Role,
+    pub(super) budget: u64,
+    pub(super) count: usize,
+    pub(super) locked: bool,
+    pub(super) used: u64,
+}
+
+impl RegistryHeader {
+    /// Whether an entry of the container may have the handle, by all parts but its ticket.
+    pub(super) fn may_have(&self, handle: ContainerHandle, capacity: usize) -> bool
+        ensures { IsTrue result ↔
+            ((handle.service ≡ self.now.service) × (handle.role ≡ self.now.role)
+            × (handle.slot < capacity)) }
+    {
+        handle.service() == self.service && handle.role() == self.role && handle.slot() < capacity
+    }
+
+    /// Counts this many entries less, locks where the last one was removed and the mode says so,
+    /// and returns whether the container is locked then.
+    pub(super) fn leave(&mut self, gone: usize, mode: ReleaseMode) -> ReleaseState
+        requires { gone ≤ self.old.count }
+        ensures left { self.new ≡ record self.old {
+          count = self.old.count - gone;
+          locked = lock_after mode self.old.count (self.old.count - gone) self.old.locked;
+        } }
+        ensures state { result ≡ release_state self.new.locked }
+    {
+        self.count -= gone;
+        if gone > 0 {
+            self.locked = mode.lock_after(self.count, self.locked);
+        }
+        ReleaseState::of(self.locked)
+    }
+}
 
 /// A container as its changes see it: whatever they do with a slot is a touch, since the calls of
 /// [`Places`] are. No query is in reach of them.

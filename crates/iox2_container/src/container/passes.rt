@@ -12,7 +12,7 @@ use super::attached::Attached;
 use super::cell::with_ticket;
 use super::free::SlotAllocator;
 use super::handle::ContainerHandle;
-use super::slot_map::places::Places;
+use super::slots::Places;
 use iox2_ids::identifiers::UniqueNodeId;
 
 /// Calls the callback once.

@@ -6,7 +6,7 @@ ghost use Rattle.iox2_container.specs.Cells.{shown};
 ghost use Rattle.iox2_container.specs.Places.{Finds, NoneFrom, details_in, entries_from};
 ghost use Rattle.iox2_container.specs.Callbacks.{CanVisit};
 ghost use Rattle.iox2_container.specs.Passes.{AreOthers, AskedOfCell, IsLastOf, PlaceIsOf};
-ghost use Rattle.iox2_container.specs.Passes.{TakesCell, cell_is_of};
+ghost use Rattle.iox2_container.specs.Passes.{TakesCell};
 ghost use Rattle.iox2_container.specs.Steps.{Visit, candidates, is_of};
 
 use super::attached::Attached;
@@ -14,7 +14,7 @@ use super::cell::{Occupant, with_ticket};
 use super::handle::ContainerHandle;
 use super::passes::ask;
 use super::slot_map::Looks;
-use super::slot_map::places::Places;
+use super::slots::Places;
 use iox2_ids::identifiers::UniqueNodeId;
 use iox2_texts::bounded::CallbackProgression;
 
@@ -119,16 +119,6 @@ pub(super) fn has_entry<T: Attached + Copy, N: Copy>(
     has_between(places, 0, middle, node, looks) || has_between(places, middle, end, node, looks)
 }
 
-/// Whether the entry of a slot is the node's.
-fn belongs_to<T: Attached + Copy>(cell: Option<Occupant<T>>, node: &UniqueNodeId) -> bool
-    ensures { result ≡ cell_is_of T.node node.now cell }
-{
-    match cell {
-        Some(occupant) => occupant.details.node_id() == *node,
-        None => false,
-    }
-}
-
 /// How many entries are those of the node. No slot from the end on has an entry. It looks at each
 /// slot at most once.
 pub(super) fn count_of<T: Attached + Copy, N: Copy>(
@@ -145,7 +135,7 @@ pub(super) fn count_of<T: Attached + Copy, N: Copy>(
 {
     let mut count = 0;
     for slot in 0..end {
-        if belongs_to(places.peek_at(slot, looks), node) {
+        if places.has_at(slot, node, looks) {
             count += 1;
         }
     }

@@ -2,8 +2,6 @@
 ghost use Rattle.std.specs.Prelude.{◌≡◌, ◌+◌, IfOk};
 ghost use Rattle.iox2_container.specs.ContainerState.{fresh};
 
-pub(super) mod places;
-
 use super::attached::Attached;
 use super::counted_map::CountedMap;
 use super::free::{FreeList, LowestFree, SlotAllocator};

@@ -1,11 +1,14 @@
 //! Numbered slots. No cell is reached but here, where each function reads or writes one cell once.
-ghost use Rattle.std.specs.Prelude.{◌≡◌, ◌+◌, ◌<◌, Some, IfOk};
-ghost use Rattle.std.specs.Prelude.{MatchOption, false, length, map, replicate, slice_get, slice_set};
+//! Changes of a container touch its slots, and queries look at them.
+ghost use Rattle.std.specs.Prelude.{◌≡◌, ◌+◌, ◌<◌, Some, IfOk, MatchOption};
+ghost use Rattle.std.specs.Prelude.{false, length, map, replicate, slice_get, slice_set};
+ghost use Rattle.iox2_container.specs.declared.container.cell.Cell.TheVariants.{Free};
 ghost use Rattle.iox2_container.specs.Cells.{shown};
 ghost use Rattle.iox2_container.specs.Passes.{IsAt, PlaceIsOf};
 
 use super::attached::Attached;
-use super::cell::Cell;
+use super::cell::{Cell, Occupant};
+use super::slot_map::Looks;
 use super::touches::Touches;
 use iox2_ids::identifiers::UniqueNodeId;
 use std::alloc::{AllocError, Global};
@@ -93,18 +96,9 @@ impl<C: Copy> Slots<C> {
 }
 
 impl<T: Attached + Copy, N: Copy> Slots<Cell<T, N>> {
-    /// Whether the entry in a slot is the node's. This is no touch, and is not counted.
-    #[inline(always)]
-    pub(crate) fn peek_is_of(&self, slot: usize, node: &UniqueNodeId) -> bool
-        requires { slot < length self.now.cells }
-        ensures { PlaceIsOf T.node node.now (map shown self.now.cells) slot result }
-    {
-        self.cells[slot].is_of(node)
-    }
-
     /// The details in a slot, if they are the node's. This is a touch.
     #[inline(always)]
-    pub(crate) fn look_for(&mut self, slot: usize, node: &UniqueNodeId) -> Option<T>
+    fn look_for(&mut self, slot: usize, node: &UniqueNodeId) -> Option<T>
         requires { slot < length self.old.cells }
         ensures cells { self.new.cells ≡ self.old.cells }
         ensures room { self.new.room ≡ self.old.room }
@@ -115,5 +109,105 @@ impl<T: Attached + Copy, N: Copy> Slots<Cell<T, N>> {
     {
         self.touches = self.touches.one_more();
         self.cells[slot].of_node(node)
+    }
+}
+
+/// Slots with entries, each with its ticket. A free slot keeps an `N`. Each call but `len` is a
+/// touch, or, where it takes [`Looks`], a look.
+#[derive(Debug, Drop)]
+pub struct Places<T: Copy, N: Copy> {
+    slots: Slots<Cell<T, N>>,
+}
+
+impl<T: Copy, N: Copy> Model for Places<T, N> {
+    ghost use Rattle.iox2_container.specs.declared.container.cell.Cell.{Cell};
+    ghost use Rattle.iox2_container.specs.Cells.{Cells};
+
+    ghost Value = { Cells (Cell T N) };
+
+    ghost view = { λ p. p.slots };
+}
+
+impl<T: Copy, N: Copy> Places<T, N> {
+    /// So many free slots, each of which keeps this. Refused where there is no memory for them.
+    pub(crate) fn new(alloc: Global, capacity: usize, next: N) -> Result<Self, AllocError>
+        ensures cells { IfOk result (λ p. p.cells ≡ replicate capacity (Free next)) }
+        ensures room { IfOk result (λ p. p.room ≡ capacity) }
+        ensures touches { IfOk result (λ p. p.touches ≡ 0) }
+    {
+        let slots = Slots::new(alloc, capacity, Cell::Free(next))?;
+        Ok(Places { slots })
+    }
+
+    /// How many slots there are.
+    pub(crate) fn len(&self) -> usize
+        ensures { result ≡ length self.now.cells }
+    {
+        self.slots.len()
+    }
+
+    /// The cell in a slot. This is a touch.
+    pub(crate) fn read(&mut self, slot: usize) -> Cell<T, N>
+        requires { slot < length self.old.cells }
+        ensures cell { slice_get self.old.cells slot ≡ Some result }
+        ensures cells { self.new.cells ≡ self.old.cells }
+        ensures touches { self.new.touches ≡ self.old.touches + 1 }
+    {
+        self.slots.read(slot)
+    }
+
+    /// The entry of a slot. This is a touch.
+    pub(crate) fn look(&mut self, slot: usize) -> Option<Occupant<T>>
+        requires { slot < length self.old.cells }
+        ensures cell { slice_get (map shown self.old.cells) slot ≡ Some result }
+        ensures cells { self.new.cells ≡ self.old.cells }
+        ensures touched { self.new.touches ≡ self.old.touches + 1 }
+    {
+        self.read(slot).occupant()
+    }
+
+    /// Puts a cell into a slot, in place of the one that was there. This is a touch.
+    pub(crate) fn write(&mut self, slot: usize, cell: Cell<T, N>)
+        requires { slot < length self.old.cells }
+        ensures cells { self.new.cells ≡ slice_set self.old.cells slot cell }
+        ensures touches { self.new.touches ≡ self.old.touches + 1 }
+    {
+        self.slots.write(slot, cell);
+    }
+
+    /// The entry of a slot. This is a look.
+    pub(crate) fn peek_at(&self, slot: usize, looks: &mut Looks) -> Option<Occupant<T>>
+        requires { slot < length self.now.cells }
+        ensures cell { slice_get (map shown self.now.cells) slot ≡ Some result }
+        ensures looks { looks.new.touches.count ≡ looks.old.touches.count + 1 }
+    {
+        looks.count();
+        self.slots.peek(slot).occupant()
+    }
+}
+
+impl<T: Attached + Copy, N: Copy> Places<T, N> {
+    /// The details in a slot, if they are the node's. This is a touch.
+    #[inline(always)]
+    pub(crate) fn look_for(&mut self, slot: usize, node: &UniqueNodeId) -> Option<T>
+        requires { slot < length self.old.cells }
+        ensures cells { self.new.cells ≡ self.old.cells }
+        ensures touches { self.new.touches ≡ self.old.touches + 1 }
+        ensures found { MatchOption result
+            (PlaceIsOf T.node node.now (map shown self.old.cells) slot false)
+            (IsAt T.node node.now (map shown self.old.cells) slot) }
+    {
+        self.slots.look_for(slot, node)
+    }
+
+    /// Whether the entry in a slot is the node's. This is a look.
+    #[inline(always)]
+    pub(crate) fn has_at(&self, slot: usize, node: &UniqueNodeId, looks: &mut Looks) -> bool
+        requires { slot < length self.now.cells }
+        ensures has { PlaceIsOf T.node node.now (map shown self.now.cells) slot result }
+        ensures looks { looks.new.touches.count ≡ looks.old.touches.count + 1 }
+    {
+        looks.count();
+        self.slots.cells[slot].is_of(node)
     }
 }

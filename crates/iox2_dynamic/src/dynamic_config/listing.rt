@@ -7,9 +7,9 @@ ghost use Rattle.iox2_container.specs.Mapped.{registry_as};
 ghost use Rattle.iox2_dynamic.specs.Details.{node_of};
 ghost use Rattle.iox2_dynamic.specs.Lists.{PutsIf};
 
+use super::details::PortKind;
 use super::pattern::ServiceRegistry;
 use super::port_details::PortDetails;
-use super::port_kind::PortKind;
 use iox2_container::container::{Attached, Registry};
 use iox2_ids::identifiers::UniqueNodeId;
 use iox2_texts::bounded::CallbackProgression;

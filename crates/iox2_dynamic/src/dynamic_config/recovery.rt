@@ -7,8 +7,8 @@ ghost use Rattle.iox2_dynamic.specs.Recoveries.{AskedToGo, RecoversPorts, Recove
 ghost use Rattle.iox2_dynamic.specs.Details.{node_of, port_of};
 
 use super::cleanup::PortCleanupAction;
+use super::details::PortKind;
 use super::pattern::ServiceRegistry;
-use super::port_kind::PortKind;
 use iox2_container::container::{Registry, ReleaseMode, ReleaseState};
 use iox2_ids::identifiers::{UniqueNodeId, UniquePortId};
 

@@ -1,6 +1,6 @@
-//! Ids of ports and services: one generic type, and nine instances of it.
-ghost use Rattle.std.specs.Prelude.{◌≡◌, Some};
-ghost use Rattle.iox2_ids.specs.Packing.{packed, process_of, time_of, hexadecimal};
+//! Ids of ports and services: one generic type, and nine instances of it; and ids of nodes.
+ghost use Rattle.std.specs.Prelude.{◌≡◌, ◌<◌, ◌+◌, ◌↔◌, IfSome, IsNone, Some};
+ghost use Rattle.iox2_ids.specs.Packing.{packed, process_of, time_of, owner_of, hexadecimal};
 
 use super::hexadecimal::Hexadecimal;
 use super::time::{ProcessId, Time};
@@ -139,3 +139,92 @@ pub type UniqueWriterId = UniqueId<WriterKind>;
 
 /// The id of a service.
 pub type UniqueServiceId = UniqueId<ServiceKind>;
+
+/// The kind of the id in a [`UniqueNodeId`].
+enum NodeKind {}
+
+/// The id of a node. Its process or its counter is not 0.
+///
+/// From `crates/service_examples_tests/src/services.rt`:
+///
+/// ```
+/// UniqueNodeId::new(1, 0, 0, counter).expect(rt, "process 1 has nodes")
+/// ```
+#[derive(Clone, Copy, Debug, PartialEq, Eq, PartialOrd, Ord, Hash)]
+pub struct UniqueNodeId {
+    id: UniqueId<NodeKind>,
+}
+
+impl Model for UniqueNodeId {
+    ghost use Rattle.std.specs.Prelude.{ℕ, ◌<◌};
+    ghost use Rattle.iox2_ids.specs.Packing.{owner_of};
+
+    ghost Value = { ℕ };
+
+    ghost view = { λ node. node.id };
+
+    ghost invariant = { λ node. 0 < owner_of node.id };
+
+    ghost inverse = { λ n. record { id = n } };
+}
+
+/// The number in lower-case hexadecimal digits without leading zeros.
+impl fmt::Display for UniqueNodeId {
+    ghost use Rattle.std.specs.Fmt.{styled_text};
+
+    ghost output = { λ id. Some (hexadecimal id) };
+
+    ghost styled_output = { λ id spec. Some (styled_text spec (hexadecimal id)) };
+
+    fn fmt<W: fmt::Write>(&self, f: &mut fmt::Formatter<W>) -> fmt::Result {
+        self.id.fmt(f)
+    }
+}
+
+impl UniqueNodeId {
+    /// The id that these parts make, or `None` exactly where process and counter are both 0.
+    pub fn new(process: u32, seconds: u32, nanoseconds: u32, counter: u32) -> Option<Self>
+        ensures none { IsNone result ↔ (process + counter ≡ 0) }
+        ensures some { IfSome result (λ id. id ≡ packed process seconds nanoseconds counter) }
+    {
+        if process == 0 && counter == 0 {
+            return None;
+        }
+        Some(UniqueNodeId {
+            id: UniqueId::new(process, seconds, nanoseconds, counter),
+        })
+    }
+
+    /// The number that the parts make:
+    /// process * 2^96 + seconds * 2^64 + nanoseconds * 2^32 + counter.
+    pub fn value(&self) -> u128
+        ensures { result ≡ self.now }
+    {
+        self.id.value()
+    }
+
+    /// The process that created it.
+    pub fn pid(&self) -> ProcessId
+        ensures { result ≡ process_of self.now }
+    {
+        self.id.pid()
+    }
+
+    /// When it was created.
+    pub fn creation_time(&self) -> Time
+        ensures { result ≡ time_of self.now }
+    {
+        self.id.creation_time()
+    }
+
+    /// The process and the counter in one number, process * 2^32 + counter, which is never 0.
+    ///
+    /// Nodes of one process with the same counter share it, so it does not identify a node.
+    pub fn owner_id(&self) -> u64
+        ensures value { result ≡ owner_of self.now }
+        ensures never_zero { 0 < result }
+    {
+        let value = self.id.value();
+        ((value >> 96) << 32) as u64 + (value % (1 << 32)) as u64
+    }
+}

@@ -43,6 +43,7 @@ fn answer(kept: &Kept<'_>, port: &UniquePortId) -> PortCleanupAction
 }
 
 /// Removes a dead node, and those of its ports that are not kept.
+#[tactic(auto, using(iox2_dynamic::proofs::Callbacks::callbacks))]
 fn clean_up(
     service: &mut DynamicConfig,
     dead: &UniqueNodeId,

@@ -64,6 +64,7 @@ fn put<T: Copy>(out: &mut [T], used: &mut usize, item: T) -> CallbackProgression
 }
 
 /// Puts the ids of the nodes at the front of the array.
+#[tactic(auto, using(iox2_dynamic::proofs::Callbacks::callbacks))]
 fn put_nodes(service: &DynamicConfig, out: &mut [Id], used: &mut usize)
     ensures { PutsAll (nodes_in service.now.nodes) (out.old, used.old) (out.new, used.new) }
 {
@@ -106,6 +107,7 @@ pub extern "C" fn iox2sd_nodes_at(objects: &mut [Service], out: &mut [Id]) -> Co
 }
 
 /// Puts the ports of the first kind behind those that were put before.
+#[tactic(auto, using(iox2_dynamic::proofs::Callbacks::callbacks))]
 fn put_first<A: PortKind, B: PortKind>(
     ports: &PortRegistries<A, B>,
     out: &mut [Port],
@@ -123,6 +125,7 @@ fn put_first<A: PortKind, B: PortKind>(
 }
 
 /// Puts the ports of the second kind behind those that were put before.
+#[tactic(auto, using(iox2_dynamic::proofs::Callbacks::callbacks))]
 fn put_second<A: PortKind, B: PortKind>(
     ports: &PortRegistries<A, B>,
     out: &mut [Port],
@@ -253,6 +256,7 @@ fn note(is_its: bool, out: &mut [Port], count: &mut Option<usize>, details: &Por
 
 /// Puts the ports of the role that have the node behind those that were put before, as far as the
 /// array goes, and counts them.
+#[tactic(auto, using(iox2_dynamic::proofs::Callbacks::callbacks))]
 fn note_ports(
     service: &DynamicConfig,
     role: Role,

@@ -12,7 +12,7 @@ ghost use Rattle.iox2sd_common.specs.Answers.{flag_answer, c_count};
 
 use super::Service;
 use crate::values::{
-    Handle, IdAnswer, NumberAnswer, Port, PortAnswer, Roles, RolesAnswer, role_number, role_of,
+    Handle, IdAnswer, NumberAnswer, Port, PortAnswer, Roles, RolesAnswer, role_of,
 };
 use iox2_dynamic::dynamic_config::{DynamicConfig, PortRoles};
 use iox2sd_common::answers::{CountAnswer, FlagAnswer};
@@ -50,8 +50,8 @@ pub extern "C" fn iox2sd_port_roles_at(objects: &mut [Service]) -> RolesAnswer
     let service = lent_or_return!(objects, status => RolesAnswer::of(Err(status)));
     let (first, second) = service.kind().port_roles();
     RolesAnswer::of(Ok(Roles {
-        first: role_number(first),
-        second: role_number(second),
+        first: first as u64,
+        second: second as u64,
     }))
 }
 

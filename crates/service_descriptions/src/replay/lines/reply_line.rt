@@ -1,10 +1,12 @@
 //! The lines of replies, and of what answers commands. A list that answers a command is written as
 //! the slots of its items are met.
-ghost use Rattle.std.specs.Prelude.{◌≡◌, ◌+◌, ◌≤◌, ◌++◌, ◌∷◌, [], OnErr, OnOk};
+ghost use Rattle.std.specs.Prelude.{◌≡◌, ◌+◌, ◌≤◌, ◌++◌, ◌∷◌, [], ℕ, OnErr, OnOk};
 ghost use Rattle.std.specs.Prelude.{codes, decimal, drop, length, take, vec_len};
 ghost use Rattle.std.specs.List.{flat_map};
 ghost use Rattle.iox2_container.specs.Steps.{listed};
+ghost use Rattle.iox2_dynamic.specs.Details.{port_of};
 ghost use Rattle.iox2_dynamic.specs.Ports.{ports_as};
+ghost use Rattle.iox2_ids.specs.PortId.{port_value};
 ghost use Rattle.iox2_texts.specs.VerifyErrors.{verification_error_text};
 ghost use Rattle.service_descriptions.specs.LineAnswers.{PutsText, PutsWord, WritesLine};
 ghost use Rattle.service_descriptions.specs.LineAnswers.{kind_text, ports_text};
@@ -78,28 +80,41 @@ fn append_id(id: u128, out: &mut Vec<u8>) -> Result<(), AllocError>
     out.extend_from_slice(text.as_bytes())
 }
 
-/// Appends the line of a list of nodes.
-fn append_node_ids(ids: &[UniqueNodeId], out: &mut Vec<u8>) -> Result<(), AllocError>
-    ensures ok { OnOk result (out.new.items ≡ out.old.items
-        ++ (codes "list" ++ flat_map id_word ids.now ++ 10 ∷ [])) }
-    ensures err { OnErr result (take (vec_len out.old) out.new.items ≡ out.old.items) }
-{
-    out.extend_from_slice(b"list")?;
-    for id in ids {
-        append_id(id.value(), out)?;
-    }
-    out.extend_from_slice(b"\n")
+/// What can be listed: a node or a port.
+trait Item {
+    /// The number of its id.
+    ghost id: { Self → ℕ };
+
+    /// The number of its id.
+    fn id(&self) -> u128
+        ensures { result ≡ id self.now };
 }
 
-/// Appends the line of a list of ports.
-fn append_port_ids(ports: &[PortDetails], out: &mut Vec<u8>) -> Result<(), AllocError>
+impl Item for UniqueNodeId {
+    ghost id = { λ node. node };
+
+    fn id(&self) -> u128 {
+        self.value()
+    }
+}
+
+impl Item for PortDetails {
+    ghost id = { λ port. port_value (port_of port) };
+
+    fn id(&self) -> u128 {
+        self.port_id().value()
+    }
+}
+
+/// Appends the line of a list of nodes or of ports.
+fn append_ids<T: Item>(items: &[T], out: &mut Vec<u8>) -> Result<(), AllocError>
     ensures ok { OnOk result (out.new.items ≡ out.old.items
-        ++ (codes "list" ++ flat_map port_word ports.now ++ 10 ∷ [])) }
+        ++ (codes "list" ++ flat_map (λ item. id_word (T.id item)) items.now ++ 10 ∷ [])) }
     ensures err { OnErr result (take (vec_len out.old) out.new.items ≡ out.old.items) }
 {
     out.extend_from_slice(b"list")?;
-    for details in ports {
-        append_id(details.port_id().value(), out)?;
+    for item in items {
+        append_id(item.id(), out)?;
     }
     out.extend_from_slice(b"\n")
 }
@@ -186,8 +201,8 @@ fn append_line(reply: &Reply, out: &mut Vec<u8>) -> Result<(), AllocError>
         Reply::Released => append_reply(LineReply::Released, out),
         Reply::NotOwned => append_reply(LineReply::NotOwned, out),
         Reply::NoHandle => append_reply(LineReply::NoHandle, out),
-        Reply::Nodes(ids) => append_node_ids(ids, out),
-        Reply::Ports(ports) => append_port_ids(ports, out),
+        Reply::Nodes(ids) => append_ids(ids, out),
+        Reply::Ports(ports) => append_ids(ports, out),
         Reply::Count(n) => append_reply(LineReply::Count(*n), out),
         Reply::Verified => out.extend_from_slice(b"verified\n"),
         Reply::Refused(fault) => append_fault(fault, out),

@@ -128,7 +128,9 @@ pub fn run_script(alloc: Global, script: &[u8], out: &mut Vec<u8>) -> Result<(),
         service.number,
         commands,
     )?;
-    run_lines(alloc, &mut session, lines, out)
+    let end = run_lines(alloc, &mut session, lines, out);
+    drop(session);
+    end
 }
 
 /// The reply lines of a script, and how it ended.

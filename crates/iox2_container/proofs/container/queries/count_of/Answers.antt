@@ -3,7 +3,7 @@ use Rattle.iox2_container.specs.Prelude.{shown}
 use Rattle.iox2_container.proofs.CellEntries.{all_before}
 use Rattle.iox2_container.proofs.Counting.{counted_more, few_more, one_if}
 use Rattle.iox2_container.proofs.container.queries.count_of.Goals as goal
-use Rattle.iox2_container.proofs.container.queries.count_of.Goals.{then-belongs_to, else-belongs_to}
+use Rattle.iox2_container.proofs.container.queries.count_of.Goals.{then-has_at, else-has_at}
 
 pub returns-clause-count : goal.returns-clause-count
 returns-clause-count g c =
@@ -12,17 +12,17 @@ returns-clause-count g c =
 
 pub loop-slot-preserved : goal.loop-slot-preserved
 loop-slot-preserved g c =
-    let by_is : c.if-belongs_to.count ≡ c.loop-slot.count + one_if c.belongs_to.result =
-    elim c.if-belongs_to.branch [
-      | then-belongs_to w ↦ rw w.if-belongs_to.true w.count-is
-      | else-belongs_to w ↦ rw w.if-belongs_to.false (omega arith)
+    let by_is : c.if-has_at.count ≡ c.loop-slot.count + one_if c.has_at.result =
+    elim c.if-has_at.branch [
+      | then-has_at w ↦ rw w.if-has_at.true w.count-is
+      | else-has_at w ↦ rw w.if-has_at.false (omega arith)
     ] in
+    let has = c.has_at.ensures.has in
     record {
       count = counted_more g.T.Attached.node c.args.node.now (map shown c.args.places.now.cells)
-          c.loop-slot.slot c.loop-slot.count c.if-belongs_to.count c.peek_at.result
-          c.belongs_to.result c.peek_at.ensures.cell c.belongs_to.ensures by_is
-          c.loop-slot.invariant.count;
-      few = few_more c.loop-slot.count c.if-belongs_to.count c.loop-slot.slot c.belongs_to.result
+          c.loop-slot.slot c.loop-slot.count c.if-has_at.count has.0 c.has_at.result has.1 has.2
+          by_is c.loop-slot.invariant.count;
+      few = few_more c.loop-slot.count c.if-has_at.count c.loop-slot.slot c.has_at.result
           by_is c.loop-slot.invariant.few;
-      looks = omega (arith, c.peek_at.ensures.looks, c.loop-slot.invariant.looks);
+      looks = omega (arith, c.has_at.ensures.looks, c.loop-slot.invariant.looks);
     }

@@ -1,7 +1,7 @@
 use Rattle.iox2_container.proofs.Prelude.{arith, length-map, map}
 use Rattle.iox2_container.specs.Prelude.{shown}
 use Rattle.iox2_container.proofs.CellEntries.{full_from}
-use Rattle.iox2_container.proofs.container.free.lowest_free.LowestFreeSlotAllocator.put.Goals as goal
+use Rattle.iox2_container.proofs.container.free.LowestFreeSlotAllocator.put.Goals as goal
 
 pub unreachable-requires : goal.unreachable-requires
 unreachable-requires g c =

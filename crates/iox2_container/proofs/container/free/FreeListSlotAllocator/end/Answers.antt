@@ -1,5 +1,5 @@
 use Rattle.iox2_container.proofs.FreeList.{taken_at}
-use Rattle.iox2_container.proofs.container.free.free_list.FreeListSlotAllocator.end.Goals as goal
+use Rattle.iox2_container.proofs.container.free.FreeListSlotAllocator.end.Goals as goal
 
 pub returns-clause-free : goal.returns-clause-free
 returns-clause-free g c =

@@ -1,17 +1,17 @@
 use Rattle.std.proofs.Common.{◌≡◌, arith, rules, length, take, vec_len}
 use Rattle.std.proofs.lemmas.Grind.{common_steps}
 use Rattle.service_descriptions.proofs.Appending.{front_stays}
-use Rattle.service_descriptions.proofs.replay.lines.reply_line.append_node_ids.Goals as goal
+use Rattle.service_descriptions.proofs.replay.lines.reply_line.append_ids.Goals as goal
 
-pub loop-id-preserved : goal.loop-id-preserved
-loop-id-preserved c = grind (arith, common_steps)
+pub loop-item-preserved : goal.loop-item-preserved
+loop-item-preserved g c = grind (arith, common_steps)
 
 pub returns-in_err-append_id-clause-err : goal.returns-in_err-append_id-clause-err
-returns-in_err-append_id-clause-err c =
+returns-in_err-append_id-clause-err g c =
     let before = c.args.out.now.items in
     let now = c.append_id.new.out.items in
-    let items = c.loop-id.out.items in
+    let items = c.loop-item.out.items in
     let kept : take (length items) now ≡ items = search rules in
-    let front = front_stays before _ items now c.loop-id.invariant kept in
+    let front = front_stays before _ items now c.loop-item.invariant kept in
     let reported : take (vec_len c.args.out.now) now ≡ before = search (rules, front) in
     search (rules, reported)

@@ -1,6 +1,6 @@
 use Rattle.std.proofs.Common.{rules, arith}
 use Rattle.iox2_container.proofs.SlotAllocator.{threaded_clear, clears_first}
-use Rattle.iox2_container.proofs.container.free.free_list.FreeListSlotAllocator.clear.Goals as goal
+use Rattle.iox2_container.proofs.container.free.FreeListSlotAllocator.clear.Goals as goal
 
 pub returns-clause-fits : goal.returns-clause-fits
 returns-clause-fits g c = grind (arith, threaded_clear)

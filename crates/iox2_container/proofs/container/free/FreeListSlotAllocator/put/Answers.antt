@@ -2,8 +2,8 @@ use Rattle.iox2_container.proofs.Prelude.{◌≡◌, map-set, refl, rules}
 use Rattle.iox2_container.specs.Prelude.{TakesFirst}
 use Rattle.iox2_container.proofs.FreeList.{shown_free}
 use Rattle.iox2_container.proofs.SlotAllocator.{took, threaded_put, puts_first}
-use Rattle.iox2_container.proofs.container.free.free_list.FreeListSlotAllocator.put.Goals as goal
-use Rattle.iox2_container.proofs.container.free.free_list.FreeListSlotAllocator.put.Goals.{in-Some+in-Free, in-None}
+use Rattle.iox2_container.proofs.container.free.FreeListSlotAllocator.put.Goals as goal
+use Rattle.iox2_container.proofs.container.free.FreeListSlotAllocator.put.Goals.{in-Some+in-Free, in-None}
 
 pub returns : goal.returns
 returns g c =

@@ -1,6 +1,6 @@
 use Rattle.iox2_container.proofs.Prelude.{◌+◌, ◌<◌, ◌≡◌, ◌≢◌, None, Some, ℕ, map, slice_get}
 use Rattle.iox2_container.specs.Prelude.{shown}
-use Rattle.iox2_container.proofs.container.free.lowest_free.LowestFreeSlotAllocator.put.Given as goal
+use Rattle.iox2_container.proofs.container.free.LowestFreeSlotAllocator.put.Given as goal
 
 abbrev pub invariant-loop-slot : goal.invariant-loop-slot
 invariant-loop-slot g l = record {
