@@ -17,12 +17,7 @@ fn bar_at<'b, 'a>(bars: &'b [Bar<'a>], line: usize) -> Option<&'b Bar<'a>>
     ensures some { IfSome result (λ bar. Contains bars.now bar.now × (bar.now.begin ≡ line)) }
     ensures none { IfNone result (All (λ (b : Bar). b.begin ≢ line) bars.now) }
 {
-    for bar in bars {
-        if bar.begin == line {
-            return Some(bar);
-        }
-    }
-    None
+    bars.iter().find(|bar| bar.begin == line)
 }
 
 /// Whether the call is not over above this line.

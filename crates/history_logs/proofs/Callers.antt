@@ -1,7 +1,7 @@
 -- What callers do.
-use Rattle.std.proofs.Common.{◌≡◌, ◌≢◌, ℕ, suc, ◌+◌, ◌<◌, ◌≤◌, ◌⊎◌, List, [], ◌∷◌, ◌++◌, Bool, bytes_eq, true, false, Option, Some, None, drop, length, get_or, set, take, refl, sym, ◌∙◌, ap, subst, arith, if◌then◌else◌, inl, inr, take_all, drop-cons}
+use Rattle.std.proofs.Common.{Any, IsFalse, MatchBool, ◌≡◌, ◌≢◌, ℕ, suc, ◌+◌, ◌<◌, List, [], ◌∷◌, ◌++◌, Bool, bytes_eq, true, false, Option, Some, None, drop, length, get_or, set, take, refl, sym, ◌∙◌, ap, subst, arith, if◌then◌else◌, drop-cons}
 use Rattle.std.proofs.Math.Seq.{set-append_seam}
-use Rattle.std.specs.List.{slice_get}
+use Rattle.std.specs.List.{AllWithin, slice_get}
 use Rattle.std.proofs.lemmas.List.{append-nil, length-take-le, take-append-drop, take_more}
 use Rattle.std.proofs.lemmas.Slice.Eq.{bytes_eq-Decides}
 use Rattle.std.proofs.lemmas.List.Elements.{All-head, All-push, All-tail}
@@ -132,64 +132,35 @@ unknown_more known name at d h none is ne =
     (All-push (λ (c : Caller). c.name.items ≢ name) (take at known) (get_or known at d) none
     (λ e. ne (ap (λ (x : Caller). x.name.items) is ∙ e)))
 
--- what a caller does that is one of the first ones
-state_more : (known others : List Caller) (name : List ℕ) (state : CallerState)
-    → state_in known name ≡ Some state → state_in (known ++ others) name ≡ Some state
-state_more [] others name state is = absurd (cc)
-state_more (c ∷ known) others name state is =
-    cases (bytes_eq c.name.items name) is (state_more known others name state)
-  where
-    cases : (b : Bool) → (if b then Some c.state else state_in known name) ≡ Some state
-        → (state_in known name ≡ Some state → state_in (known ++ others) name ≡ Some state)
-        → (if b then Some c.state else state_in (known ++ others) name) ≡ Some state
-    cases true own more = own
-    cases false rest more = more rest
+-- a caller of this name that does this
+abbrev Does : List ℕ → CallerState → Caller → Type 0
+Does name state c = (c.name.items ≡ name) × (c.state ≡ state)
 
--- one caller more: it does this, or one of those before it did
-state_cases : (known : List Caller) (c : Caller) (name : List ℕ) (state : CallerState)
-    → state_in (known ++ c ∷ []) name ≡ Some state
-    → (state_in known name ≡ Some state) ⊎ ((c.name.items ≡ name) × (c.state ≡ state))
-state_cases [] c name state is = cases (bytes_eq c.name.items name) refl is
+does_some : (known : List Caller) (name : List ℕ) (state : CallerState)
+    → state_in known name ≡ Some state → Any (Does name state) known
+does_some [] name state is = absurd (cc)
+does_some (c ∷ known) name state is =
+    cases (bytes_eq c.name.items name) refl is (does_some known name state)
   where
     cases : (b : Bool) → bytes_eq c.name.items name ≡ b
-        → (if b then Some c.state else None) ≡ Some state
-        → (state_in [] name ≡ Some state) ⊎ ((c.name.items ≡ name) × (c.state ≡ state))
-    cases true e own = inr (same_bytes c.name.items name e, same_Some c.state state own)
-    cases false e rest = absurd (cc)
-state_cases (d ∷ known) c name state is =
-    cases (bytes_eq d.name.items name) is (state_cases known c name state)
-  where
-    cases : (b : Bool)
-        → (if b then Some d.state else state_in (known ++ c ∷ []) name) ≡ Some state
-        → (state_in (known ++ c ∷ []) name ≡ Some state
-        → (state_in known name ≡ Some state) ⊎ ((c.name.items ≡ name) × (c.state ≡ state)))
-        → ((if b then Some d.state else state_in known name) ≡ Some state)
-        ⊎ ((c.name.items ≡ name) × (c.state ≡ state))
-    cases true own more = inl own
-    cases false rest more = more rest
+        → (if b then Some c.state else state_in known name) ≡ Some state
+        → (state_in known name ≡ Some state → Any (Does name state) known)
+        → Any (Does name state) (c ∷ known)
+    cases true e own more =
+        (0, c, omega arith, refl, (same_bytes c.name.items name e, same_Some c.state state own))
+    cases false e rest more =
+        let (k, d, within, at, does) = more rest in (suc k, d, omega (arith, within), at, does)
 
--- one caller more, that has no call open there, or does not do what its name does
-pub none_on : (known : List Caller) (i at : ℕ) (c : Caller) → i < length known
-    → c ≡ get_or known i c → NoneCalls (state_in (take i known)) at
-    → (IsOn at (Some c.state) → IsOn at (state_in known c.name.items) → ⊥)
-    → NoneCalls (state_in (take (i + 1) known)) at
-none_on known i at c h is none not name number does =
-    let more : take (i + 1) known ≡ take i known ++ c ∷ [] =
-    take_more known i c h ∙ ap (λ (d : Caller). take i known ++ d ∷ []) (sym is) in
-    let here : state_in (take i known ++ c ∷ []) name ≡ Some (caller.Calls at number) =
-    subst (λ (l : List Caller). state_in l name ≡ Some (caller.Calls at number)) more does in
-    elim (state_cases (take i known) c name (caller.Calls at number) here) as (λ _. ⊥) [
-      | inl before ↦ none name number before
-      | inr last ↦
-          let on = state_more (take (i + 1) known) (drop (i + 1) known) name
-          (caller.Calls at number) does in
-          let all : state_in known name ≡ Some (caller.Calls at number) =
-          subst (λ (l : List Caller). state_in l name ≡ Some (caller.Calls at number))
-          (take-append-drop (i + 1) known) on in
-          not (number, ap Some last.1) (number, ap (state_in known) last.0 ∙ all)
-    ]
+-- what the caller does, its name does not, if that is to have a call open there
+abbrev pub IsElsewhere : List Caller → ℕ → Caller → Type 0
+IsElsewhere known at c = IsOn at (Some c.state) → ¬ (IsOn at (state_in known c.name.items))
 
-pub none_all : (known : List Caller) (i at : ℕ) → length known ≤ i
-    → NoneCalls (state_in (take i known)) at → NoneCalls (state_in known) at
-none_all known i at h none =
-    subst (λ (l : List Caller). NoneCalls (state_in l) at) (take_all i known h) none
+-- where a search finds none that is not so, no caller has a call open there
+pub none_on : (Found : Type 0) (known : List Caller) (at : ℕ) (r : Bool)
+    → MatchBool r Found (AllWithin (IsElsewhere known at) known 0 (length known))
+    → IsFalse r → NoneCalls (state_in known) at
+none_on Found known at true found is_so name number is = absurd (cc)
+none_on Found known at false each is_so name number is =
+    let (k, c, within, here, does) = does_some known name (caller.Calls at number) is in
+    subst (IsElsewhere known at) here (each k c (omega arith) within) (number, ap Some does.1)
+    (number, ap (state_in known) does.0 ∙ is)

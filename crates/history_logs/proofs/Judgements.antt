@@ -1,7 +1,6 @@
 -- What logs are judged to be.
-use Rattle.std.proofs.Common.{◌≡◌, ℕ, ◌+◌, ◌<◌, ◌≤◌, All, Contains, List, Option, Some, None, length, get_or, sum_by, take, refl, sym, ◌∙◌, ap, subst}
+use Rattle.std.proofs.Common.{◌≡◌, ℕ, ◌<◌, ◌≤◌, All, Contains, List, Option, Some, None, length, sum_by, refl, sym, ◌∙◌, ap, subst}
 use Rattle.std.proofs.lemmas.List.Elements.{All-weaker}
-use Rattle.std.proofs.lemmas.List.Sums.{sum_by_more, sum_by_more_le}
 use Rattle.std.proofs.lemmas.Option.{same_Some}
 use Rattle.history_windows.specs.declared.window.Stop.{Stop}
 use Rattle.history_windows.specs.declared.window.Stop.TheVariants as stop
@@ -140,14 +139,3 @@ pub few_calls : (bytes : List ℕ) (services : List Service) (bad : Option (ℕ 
 few_calls bytes services bad r =
     subst (λ (ss : List Service). sum_by (λ (s : Service). length s.commands) ss ≤ length bytes)
     r.same r.few
-
--- one service more
-pub sum_next : (f : Service → ℕ) (xs : List Service) (i : ℕ) (d : Service) → i < length xs
-    → d ≡ get_or xs i d
-    → (sum_by f (take (i + 1) xs) ≡ sum_by f (take i xs) + f d)
-    × (sum_by f (take i xs) + f d ≤ sum_by f xs)
-sum_next f xs i d h is = (
-  sum_by_more f xs i d h ∙ ap (λ (e : Service). sum_by f (take i xs) + f e) (sym is),
-  subst (λ (e : Service). sum_by f (take i xs) + f e ≤ sum_by f xs) (sym is)
-      (sum_by_more_le f xs i d h),
-)

@@ -1,135 +1,74 @@
--- The least call that is open, the last one that begins, and calls that are over.
-use Rattle.std.proofs.Common.{◌≡◌, ◌⊎◌, ℕ, ◌+◌, ◌<◌, ◌≤◌, List, [], ◌∷◌, ◌++◌, Option, Some, None, get_or, length, refl, sym, ◌∙◌, ap, subst, arith, inl, inr, take, take_all}
-use Rattle.std.proofs.lemmas.Bool.{cases_eq, cases_lt}
-use Rattle.std.proofs.lemmas.List.{get_or_past}
+-- The least call that is open, calls that begin, and calls that are over.
+use Rattle.std.proofs.Common.{◌≡◌, ◌⊎◌, ℕ, zero, suc, ◌<◌, ◌≤◌, List, [], ◌∷◌, Option, Some, None, length, drop, get_or, take, refl, ◌∙◌, ap, subst, arith, inl, inr, min, fold, flat_map, option_to_list}
+use Rattle.std.proofs.lemmas.Bool.{cases_lt}
+use Rattle.std.proofs.lemmas.List.{length-take, take-append-drop}
+use Rattle.std.proofs.lemmas.Option.{same_Some, slice_get-get_or}
 use Rattle.histories.specs.declared.event.Event.{Event}
-use Rattle.histories.specs.declared.event.Event.TheVariants.{Begin, End, Crash}
+use Rattle.histories.specs.declared.event.Event.TheVariants.{Begin}
 use Rattle.histories.specs.Frontier.{HasSlot}
-use Rattle.histories.specs.Histories.{begins}
-use Rattle.histories.proofs.Counting.{times_same}
-use Rattle.histories.proofs.Cutting.{begins-append}
-use Rattle.histories.proofs.Events.{begins_begin, begins_none}
-use Rattle.histories.proofs.Verdicts.{one_more}
+use Rattle.histories.specs.Histories.{StandsAt, begins}
+use Rattle.histories.proofs.Events.{begins_stands, stands_begins, stands_left, stands_within}
 use Rattle.history_logs.specs.Seen.{Service}
-use Rattle.history_logs.specs.Settling.{AreOver, IsBehind, IsBehindBegun, IsOverIn}
-use Rattle.history_logs.proofs.Settled.{begins-one}
+use Rattle.history_logs.specs.Settling.{AreOver, MayFollowAt}
 
--- what an event alone begins
-begins_same : (c call : ℕ) → 0 < begins call (Begin c ∷ []) → c ≡ call
-begins_same c call h =
-    times_same call c (omega (arith, begins_none call, begins_begin call c []))
+-- the least number of a call that has a slot, or the limit
+pub record IsLeast (slots : List (Option ℕ)) (limit least : ℕ) : Type 0 where
+  pub most : least ≤ limit
+  pub each : (slot call : ℕ) → HasSlot slots slot call → least ≤ call
+  pub is : (least ≡ limit) ⊎ ((slot : ℕ) × HasSlot slots slot least)
 
-begins_ends_one : (call c : ℕ) → begins call (End c ∷ []) ≡ 0
-unfolding begins
-begins_ends_one call c = refl
+first_or : (s : Option ℕ) (slots : List (Option ℕ)) (slot call : ℕ) → HasSlot (s ∷ slots) slot call
+    → (s ≡ Some call) ⊎ ((k : ℕ) × HasSlot slots k call)
+first_or s slots zero call has = inl has
+first_or s slots (suc k) call has = inr (k, has)
 
-begins_crash_one : (call c : ℕ) → begins call (Crash c ∷ []) ≡ 0
-unfolding begins
-begins_crash_one call c = refl
-
--- the least of the first slots
-pub record IsLeast (slots : List (Option ℕ)) (limit at first : ℕ) : Type 0 where
-  pub most : first ≤ limit
-  pub each : (slot call : ℕ) → slot < at → HasSlot slots slot call → first ≤ call
-  pub is : (first ≡ limit) ⊎ ((slot : ℕ) × HasSlot slots slot first)
-
-pub least_none : (slots : List (Option ℕ)) (most : ℕ) → IsLeast slots most 0 most
-least_none slots most = record {
-  most = omega arith;
-  each = λ slot call h has. absurd (omega arith);
-  is = inl refl;
-}
-
-pub least_more : (slots : List (Option ℕ)) (most at first next : ℕ) → IsLeast slots most at first
-    → next ≤ first → ((call : ℕ) → get_or slots at None ≡ Some call → next ≤ call)
-    → ((next ≡ first) ⊎ (get_or slots at None ≡ Some next)) → IsLeast slots most (at + 1) next
-least_more slots most at first next l less own is = record {
-  most = omega arith;
-  each = λ slot call h has. elim (cases_eq slot at) as (λ _. next ≤ call) [
-    | inl same ↦ own call (subst (λ k. HasSlot slots k call) same has)
-    | inr other ↦ omega (arith, l.each slot call (omega arith) has)
-  ];
-  is = elim is as (λ _. (next ≡ most) ⊎ ((slot : ℕ) × HasSlot slots slot next)) [
-    | inl same ↦
-        subst (λ k. (k ≡ most) ⊎ ((slot : ℕ) × HasSlot slots slot k)) (sym same) l.is
-    | inr there ↦ inr (at, there)
-  ];
-}
-
-pub least_each : (slots : List (Option ℕ)) (most at first : ℕ) → IsLeast slots most at first
-    → length slots ≤ at → (slot call : ℕ) → HasSlot slots slot call → first ≤ call
-least_each slots most at first l h slot call has =
-    elim (cases_lt slot at) as (λ _. first ≤ call) [
-      | inl within ↦ l.each slot call within has
-      | inr past ↦
-          let none : get_or slots slot None ≡ None =
-          get_or_past slots slot None (omega arith) in
-          absurd (cc)
+pub least_is : (slots : List (Option ℕ)) (limit : ℕ)
+    → IsLeast slots limit (fold (λ a b. min a b) limit (flat_map option_to_list slots))
+least_is [] limit =
+    record { most = omega arith; each = λ slot call has. absurd (cc); is = inl refl }
+least_is (None ∷ slots) limit =
+    let l = least_is slots limit in
+    record {
+      most = l.most;
+      each = λ slot call has. elim (first_or None slots slot call has) [
+        | inl own ↦ absurd (cc)
+        | inr later ↦ l.each later.0 call later.1
+      ];
+      is = elim l.is [ inl same ↦ inl same | inr has ↦ inr (suc has.0, has.1) ];
+    }
+least_is (Some c ∷ slots) limit =
+    let l = least_is slots (min limit c) in
+    record {
+      most = omega (arith, l.most);
+      each = λ slot call has. elim (first_or (Some c) slots slot call has) [
+        | inl own ↦ omega (arith, l.most, same_Some c call own)
+        | inr later ↦ l.each later.0 call later.1
+      ];
+      is = elim l.is [
+        | inl same ↦ lesser _ same
+        | inr has ↦ inr (suc has.0, has.1)
+      ];
+    }
+  where
+    lesser : (n : ℕ) → n ≡ min limit c
+        → (n ≡ limit) ⊎ ((slot : ℕ) × HasSlot (Some c ∷ slots) slot n)
+    lesser n same = elim (cases_lt c limit) [
+      | inl less ↦ let is : c ≡ n = omega (arith, same, less) in inr (0, ap Some is)
+      | inr not ↦ inl (omega (arith, same, not))
     ]
 
--- the last call that begins
-pub last_none : (first : ℕ) (events : List Event) → IsBehindBegun first (take 0 events) first
-last_none first events = inl refl
+-- an event that begins a call stands in them
+pub begins_at : (events : List Event) (k : ℕ) (d : Event) (call : ℕ) → k < length events
+    → get_or events k d ≡ Begin call → 0 < begins call events
+begins_at events k d call within is =
+    stands_begins call events k (slice_get-get_or events k d within ∙ ap Some is)
 
-pub last_more : (first : ℕ) (events : List Event) (at : ℕ) (d : Event) (last next : ℕ)
-    → at < length events → IsBehindBegun first (take at events) last
-    → ((call : ℕ) × (get_or events at d ≡ Begin call) × IsBehind call next) ⊎ (next ≡ last)
-    → IsBehindBegun first (take (at + 1) events) next
-last_more first events at d last next h l is =
-    let e = get_or events at d in
-    subst (λ (es : List Event). IsBehindBegun first es next) (sym (one_more events at d h))
-    (elim is as (λ _. IsBehindBegun first (take at events ++ e ∷ []) next) [
-      | inl now ↦
-          let call = now.0 in
-          subst (λ (x : Event). IsBehindBegun first (take at events ++ x ∷ []) next) (sym now.1)
-          (inr (
-            call,
-            omega (arith, begins-one call, begins-append call (take at events) (Begin call ∷ [])),
-            now.2,
-          ))
-      | inr same ↦
-          subst (IsBehindBegun first (take at events ++ e ∷ [])) (sym same)
-          (elim l as (λ _. IsBehindBegun first (take at events ++ e ∷ []) last) [
-            | inl from ↦ inl from
-            | inr some ↦ inr (
-              some.0,
-              omega (arith, some.1, begins-append some.0 (take at events) (e ∷ [])),
-              some.2,
-            )
-          ])
-    ])
-
-pub last_all : (first : ℕ) (events : List Event) (at last : ℕ) → length events ≤ at
-    → IsBehindBegun first (take at events) last → IsBehindBegun first events last
-last_all first events at last h l =
-    subst (λ (es : List Event). IsBehindBegun first es last) (take_all at events h) l
-
--- calls that are over
-pub over_more : (s : Service) (at : ℕ) (d : Event) → at < length s.events
-    → AreOver s (take at s.events)
-    → ((call : ℕ) → get_or s.events at d ≡ Begin call → IsOverIn s s.events call)
-    → AreOver s (take (at + 1) s.events)
-over_more s at d h are own call some =
-    cases (get_or s.events at d) refl
-    (omega (
-      arith,
-      ap (begins call) (one_more s.events at d h),
-      begins-append call (take at s.events) (get_or s.events at d ∷ []),
-    ))
-  where
-    cases : (e : Event) → get_or s.events at d ≡ e
-        → 0 < begins call (take at s.events) + begins call (get_or s.events at d ∷ [])
-        → IsOverIn s s.events call
-    cases e is more =
-        elim (cases_lt 0 (begins call (take at s.events))) as (λ _. IsOverIn s s.events call) [
-          | inl before ↦ are call before
-          | inr none ↦ last e is (omega (arith, ap (λ (x : Event). begins call (x ∷ [])) is))
-        ]
-      where
-        last : (f : Event) → get_or s.events at d ≡ f → 0 < begins call (f ∷ [])
-            → IsOverIn s s.events call
-        last (Begin c) same now =
-            let is_call : c ≡ call = begins_same c call now in
-            own call (same ∙ ap Begin is_call)
-        last (End c) same now = absurd (omega (arith, begins_ends_one call c))
-        last (Crash c) same now = absurd (omega (arith, begins_crash_one call c))
+-- where so many of the first events may be followed, the calls that begin in them are over
+pub over_upto : (s : Service) (n : ℕ) → ((k : ℕ) → k < n → MayFollowAt s k)
+    → AreOver s (take n s.events)
+over_upto s n each call some =
+    let (k, at) = begins_stands call (take n s.events) some in
+    let within = stands_within (take n s.events) k (Begin call) at in
+    each k (omega (arith, within, length-take n s.events)) call
+    (subst (λ (es : List Event). StandsAt es k (Begin call)) (take-append-drop n s.events)
+    (stands_left (take n s.events) (drop n s.events) k (Begin call) at))

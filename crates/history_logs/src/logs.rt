@@ -39,11 +39,10 @@ fn count_calls(services: &[LogService]) -> usize
     requires { sum_by (λ (s : Service). length s.commands) services.now < 2 ^ 64 }
     ensures { result ≡ sum_by (λ (s : Service). length s.commands) services.now }
 {
-    let mut count = 0usize;
-    for service in services {
-        count += service.commands().len();
-    }
-    count
+    services
+        .iter()
+        .map(|service| service.commands().len())
+        .sum()
 }
 
 /// The verdict where orders explain all that was seen of the services.

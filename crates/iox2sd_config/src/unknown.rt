@@ -188,11 +188,7 @@ fn listed_keys(alloc: Global, text: &str, keys: &[UnknownKey]) -> Result<Vec<Nam
 fn plain_of(alloc: Global, listed: &[NamedKey]) -> Result<Vec<PlainUnknown>, AllocError>
     ensures { IfOk result (λ plain. plain.items ≡ plain_of listed.now) }
 {
-    let mut plain = Vec::new(alloc);
-    for key in listed {
-        plain.push(key.plain)?;
-    }
-    Ok(plain)
+    listed.iter().map(|key| key.plain).collect(alloc)
 }
 
 /// The paths of some unknown keys, one after the other.

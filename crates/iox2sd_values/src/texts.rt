@@ -43,12 +43,7 @@ impl Alphabet {
 fn first_illegal(text: &[u8], alphabet: Alphabet) -> Option<usize>
     ensures { Misses (IsLegal alphabet) text.now result }
 {
-    for (i, byte) in text.iter().enumerate() {
-        if !alphabet.has(*byte) {
-            return Some(i);
-        }
-    }
-    None
+    text.iter().position(|byte| !alphabet.has(*byte))
 }
 
 /// The answer on a text that was refused: why it is none of its kind, and which byte is wrong.

@@ -20,7 +20,6 @@ pub mod Calls
 pub mod Looking
 pub mod Judged
 pub mod Alone
-pub mod Hashes
 pub mod Given
 pub mod WeakListings
 pub mod MovingEntries

@@ -3,6 +3,7 @@ use Rattle.std.proofs.Common.{◌≡◌, ◌≤◌, ◌<◌, ◌⊎◌, inl, inr
 use Rattle.std.specs.Borrow.{Bor}
 use Rattle.std.specs.declared.alloc.Global.{Global}
 use Rattle.std.specs.Prelude.{nat_le}
+use Rattle.std.proofs.Math.Bool.{and-true, and_assoc}
 use Rattle.std.proofs.lemmas.Bool.{false≢true}
 use Rattle.std.proofs.lemmas.Bool.Decides.{nat_tests}
 use Rattle.std.proofs.lemmas.List.{map-append}
@@ -13,17 +14,9 @@ agree_none : (ks : List (List ℕ)) → agree ks [] ≡ true
 agree_none [] = refl
 agree_none (k ∷ ks) = refl
 
-and_true : (b : Bool) → (b && true) ≡ b
-and_true true = refl
-and_true false = refl
-
-assoc_and : (a b c : Bool) → (a && (b && c)) ≡ ((a && b) && c)
-assoc_and true b c = refl
-assoc_and false b c = refl
-
 agree_one : (k : List ℕ) (ks : List (List ℕ)) (l : List ℕ)
     → agree (k ∷ ks) (l ∷ []) ≡ bytes_eq k l
-agree_one k ks l = rw (agree_none ks) (and_true (bytes_eq k l))
+agree_one k ks l = rw (agree_none ks) (and-true (bytes_eq k l))
 
 -- past the end of one of two paths they agree
 pub agree_past : (xs : List (String Global)) (ys : List (Bor (List ℕ))) (i : ℕ)
@@ -38,7 +31,7 @@ pub agree_more : (ks ls : List (List ℕ)) (l d : List ℕ) → length ls < leng
 agree_more [] ls l d h = absurd (omega arith)
 agree_more (k ∷ ks) [] l d h = agree_one k ks l
 agree_more (k ∷ ks) (m ∷ ls) l d h =
-    rw (agree_more ks ls l d (omega arith)) (assoc_and (bytes_eq k m) (agree ks ls) _)
+    rw (agree_more ks ls l d (omega arith)) (sym (and_assoc (bytes_eq k m) (agree ks ls) _))
 
 pub agree_short : (ks ls : List (List ℕ)) (l : List ℕ) → length ks ≤ length ls
     → agree ks (ls ++ l ∷ []) ≡ agree ks ls

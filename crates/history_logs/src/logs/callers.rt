@@ -87,12 +87,7 @@ impl Callers {
         ensures yes { IsTrue result → ¬ (NoneCalls (callers_of self.now) at) }
         ensures no { IsFalse result → NoneCalls (callers_of self.now) at }
     {
-        for caller in &self.known {
-            if self.is_open_on(caller, at) {
-                return true;
-            }
-        }
-        false
+        self.known.iter().any(|caller| self.is_open_on(caller, at))
     }
 
     /// The caller does this from now on.

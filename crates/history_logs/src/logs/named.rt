@@ -12,14 +12,9 @@ pub(super) fn position_of(services: &[LogService], number: u64) -> Option<usize>
         × (s.line.number ≡ number) × IsNewBehind number services.now at) }
     ensures none { IfNone result (IsNew number services.now) }
 {
-    let mut at = services.len();
-    while at > 0 {
-        at -= 1;
-        if services[at].line().number == number {
-            return Some(at);
-        }
-    }
-    None
+    services
+        .iter()
+        .rposition(|service| service.line().number == number)
 }
 
 /// Whether each service has this number.
@@ -27,12 +22,9 @@ fn have_number(services: &[LogService], number: u64) -> bool
     ensures yes { IsTrue result → HaveNumber number services.now }
     ensures no { IsFalse result → ¬ (HaveNumber number services.now) }
 {
-    for service in services {
-        if service.line().number != number {
-            return false;
-        }
-    }
-    true
+    services
+        .iter()
+        .all(|service| service.line().number == number)
 }
 
 /// How many services there are, of which one that began anew is one.

@@ -1,5 +1,5 @@
 //! Judging what was seen of services while it is read.
-ghost use Rattle.std.specs.Prelude.{◌≡◌, ◌≤◌, ◌<◌, ◌⊎◌, ℕ, IfOk, IsTrue, None, Some, length, take};
+ghost use Rattle.std.specs.Prelude.{◌≡◌, ◌≤◌, ◌<◌, ◌⊎◌, ℕ, IfOk, IfSome, IsTrue, None, Some, length, take};
 ghost use Rattle.histories.specs.declared.event.Event.TheVariants.{Begin};
 ghost use Rattle.histories.specs.Advances.{Ends};
 ghost use Rattle.histories.specs.Frontier.{HasSlot};
@@ -80,50 +80,39 @@ fn count_settled(service: &LogService) -> usize
     events.len()
 }
 
-/// The number, or that of the call in the slot, if it is less.
-fn lesser(most: usize, slot: Option<usize>) -> usize
-    ensures most { result ≤ most }
-    ensures slot { (call : ℕ) → slot ≡ Some call → result ≤ call }
-    ensures is { (result ≡ most) ⊎ (slot ≡ Some result) }
-{
-    match slot {
-        Some(call) if call < most => call,
-        _ => most,
-    }
-}
-
 /// The least number of a call that has a slot, or this one.
 fn first_open(slots: &[Option<usize>], most: usize) -> usize
     ensures most { result ≤ most }
     ensures each { (slot : ℕ) (call : ℕ) → HasSlot slots.now slot call → result ≤ call }
     ensures is { (result ≡ most) ⊎ ((slot : ℕ) × HasSlot slots.now slot result) }
 {
-    let mut first = most;
-    for at in 0..slots.len() {
-        first = lesser(first, slots[at]);
-    }
-    first
+    slots
+        .iter()
+        .copied()
+        .flatten()
+        .fold(most, |first, call| first.min(call))
 }
 
-/// The number behind the call that the event begins, or this one, where it begins none.
-fn behind_begun(event: Event, first: usize) -> usize
-    ensures { ((call : ℕ) × (event ≡ Begin call) × IsBehind call result) ⊎ (result ≡ first) }
+/// The number behind the call that the event begins, if it begins one.
+fn behind_begun(event: Event) -> Option<usize>
+    ensures { IfSome result (λ behind. (call : ℕ) × (event ≡ Begin call) × IsBehind call behind) }
 {
     match event {
-        Event::Begin(begun) => begun.saturating_add(1),
-        Event::End(_) | Event::Crash(_) => first,
+        Event::Begin(begun) => Some(begun.saturating_add(1)),
+        Event::End(_) | Event::Crash(_) => None,
     }
 }
 
 /// The number behind that of the last call that begins in the events, or this one, where none does.
+#[tactic(auto, using(crate::proofs::Least::begins_at))]
 fn behind_last(events: &[Event], first: usize) -> usize
     ensures { IsBehindBegun first events.now result }
 {
-    let mut last = first;
-    for at in 0..events.len() {
-        last = behind_begun(events[at], last);
-    }
-    last
+    events
+        .iter()
+        .rev()
+        .find_map(|event| behind_begun(*event))
+        .unwrap_or(first)
 }
 
 /// The front goes on with so many of the events that are kept. Returns whether orders explain them.

@@ -48,10 +48,5 @@ fn index_near<P, R: Requirement<P>>(pairs: &[P], from: usize, requirement: &R) -
 pub fn first_that_meets<P, R: Requirement<P>>(pairs: &[P], requirement: &R) -> Option<usize>
     ensures { Finds (R.IsMetBy requirement.now) pairs.now result }
 {
-    for (i, pair) in pairs.iter().enumerate() {
-        if requirement.is_met_by(pair) {
-            return Some(i);
-        }
-    }
-    None
+    pairs.iter().position(|pair| requirement.is_met_by(pair))
 }

@@ -66,11 +66,9 @@ impl<T: Copy + Same> Same for SlotEntry<T> {
 pub(super) fn entries_hash<T: Copy>(start: u64, entries: &[SlotEntry<T>]) -> u64
     ensures { result ≡ entries_hash start entries.now }
 {
-    let mut hash = start;
-    for entry in entries {
-        hash = (hash % 1021 * 31 + entry.slot() as u64 % 1021) % 1021;
-    }
-    hash
+    entries.iter().fold(start, |hash, entry| {
+        (hash % 1021 * 31 + entry.slot() as u64 % 1021) % 1021
+    })
 }
 
 /// The position that an entry of this slot would have, or `None` where the slot is taken.

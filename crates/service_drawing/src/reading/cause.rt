@@ -58,12 +58,7 @@ fn foreign_byte(line: &[u8]) -> Option<u8>
 fn has_two_spaces(line: &[u8]) -> bool
     ensures { IsTrue result ↔ HasTwoSpaces line.now }
 {
-    for i in 1..line.len() {
-        if line[i - 1] == b' ' && line[i] == b' ' {
-            return true;
-        }
-    }
-    false
+    line.windows(2).any(|pair| matches!(pair, [b' ', b' ']))
 }
 
 /// Why what is left does not begin with a line, whatever that should say.

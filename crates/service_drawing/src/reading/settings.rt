@@ -26,15 +26,11 @@ fn is_dashed(word: &[u8], name: &str) -> bool
     ensures { IsTrue result ↔ IsDashed word.now name.now }
 {
     let name = name.as_bytes();
-    if word.len() != name.len() {
-        return false;
-    }
-    for i in 0..word.len() {
-        if word[i] != with_dash(name[i]) {
-            return false;
-        }
-    }
-    true
+    word.len() == name.len()
+        && word
+            .iter()
+            .zip(name)
+            .all(|(byte, own)| *byte == with_dash(*own))
 }
 
 /// Whether the word is this name, as the code or as configuration files have it.

@@ -1,26 +1,14 @@
-use Rattle.std.proofs.Common.{◌≡◌, ap, length, sum_by, take, arith}
+use Rattle.std.proofs.Common.{◌∙◌, length, rules}
+use Rattle.std.proofs.lemmas.Iterator.{YieldsList-from_map, YieldsList-from_slice}
+use Rattle.std.proofs.lemmas.Iterator.Consumers.{sum_from_yields_List}
+use Rattle.std.proofs.lemmas.List.Sums.{sum-map}
 use Rattle.history_logs.specs.Seen.{Service}
-use Rattle.history_logs.proofs.Judgements.{sum_next}
 use Rattle.history_logs.proofs.logs.count_calls.Goals as goal
 
-pub overflow_add-count : goal.overflow_add-count
-overflow_add-count c =
-    let xs = c.args.services.now in
-    let next = sum_next (λ (s : Service). length s.commands) xs _
-    _ c.loop-service-test.true c.service-item.is in
-    let is = ap length c.commands.ensures in
-    let so : c.loop-service.count
-    ≡ sum_by (λ (s : Service). length s.commands) (take c.loop-service.service-index xs) =
-    c.loop-service.invariant in
-    omega (arith, next.1)
-
-pub loop-service-preserved : goal.loop-service-preserved
-loop-service-preserved c =
-    let xs = c.args.services.now in
-    let next = sum_next (λ (s : Service). length s.commands) xs _
-    _ c.loop-service-test.true c.service-item.is in
-    let is = ap length c.commands.ensures in
-    let so : c.loop-service.count
-    ≡ sum_by (λ (s : Service). length s.commands) (take c.loop-service.service-index xs) =
-    c.loop-service.invariant in
-    omega (arith, next.0)
+pub returns : goal.returns
+returns c =
+    sum_from_yields_List c.map.result c.sum.result c.sum.ensures.ran
+    (YieldsList-from_map _ (λ (s : Service). length s.commands)
+    (YieldsList-from_slice c.args.services.now cc) c.map.ensures.closure
+    (λ x r q k. search rules))
+    ∙ sum-map (λ (s : Service). length s.commands) c.args.services.now

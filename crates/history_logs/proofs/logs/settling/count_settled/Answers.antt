@@ -1,19 +1,21 @@
-use Rattle.std.proofs.Common.{rules, ◌∙◌, Some, ap, arith, length, ◌<◌}
-use Rattle.std.proofs.lemmas.Option.{slice_get-get_or}
-use Rattle.histories.specs.declared.event.Event.{Event}
-use Rattle.histories.specs.declared.event.Event.TheVariants.{Begin}
-use Rattle.histories.proofs.Events.{begins_none}
-use Rattle.history_logs.proofs.Least.{over_more}
+use Rattle.std.proofs.Common.{arith, below_more, rules, ℕ}
+use Rattle.history_logs.specs.Settling.{MayFollowAt}
+use Rattle.history_logs.proofs.Least.{over_upto}
 use Rattle.history_logs.proofs.logs.settling.count_settled.Goals as goal
 
 pub loop-at-init : goal.loop-at-init
-loop-at-init c = λ call some. absurd (omega (arith, begins_none call))
+loop-at-init c = λ k below. absurd (omega (arith, below))
 
 pub loop-at-preserved : goal.loop-at-preserved
 loop-at-preserved c =
-    let s = c.args.service.now in
-    let d : Event = Begin 0 in
-    let within : c.loop-at.at < length s.events = search rules in
-    over_more s _ d within c.loop-at.invariant (λ call is.
-    c.may_follow.ensures (search rules) call
-    (slice_get-get_or s.events c.loop-at.at d within ∙ ap Some is))
+    below_more (λ (k : ℕ). MayFollowAt c.args.service.now k) c.loop-at.at c.loop-at.invariant
+    (c.may_follow.ensures (search rules))
+
+pub returns-then-not-may_follow-clause-over : goal.returns-then-not-may_follow-clause-over
+returns-then-not-may_follow-clause-over c =
+    over_upto c.args.service.now c.loop-at.at c.loop-at.invariant
+
+pub returns-clause-over : goal.returns-clause-over
+returns-clause-over c =
+    over_upto c.args.service.now _ (λ k below.
+    c.loop-at.invariant k (omega (arith, below, c.loop-at-test.false)))

@@ -1,6 +1,6 @@
-use Rattle.std.proofs.Common.{take}
-use Rattle.history_logs.specs.Settling.{AreOver}
+use Rattle.std.proofs.Common.{ℕ, ◌<◌}
+use Rattle.history_logs.specs.Settling.{MayFollowAt}
 use Rattle.history_logs.proofs.logs.settling.count_settled.Given as goal
 
 abbrev pub invariant-loop-at : goal.invariant-loop-at
-invariant-loop-at l = AreOver l.service (take l.at l.service.events)
+invariant-loop-at l = (k : ℕ) → k < l.at → MayFollowAt l.service k

@@ -1,15 +1,12 @@
-use Rattle.std.proofs.Common.{rules}
-use Rattle.history_logs.proofs.Least.{least_each, least_more, least_none}
+use Rattle.std.proofs.Common.{◌≡◌, flat_map, fold, min, option_to_list, rules, subst, sym}
+use Rattle.std.proofs.iter.runs.Made.{chains}
+use Rattle.history_logs.proofs.Least.{IsLeast, least_is}
 use Rattle.history_logs.proofs.logs.settling.first_open.Goals as goal
 
-pub loop-at-init : goal.loop-at-init
-loop-at-init c = least_none _ _
-
-pub loop-at-preserved : goal.loop-at-preserved
-loop-at-preserved c =
-    least_more _ _ _ _ _ c.loop-at.invariant c.lesser-first.ensures.most c.lesser-first.ensures.slot
-    c.lesser-first.ensures.is
-
-pub returns-clause-each : goal.returns-clause-each
-returns-clause-each c =
-    least_each _ _ _ _ c.loop-at.invariant (search rules)
+pub returns : goal.returns
+returns c =
+    let slots = c.args.slots.now in
+    let same : c.fold.result
+    ≡ fold (λ a b. min a b) c.args.most (flat_map option_to_list slots) = search (rules, chains) in
+    let least = subst (IsLeast slots c.args.most) (sym same) (least_is slots c.args.most) in
+    record { most = least.most; each = least.each; is = least.is }
