@@ -157,35 +157,45 @@ static void buffers(const char *log, const char *report, uint32_t status, size_t
 /* The first line that is not what is expected. */
 static void bad_lines(void) {
 #define SERVICE "service event 7 2 2 0\n"
+#define FIRST "the line of a service is expected, as service event 7 2 2 0"
+#define REPLY                                                                                     \
+    "a reply is expected, as handle 0 3, list, count 2 or released; below a call alone with = "   \
+    "before it"
     static const struct {
         const char *log;
         const char *expected;
         uint32_t status;
         size_t line;
     } rows[] = {
-        {"", "the line of a service", IOX2SD_STATUS_NO_SERVICE_LINE, 1},
-        {"\xff\n", "the line of a service", IOX2SD_STATUS_NO_SERVICE_LINE, 1},
-        {SERVICE "leave\n", "the line of a service, a call or an event",
+        {"", FIRST, IOX2SD_STATUS_NO_SERVICE_LINE, 1},
+        {"\xff\n", FIRST, IOX2SD_STATUS_NO_SERVICE_LINE, 1},
+        {SERVICE "count\n", "count ROLE is expected, as count listener",
          IOX2SD_STATUS_NO_CALL_LINE, 2},
-        {SERVICE "overlap\n", "the line of a service, a call or an event",
+        {SERVICE "A> list? nodes\n", "CALLER> list? ROLE is expected, as A> list? listener",
          IOX2SD_STATUS_NO_CALL_LINE, 2},
-        {SERVICE "nodes\nlist\n", "a reply", IOX2SD_STATUS_NO_REPLY_LINE, 3},
-        {SERVICE "nodes\n= list A\n", "a reply", IOX2SD_STATUS_NO_REPLY_LINE, 3},
-        {SERVICE "nodes\n", "a reply", IOX2SD_STATUS_NO_REPLY_LINE, 3},
-        {SERVICE "A> nodes\nA> nodes\n", "a caller without an open call",
+        {SERVICE "8: nodes\n",
+         "a line on a service above, by its number, or a new service is expected",
+         IOX2SD_STATUS_NO_CALL_LINE, 2},
+        {SERVICE "nodes\nlist\n", REPLY, IOX2SD_STATUS_NO_REPLY_LINE, 3},
+        {SERVICE "nodes\n= list A\n", REPLY, IOX2SD_STATUS_NO_REPLY_LINE, 3},
+        {SERVICE "nodes\n", REPLY, IOX2SD_STATUS_NO_REPLY_LINE, 3},
+        {SERVICE "A> nodes\nA> nodes\n", "a caller without an open call is expected",
          IOX2SD_STATUS_CALLER_IS_BUSY, 3},
-        {SERVICE "A< list\n", "a caller with an open call", IOX2SD_STATUS_NO_OPEN_CALL, 2},
-        {SERVICE "A> nodes\nA!\nA< list\n", "a caller that has not died",
+        {SERVICE "A< list\n", "a caller with an open call is expected",
+         IOX2SD_STATUS_NO_OPEN_CALL, 2},
+        {SERVICE "A> nodes\nA!\nA< list\n", "a caller that has not died is expected",
          IOX2SD_STATUS_CALLER_IS_DEAD, 4},
-        {SERVICE "A!\n", "a caller that has begun a call", IOX2SD_STATUS_UNKNOWN_CALLER, 2},
-        {SERVICE "state nodes 3\nstate nodes 4\n", "a state of the service",
+        {SERVICE "A!\n", "a caller that has begun a call is expected",
+         IOX2SD_STATUS_UNKNOWN_CALLER, 2},
+        {SERVICE "state nodes 3\nstate nodes 4\n", "a state of the service is expected",
          IOX2SD_STATUS_NO_STATE_LINE, 3},
     };
 #undef SERVICE
+#undef FIRST
+#undef REPLY
     for (size_t at = 0; at < sizeof rows / sizeof *rows; at++) {
-        char report[128];
-        snprintf(report, sizeof report, "line %zu: %s is expected\n", rows[at].line,
-                 rows[at].expected);
+        char report[256];
+        snprintf(report, sizeof report, "line %zu: %s\n", rows[at].line, rows[at].expected);
         buffers(rows[at].log, report, rows[at].status, rows[at].line, 0);
     }
     buffers("service event 7 2 2 0", "line 1: a newline is expected at the end of the line\n",

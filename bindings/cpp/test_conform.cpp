@@ -38,18 +38,26 @@ void conforming() {
 }
 
 void bad_lines() {
-    const auto expects = [](std::string_view lines, Status status, std::size_t line) {
+    const auto tells = [](std::string_view lines, Status status, std::size_t line,
+                          std::string_view told) {
         const LogVerdict found = check_log(service + std::string(lines));
         CHECK(found.status == status && found.line == line && found.calls == 0);
         const std::string front = "line " + std::to_string(line) + ": ";
-        CHECK(found.report() == front + std::string(text(status)) + '\n' && has_no_parts(found));
+        CHECK(found.report() == front + std::string(told) + '\n' && has_no_parts(found));
+    };
+    const auto expects = [&tells](std::string_view lines, Status status, std::size_t line) {
+        tells(lines, status, line, text(status));
     };
     const LogVerdict empty = check_log({});
-    const std::string_view expected = "line 1: the line of a service is expected\n";
+    const std::string_view expected =
+        "line 1: the line of a service is expected, as service event 7 2 2 0\n";
     CHECK(is(empty, Status::NoServiceLine, 1, 0, expected) && has_no_parts(empty));
-    expects("\nleave\n", Status::NoCallLine, 3);
-    expects("overlap\n", Status::NoCallLine, 2);
-    expects("nodes\n", Status::NoReplyLine, 3);
+    tells("\ncount\n", Status::NoCallLine, 3, "count ROLE is expected, as count listener");
+    tells("A> list? nodes\n", Status::NoCallLine, 2,
+          "CALLER> list? ROLE is expected, as A> list? listener");
+    tells("nodes\n", Status::NoReplyLine, 3,
+          "a reply is expected, as handle 0 3, list, count 2 or released; below a call alone with = "
+          "before it");
     expects("A> nodes\nA> nodes\n", Status::CallerIsBusy, 3);
     expects("A< list\n", Status::NoOpenCall, 2);
     expects("A> nodes\nA!\nA> nodes\n", Status::CallerIsDead, 4);

@@ -88,7 +88,8 @@ const EIGHT: Row = Row {
 const BAD: Row = Row {
     log: NODE,
     status: 2,
-    message: "line 2: the line of a service, a call or an event is expected\n",
+    message: "line 2: a line that begins with register, deregister, nodes, add, release, list, \
+        count, dead, state, service or a caller is expected\n",
     parts: &[],
 };
 

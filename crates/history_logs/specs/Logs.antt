@@ -15,6 +15,8 @@ use Rattle.history_windows.specs.Needed.{AreNeeded, events_of}
 use Rattle.history_windows.specs.Windows.{IsStop, IsWindowOf}
 use Rattle.iox2_container.specs.Steps.{listed}
 use Rattle.line_streams.specs.Spelling.{HasNo}
+use Rattle.log_lines.specs.declared.form.LogForm.{LogForm}
+use Rattle.log_lines.specs.Forms.{HasForm}
 use Rattle.log_lines.specs.Lines.{IsLine, Line, is_note, line_text}
 use Rattle.service_conformance.specs.Judged.{AreJudgedReplies, Judged as Call, WindowStep, words_of}
 use Rattle.service_conformance.specs.Looks.{Watched, unwatched}
@@ -177,13 +179,18 @@ IsMissing log expected.Service = log.services ≡ []
 IsMissing log expected.Reply = log.waits ≢ None
 IsMissing log _ = ⊥
 
+-- a line of the form that the text has is expected
+abbrev pub IsFormExpected : List ℕ → Expected → Type 0
+IsFormExpected text e = (f : LogForm) × (e ≡ expected.Form f) × HasForm text f
+
 -- What is wrong with the text of a line where no call waits for its reply. Where there is no
--- service, it is the line of none. Else it is no line, or one that may not come next.
+-- service, it is the line of none. Else it is no line, and one of its form is expected, or it is
+-- one that may not come next.
 abbrev pub IsWrong : Log → List ℕ → Expected → Type 0
 IsWrong log text e =
     ((log.services ≡ []) × (e ≡ expected.Service)
     × ((l : ServiceLine) → IsServiceLine l → service_line l ≢ text))
-    ⊎ (((log.services ≢ []) × (e ≡ expected.Call)
+    ⊎ (((log.services ≢ []) × IsFormExpected text e
     × ((l : Line) → IsLine l → line_text l ≢ text))
     ⊎ ((log.services ≢ []) × ((l : Line) × IsLine l × (line_text l ≡ text) × IsRefused log l e)))
 

@@ -5,6 +5,8 @@ use Rattle.std.specs.Io.KnownBytes.{Appends}
 use Rattle.std.specs.List.{flat_map}
 use Rattle.iox2_dynamic.specs.declared.dynamic_config.port_details.PortDetails.{PortDetails}
 use Rattle.service_descriptions.specs.Replies.{id_word, port_word, text_of}
+use Rattle.log_lines.specs.declared.form.LogForm.{LogForm}
+use Rattle.log_lines.specs.declared.form.LogForm.TheVariants as form
 use Rattle.history_logs.specs.declared.logs.verdict.Expected.{Expected}
 use Rattle.history_logs.specs.declared.logs.verdict.Expected.TheVariants as expected
 use Rattle.history_logs.specs.declared.logs.verdict.Configuration.{Configuration}
@@ -80,12 +82,49 @@ refusal_text reported =
     ++ window_text reported.window reported.needed.items
     ++ (10 ∷ flat_map config_text reported.configurations.items)
 
+-- what is expected where a text has this form, and is that of no line
+abbrev pub form_text : LogForm → List ℕ
+form_text form.Service =
+    codes ": service PATTERN NUMBER NODES FIRST SECOND is expected, as service event 7 2 2 0\n"
+form_text form.State =
+    codes ": state .. is expected, as state nodes 20, state nodes 20 locked, state listener 4, "
+    ++ codes "state 0 17 register 1.0.0.1 or state 3 2 add listener 1.0.0.2 1.0.0.1\n"
+form_text form.Register = codes ": register NODE is expected, as register 1.0.0.1\n"
+form_text form.Deregister =
+    codes ": deregister NUMBER or deregister SLOT TICKET is expected, as deregister 0 3\n"
+form_text form.Nodes = codes ": nodes is expected, and nothing behind it\n"
+form_text form.Add =
+    codes ": add ROLE PORT NODE is expected, as add listener 1.0.0.2 1.0.0.1\n"
+form_text form.Release =
+    codes ": release NUMBER or release ROLE SLOT TICKET is expected, as release listener 1 0\n"
+form_text form.List = codes ": list ROLE is expected, as list listener\n"
+form_text form.Count = codes ": count ROLE is expected, as count listener\n"
+form_text form.Dead =
+    codes ": dead NODE or dead NODE skip PORT .. is expected, as dead 1.0.0.1\n"
+form_text form.WeakNodes = codes ": CALLER> nodes? is expected, as A> nodes?\n"
+form_text form.WeakList = codes ": CALLER> list? ROLE is expected, as A> list? listener\n"
+form_text form.Begin =
+    codes ": CALLER> COMMAND is expected, as A> nodes; a name has 1 to 16 letters and digits\n"
+form_text form.End =
+    codes ": CALLER< REPLY is expected, as A< list; a name has 1 to 16 letters and digits\n"
+form_text form.Crash =
+    codes ": CALLER! is expected, as A!; a name has 1 to 16 letters and digits\n"
+form_text form.Numbered =
+    codes ": the number of a service is expected before the colon, as 7: nodes or 7: A> nodes\n"
+form_text form.Unknown =
+    codes ": a line that begins with register, deregister, nodes, add, release, list, count, "
+    ++ codes "dead, state, service or a caller is expected\n"
+
 -- what a line should have been
 abbrev pub expected_text : Expected → List ℕ
-expected_text expected.Service = codes ": the line of a service is expected" ++ 10 ∷ []
+expected_text expected.Service =
+    codes ": the line of a service is expected, as service event 7 2 2 0" ++ 10 ∷ []
 expected_text expected.Call =
-    codes ": the line of a service, a call or an event is expected" ++ 10 ∷ []
-expected_text expected.Reply = codes ": a reply is expected" ++ 10 ∷ []
+    codes ": a line on a service above, by its number, or a new service is expected\n"
+expected_text (expected.Form f) = form_text f
+expected_text expected.Reply =
+    codes ": a reply is expected, as handle 0 3, list, count 2 or released; "
+    ++ codes "below a call alone with = before it\n"
 expected_text expected.IdleCaller =
     codes ": a caller without an open call is expected" ++ 10 ∷ []
 expected_text expected.OpenCall = codes ": a caller with an open call is expected" ++ 10 ∷ []

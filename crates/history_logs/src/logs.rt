@@ -24,6 +24,7 @@ mod verdict;
 
 use conforming::find_conforming;
 use judging::judge_services;
+pub use log_lines::LogForm;
 use named::count_services;
 use ordering::order_services;
 pub use progress::{Counts, NoProgress, Progress};

@@ -1,7 +1,7 @@
 //! Lines that are not what is expected.
 
 use super::rows::{Row, Said, are_judged};
-use history_logs::logs::Expected;
+use history_logs::logs::{Expected, LogForm, report_log};
 use std::test::Fail;
 
 /// Where no service is above.
@@ -62,7 +62,7 @@ static CALLERS: [Row; 12] = [
     ("abcdefghijklmnop> nodes\n", Said::Conforms(1, 1)),
     (
         "abcdefghijklmnopq> nodes\n",
-        Said::BadLine(2, Expected::Call),
+        Said::BadLine(2, Expected::Form(LogForm::Begin)),
     ),
 ];
 
@@ -71,35 +71,122 @@ fn callers_have_one_call_open(rt: HostRuntime) -> Result<(), Fail> {
     are_judged(&rt, SERVICE, &CALLERS)
 }
 
-/// No lines of calls and events.
-static CALLS: [Row; 22] = [
-    ("= list\n", Said::BadLine(2, Expected::Call)),
-    ("foo\n", Said::BadLine(2, Expected::Call)),
-    (" # a\n", Said::BadLine(2, Expected::Call)),
-    ("A>nodes\n", Said::BadLine(2, Expected::Call)),
-    ("A > nodes\n", Said::BadLine(2, Expected::Call)),
-    ("A> \n", Said::BadLine(2, Expected::Call)),
-    ("> nodes\n", Said::BadLine(2, Expected::Call)),
-    ("A-b> nodes\n", Said::BadLine(2, Expected::Call)),
-    ("A: nodes\n", Said::BadLine(2, Expected::Call)),
-    ("A> 7: nodes\n", Said::BadLine(2, Expected::Call)),
-    ("A<list\n", Said::BadLine(2, Expected::Call)),
-    ("!\n", Said::BadLine(2, Expected::Call)),
-    ("A! \n", Said::BadLine(2, Expected::Call)),
-    ("A!!\n", Said::BadLine(2, Expected::Call)),
-    ("overlap\n", Said::BadLine(2, Expected::Call)),
-    ("end\n", Said::BadLine(2, Expected::Call)),
-    ("A> leave\n", Said::BadLine(2, Expected::Call)),
-    ("A> register 1.0.0\n", Said::BadLine(2, Expected::Call)),
-    ("deregister 0 0 0\n", Said::BadLine(2, Expected::Call)),
-    ("deregister 0 01\n", Said::BadLine(2, Expected::Call)),
-    ("release node 0 0\n", Said::BadLine(2, Expected::Call)),
-    ("service event 7 1 0 0\n", Said::BadLine(2, Expected::Call)),
+// What is told of a line that begins as none does; as those of one form do; and of one on no
+// service above.
+const NO_WORD: &str =
+    "a line that begins with register, deregister, nodes, add, release, list, count, dead, \
+    state, service or a caller is expected";
+
+const REGISTER: &str = "register NODE is expected, as register 1.0.0.1";
+
+const DEREGISTER: &str =
+    "deregister NUMBER or deregister SLOT TICKET is expected, as deregister 0 3";
+
+const NODES: &str = "nodes is expected, and nothing behind it";
+
+const ADD: &str = "add ROLE PORT NODE is expected, as add listener 1.0.0.2 1.0.0.1";
+
+const RELEASE: &str =
+    "release NUMBER or release ROLE SLOT TICKET is expected, as release listener 1 0";
+
+const LIST: &str = "list ROLE is expected, as list listener";
+
+const COUNT: &str = "count ROLE is expected, as count listener";
+
+const DEAD: &str = "dead NODE or dead NODE skip PORT .. is expected, as dead 1.0.0.1";
+
+const WEAK_NODES: &str = "CALLER> nodes? is expected, as A> nodes?";
+
+const WEAK_LIST: &str = "CALLER> list? ROLE is expected, as A> list? listener";
+
+const BEGIN: &str =
+    "CALLER> COMMAND is expected, as A> nodes; a name has 1 to 16 letters and digits";
+
+const END: &str = "CALLER< REPLY is expected, as A< list; a name has 1 to 16 letters and digits";
+
+const CRASH: &str = "CALLER! is expected, as A!; a name has 1 to 16 letters and digits";
+
+const NUMBERED: &str =
+    "the number of a service is expected before the colon, as 7: nodes or 7: A> nodes";
+
+const SERVICE_LINE: &str =
+    "service PATTERN NUMBER NODES FIRST SECOND is expected, as service event 7 2 2 0";
+
+const STATE: &str =
+    "state .. is expected, as state nodes 20, state nodes 20 locked, state listener 4, \
+    state 0 17 register 1.0.0.1 or state 3 2 add listener 1.0.0.2 1.0.0.1";
+
+const ON_NONE: &str = "a line on a service above, by its number, or a new service is expected";
+
+/// Lines that may not stand below that of a service, and what is told of them.
+static BAD_LINES: [(&str, &str); 56] = [
+    ("foo", NO_WORD),
+    (" # a", NO_WORD),
+    ("regster 1.0.0.1", NO_WORD),
+    ("Register 1.0.0.1", NO_WORD),
+    (" nodes", NO_WORD),
+    ("overlap", NO_WORD),
+    ("A", NO_WORD),
+    ("A > nodes", NO_WORD),
+    ("A-b> nodes", NO_WORD),
+    ("=list", NO_WORD),
+    ("A> ", NO_WORD),
+    ("A> leave", NO_WORD),
+    ("A> 7: nodes", NO_WORD),
+    ("7: A> Nodes", NO_WORD),
+    ("7: ", NO_WORD),
+    ("register", REGISTER),
+    ("register 1.0.0", REGISTER),
+    ("register  1.0.0.1", REGISTER),
+    ("register 1.0.0.1 ", REGISTER),
+    ("A> register 0.1.1.0", REGISTER),
+    ("7: A> register 1.0.0.x", REGISTER),
+    ("7: register 4294967296.0.0.0", REGISTER),
+    ("deregister 0 0 0", DEREGISTER),
+    ("deregister 0 01", DEREGISTER),
+    ("A> deregister -1", DEREGISTER),
+    ("nodes ", NODES),
+    ("A> nodes 1", NODES),
+    ("add listener 1.0.0.2", ADD),
+    ("add listner 1.0.0.2 1.0.0.1", ADD),
+    ("A> add listener 1.0.0.2,1.0.0.1", ADD),
+    ("release node 0 0", RELEASE),
+    ("release listener 0", RELEASE),
+    ("list", LIST),
+    ("list listeners", LIST),
+    ("A> list nodes", LIST),
+    ("count", COUNT),
+    ("dead 1.0.0.1 skip", DEAD),
+    ("nodes?", WEAK_NODES),
+    ("A> list? node", WEAK_LIST),
+    ("A>nodes", BEGIN),
+    ("A>", BEGIN),
+    ("> nodes", BEGIN),
+    ("abcdefghijklmnopq> nodes", BEGIN),
+    ("A<list", END),
+    ("7: A< list", END),
+    ("!", CRASH),
+    ("A! ", CRASH),
+    ("A!!", CRASH),
+    ("A: nodes", NUMBERED),
+    ("07: nodes", NUMBERED),
+    ("service event 7 1 0", SERVICE_LINE),
+    ("A> service event 7 1 0 0", SERVICE_LINE),
+    ("state nodes", STATE),
+    ("= list", ON_NONE),
+    ("8: nodes", ON_NONE),
+    ("service event 7 1 0 0", ON_NONE),
 ];
 
 #[test]
-fn lines_of_no_call(rt: HostRuntime) -> Result<(), Fail> {
-    are_judged(&rt, SERVICE, &CALLS)
+fn what_is_told_of_bad_lines(rt: HostRuntime) -> Result<(), Fail> {
+    for (line, told) in &BAD_LINES {
+        let log = format!(in rt.alloc(); "{}{}\n", SERVICE, line)?;
+        let (_, report) = report_log(rt.alloc(), log.as_bytes())?;
+        let wanted = format!(in rt.alloc(); "line 2: {}\n", told)?;
+        assert_eq!(rt; (line, report.as_slice()), (line, wanted.as_bytes()));
+    }
+    Ok(())
 }
 
 /// What is no reply, and how lines end.
@@ -131,7 +218,10 @@ static REPLIES: [Row; 18] = [
     ),
     // A refused reply comes before a bad line below it, and a bad line before a reply below it.
     ("A> nodes\nA< full\nfoo\n", Said::Refused(3, 2, 1)),
-    ("A> nodes\nfoo\nA< full\n", Said::BadLine(3, Expected::Call)),
+    (
+        "A> nodes\nfoo\nA< full\n",
+        Said::BadLine(3, Expected::Form(LogForm::Unknown)),
+    ),
 ];
 
 #[test]

@@ -1,7 +1,7 @@
 //! Several services in one log.
 
 use super::rows::{Row, Said, are_judged};
-use history_logs::logs::Expected;
+use history_logs::logs::{Expected, LogForm};
 use std::test::Fail;
 
 /// Calls on two services stand between each other, and handles are those of the own service: ten
@@ -26,13 +26,25 @@ static ROWS: [Row; 20] = [
     // Without a name, with that of no service, and with one that is spelled otherwise.
     ("nodes\n= list\n", Said::BadLine(11, Expected::Call)),
     ("9: nodes\n= list\n", Said::BadLine(11, Expected::Call)),
-    ("08: nodes\n= list\n", Said::BadLine(11, Expected::Call)),
-    ("8 : nodes\n= list\n", Said::BadLine(11, Expected::Call)),
-    ("8:nodes\n= list\n", Said::BadLine(11, Expected::Call)),
-    ("8: \n= list\n", Said::BadLine(11, Expected::Call)),
+    (
+        "08: nodes\n= list\n",
+        Said::BadLine(11, Expected::Form(LogForm::Numbered)),
+    ),
+    (
+        "8 : nodes\n= list\n",
+        Said::BadLine(11, Expected::Form(LogForm::Unknown)),
+    ),
+    (
+        "8:nodes\n= list\n",
+        Said::BadLine(11, Expected::Form(LogForm::Numbered)),
+    ),
+    (
+        "8: \n= list\n",
+        Said::BadLine(11, Expected::Form(LogForm::Unknown)),
+    ),
     (
         "7: service event 9 1 0 0\n",
-        Said::BadLine(11, Expected::Call),
+        Said::BadLine(11, Expected::Form(LogForm::Service)),
     ),
     // A number is that of one service.
     (
@@ -48,7 +60,7 @@ static ROWS: [Row; 20] = [
     ("A> nodes\n", Said::BadLine(11, Expected::Call)),
     (
         "8: A> nodes\n8: A< list\n",
-        Said::BadLine(12, Expected::Call),
+        Said::BadLine(12, Expected::Form(LogForm::End)),
     ),
     // A caller has one call open, on whichever service.
     (

@@ -1,7 +1,7 @@
 //! Services that were in use when their log began.
 
 use super::rows::{Row, Said, are_judged};
-use history_logs::logs::Expected;
+use history_logs::logs::{Expected, LogForm};
 use std::test::Fail;
 
 /// One line.
@@ -112,10 +112,19 @@ static REFUSED: [Row; 17] = [
         Said::BadLine(3, Expected::Call),
     ),
     // Spelled otherwise.
-    ("state nodes 03\n", Said::BadLine(2, Expected::Call)),
-    ("state nodes 3 open\n", Said::BadLine(2, Expected::Call)),
-    ("state 0 0 nodes\n", Said::BadLine(2, Expected::Call)),
-    ("state\n", Said::BadLine(2, Expected::Call)),
+    (
+        "state nodes 03\n",
+        Said::BadLine(2, Expected::Form(LogForm::State)),
+    ),
+    (
+        "state nodes 3 open\n",
+        Said::BadLine(2, Expected::Form(LogForm::State)),
+    ),
+    (
+        "state 0 0 nodes\n",
+        Said::BadLine(2, Expected::Form(LogForm::State)),
+    ),
+    ("state\n", Said::BadLine(2, Expected::Form(LogForm::State))),
 ];
 
 #[test]

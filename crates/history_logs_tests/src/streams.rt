@@ -93,18 +93,25 @@ static VERDICTS: [(&str, u8, &str, &str); 16] = [
         "line 6: no order of the calls explains this reply\nseen: list\nwindow: from line 2\nneeded: lines 2 3 5\nmade: lines 2\npossible: list 1000000000000000000000001 1000000000000000000000002\nnodes: 1000000000000000000000001 1000000000000000000000002\nports:\n",
         "",
     ),
-    ("", 2, "", "line 1: the line of a service is expected\n"),
+    (
+        "",
+        2,
+        "",
+        "line 1: the line of a service is expected, as service event 7 2 2 0\n",
+    ),
     (
         "service event 7 2 0 1\nnode\n",
         2,
         "",
-        "line 2: the line of a service, a call or an event is expected\n",
+        "line 2: a line that begins with register, deregister, nodes, add, release, list, count, \
+        dead, state, service or a caller is expected\n",
     ),
     (
         "service event 7 2 0 1\nnodes\n",
         2,
         "",
-        "line 3: a reply is expected\n",
+        "line 3: a reply is expected, as handle 0 3, list, count 2 or released; below a call alone \
+        with = before it\n",
     ),
     (
         "service event 7 2 0 1\nA> nodes\nA> nodes\n",
@@ -146,13 +153,14 @@ static VERDICTS: [(&str, u8, &str, &str); 16] = [
         "service event 7 2 0 1\n8: nodes\n",
         2,
         "",
-        "line 2: the line of a service, a call or an event is expected\n",
+        "line 2: a line on a service above, by its number, or a new service is expected\n",
     ),
     (
         "service event 7 2 0 1\nnodes\n= foo\n",
         2,
         "",
-        "line 3: a reply is expected\n",
+        "line 3: a reply is expected, as handle 0 3, list, count 2 or released; below a call alone \
+        with = before it\n",
     ),
 ];
 

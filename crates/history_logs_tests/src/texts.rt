@@ -1,6 +1,6 @@
 //! What `Debug` prints of verdicts: each variant by name, with what is in it.
 
-use history_logs::logs::{Expected, Verdict, check_log};
+use history_logs::logs::{Expected, LogForm, Verdict, check_log};
 use std::process::Abort;
 use std::test::Fail;
 use test_support::printing::are_shown_as;
@@ -23,9 +23,10 @@ static SHOWN: [(&str, &str); 3] = [
     ),
 ];
 
-static EXPECTED: [(Expected, &str); 10] = [
+static EXPECTED: [(Expected, &str); 11] = [
     (Expected::Service, "Service"),
     (Expected::Call, "Call"),
+    (Expected::Form(LogForm::WeakList), "Form(WeakList)"),
     (Expected::Reply, "Reply"),
     (Expected::IdleCaller, "IdleCaller"),
     (Expected::OpenCall, "OpenCall"),

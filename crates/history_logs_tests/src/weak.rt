@@ -1,7 +1,7 @@
 //! Weak listings: they need not be snapshots.
 
 use super::rows::{Row, Said, are_judged};
-use history_logs::logs::Expected;
+use history_logs::logs::{Expected, LogForm};
 use std::test::Fail;
 
 /// An event service with a node and a listener in slot 0: five lines.
@@ -96,9 +96,18 @@ fn weak_listings_see_what_stays(rt: HostRuntime) -> Result<(), Fail> {
 
 /// What is no weak listing.
 static NONE: [Row; 5] = [
-    ("list? listener\n", Said::BadLine(6, Expected::Call)),
-    ("A> list? node\n", Said::BadLine(6, Expected::Call)),
-    ("A> list?  listener\n", Said::BadLine(6, Expected::Call)),
+    (
+        "list? listener\n",
+        Said::BadLine(6, Expected::Form(LogForm::WeakList)),
+    ),
+    (
+        "A> list? node\n",
+        Said::BadLine(6, Expected::Form(LogForm::WeakList)),
+    ),
+    (
+        "A> list?  listener\n",
+        Said::BadLine(6, Expected::Form(LogForm::WeakList)),
+    ),
     (
         "A> nodes?\nA< list 1000000000000000000000001\nA< list\n",
         Said::BadLine(8, Expected::OpenCall),

@@ -35,6 +35,7 @@ fn expected_status(expected: Expected) -> Status
     match expected {
         Expected::Service => Status::NoServiceLine,
         Expected::Call => Status::NoCallLine,
+        Expected::Form(_) => Status::NoCallLine,
         Expected::Reply => Status::NoReplyLine,
         Expected::IdleCaller => Status::CallerIsBusy,
         Expected::OpenCall => Status::NoOpenCall,

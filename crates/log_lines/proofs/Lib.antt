@@ -4,3 +4,4 @@ pub mod Splits
 pub mod States
 pub mod OneReading
 pub mod Parts
+pub mod Forms

@@ -1,5 +1,6 @@
--- Promises: the commands, the states and the lines of logs.
+-- Promises: the commands, the states and the lines of logs, and how lines begin.
 pub mod Commands
 pub mod States
 pub mod Lines
+pub mod Forms
 pub mod Laws

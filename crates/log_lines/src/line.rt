@@ -49,7 +49,7 @@ pub fn is_note(line: &[u8]) -> bool
 const MAX_NAME: usize = 16;
 
 /// The letters and digits that begin the line, and what follows them.
-fn split_name(line: &[u8]) -> (&[u8], &[u8])
+pub(crate) fn split_name(line: &[u8]) -> (&[u8], &[u8])
     ensures { Comes line.now result.0.now result.1.now }
 {
     for at in 0..line.len() {
@@ -61,7 +61,7 @@ fn split_name(line: &[u8]) -> (&[u8], &[u8])
 }
 
 /// Whether letters and digits are the name of a caller.
-fn is_caller(name: &[u8]) -> bool
+pub(crate) fn is_caller(name: &[u8]) -> bool
     requires { IsTrue (are_letters name.now) }
     ensures yes { IsTrue result → IsCaller name.now }
     ensures no { IsCaller name.now → IsTrue result }
@@ -70,7 +70,7 @@ fn is_caller(name: &[u8]) -> bool
 }
 
 /// The number of a service that begins the line, and what follows it.
-fn number_front(line: &[u8]) -> Option<(u64, &[u8])>
+pub(crate) fn number_front(line: &[u8]) -> Option<(u64, &[u8])>
     ensures some { IfSome result (λ found.
         (found.0 < 2 ^ 64) × (line.now ≡ number_text found.0 ++ found.1.now)) }
     ensures none { IfNone result ((number : ℕ) (rest : List ℕ) → number < 2 ^ 64
@@ -86,7 +86,7 @@ fn number_front(line: &[u8]) -> Option<(u64, &[u8])>
 }
 
 /// The byte that follows a name, or 0 where none does.
-fn mark_of(rest: &[u8]) -> u8
+pub(crate) fn mark_of(rest: &[u8]) -> u8
     ensures { result ≡ mark rest.now }
 {
     match rest {

@@ -21,7 +21,9 @@ use super::progress::Progress;
 use super::service::LogService;
 use super::verdict::Expected;
 use line_streams::{after_word, before_byte};
-use log_lines::{BegunCall, LogCommand, LogLine, LogState, is_note, read_command, read_log_line};
+use log_lines::{
+    BegunCall, LogCommand, LogLine, LogState, form_of, is_note, read_command, read_log_line,
+};
 use service_conformance::conformance::{SeenReply, read_reply};
 use service_descriptions::replay::ServiceLine;
 use std::alloc::{AllocError, Global};
@@ -288,14 +290,14 @@ impl Reading {
 
     /// What is expected in place of what is no line of a log.
     #[tactic(auto, using(crate::proofs::Refused::wrong_none))]
-    fn expected(&self) -> Expected
-        ensures { (text : List ℕ) → ((l : Line) → IsLine l → line_text l ≢ text)
-            → IsWrong (log_of self.now) text result }
+    fn expected(&self, text: &[u8]) -> Expected
+        ensures { ((l : Line) → IsLine l → line_text l ≢ text.now)
+            → IsWrong (log_of self.now) text.now result }
     {
         if self.services.is_empty() {
             Expected::Service
         } else {
-            Expected::Call
+            Expected::Form(form_of(text))
         }
     }
 
@@ -314,7 +316,7 @@ impl Reading {
             TakesNext (log_of self.old) line text.now found (log_of self.new)) }
     {
         let Some(read) = read_log_line(alloc, text)? else {
-            return Ok(Some(self.expected()));
+            return Ok(Some(self.expected(text)));
         };
         if self.services.is_empty() && !is_service(&read) {
             return Ok(Some(Expected::Service));

@@ -2,7 +2,8 @@
 ghost use Rattle.std.specs.Prelude.{◌≡◌, ◌++◌, OnOk, codes, decimal};
 ghost use Rattle.std.specs.List.{flat_map};
 ghost use Rattle.history_logs.specs.Reports.{attached_text, choice_text, config_text};
-ghost use Rattle.history_logs.specs.Reports.{conforms_text, expected_text, for_count, lists_text};
+ghost use Rattle.history_logs.specs.Reports.{conforms_text, expected_text, for_count, form_text};
+ghost use Rattle.history_logs.specs.Reports.{lists_text};
 ghost use Rattle.history_logs.specs.Reports.{line_of, made_text, next_text, number_word, order_text};
 ghost use Rattle.history_logs.specs.Reports.{possible_text, refusal_text, report_text, window_text};
 ghost use Rattle.service_descriptions.specs.Replies.{id_word, port_word, text_of};
@@ -11,6 +12,7 @@ use super::verdict::{Configuration, Expected, Order, Refusal, Verdict};
 use iox2_dynamic::dynamic_config::PortDetails;
 use iox2_ids::identifiers::{Hexadecimal, UniqueNodeId};
 use itoa::Buffer;
+use log_lines::LogForm;
 use service_conformance::conformance::{NextHandle, PossibleList, PossibleReplies};
 use service_descriptions::replay::{Reply, write_reply};
 use std::alloc::AllocError;
@@ -219,14 +221,63 @@ fn append_line(line: usize, text: &[u8], out: &mut Vec<u8>) -> Result<(), AllocE
     Ok(())
 }
 
+/// What is expected where a text has this form, and is that of no line.
+fn form_text(form: LogForm) -> &'static [u8]
+    ensures { result.now ≡ form_text form }
+{
+    match form {
+        LogForm::Service => {
+            b": service PATTERN NUMBER NODES FIRST SECOND is expected, as service event 7 2 2 0\n"
+        }
+        LogForm::State => {
+            b": state .. is expected, as state nodes 20, state nodes 20 locked, state listener 4, \
+            state 0 17 register 1.0.0.1 or state 3 2 add listener 1.0.0.2 1.0.0.1\n"
+        }
+        LogForm::Register => b": register NODE is expected, as register 1.0.0.1\n",
+        LogForm::Deregister => {
+            b": deregister NUMBER or deregister SLOT TICKET is expected, as deregister 0 3\n"
+        }
+        LogForm::Nodes => b": nodes is expected, and nothing behind it\n",
+        LogForm::Add => b": add ROLE PORT NODE is expected, as add listener 1.0.0.2 1.0.0.1\n",
+        LogForm::Release => {
+            b": release NUMBER or release ROLE SLOT TICKET is expected, as release listener 1 0\n"
+        }
+        LogForm::List => b": list ROLE is expected, as list listener\n",
+        LogForm::Count => b": count ROLE is expected, as count listener\n",
+        LogForm::Dead => b": dead NODE or dead NODE skip PORT .. is expected, as dead 1.0.0.1\n",
+        LogForm::WeakNodes => b": CALLER> nodes? is expected, as A> nodes?\n",
+        LogForm::WeakList => b": CALLER> list? ROLE is expected, as A> list? listener\n",
+        LogForm::Begin => {
+            b": CALLER> COMMAND is expected, as A> nodes; a name has 1 to 16 letters and digits\n"
+        }
+        LogForm::End => {
+            b": CALLER< REPLY is expected, as A< list; a name has 1 to 16 letters and digits\n"
+        }
+        LogForm::Crash => b": CALLER! is expected, as A!; a name has 1 to 16 letters and digits\n",
+        LogForm::Numbered => {
+            b": the number of a service is expected before the colon, as 7: nodes or 7: A> nodes\n"
+        }
+        LogForm::Unknown => {
+            b": a line that begins with register, deregister, nodes, add, release, list, count, \
+            dead, state, service or a caller is expected\n"
+        }
+    }
+}
+
 /// What a line should have been.
 fn expected_text(expected: Expected) -> &'static [u8]
     ensures { result.now ≡ expected_text expected }
 {
     match expected {
-        Expected::Service => b": the line of a service is expected\n",
-        Expected::Call => b": the line of a service, a call or an event is expected\n",
-        Expected::Reply => b": a reply is expected\n",
+        Expected::Service => b": the line of a service is expected, as service event 7 2 2 0\n",
+        Expected::Call => {
+            b": a line on a service above, by its number, or a new service is expected\n"
+        }
+        Expected::Form(form) => form_text(form),
+        Expected::Reply => {
+            b": a reply is expected, as handle 0 3, list, count 2 or released; below a call alone \
+            with = before it\n"
+        }
         Expected::IdleCaller => b": a caller without an open call is expected\n",
         Expected::OpenCall => b": a caller with an open call is expected\n",
         Expected::LiveCaller => b": a caller that has not died is expected\n",

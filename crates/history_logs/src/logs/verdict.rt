@@ -1,6 +1,7 @@
 //! What logs are judged to be.
 use iox2_dynamic::dynamic_config::PortDetails;
 use iox2_ids::identifiers::UniqueNodeId;
+use log_lines::LogForm;
 use service_conformance::conformance::PossibleReplies;
 
 /// What a line of a log should have been.
@@ -10,6 +11,8 @@ pub enum Expected {
     Service,
     /// The line of a service with a number of its own, or a line on a service above.
     Call,
+    /// A line of this form: the text is that of no line, and begins as lines of the form do.
+    Form(LogForm),
     /// The words of a reply: behind `= ` below a call alone, or of a call that ends.
     Reply,
     /// A caller without an open call.

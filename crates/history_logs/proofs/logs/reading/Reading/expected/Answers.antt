@@ -7,4 +7,4 @@ pub returns-then-is_empty : goal.returns-then-is_empty
 returns-then-is_empty c =
     let none : length c.args.self.now.services.items ≡ 0 = search rules in
     let empty = nil_of _ none in
-    λ text not. wrong_none (log_of c.args.self.now) text empty not
+    λ not. wrong_none (log_of c.args.self.now) c.args.text.now empty not
