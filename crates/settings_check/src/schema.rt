@@ -57,11 +57,11 @@ fn write_reference(out: &mut String, section: Section, key: &str) -> Result<(), 
     ensures { OnOk result
         (string_bytes out.new ≡ string_bytes out.old ++ reference section key.now) }
 {
-    out.push_str("\"allOf\": [{\"$ref\": \"#/definitions/")?;
-    out.push_str(section.prefix())?;
-    out.push_str(key)?;
-    out.push_str(".\"}]")?;
-    Ok(())
+    let prefix = section.prefix();
+    write!(
+        out,
+        "\"allOf\": [{{\"$ref\": \"#/definitions/{prefix}{key}.\"}}]"
+    )
 }
 
 /// Appends what the value of a key may be.

@@ -77,7 +77,8 @@ const RUNS: [Run<'_>; 10] = [
         &["gone\x1b[0m", "closed", "folder", "broken", "doubtful.toml"],
         2,
         "doubtful.toml:2:1: warning: defaults.blackboard.max-reader: this table has no such key, \
-         defaults.blackboard.max-readers may be meant\n0 errors, 1 warning\n",
+         defaults.blackboard.max-readers may be meant\n\
+         0 errors, 1 warning; a file cannot be read\n",
         "gone\\u{1b}[0m: there is no such file\nclosed: it may not be read\n\
          folder: it is a directory\nbroken: it cannot be read\n",
     ),
