@@ -233,6 +233,7 @@ pub(crate) fn key_path(section: Section, key: &str) -> KeyPath<'_>
 
 /// The positions of some paths, or none of them where the file is too large. Where there is no path
 /// the file is not gone over.
+#[tactic(auto, using(crate::proofs::Lines::map_same))]
 fn positions_for(
     alloc: Global,
     text: &str,
@@ -266,6 +267,7 @@ pub(crate) fn position_of(
 }
 
 /// The positions of the keys of some subjects.
+#[tactic(auto, using(crate::proofs::Lines::all_mapped, crate::proofs::Lines::map_twice))]
 pub(crate) fn subject_positions(
     alloc: Global,
     text: &str,
