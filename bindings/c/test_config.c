@@ -365,7 +365,7 @@ static void unknown_keys(void) {
                      IOX2SD_STATUS_DONE, 1, 31));
     CHECK(found[0].likeness == IOX2SD_LIKENESS_OTHER_TABLE);
     CHECK(says(&found[0], "global.creation-timeout",
-               "this table has no such key, it belongs to [global]"));
+               "this table has no such key, global.creation-timeout may be meant"));
     /* beside faults, and none of a text that is no file of settings */
     CHECK(is_unknown(iox2sd_config_unknown_str(faulty, found, 4, names, sizeof names),
                      IOX2SD_STATUS_DONE, 1, 12));

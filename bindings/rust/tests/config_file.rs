@@ -347,7 +347,8 @@ fn unknown_keys_come_with_what_was_meant() {
         "5:1: global.PREFIX: this table has no such key, global.prefix may be meant",
         "6:1: global.\"node.directory\": this table has no such key, \
          global.node.directory without the quotes may be meant",
-        "8:1: global.node.creation-timeout: this table has no such key, it belongs to [global]",
+        "8:1: global.node.creation-timeout: this table has no such key, \
+         global.creation-timeout may be meant",
     ];
     assert_eq!(told, expected);
     let meant: Vec<_> = file

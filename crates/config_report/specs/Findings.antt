@@ -24,9 +24,7 @@ use Rattle.toml.specs.Data.{Members}
 use Rattle.toml_positions.specs.declared.position.Position.{Position}
 use Rattle.std.specs.List.{All}
 use Rattle.iox2_config_file.specs.Write.{IsConfigText}
-use Rattle.config_report.specs.Text.{IsReportText}
 use Rattle.config_report.specs.declared.check.FileConfig.{FileConfig}
-use Rattle.config_report.specs.declared.check.Report.{Report}
 use Rattle.config_report.specs.declared.check.ReportError.{ReportError}
 use Rattle.config_report.specs.declared.check.ReportError.TheVariants as refusal
 
@@ -156,11 +154,6 @@ HasConfig bytes config warnings =
     (found : Findings) × Checks bytes found × (found.config ≡ Some config)
     × (warnings ≡ lines_of found.list.items)
 
--- the bytes are a file of settings, and this is their text
-abbrev pub HasReport : List ℕ → List ℕ → List ℕ → Type 0
-HasReport bytes text warnings =
-    (config : Config) × HasConfig bytes config warnings × IsReportText config text
-
 -- the bytes are no file of settings, and this has a line for each thing that is found in them
 abbrev pub IsRefusal : List ℕ → List ℕ → Type 0
 IsRefusal bytes lines =
@@ -176,12 +169,6 @@ Refusal bytes refusal.NoMemory = Unit {0}
 abbrev pub ReadsFile : List ℕ → Result FileConfig ReportError → Type 0
 ReadsFile bytes (Ok file) = HasConfig bytes file.config (string_bytes file.warnings)
 ReadsFile bytes (Err error) = Refusal bytes error
-
--- what is said of a file of settings
-abbrev pub Reports : List ℕ → Result Report ReportError → Type 0
-Reports bytes (Ok report) =
-    HasReport bytes (string_bytes report.text) (string_bytes report.warnings)
-Reports bytes (Err error) = Refusal bytes error
 
 -- the text is that of the default settings
 abbrev pub HasDefaults : List ℕ → Type 0

@@ -1,15 +1,15 @@
 -- What is said of a file of settings, and where in it the keys stand.
-use Rattle.std.specs.Prelude.{ℕ, List, [], ◌∷◌, ◌++◌, codes, length, nat_le, if◌then◌else◌, Option, Some, None, Bool, bytes_eq, option_map, string_bytes}
+use Rattle.std.specs.Prelude.{ℕ, List, [], ◌∷◌, ◌++◌, codes, length, nat_le, if◌then◌else◌, Option, Some, None, Bool, option_map, string_bytes}
 use Rattle.std.specs.Fmt.{decimal}
 use Rattle.iox2_config_file.specs.declared.section.Section.{Section}
 use Rattle.iox2_config_file.specs.declared.section.Section.TheVariants as section
 use Rattle.toml_positions.specs.declared.position.Position.{Position}
 use Rattle.toml_positions.specs.Written.{position_in}
-use Rattle.std.specs.List.{list_all, list_any}
+use Rattle.std.specs.List.{list_all}
 use Rattle.iox2_config_file.specs.Read.{reason_text, Located, fault_view}
 use Rattle.iox2_config_file.specs.Unknown.{Proposed, Unknown, unknown_view}
-use Rattle.iox2_config_file.specs.Settings.{prefix_of, table_name, tables_in}
-use Rattle.iox2_config_file.specs.declared.proposal.Likeness.TheVariants.{Spelling, OtherTable, Quoted, Near}
+use Rattle.iox2_config_file.specs.Settings.{prefix_of}
+use Rattle.iox2_config_file.specs.declared.proposal.Likeness.TheVariants.{Quoted}
 use Rattle.config_report.specs.declared.finding.Finding.{Finding}
 use Rattle.config_report.specs.declared.finding.Severity.{Severity}
 use Rattle.config_report.specs.declared.finding.Severity.TheVariants.{Error, Warning}
@@ -81,22 +81,10 @@ abbrev pub topic_path : Topic → List (List ℕ)
 topic_path (fault (s, key, reason)) = table_path s ++ key ∷ []
 topic_path (unknown (s, key, meant)) = table_path s ++ key ∷ []
 
--- the key is that of a table
-abbrev pub is_table : Section → List ℕ → Bool
-is_table s key = list_any (bytes_eq key) (tables_in s)
-
--- where a key of another table belongs, in words: a table's has its header
-abbrev pub elsewhere_text : Section → List ℕ → List ℕ
-elsewhere_text s key =
-    if is_table s key then codes "[" ++ (prefix_of s ++ (key ++ codes "] may be meant"))
-    else codes "it belongs to [" ++ (table_name s ++ codes "]")
-
 -- what was probably meant, in words
 abbrev pub proposed_text : Proposed → List ℕ
-proposed_text (s, key, Spelling) = prefix_of s ++ (key ++ codes " may be meant")
-proposed_text (s, key, OtherTable) = elsewhere_text s key
 proposed_text (s, key, Quoted) = prefix_of s ++ (key ++ codes " without the quotes may be meant")
-proposed_text (s, key, Near) = prefix_of s ++ (key ++ codes " may be meant")
+proposed_text (s, key, other) = prefix_of s ++ (key ++ codes " may be meant")
 
 -- that a table has no such key, and what was probably meant
 abbrev pub meant_text : Option Proposed → List ℕ

@@ -10,7 +10,7 @@ ghost use Rattle.config_report.specs.Findings.{Checks, FindsInFile, FindsNoFile,
 ghost use Rattle.config_report.specs.Notes.{finding_view, note, note_in, topic_position};
 ghost use Rattle.config_report.specs.Notes.{subject_view};
 ghost use Rattle.config_report.specs.Findings.{IsNoFile, IsText, IsUnread, lines_of, ReadsFile};
-ghost use Rattle.config_report.specs.Findings.{Reports, HasDefaults};
+ghost use Rattle.config_report.specs.Findings.{HasDefaults};
 ghost use Rattle.config_report.specs.Text.{IsReportText};
 ghost use Rattle.config_report.specs.declared.finding.Severity.TheVariants as severity;
 ghost use Rattle.toml.specs.Parse.{parse_document};
@@ -152,48 +152,24 @@ impl Unread {
     }
 }
 
-/// The text that bytes are, whose tables and arrays are at most 32 deep in one another, or why they
-/// are none. Nothing is built of them before.
-pub fn text_of(alloc: Global, bytes: &[u8]) -> Result<&str, Unread>
-    ensures same { IfOk result (λ text. text.now ≡ bytes.now) }
-    ensures ok { IfOk result (λ text. IsText bytes.now) }
+/// The text that bytes are and all that it says, or why they are no file of settings. How deep its
+/// tables and arrays are in one another is looked at before anything is built of it.
+pub fn parse_file(alloc: Global, bytes: &[u8]) -> Result<(&str, FileContents), Unread>
+    ensures ok { IfOk result (λ file.
+        (file.0.now ≡ bytes.now) × IsText bytes.now × ReadsAll bytes.now file.1) }
     ensures err { IfErr result (IsUnread bytes.now) }
 {
     let text = match str::from_utf8(bytes) {
         Ok(text) => text,
         Err(error) => return Err(no_utf8(alloc, bytes, error.valid_up_to())),
     };
-    match too_deep(text.as_bytes()) {
-        Some(before) => Err(deep(alloc, text, before)),
-        None => Ok(text),
+    if let Some(before) = too_deep(text.as_bytes()) {
+        return Err(deep(alloc, text, before));
     }
-}
-
-/// All that such a text says, or why it is no file of settings.
-pub fn contents_of(alloc: Global, text: &str) -> Result<FileContents, Unread>
-    requires { IsText text.now }
-    ensures ok { IfOk result (ReadsAll text.now) }
-    ensures err { IfErr result (IsUnread text.now) }
-{
     match read_config(alloc, text) {
-        Ok(contents) => Ok(contents),
+        Ok(contents) => Ok((text, contents)),
         Err(ConfigFileError::Syntax(error)) => Err(no_toml(alloc, text, &error)),
         Err(ConfigFileError::NoMemory(error)) => Err(Unread::NoMemory(error)),
-    }
-}
-
-/// The text that bytes are and all that it says, or why they are no file of settings.
-pub fn parse_file(alloc: Global, bytes: &[u8]) -> Result<(&str, FileContents), Unread>
-    ensures ok { IfOk result (λ file.
-        (file.0.now ≡ bytes.now) × IsText bytes.now × ReadsAll bytes.now file.1) }
-    ensures err { IfErr result (IsUnread bytes.now) }
-{
-    match text_of(alloc, bytes) {
-        Ok(text) => match contents_of(alloc, text) {
-            Ok(contents) => Ok((text, contents)),
-            Err(unread) => Err(unread),
-        },
-        Err(unread) => Err(unread),
     }
 }
 
@@ -258,15 +234,21 @@ fn no_toml(alloc: Global, text: &str, error: &toml::de::Error) -> Unread
 fn syntax_words(alloc: Global, error: &toml::de::Error, text: &str) -> Result<String, AllocError> {
     match error.message() {
         "duplicate key" => format!(in alloc; "duplicate key `{}`", first_key(text)),
-        "invalid value, expected a string, number, boolean, date-time, array or inline table" => {
-            String::from_str(
-                alloc,
-                "invalid value, expected a string in quotes, a number, `true`, `false`, a \
-                 date-time, an array or an inline table",
-            )
-        }
+        words if tells_no_value(words, text) => String::from_str(
+            alloc,
+            "invalid value, expected a string in quotes, a number, `true`, `false`, a date-time, \
+             an array or an inline table",
+        ),
         words => String::from_str(alloc, words),
     }
+}
+
+/// Whether the words say that a value is none. `toml` takes a string without quotes for a number if
+/// it has a `_`.
+fn tells_no_value(words: &str, text: &str) -> bool {
+    words == "invalid value, expected a string, number, boolean, date-time, array or inline table"
+        || (words == "`_` may only go between digits"
+            && text.starts_with(|c: char| c.is_ascii_alphabetic()))
 }
 
 /// The key that a text begins with: what stands in its quotes, or before the `=` of the pair or the
@@ -293,15 +275,6 @@ fn start_of(error: &toml::de::Error, bytes: &[u8]) -> usize
         Some(span) => span.start.min(bytes.len()),
         None => 0,
     }
-}
-
-/// What a file without faults says.
-#[derive(Debug, Drop)]
-pub struct Report {
-    /// All settings, and what follows from them.
-    pub text: String,
-    /// A line for each key that no setting has.
-    pub warnings: String,
 }
 
 /// The settings of a file without faults.
@@ -340,21 +313,6 @@ pub fn read_file(alloc: Global, bytes: &[u8]) -> Result<FileConfig, ReportError>
             warnings: lines,
         }),
         None => Err(ReportError::Refused(lines)),
-    }
-}
-
-/// What a file of settings says, or what is wrong with it: a line for each finding, in the order of
-/// the file.
-pub fn report_file(alloc: Global, bytes: &[u8]) -> Result<Report, ReportError>
-    ensures { Reports bytes.now result }
-{
-    let file = read_file(alloc, bytes)?;
-    match settings_text(alloc, &file.config) {
-        Ok(text) => Ok(Report {
-            text,
-            warnings: file.warnings,
-        }),
-        Err(_) => Err(ReportError::NoMemory),
     }
 }
 

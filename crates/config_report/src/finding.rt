@@ -5,7 +5,7 @@ ghost use Rattle.iox2_config_file.specs.Read.{fault_view};
 ghost use Rattle.iox2_config_file.specs.Unknown.{unknown_view, proposal_view};
 ghost use Rattle.config_report.specs.Findings.{place_of};
 ghost use Rattle.config_report.specs.Notes.{at_text, fault, fault_position, finding_view};
-ghost use Rattle.config_report.specs.Notes.{has_no_control, in_line, is_table, meant_text, note, note_text};
+ghost use Rattle.config_report.specs.Notes.{has_no_control, in_line, meant_text, note, note_text};
 ghost use Rattle.config_report.specs.Notes.{position_for, proposed_text, severity_text};
 ghost use Rattle.config_report.specs.Notes.{subject_view, table_path, topic_note};
 ghost use Rattle.config_report.specs.Notes.{topic_path, topic_position, unknown, unknown_position};
@@ -38,14 +38,6 @@ impl Severity {
             Severity::Error => "error",
             Severity::Warning => "warning",
         }
-    }
-}
-
-impl fmt::Display for Severity {
-    ghost output = { λ severity. Some (severity_text severity) };
-
-    fn fmt<W: fmt::Write>(&self, f: &mut fmt::Formatter<W>) -> fmt::Result {
-        f.write_str(self.word())
     }
 }
 
@@ -241,6 +233,7 @@ pub(crate) fn key_path(section: Section, key: &str) -> KeyPath<'_>
 
 /// The positions of some paths, or none of them where the file is too large. Where there is no path
 /// the file is not gone over.
+#[tactic(auto, using(crate::proofs::Lines::map_same))]
 fn positions_for(
     alloc: Global,
     text: &str,
@@ -274,6 +267,7 @@ pub(crate) fn position_of(
 }
 
 /// The positions of the keys of some subjects.
+#[tactic(auto, using(crate::proofs::Lines::all_mapped, crate::proofs::Lines::map_twice))]
 pub(crate) fn subject_positions(
     alloc: Global,
     text: &str,
@@ -311,21 +305,6 @@ impl fmt::Display for TomlKey<'_> {
     }
 }
 
-/// Whether a known key is that of a table.
-fn is_table(section: Section, key: &str) -> bool
-    ensures { result ≡ is_table section key.now }
-{
-    match section {
-        Section::Root => matches!(key, "global" | "defaults"),
-        Section::Global => matches!(key, "service" | "node"),
-        Section::Defaults => matches!(
-            key,
-            "publish-subscribe" | "event" | "request-response" | "blackboard"
-        ),
-        _ => false,
-    }
-}
-
 /// A known key that was probably meant.
 #[derive(Clone, Copy)]
 struct Proposed(Proposal);
@@ -341,12 +320,8 @@ impl fmt::Display for Proposed {
         } = self.0;
         let prefix = section.prefix();
         match likeness {
-            Likeness::Spelling | Likeness::Near => write!(f, "{prefix}{key} may be meant"),
-            Likeness::OtherTable if is_table(section, key) => {
-                write!(f, "[{prefix}{key}] may be meant")
-            }
-            Likeness::OtherTable => write!(f, "it belongs to [{}]", section.name()),
             Likeness::Quoted => write!(f, "{prefix}{key} without the quotes may be meant"),
+            _ => write!(f, "{prefix}{key} may be meant"),
         }
     }
 }
@@ -367,7 +342,8 @@ impl fmt::Display for Meant {
 }
 
 /// The positions of the keys of some faults, and then of some unknown keys, of a text that is TOML.
-fn key_positions(
+/// One past 128 KiB is not searched.
+pub fn key_positions(
     alloc: Global,
     text: &str,
     faults: &[SettingFault],
@@ -380,31 +356,4 @@ fn key_positions(
 {
     let subjects = subjects_of(alloc, faults, keys)?;
     subject_positions(alloc, text, subjects.as_slice())
-}
-
-/// The positions of the keys of some faults of a text that is TOML. One past 128 KiB is not
-/// searched.
-pub fn fault_positions(
-    alloc: Global,
-    text: &str,
-    faults: &[SettingFault],
-) -> Result<Vec<Option<Position>>, AllocError>
-    requires { IsSome (parse_document text.now) }
-    ensures { IfOk result (λ found.
-        found.items ≡ map (fault_position text.now) (map fault_view faults.now)) }
-{
-    key_positions(alloc, text, faults, &[])
-}
-
-/// The same of some keys that no setting has.
-pub fn unknown_positions(
-    alloc: Global,
-    text: &str,
-    keys: &[UnknownKey],
-) -> Result<Vec<Option<Position>>, AllocError>
-    requires { IsSome (parse_document text.now) }
-    ensures { IfOk result (λ found.
-        found.items ≡ map (unknown_position text.now) (map unknown_view keys.now)) }
-{
-    key_positions(alloc, text, &[], keys)
 }

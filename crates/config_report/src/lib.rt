@@ -13,11 +13,8 @@ pub mod laws;
 mod text;
 
 pub use check::{
-    FileConfig, Report, ReportError, Unread, check_file, contents_of, default_file, parse_file,
-    read_file, report_file, settings_text, text_of,
+    FileConfig, ReportError, Unread, check_file, default_file, parse_file, read_file, settings_text,
 };
-pub use finding::{
-    Finding, Findings, Severity, Subject, fault_positions, position_at, unknown_positions,
-};
+pub use finding::{Finding, Findings, Severity, Subject, key_positions, position_at};
 pub use text::{is_same, requests, responses, samples};
 pub use toml_positions::Position;

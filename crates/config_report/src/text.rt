@@ -58,6 +58,7 @@ fn write_tables(out: &mut String, config: &Config, default: &Config) -> Result<(
 }
 
 /// Appends the settings of a table.
+#[tactic(auto, using(crate::proofs::Pairs::ends_past))]
 fn write_table(
     out: &mut String,
     section: Section,

@@ -72,9 +72,6 @@ abbrev pub Keeps : Kind → SettingValue → Option Data → Type 0
 Keeps k v None = v ≡ absent
 Keeps k v (Some d) = IsKept k v d
 
-pub small : (n : ℕ) → nat_lt n (2 ^ 63) ≡ true → n < 2 ^ 63
-small n h = grind (arith, nat_tests)
-
 below : (n m : ℕ) → n < m → nat_lt n m ≡ true
 below n m h = grind (arith, nat_tests)
 
@@ -173,14 +170,6 @@ pub record AreWritten (defaults xs : List Setting) : Type 0 where
   pub kinded : list_all (λ x. has_kind x.kind x.value) xs ≡ true
   pub fit : list_all (λ x. value_fits x.value) xs ≡ true
   pub legal : AreLegal xs
-
-abbrev pub front : {X : Type 0} → X → List X → X
-front d [] = d
-front d (x ∷ xs) = x
-
-abbrev pub behind : {X : Type 0} → List X → List X
-behind [] = []
-behind (x ∷ xs) = xs
 
 pub rest_written : (d x : Setting) (ds xs : List Setting) → AreWritten (d ∷ ds) (x ∷ xs)
     → AreWritten ds xs

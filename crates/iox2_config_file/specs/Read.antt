@@ -15,6 +15,8 @@ use Rattle.toml.specs.Data.{Members, no_members, get_member, as_table}
 use Rattle.iox2_texts.specs.declared.bounded.SemanticStringError.{SemanticStringError}
 use Rattle.iox2_texts.specs.declared.bounded.SemanticStringError.TheVariants.{InvalidContent, ExceedsMaximumLength}
 use Rattle.iox2_config_file.specs.declared.fault.Fault.TheVariants.{WrongType, OutOfRange, NoPath, NoFileName, UnknownVariant, NoDuration, NanosTooLarge}
+use Rattle.iox2_config_file.specs.declared.fault.NameFault.{NameFault}
+use Rattle.iox2_config_file.specs.declared.fault.NameFault.TheVariants as name
 use Rattle.iox2_config_file.specs.declared.fault.TomlType.{TomlType}
 use Rattle.iox2_config_file.specs.declared.fault.TomlType.TheVariants as type
 
@@ -113,10 +115,12 @@ no_path_text InvalidContent = codes "it has a byte that is not from 1 to 127"
 no_path_text ExceedsMaximumLength = codes "it has more than 255 bytes"
 
 -- why a text is no name of a file
-abbrev pub no_file_name_text : SemanticStringError → List ℕ
-no_file_name_text InvalidContent =
-    codes "it is empty, `.` or `..`, or has a `/` or a byte that is not from 1 to 127"
-no_file_name_text ExceedsMaximumLength = codes "it has more than 255 bytes"
+abbrev pub no_file_name_text : NameFault → List ℕ
+no_file_name_text name.Empty = codes "it is empty"
+no_file_name_text name.TooLong = codes "it has more than 255 bytes"
+no_file_name_text name.Dots = codes "it is `.` or `..`"
+no_file_name_text name.Slash = codes "it has a `/`"
+no_file_name_text name.ForeignByte = codes "it has a byte that is not from 1 to 127"
 
 -- what is wrong with a value
 unfoldable pub reason_text : Fault → List ℕ
@@ -126,7 +130,7 @@ reason_text OutOfRange = codes "is not an integer from 0 to 9223372036854775807"
 reason_text (NoPath e) = codes "is no path: " ++ no_path_text e
 reason_text (NoFileName e) = codes "is no name of a file: " ++ no_file_name_text e
 reason_text (UnknownVariant wanted) = codes "is not " ++ kind_text wanted
-reason_text NoDuration = codes "is not a table of the integers `secs` and `nanos` alone"
+reason_text NoDuration = codes "is not `{ secs = S, nanos = N }` with two integers from 0 on"
 reason_text NanosTooLarge = codes "has `nanos` of 2^32 or more"
 
 -- the path of a key, and what is wrong with its value

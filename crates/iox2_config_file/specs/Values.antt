@@ -14,6 +14,8 @@ use Rattle.iox2_config_file.specs.declared.fault.Kind.TheVariants as kind
 use Rattle.iox2_config_file.specs.declared.fault.TomlType.{TomlType}
 use Rattle.iox2_config_file.specs.declared.fault.TomlType.TheVariants as type
 use Rattle.iox2_config_file.specs.declared.fault.Fault.{Fault}
+use Rattle.iox2_config_file.specs.declared.fault.NameFault.{NameFault}
+use Rattle.iox2_config_file.specs.declared.fault.NameFault.TheVariants.{Empty, TooLong, Dots, Slash, ForeignByte}
 use Rattle.iox2_config_file.specs.declared.fault.Fault.TheVariants.{WrongType, OutOfRange, NoPath, NoFileName, UnknownVariant, NoDuration, NanosTooLarge}
 use Rattle.toml.specs.Data.{Data, string, integer, float, boolean, datetime, array, table, Members, no_members, member, get_member}
 
@@ -59,6 +61,16 @@ abbrev pub is_file_name : List ℕ → Bool
 is_file_name s =
     ((not (length s == 0) && not (list_any is_slash s)) && not (bytes_eq s (codes ".")))
     && not (bytes_eq s (codes ".."))
+
+-- why a text that is no name of a file is none
+abbrev pub name_fault : List ℕ → NameFault
+name_fault s =
+    if length s == 0 then Empty
+    else if nat_lt 255 (length s) then TooLong
+    else if bytes_eq s (codes ".") then Dots
+    else if bytes_eq s (codes "..") then Dots
+    else if list_any is_slash s then Slash
+    else ForeignByte
 
 -- the strategies by their names
 abbrev pub backpressure_in : List ℕ → Result SettingValue Fault
@@ -111,7 +123,8 @@ value_in kind.Table (table ms) = Ok settings
 value_in kind.Number (integer z) = number_in z
 value_in kind.Flag (boolean b) = Ok (flag b)
 value_in kind.Path (string s) = result_map_both (λ v. v) NoPath (text_in is_path s)
-value_in kind.FileName (string s) = result_map_both (λ v. v) NoFileName (text_in is_file_name s)
+value_in kind.FileName (string s) =
+    result_map_both (λ v. v) (λ e. NoFileName (name_fault s)) (text_in is_file_name s)
 value_in kind.Backpressure (string s) = backpressure_in s
 value_in kind.Allocation (string s) = allocation_in s
 value_in kind.Duration (table ms) = duration_in ms

@@ -55,6 +55,21 @@ pub enum TomlType {
     Table,
 }
 
+/// Why a text is no name of a file: the first of these that is true of it.
+#[derive(Clone, Copy, Debug, PartialEq, Eq)]
+pub enum NameFault {
+    /// It is empty.
+    Empty,
+    /// It has more than 255 bytes.
+    TooLong,
+    /// It is `.` or `..`.
+    Dots,
+    /// It has a `/`.
+    Slash,
+    /// It has a byte that is not from 1 to 127.
+    ForeignByte,
+}
+
 /// What is wrong with the value of a key.
 #[derive(Clone, Copy, Debug, PartialEq, Eq)]
 pub enum Fault {
@@ -70,7 +85,7 @@ pub enum Fault {
     /// A text that is no path.
     NoPath(SemanticStringError),
     /// A text that is no name of a file.
-    NoFileName(SemanticStringError),
+    NoFileName(NameFault),
     /// A text that names no variant of the kind.
     UnknownVariant(Kind),
     /// A table that does not have just the integers `secs` and `nanos`, none of them below 0.
@@ -90,10 +105,10 @@ impl fmt::Display for Fault {
             Fault::WrongType { found, wanted } => write!(f, "is {found}, and {wanted} is wanted"),
             Fault::OutOfRange => f.write_str("is not an integer from 0 to 9223372036854775807"),
             Fault::NoPath(error) => write!(f, "is no path: {}", no_path(error)),
-            Fault::NoFileName(error) => write!(f, "is no name of a file: {}", no_file_name(error)),
+            Fault::NoFileName(error) => write!(f, "is no name of a file: {}", no_file_name(*error)),
             Fault::UnknownVariant(wanted) => write!(f, "is not {wanted}"),
             Fault::NoDuration => f.write_str(
-                "is not a table of the integers `secs` and `nanos` alone",
+                "is not `{ secs = S, nanos = N }` with two integers from 0 on",
             ),
             Fault::NanosTooLarge => f.write_str("has `nanos` of 2^32 or more"),
         }
@@ -111,14 +126,15 @@ fn no_path(error: &SemanticStringError) -> &'static str
 }
 
 /// Why a text is no name of a file.
-fn no_file_name(error: &SemanticStringError) -> &'static str
-    ensures { result.now ≡ no_file_name_text error.now }
+fn no_file_name(error: NameFault) -> &'static str
+    ensures { result.now ≡ no_file_name_text error }
 {
     match error {
-        SemanticStringError::InvalidContent => {
-            "it is empty, `.` or `..`, or has a `/` or a byte that is not from 1 to 127"
-        }
-        SemanticStringError::ExceedsMaximumLength => "it has more than 255 bytes",
+        NameFault::Empty => "it is empty",
+        NameFault::TooLong => "it has more than 255 bytes",
+        NameFault::Dots => "it is `.` or `..`",
+        NameFault::Slash => "it has a `/`",
+        NameFault::ForeignByte => "it has a byte that is not from 1 to 127",
     }
 }
 

@@ -13,6 +13,7 @@ use std::alloc::{AllocError, Global};
 
 /// What `write_config` writes, `read_config` reads: each setting has the value that it had, none is
 /// refused, and no key is unknown. Only refused memory is reported.
+#[tactic(auto, using(crate::proofs::ReadBack::config_is_back, crate::proofs::ReadBack::only_memory))]
 pub fn what_is_written_is_read_back(
     alloc: Global,
     config: &Config,

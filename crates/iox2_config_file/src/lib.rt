@@ -12,7 +12,7 @@ mod value;
 mod write;
 
 pub use depth::too_deep;
-pub use fault::{Fault, Kind, SettingFault, TomlType};
+pub use fault::{Fault, Kind, NameFault, SettingFault, TomlType};
 pub use proposal::{Likeness, Proposal};
 pub use read::{ConfigFileError, FileContents, read_config};
 pub use section::{Row, SECTIONS, Section, rows};

@@ -3,7 +3,7 @@ ghost use Rattle.std.specs.Prelude.{◌≡◌, ◌∷◌, ◌<◌, [], length, b
 ghost use Rattle.std.specs.Prelude.{option_map, ◌==◌, IfOk};
 ghost use Rattle.iox2_config_file.specs.Unknown.{is_dash, spelling, respelled, is_path, is_wanted};
 ghost use Rattle.iox2_config_file.specs.Unknown.{keys_of, wanted_in, wanted_view};
-ghost use Rattle.iox2_config_file.specs.Unknown.{distance_below, edit_distance, nearest, of_any};
+ghost use Rattle.iox2_config_file.specs.Unknown.{distance_below, nearest, of_any};
 ghost use Rattle.iox2_config_file.specs.Unknown.{of_table, nearest_below, proposal_view, proposed};
 ghost use Rattle.iox2_config_file.specs.Unknown.{unquoted};
 ghost use Rattle.iox2_config_file.specs.Read.{row_view};
@@ -158,14 +158,6 @@ pub struct Proposal {
 /// The size of the longest key, in bytes, for which the nearest one is looked for.
 const LONGEST_NEAR: usize = 64;
 
-/// How many characters have to be put in, taken out or changed.
-#[tactic(auto, unfolding(crate::specs::Unknown::edit_distance))]
-fn distance(alloc: Global, key: &str, known: &str) -> Result<usize, AllocError>
-    ensures { IfOk result (λ n. n ≡ edit_distance key.now known.now) }
-{
-    levenshtein(alloc, key, known)
-}
-
 /// How many characters a text has.
 #[tactic(auto, using(std::proofs::lemmas::Str::chars_from_encodes))]
 fn char_count(text: &str) -> usize
@@ -176,7 +168,7 @@ fn char_count(text: &str) -> usize
 
 /// The distance of two keys, where it is below a limit. It is not where one of them has so many
 /// characters more than the other, which is looked at first.
-#[tactic(auto, using(crate::proofs::Distances::is_far))]
+#[tactic(auto, using(crate::proofs::Distances::is_far), unfolding(crate::specs::Unknown::edit_distance))]
 fn distance_below(
     alloc: Global,
     key: &str,
@@ -188,7 +180,7 @@ fn distance_below(
     if limit <= char_count(key).abs_diff(char_count(known)) {
         return Ok(None);
     }
-    let n = distance(alloc, key, known)?;
+    let n = levenshtein(alloc, key, known)?;
     if n < limit { Ok(Some(n)) } else { Ok(None) }
 }
 

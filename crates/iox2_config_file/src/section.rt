@@ -2,7 +2,7 @@
 ghost use Rattle.std.specs.Prelude.{◌≡◌, true, map, option_map, IfSome};
 ghost use Rattle.iox2_config.specs.declared.config.Config.{Config};
 ghost use Rattle.iox2_config_file.specs.Read.{rows_in, row_view, members_at, section_members};
-ghost use Rattle.iox2_config_file.specs.Settings.{prefix_of, table_name, header_name, is_line};
+ghost use Rattle.iox2_config_file.specs.Settings.{prefix_of, header_name, is_line};
 ghost use Rattle.iox2_config_file.specs.Settings.{are_lines};
 ghost use Rattle.toml.specs.Data.{get_member, no_members};
 ghost use Rattle.toml.specs.View.{view, table_view};
@@ -38,23 +38,6 @@ pub enum Section {
 }
 
 impl Section {
-    /// The name of the table, as a header has it: nothing for the whole file.
-    pub fn name(self) -> &'static str
-        ensures { result.now ≡ table_name self }
-    {
-        match self {
-            Section::Root => "",
-            Section::Global => "global",
-            Section::Service => "global.service",
-            Section::Node => "global.node",
-            Section::Defaults => "defaults",
-            Section::PublishSubscribe => "defaults.publish-subscribe",
-            Section::Event => "defaults.event",
-            Section::RequestResponse => "defaults.request-response",
-            Section::Blackboard => "defaults.blackboard",
-        }
-    }
-
     /// What stands before the keys of the table in their paths.
     pub fn prefix(self) -> &'static str
         ensures { result.now ≡ prefix_of self }

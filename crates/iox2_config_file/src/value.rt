@@ -1,19 +1,21 @@
 //! What a setting holds, how the value of a key is read, and the settings of a configuration, one
 //! by one.
 ghost use Rattle.std.specs.Prelude.{◌≡◌, ◌<◌, ◌^◌, Some, IfSome, option_map};
+ghost use Rattle.std.specs.List.{list_any};
 ghost use Rattle.std.specs.Result.{result_map_both, result_err};
+ghost use Rattle.iox2_texts.specs.Path.{is_slash};
 ghost use Rattle.std.specs.Duration.{as_nanos};
 ghost use Rattle.toml.specs.Data.{get_member};
 ghost use Rattle.toml.specs.View.{view, table_view};
 ghost use Rattle.iox2_config_file.specs.Values.{type_in, value_in, value_or, duration_in, part_in};
 ghost use Rattle.iox2_config_file.specs.Values.{flag, text as text_value, text_in, is_path};
-ghost use Rattle.iox2_config_file.specs.Values.{is_file_name};
+ghost use Rattle.iox2_config_file.specs.Values.{is_file_name, name_fault};
 ghost use Rattle.iox2_config_file.specs.Values as values;
 ghost use Rattle.iox2_config_file.specs.declared.fault.Kind.TheVariants as kind;
 ghost use Rattle.iox2_config_file.specs.Write.{value_view, value_text, value_is_set, value_fits};
 ghost use Rattle.iox2_config_file.specs.Settings as table_of;
 
-use crate::fault::{Fault, Kind, TomlType};
+use crate::fault::{Fault, Kind, NameFault, TomlType};
 use crate::section::{Section, get, member_count, node_settings, service_settings};
 use crate::{
     blackboard_settings, event_settings, publish_subscribe_settings, request_response_settings,
@@ -173,7 +175,10 @@ impl FromToml for FileName {
 
     fn from_toml(value: &Value) -> Result<FileName, Fault> {
         match value {
-            Value::String(text) => file_name(text.as_bytes()).map_err(Fault::NoFileName),
+            Value::String(text) => match file_name(text.as_bytes()) {
+                Ok(name) => Ok(name),
+                Err(_) => Err(Fault::NoFileName(name_fault(text.as_bytes()))),
+            },
             _ => Err(wrong_type(value, Kind::FileName)),
         }
     }
@@ -370,6 +375,32 @@ fn file_name(bytes: &[u8]) -> Result<FileName, SemanticStringError>
     ensures { result_map_both text_value (λ e. e) result ≡ text_in is_file_name bytes.now }
 {
     FileName::new(bytes)
+}
+
+/// Whether a byte is `/`.
+fn has_slash(bytes: &[u8]) -> bool
+    ensures { result ≡ list_any is_slash bytes.now }
+{
+    bytes.iter().any(|byte| *byte == b'/')
+}
+
+/// Why a text that is no name of a file is none.
+fn name_fault(bytes: &[u8]) -> NameFault
+    ensures { result ≡ name_fault bytes.now }
+{
+    if bytes.is_empty() {
+        NameFault::Empty
+    } else if bytes.len() > 255 {
+        NameFault::TooLong
+    } else if bytes == b".".as_slice() {
+        NameFault::Dots
+    } else if bytes == b"..".as_slice() {
+        NameFault::Dots
+    } else if has_slash(bytes) {
+        NameFault::Slash
+    } else {
+        NameFault::ForeignByte
+    }
 }
 
 /// What the field of this number holds, among some settings.

@@ -1,10 +1,10 @@
 //! What `Debug` prints of settings and of what is wrong with them: each variant by name, each field
 //! by name and value.
-use config_report::{FileConfig, Finding, Findings, Position, Report, ReportError, Severity};
+use config_report::{FileConfig, Finding, Findings, Position, ReportError, Severity};
 use iox2_config::config::{AllocationStrategy, BackpressureStrategy, Config};
 use iox2_config_file::{
-    ConfigFileError, ConfigWriteError, Fault, FileContents, Kind, Likeness, Misfit, Proposal, Row,
-    Section, SettingFault, SettingValue, TomlType, UnknownKey,
+    ConfigFileError, ConfigWriteError, Fault, FileContents, Kind, Likeness, Misfit, NameFault,
+    Proposal, Row, Section, SettingFault, SettingValue, TomlType, UnknownKey,
 };
 use iox2_texts::bounded::SemanticStringError;
 use std::alloc::{AllocError, Global};
@@ -71,10 +71,7 @@ static FAULTS: [(Fault, &str); 7] = [
         Fault::NoPath(SemanticStringError::ExceedsMaximumLength),
         "NoPath(ExceedsMaximumLength)",
     ),
-    (
-        Fault::NoFileName(SemanticStringError::InvalidContent),
-        "NoFileName(InvalidContent)",
-    ),
+    (Fault::NoFileName(NameFault::Dots), "NoFileName(Dots)"),
     (
         Fault::UnknownVariant(Kind::Backpressure),
         "UnknownVariant(Backpressure)",
@@ -179,10 +176,6 @@ fn letter(alloc: Global, text: &str) -> Result<String, Fail> {
 
 #[test]
 fn reports_are_shown_by_field(rt: HostRuntime) -> Result<(), Fail> {
-    let report = Report {
-        text: letter(rt.alloc(), "a")?,
-        warnings: letter(rt.alloc(), "b")?,
-    };
     let file = FileConfig {
         config: Config::default(),
         warnings: letter(rt.alloc(), "c")?,
@@ -192,12 +185,11 @@ fn reports_are_shown_by_field(rt: HostRuntime) -> Result<(), Fail> {
     let refused = ReportError::Refused(letter(rt.alloc(), "d")?);
     assert_eq!(rt;
         [
-            is_shown_as(&report, "Report { text: \"a\", warnings: \"b\" }"),
             is_shown_as(&file, shown.as_str()),
             is_shown_as(&refused, "Refused(\"d\")"),
             is_shown_as(&ReportError::NoMemory, "NoMemory"),
         ],
-        [true; 4]
+        [true; 3]
     );
     Ok(())
 }

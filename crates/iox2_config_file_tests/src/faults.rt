@@ -2,7 +2,7 @@ use iox2_config_file::{ConfigFileError, Section, read_config};
 use std::process::Abort;
 
 /// A file, and what its first fault prints.
-const FAULTS: [(&str, &str); 14] = [
+const FAULTS: [(&str, &str); 18] = [
     ("global = 1", "global: is an integer, and a table is wanted"),
     (
         "[global]\nprefix = 1.5",
@@ -10,8 +10,23 @@ const FAULTS: [(&str, &str); 14] = [
     ),
     (
         "[global]\nprefix = 'a/b'",
-        "global.prefix: is no name of a file: it is empty, `.` or `..`, or has a `/` or a byte that \
-         is not from 1 to 127",
+        "global.prefix: is no name of a file: it has a `/`",
+    ),
+    (
+        "[global]\nprefix = ''",
+        "global.prefix: is no name of a file: it is empty",
+    ),
+    (
+        "[global]\nprefix = '..'",
+        "global.prefix: is no name of a file: it is `.` or `..`",
+    ),
+    (
+        "[global]\nprefix = 'é/'",
+        "global.prefix: is no name of a file: it has a `/`",
+    ),
+    (
+        "[global.node]\nmonitor-suffix = '.é'",
+        "global.node.monitor-suffix: is no name of a file: it has a byte that is not from 1 to 127",
     ),
     (
         "[global]\nroot-path = 'ä'",
@@ -19,11 +34,11 @@ const FAULTS: [(&str, &str); 14] = [
     ),
     (
         "[global.creation-timeout]\nsecs = 1",
-        "global.creation-timeout: is not a table of the integers `secs` and `nanos` alone",
+        "global.creation-timeout: is not `{ secs = S, nanos = N }` with two integers from 0 on",
     ),
     (
         "global.creation-timeout = { secs = 1, nanos = 2, millis = 3 }",
-        "global.creation-timeout: is not a table of the integers `secs` and `nanos` alone",
+        "global.creation-timeout: is not `{ secs = S, nanos = N }` with two integers from 0 on",
     ),
     (
         "global.creation-timeout = { secs = 1, nanos = 4294967296 }",

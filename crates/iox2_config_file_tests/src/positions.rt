@@ -1,12 +1,12 @@
 //! Files with what is reported of them, and where: forms of TOML in front of a key, keys that TOML
 //! quotes, and files that are none.
 
-use config_report::{ReportError, report_file};
+use config_report::{ReportError, read_file};
 use std::process::Abort;
 use std::test::Fail;
 
 /// A file, and what is reported of it.
-const REPORTED: [(&[u8], &str); 16] = [
+const REPORTED: [(&[u8], &str); 18] = [
     (
         b"# two faults\n[global]\nprefix = 1\n[defaults.event]\n\t\"max-nodes\" = -1\n",
         "3:1: error: global.prefix: is an integer, and a string with the name of a file is wanted\n\
@@ -41,7 +41,7 @@ const REPORTED: [(&[u8], &str); 16] = [
     ),
     (
         b"[global.service]\n[defaults]\nservice.x = 1\n[global]\nservices = 2\n",
-        "3:1: warning: defaults.service: this table has no such key, [global.service] may be meant\n\
+        "3:1: warning: defaults.service: this table has no such key, global.service may be meant\n\
          5:1: warning: global.services: this table has no such key, global.service may be meant\n",
     ),
     (
@@ -55,14 +55,20 @@ const REPORTED: [(&[u8], &str); 16] = [
     ),
     (
         b"global.creation-timeout.secs = 1\nglobal.creation-timeout.nanos = -1\n",
-        "1:1: error: global.creation-timeout: is not a table of the integers `secs` and `nanos` \
-         alone\n",
+        "1:1: error: global.creation-timeout: is not `{ secs = S, nanos = N }` with two integers from \
+         0 on\n",
     ),
     (b"# \xFF", "1:3: error: the file is no UTF-8\n"),
     (
         b"a = '\xC3\xA4\xC3'\n\n\n",
         "1:8: error: the file is no UTF-8\n",
     ),
+    (
+        b"[global]\nprefix = my_app\n",
+        "2:10: error: invalid value, expected a string in quotes, a number, `true`, `false`, a \
+         date-time, an array or an inline table\n",
+    ),
+    (b"a = 1_\n", "1:5: error: `_` may only go between digits\n"),
     (b"a = 1\na = 2\n", "2:1: error: duplicate key `a`\n"),
     (
         b"[ global ]\n\n[ global ]\n",
@@ -76,8 +82,8 @@ const REPORTED: [(&[u8], &str); 16] = [
 
 /// What is reported of a file.
 fn reported(rt: &(impl Abort + AllocGlobal), file: &[u8]) -> String {
-    match report_file(rt.alloc(), file) {
-        Ok(report) => report.warnings,
+    match read_file(rt.alloc(), file) {
+        Ok(read) => read.warnings,
         Err(ReportError::Refused(lines)) => lines,
         Err(ReportError::NoMemory) => panic!(rt; "no memory"),
     }

@@ -40,7 +40,7 @@ const MISSPELT: [(&str, &str); 18] = [
     (
         "[global.service]\ncreation-timeout = 1\n",
         "2:1: warning: global.service.creation-timeout: this table has no such key, \
-         it belongs to [global]",
+         global.creation-timeout may be meant",
     ),
     (
         "\"global.creation-timeout\" = 1\n",
@@ -64,16 +64,16 @@ const MISSPELT: [(&str, &str); 18] = [
     ),
     (
         "[event]\nmax-nodes = 1\n",
-        "1:2: warning: event: this table has no such key, [defaults.event] may be meant",
+        "1:2: warning: event: this table has no such key, defaults.event may be meant",
     ),
     (
         "[global.defaults]\n",
-        "1:2: warning: global.defaults: this table has no such key, [defaults] may be meant",
+        "1:2: warning: global.defaults: this table has no such key, defaults may be meant",
     ),
     (
         "[global]\nmax-nodes = 3\n",
         "2:1: warning: global.max-nodes: this table has no such key, \
-         it belongs to [defaults.publish-subscribe]",
+         defaults.publish-subscribe.max-nodes may be meant",
     ),
     (
         "[defaults.event]\nmax-listtenres = 1\n",

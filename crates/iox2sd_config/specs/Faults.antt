@@ -9,6 +9,7 @@ use Rattle.iox2_config_file.specs.declared.fault.Fault.{Fault}
 use Rattle.iox2_config_file.specs.declared.fault.Fault.TheVariants.{WrongType, OutOfRange, NoPath, NoFileName, UnknownVariant, NoDuration, NanosTooLarge}
 use Rattle.iox2_config_file.specs.declared.fault.Kind.{Kind}
 use Rattle.iox2_config_file.specs.declared.fault.Kind.TheVariants as kind
+use Rattle.iox2_config_file.specs.declared.fault.NameFault.TheVariants.{TooLong}
 use Rattle.iox2_config_file.specs.declared.fault.TomlType.{TomlType}
 use Rattle.iox2_config_file.specs.declared.fault.TomlType.TheVariants as type
 use Rattle.iox2_config_file.specs.declared.section.Section.{Section}
@@ -62,8 +63,8 @@ fault_status (WrongType found wanted) = status.WrongType
 fault_status OutOfRange = status.BelowZero
 fault_status (NoPath ExceedsMaximumLength) = status.TooLong
 fault_status (NoPath InvalidContent) = status.BadPath
-fault_status (NoFileName ExceedsMaximumLength) = status.TooLong
-fault_status (NoFileName InvalidContent) = status.NoFileName
+fault_status (NoFileName TooLong) = status.TooLong
+fault_status (NoFileName why) = status.NoFileName
 fault_status (UnknownVariant wanted) = status.UnknownVariant
 fault_status NoDuration = status.NoDuration
 fault_status NanosTooLarge = status.BadDuration

@@ -10,7 +10,7 @@ ghost use Rattle.iox2sd_config.specs.Faults.{column_of, c_note, c_at, c_unread, 
 ghost use Rattle.iox2sd_config.specs.Faults.{place_at};
 
 use config_report::{Finding, Subject, Unread};
-use iox2_config_file::{Fault, Kind, Section, SettingFault, TomlType};
+use iox2_config_file::{Fault, Kind, NameFault, Section, SettingFault, TomlType};
 use iox2_texts::bounded::SemanticStringError;
 use iox2sd_common::answers::zero_padded;
 use iox2sd_common::status::Status;
@@ -106,8 +106,8 @@ fn fault_status(fault: Fault) -> Status
         Fault::OutOfRange => Status::BelowZero,
         Fault::NoPath(SemanticStringError::ExceedsMaximumLength) => Status::TooLong,
         Fault::NoPath(SemanticStringError::InvalidContent) => Status::BadPath,
-        Fault::NoFileName(SemanticStringError::ExceedsMaximumLength) => Status::TooLong,
-        Fault::NoFileName(SemanticStringError::InvalidContent) => Status::NoFileName,
+        Fault::NoFileName(NameFault::TooLong) => Status::TooLong,
+        Fault::NoFileName(_) => Status::NoFileName,
         Fault::UnknownVariant(_) => Status::UnknownVariant,
         Fault::NoDuration => Status::NoDuration,
         Fault::NanosTooLarge => Status::BadDuration,

@@ -12,7 +12,7 @@ ghost use Rattle.toml.specs.Parse.{parse_document};
 
 use crate::config::{PlainConfig, config_of};
 use crate::fault::{PlainFault, place_at, plain_fault, plain_unread, unread_status};
-use config_report::{fault_positions, parse_file, position_at};
+use config_report::{key_positions, parse_file, position_at};
 use iox2_config_file::{FileContents, SettingFault};
 use iox2sd_common::answers::{CountAnswer, count, put};
 use iox2sd_common::status::Status;
@@ -92,7 +92,7 @@ fn listed_faults(
     requires { IsSome (parse_document text.now) }
     ensures { IfOk result (λ listed. ListsFaults text.now faults.now listed.items) }
 {
-    let positions = fault_positions(alloc, text, faults)?;
+    let positions = key_positions(alloc, text, faults, &[])?;
     let mut plain = plain_faults(alloc, faults, positions.as_slice())?;
     plain.sort_by_key(|fault| place(fault))?;
     Ok(plain)

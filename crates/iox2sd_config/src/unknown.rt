@@ -12,7 +12,7 @@ ghost use Rattle.toml.specs.Parse.{parse_document};
 use crate::fault::{
     column_of, cut, key_of, key_path, line_of, place_at, section_number, unread_status,
 };
-use config_report::{Finding, Subject, parse_file, position_at, unknown_positions};
+use config_report::{Finding, Subject, key_positions, parse_file, position_at};
 use iox2_config_file::{Likeness, Proposal, UnknownKey};
 use iox2sd_common::answers::put;
 use iox2sd_common::status::Status;
@@ -178,7 +178,7 @@ fn listed_keys(alloc: Global, text: &str, keys: &[UnknownKey]) -> Result<Vec<Nam
     requires { IsSome (parse_document text.now) }
     ensures { IfOk result (λ listed. ListsKeys text.now keys.now listed.items) }
 {
-    let positions = unknown_positions(alloc, text, keys)?;
+    let positions = key_positions(alloc, text, &[], keys)?;
     let mut named = named_keys(alloc, keys, positions.as_slice())?;
     named.sort_by_key(|key| place(key))?;
     Ok(named)

@@ -1,5 +1,5 @@
 -- What the program's arguments ask for, and what its streams get.
-use Rattle.std.specs.Prelude.{◌≡◌, ◌≢◌, List, [], ◌∷◌, ℕ, codes, map, drop, Result, Ok, Err, String, string_bytes, ◌+◌, ◌++◌, ◌==◌, count_by, Option, IfSome}
+use Rattle.std.specs.Prelude.{◌≡◌, ◌≢◌, ◌⊎◌, List, [], ◌∷◌, ℕ, codes, map, drop, Result, Ok, Err, String, string_bytes, ◌+◌, ◌++◌, ◌==◌, count_by, Option, IfSome}
 use Rattle.std.specs.IoError.{error_kind}
 use Rattle.std.specs.Vec.Iter.{into_iter_items}
 use Rattle.std.specs.declared.alloc.Global.{Global}
@@ -31,14 +31,14 @@ words_of words = map string_bytes (into_iter_items words)
 -- the words are no request that the program knows
 abbrev pub IsNoRequest : List (List ℕ) → Type 0
 IsNoRequest words =
-    (words ≢ []) × (words ≢ codes "svg" ∷ []) × (words ≢ codes "--help" ∷ [])
-    × (words ≢ codes "--version" ∷ [])
+    (words ≢ []) × (words ≢ codes "svg" ∷ []) × (words ≢ codes "-h" ∷ [])
+    × (words ≢ codes "--help" ∷ []) × (words ≢ codes "--version" ∷ [])
 
 -- what the words after the program's name ask for
 abbrev pub IsRequest : List (List ℕ) → Result Asked Fault → Type 0
 IsRequest words (Ok (Drawing Text)) = words ≡ []
 IsRequest words (Ok (Drawing Svg)) = words ≡ codes "svg" ∷ []
-IsRequest words (Ok Help) = words ≡ codes "--help" ∷ []
+IsRequest words (Ok Help) = (words ≡ codes "-h" ∷ []) ⊎ (words ≡ codes "--help" ∷ [])
 IsRequest words (Ok Version) = words ≡ codes "--version" ∷ []
 IsRequest words (Err BadArgument) = IsNoRequest words
 IsRequest words (Err other) = ⊥
@@ -90,8 +90,8 @@ bad_line_text line cause prefix form =
 abbrev pub fault_text : Fault → List ℕ
 fault_text (BadLine line cause prefix form) = bad_line_text line cause prefix.now form.now
 fault_text BadArgument =
-    codes "bad argument: expected svg, --help, --version, or no argument"
-    ++ 10 ∷ []
+    codes "bad argument: expected svg, -h, --help, --version, or no argument; "
+    ++ codes "the description is read from the standard input\n"
 fault_text (BadSettings lines) = string_bytes lines
 fault_text NoEnd = codes "bad settings: no line end follows the line config\n"
 fault_text NoMemory = codes "no memory" ++ 10 ∷ []

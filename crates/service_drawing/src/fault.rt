@@ -172,7 +172,8 @@ impl Outcome for Fault {
             } => write_bad_line(errors, *line, *cause, prefix, form),
             Fault::BadArgument => write_whole(
                 errors,
-                b"bad argument: expected svg, --help, --version, or no argument\n",
+                b"bad argument: expected svg, -h, --help, --version, or no argument; the description is \
+                  read from the standard input\n",
             ),
             Fault::BadSettings(lines) => write_whole(errors, lines.as_bytes()),
             Fault::NoEnd => write_whole(

@@ -38,16 +38,16 @@ pub(crate) enum Asked {
 }
 
 /// How the program is used.
-pub(crate) const HELP: &str = "usage: iox2-describe [svg | --help | --version] < DESCRIPTION
+pub(crate) const HELP: &str = "usage: iox2-describe [svg | -h | --help | --version] < DESCRIPTION
 
 Reads the description of one service from standard input, and writes what the service is: its
 name, hash text and files, its settings, where the parts of its messages lie, the memory of its
 ports, and its attributes. Settings of its own may stand in front of it, between a line config and
 a line end.
 
-  svg        write a picture of the messages, an SVG document
-  --help     write this text and read nothing
-  --version  write the version and read nothing
+  svg         write a picture of the messages, an SVG document
+  -h, --help  write this text and read nothing
+  --version   write the version and read nothing
 
 docs/DESCRIBE.md has the lines of descriptions, docs/CONFIG.md the settings. The status is 0 after
 a drawing, 1 after a bad argument, line or setting, 2 where memory was refused, 3 where reading or
@@ -90,6 +90,7 @@ fn asked_by_word(word: &str) -> Result<Asked, Fault>
 {
     match word {
         "svg" => Ok(Asked::Drawing(Form::Svg)),
+        "-h" => Ok(Asked::Help),
         "--help" => Ok(Asked::Help),
         "--version" => Ok(Asked::Version),
         _ => Err(Fault::BadArgument),

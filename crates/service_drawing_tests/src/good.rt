@@ -171,7 +171,7 @@ fn sizes(rt: HostRuntime) -> Result<(), Fail> {
     Ok(())
 }
 
-/// Help and version are written, and the input is not looked at.
+/// The version is written, and the input is not looked at.
 #[test]
 fn told_without_a_description(rt: HostRuntime) {
     let alloc = rt.alloc();
@@ -179,15 +179,5 @@ fn told_without_a_description(rt: HostRuntime) {
     assert_eq!(rt;
         (status, output.as_slice(), errors.len()),
         (0, b"iox2-describe 0.1.0 (iceoryx2 0.9.3)\n".as_slice(), 0)
-    );
-    let (status, output, errors) = run(&rt, alloc, &["iox2-describe", "--help"], "bad");
-    let usage = b"usage: iox2-describe [svg | --help | --version] < DESCRIPTION\n";
-    assert_eq!(rt;
-        (
-            status,
-            output.as_slice().starts_with(usage.as_slice()),
-            errors.len()
-        ),
-        (0, true, 0)
     );
 }

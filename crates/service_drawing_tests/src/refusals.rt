@@ -134,7 +134,9 @@ fn spare_lines(rt: HostRuntime) -> Result<(), Fail> {
 
 #[test]
 fn bad_arguments(rt: HostRuntime) {
-    let error = "bad argument: expected svg, --help, --version, or no argument\n";
+    let error =
+        "bad argument: expected svg, -h, --help, --version, or no argument; the description is \
+         read from the standard input\n";
     let alloc = rt.alloc();
     let words: [&[&str]; 9] = [
         &["iox2-describe", "default"],
@@ -144,7 +146,7 @@ fn bad_arguments(rt: HostRuntime) {
         &["iox2-describe", "svg", "svg"],
         &["iox2-describe", "--help", "svg"],
         &["iox2-describe", "svg", "--version"],
-        &["iox2-describe", "-h"],
+        &["iox2-describe", "-v"],
         &["iox2-describe", ""],
     ];
     for words in words {

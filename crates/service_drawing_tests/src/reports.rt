@@ -73,16 +73,16 @@ fn lines_with_a_prefix(rt: HostRuntime) {
 }
 
 /// How the program is used.
-const HELP: &str = "usage: iox2-describe [svg | --help | --version] < DESCRIPTION
+const HELP: &str = "usage: iox2-describe [svg | -h | --help | --version] < DESCRIPTION
 
 Reads the description of one service from standard input, and writes what the service is: its
 name, hash text and files, its settings, where the parts of its messages lie, the memory of its
 ports, and its attributes. Settings of its own may stand in front of it, between a line config and
 a line end.
 
-  svg        write a picture of the messages, an SVG document
-  --help     write this text and read nothing
-  --version  write the version and read nothing
+  svg         write a picture of the messages, an SVG document
+  -h, --help  write this text and read nothing
+  --version   write the version and read nothing
 
 docs/DESCRIBE.md has the lines of descriptions, docs/CONFIG.md the settings. The status is 0 after
 a drawing, 1 after a bad argument, line or setting, 2 where memory was refused, 3 where reading or
@@ -91,11 +91,13 @@ writing failed.
 
 #[test]
 fn help(rt: HostRuntime) {
-    assert_run(
-        &rt,
-        rt.alloc(),
-        &["iox2-describe", "--help"],
-        "bad",
-        (0, HELP, ""),
-    );
+    for word in ["-h", "--help"] {
+        assert_run(
+            &rt,
+            rt.alloc(),
+            &["iox2-describe", word],
+            "bad",
+            (0, HELP, ""),
+        );
+    }
 }

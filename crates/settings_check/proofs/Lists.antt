@@ -25,14 +25,10 @@ pub nothing_left : {A : Type 0} (xs : List A) → length xs ≡ 0 → xs ≡ []
 nothing_left [] h = refl
 nothing_left (x ∷ xs) h = absurd (omega arith)
 
--- one text behind another, of three, four and five
+-- one text behind another, of three and of five
 pub three : (old a b c first second new : List ℕ) → first ≡ old ++ a → second ≡ first ++ b
     → new ≡ second ++ c → new ≡ old ++ (a ++ (b ++ c))
 three old a b c first second new e f g = grind (arith, append_assoc)
-
-pub four : (old a b c d part n1 n2 n3 n4 : List ℕ) → n1 ≡ old ++ a → n2 ≡ n1 ++ part → part ≡ b
-    → n3 ≡ n2 ++ c → n4 ≡ n3 ++ d → n4 ≡ old ++ (a ++ (b ++ (c ++ d)))
-four old a b c d part n1 n2 n3 n4 e f is g h = grind (arith, three, append_assoc)
 
 pub five : (a b c d e n0 n1 n2 n3 n4 : List ℕ) → n0 ≡ a → n1 ≡ n0 ++ b → n2 ≡ n1 ++ c
     → n3 ≡ n2 ++ d → n4 ≡ n3 ++ e → n4 ≡ a ++ (b ++ (c ++ (d ++ e)))

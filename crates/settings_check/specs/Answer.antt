@@ -48,7 +48,8 @@ unread_text seen = flat_map unread_line seen.unread
 -- files that cannot be read to the errors
 pub record IsChecked (way : Style) (strict : Bool) (faults : ℕ) (seen : Seen) (answer : Answer)
     : Type 0 where
-  pub output : string_bytes answer.output ≡ lines_in way seen.said ++ end_text way faults seen.said
+  pub output : string_bytes answer.output
+      ≡ lines_in way seen.said ++ end_text way faults (has_unread seen.unread) seen.said
   pub errors : string_bytes answer.errors ≡ unread_text seen
   pub status : answer.status ≡ status_of strict seen
 

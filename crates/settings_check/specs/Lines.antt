@@ -109,18 +109,22 @@ unsought errors =
     if nat_eq errors 0 then []
     else codes "; contradictions are looked for in files without errors"
 
+-- that a file cannot be read
+abbrev pub unread_note : Bool → List ℕ
+unread_note is_unread = if is_unread then codes "; a file cannot be read" else []
+
 -- the line that counts them, where so many are errors of the files
-abbrev pub counts_text : ℕ → List Said → List ℕ
-counts_text faults said =
+abbrev pub counts_text : ℕ → Bool → List Said → List ℕ
+counts_text faults is_unread said =
     decimal (errors_in said) ++ (codes " error" ++ (plural (errors_in said)
     ++ (codes ", " ++ (decimal (warnings_in said) ++ (codes " warning"
-    ++ (plural (warnings_in said) ++ (unsought faults ++ codes "\n")))))))
+    ++ (plural (warnings_in said) ++ (unsought faults ++ (unread_note is_unread
+    ++ codes "\n"))))))))
 
 -- the last line, which counts the findings: there is none among objects of JSON
-abbrev pub end_text : Style → ℕ → List Said → List ℕ
-end_text style.Plain faults said = counts_text faults said
-end_text style.Coloured faults said = counts_text faults said
-end_text style.Json faults said = []
+abbrev pub end_text : Style → ℕ → Bool → List Said → List ℕ
+end_text style.Json faults is_unread said = []
+end_text way faults is_unread said = counts_text faults is_unread said
 
 -- the line of a file that cannot be read
 abbrev pub unread_line : List ℕ × FileError → List ℕ

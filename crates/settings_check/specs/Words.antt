@@ -27,13 +27,16 @@ abbrev pub word_of : List ℕ → Word
 word_of w =
     if bytes_eq w (codes "--strict") then word.Strict
     else (if bytes_eq w (codes "--format") then word.Format
+    else (if bytes_eq w (codes "--format=text") then word.FormatOf Text
+    else (if bytes_eq w (codes "--format=json") then word.FormatOf Json
     else (if bytes_eq w (codes "--show") then word.Task task.Show
     else (if bytes_eq w (codes "--compare") then word.Task task.Compare
     else (if bytes_eq w (codes "--default") then word.Task task.DefaultFile
     else (if bytes_eq w (codes "--schema") then word.Task task.Schema
+    else (if bytes_eq w (codes "-h") then word.Task task.Help
     else (if bytes_eq w (codes "--help") then word.Task task.Help
     else (if bytes_eq w (codes "--version") then word.Task task.Version
-    else word.Unknown)))))))
+    else word.Unknown))))))))))
 
 -- no option is chosen
 abbrev pub none_chosen : Chosen
@@ -53,6 +56,8 @@ abbrev pub option_with : Chosen → Word → Option Chosen
 option_with o word.Strict = Some (record o { strict = true })
 option_with o word.Format =
     if is_some o.format then None else Some (record o { awaits_format = true })
+option_with o (word.FormatOf f) =
+    if is_some o.format then None else Some (record o { format = Some f })
 option_with o (word.Task t) = if is_some o.task then None else Some (record o { task = Some t })
 option_with o word.Unknown = None
 

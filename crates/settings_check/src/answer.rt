@@ -70,7 +70,8 @@ last line that counts them. The name - is the standard input.
                       the same in all processes of one system
   --default           write the file of the default settings
   --schema            write the JSON Schema of these files, for editors
-  --help, --version   write this text, or the version
+  -h, --help          write this text
+  --version           write the version
 
 The status is 0, or 1 for an error (with --strict for a warning too), 2 for bad arguments or a file
 that cannot be read, 3 where memory was refused or a stream failed. docs/CONFIG.md has the settings.
@@ -111,7 +112,14 @@ fn checked(
     let mut output = String::new(alloc);
     let mut errors = String::new(alloc);
     write_lines(alloc, &mut output, style, found.reports.as_slice())?;
-    write_end(&mut output, style, faults, found.reports.as_slice())?;
+    let is_unread = !found.unread.is_empty();
+    write_end(
+        &mut output,
+        style,
+        faults,
+        is_unread,
+        found.reports.as_slice(),
+    )?;
     write_unread(alloc, &mut errors, found.unread.as_slice())?;
     Ok(Answer {
         output,

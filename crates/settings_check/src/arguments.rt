@@ -46,6 +46,8 @@ pub(crate) enum Word {
     Strict,
     /// `--format`, which a format follows.
     Format,
+    /// `--format=` and a format.
+    FormatOf(Format),
     /// An option that says what is to be done.
     Task(Task),
     /// An option that is none of these.
@@ -90,10 +92,13 @@ fn word_of(word: &str) -> Word
     match word {
         "--strict" => Word::Strict,
         "--format" => Word::Format,
+        "--format=text" => Word::FormatOf(Format::Text),
+        "--format=json" => Word::FormatOf(Format::Json),
         "--show" => Word::Task(Task::Show),
         "--compare" => Word::Task(Task::Compare),
         "--default" => Word::Task(Task::DefaultFile),
         "--schema" => Word::Task(Task::Schema),
+        "-h" => Word::Task(Task::Help),
         "--help" => Word::Task(Task::Help),
         "--version" => Word::Task(Task::Version),
         _ => Word::Unknown,
@@ -125,6 +130,7 @@ fn option_with(chosen: Chosen, word: Word) -> Option<Chosen>
     match word {
         Word::Strict => next.strict = true,
         Word::Format if chosen.format.is_none() => next.awaits_format = true,
+        Word::FormatOf(format) if chosen.format.is_none() => next.format = Some(format),
         Word::Task(task) if chosen.task.is_none() => next.task = Some(task),
         _ => return None,
     }

@@ -118,7 +118,7 @@ pub(crate) struct Found<'a> {
 }
 
 /// Adds what was found in one file to what was found before.
-#[tactic(auto, using(crate::proofs::Lists::items_end, crate::proofs::Lists::nothing_left))]
+#[tactic(auto, using(crate::proofs::Lists::items_end, crate::proofs::Lists::nothing_left, crate::proofs::Lists::items_more, crate::proofs::Finding::reported))]
 fn add_findings<'a>(
     reports: &mut Vec<Report<'a>>,
     file: &'a str,
@@ -286,6 +286,7 @@ fn add_setting<'a>(
 }
 
 /// Adds the settings of a table that differ.
+#[tactic(auto, using(config_report::proofs::Pairs::ends_past))]
 fn add_table<'a>(
     alloc: Global,
     reports: &mut Vec<Report<'a>>,

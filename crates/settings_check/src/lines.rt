@@ -5,7 +5,7 @@ ghost use Rattle.settings_check.specs.Found.{report_of, reports_of, unread_of};
 ghost use Rattle.settings_check.specs.Lines.{style_of, colour_of, text_of, line_in, lines_in};
 ghost use Rattle.settings_check.specs.Lines.{note_data, number_data, key_data, is_error, errors_in};
 ghost use Rattle.settings_check.specs.Lines.{warnings_in, plural, end_text, unread_line};
-ghost use Rattle.settings_check.specs.Lines.{unsought, printable, printable_char};
+ghost use Rattle.settings_check.specs.Lines.{unsought, unread_note, printable, printable_char};
 
 use crate::arguments::Format;
 use crate::found::{Report, Unread, why_text};
@@ -222,15 +222,27 @@ fn unsought(errors: usize) -> &'static str
     }
 }
 
+/// That a file cannot be read.
+fn unread_note(is_unread: bool) -> &'static str
+    ensures { result.now ≡ unread_note is_unread }
+{
+    if is_unread {
+        "; a file cannot be read"
+    } else {
+        ""
+    }
+}
+
 /// Appends how many errors and warnings there are, for a person. So many are errors of the files.
 pub(crate) fn write_end(
     out: &mut String,
     style: Style,
     faults: usize,
+    is_unread: bool,
     reports: &[Report<'_>],
 ) -> Result<(), AllocError>
     ensures { OnOk result (string_bytes out.new
-        ≡ string_bytes out.old ++ end_text style faults (reports_of reports.now)) }
+        ≡ string_bytes out.old ++ end_text style faults is_unread (reports_of reports.now)) }
 {
     match style {
         Style::Json => Ok(()),
@@ -240,9 +252,10 @@ pub(crate) fn write_end(
             let more_errors = plural(errors);
             let more_warnings = plural(warnings);
             let unsought = unsought(faults);
+            let unread = unread_note(is_unread);
             write!(
                 out,
-                "{errors} error{more_errors}, {warnings} warning{more_warnings}{unsought}\n"
+                "{errors} error{more_errors}, {warnings} warning{more_warnings}{unsought}{unread}\n"
             )
         }
     }

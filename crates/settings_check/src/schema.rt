@@ -57,11 +57,11 @@ fn write_reference(out: &mut String, section: Section, key: &str) -> Result<(), 
     ensures { OnOk result
         (string_bytes out.new ≡ string_bytes out.old ++ reference section key.now) }
 {
-    out.push_str("\"allOf\": [{\"$ref\": \"#/definitions/")?;
-    out.push_str(section.prefix())?;
-    out.push_str(key)?;
-    out.push_str(".\"}]")?;
-    Ok(())
+    let prefix = section.prefix();
+    write!(
+        out,
+        "\"allOf\": [{{\"$ref\": \"#/definitions/{prefix}{key}.\"}}]"
+    )
 }
 
 /// Appends what the value of a key may be.
@@ -106,7 +106,7 @@ fn write_next(
 }
 
 /// Appends the keys of a table.
-#[tactic(auto, using(crate::proofs::Defining::properties_end))]
+#[tactic(auto, using(crate::proofs::Defining::properties_end, crate::proofs::Defining::property_next))]
 fn write_properties(out: &mut String, section: Section, rows: &[Row]) -> Result<(), AllocError>
     ensures { OnOk result (string_bytes out.new
         ≡ string_bytes out.old ++ properties section true rows.now) }
@@ -140,6 +140,7 @@ fn write_name(out: &mut String, section: Section) -> Result<(), AllocError>
 }
 
 /// Appends a table by its name.
+#[tactic(auto, using(crate::proofs::Lists::three))]
 fn write_definition(out: &mut String, section: Section) -> Result<(), AllocError>
     ensures { OnOk result ((text : List ℕ)
         × (string_bytes out.new ≡ string_bytes out.old ++ text) × IsDefinition section text) }

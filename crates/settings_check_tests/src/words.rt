@@ -4,7 +4,7 @@ use super::running::{Known, run};
 use std::test::Fail;
 
 /// Words, and the status of a run on files `a` and `b` without settings.
-const STATUSES: [(&[&str], u8); 35] = [
+const STATUSES: [(&[&str], u8); 40] = [
     (&["a"], 0),
     (&["a", "b", "a"], 0),
     (&["-"], 0),
@@ -14,6 +14,8 @@ const STATUSES: [(&[&str], u8); 35] = [
     (&["--strict", "--strict", "a"], 0),
     (&["--format", "text", "a"], 0),
     (&["a", "--format", "json"], 0),
+    (&["--format=json", "a"], 0),
+    (&["a", "--format=text"], 0),
     (&["--show", "a"], 0),
     (&["a", "--show"], 0),
     (&["--strict", "--show", "a"], 0),
@@ -22,6 +24,7 @@ const STATUSES: [(&[&str], u8); 35] = [
     (&["--default"], 0),
     (&["--schema"], 0),
     (&["--help"], 0),
+    (&["-h"], 0),
     (&["--help", "--strict"], 0),
     (&["--version"], 0),
     (&[], 2),
@@ -38,6 +41,8 @@ const STATUSES: [(&[&str], u8); 35] = [
     (&["--format", "a"], 2),
     (&["a", "--format"], 2),
     (&["--format", "json", "--format", "json", "a"], 2),
+    (&["--format=json", "--format", "json", "a"], 2),
+    (&["--format=xml", "a"], 2),
     (&["--unknown", "a"], 2),
     (&["-s", "a"], 2),
 ];

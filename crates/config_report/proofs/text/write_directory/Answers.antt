@@ -1,18 +1,12 @@
-use Rattle.std.proofs.Common.{◌≡◌, ◌∙◌, ℕ, List, ◌++◌, codes, length, nat_lt, true, false, refl, sym, ap, string_bytes}
-use Rattle.std.proofs.lemmas.Bool.{lt-ltb, le-ltb}
+use Rattle.std.proofs.Common.{◌≡◌, ◌∙◌, ℕ, List, ◌++◌, codes, length, nat_lt, true, refl, sym, ap, string_bytes}
+use Rattle.std.proofs.lemmas.Bool.{lt-ltb}
 use Rattle.std.proofs.lemmas.Result.{on_ok_weaker}
-use Rattle.std.specs.Prelude.{Ok, Err}
+use Rattle.std.specs.Prelude.{Err}
 use Rattle.iox2_texts.specs.Path.{MakesJoined, join}
 use Rattle.iox2_texts.specs.declared.bounded.SemanticStringError.{SemanticStringError}
 use Rattle.iox2_texts.specs.declared.bounded.SemanticStringError.TheVariants.{InvalidContent, ExceedsMaximumLength}
 use Rattle.config_report.specs.Text.{named_line, directory_text}
 use Rattle.config_report.proofs.text.write_directory.Goals as goal
-
-short : (root entry joined : List ℕ) → MakesJoined root entry (Ok joined)
-    → directory_text root entry ≡ joined
-short root entry joined h =
-    let fits : nat_lt 255 (length (join root entry)) ≡ false = le-ltb 255 _ h.1 in
-    rw fits (sym h.0)
 
 too_long : (root entry : List ℕ) (why : SemanticStringError) → MakesJoined root entry (Err why)
     → directory_text root entry ≡ codes "none: its path would have more than 255 bytes"
@@ -28,11 +22,3 @@ returns-in-Err c =
     e ∙ ap (λ text. string_bytes c.args.out.now ++ named_line c.args.name.now text)
     (sym (too_long root entry c.in-Err.field-0 (rw c.in-Err.is at h))))
     c.write_named-in-Err.ensures
-
-pub returns-in-Ok : goal.returns-in-Ok
-returns-in-Ok c =
-    on_ok_weaker c.write_named.result
-    (λ e root entry h.
-    e ∙ ap (λ text. string_bytes c.args.out.now ++ named_line c.args.name.now text)
-    (c.as_str.ensures.value ∙ sym (short root entry c.in-Ok.path (rw c.in-Ok.is at h))))
-    c.write_named.ensures

@@ -1,17 +1,7 @@
-use Rattle.std.proofs.Common.{rules, ◌≡◌, ◌∙◌, inl, inr, sym, refl, true, false}
+use Rattle.std.proofs.Common.{rules, ◌≡◌, ◌∙◌, inr, sym, refl, true, false}
 use Rattle.std.proofs.lemmas.Result.{on_ok_weaker}
-use Rattle.config_report.specs.Text.{usual_line, marked_line}
+use Rattle.config_report.specs.Text.{marked_line}
 use Rattle.config_report.proofs.text.write_setting.Goals as goal
-
-pub returns-then-is_same : goal.returns-then-is_same
-returns-then-is_same c =
-    let same : c.is_same.result ≡ true = search rules in
-    on_ok_weaker c.write_usual.result
-    (λ e x default key value usual. (
-      usual_line c.args.section x.key x.value,
-      rw (key, value) e,
-      inl (value ∙ (c.is_same.ensures.0 same ∙ sym usual), refl),
-    )) c.write_usual.ensures
 
 pub returns-else-is_same : goal.returns-else-is_same
 returns-else-is_same c =

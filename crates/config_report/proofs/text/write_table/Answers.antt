@@ -1,6 +1,6 @@
 use Rattle.std.proofs.Common.{sym}
 use Rattle.std.proofs.lemmas.Option.{slice_get-get_or}
-use Rattle.config_report.proofs.Pairs.{setting_next, ends_past, ends_at_rows}
+use Rattle.config_report.proofs.Pairs.{setting_next, ends_at_rows}
 use Rattle.config_report.specs.Text.{IsSettingLine}
 use Rattle.config_report.proofs.text.write_table.Goals as goal
 
@@ -13,15 +13,6 @@ loop-index-preserved c =
     (slice_get-get_or rows c.loop-index.index _ c.loop-index-test.true)
     (sym c.in-Some.ensures) (sym c.in-Some-value_at.ensures) c.in_ok-write_setting.ensures
     was follows
-
-pub returns-in_default : goal.returns-in_default
-returns-in_default c =
-    let (done, was, follows) = c.loop-index.invariant in (
-      done,
-      was,
-      ends_past (IsSettingLine c.args.section) _ _ c.loop-index.index done follows
-          (sym c.in_default.ensures),
-    )
 
 pub returns : goal.returns
 returns c =

@@ -1,4 +1,4 @@
-use Rattle.std.proofs.Common.{◌≡◌, ◌∙◌, rules}
+use Rattle.std.proofs.Common.{◌≡◌, ◌∙◌, append-nil, rules}
 use Rattle.std.specs.Prelude.{map}
 use Rattle.std.proofs.lemmas.List.Sorted.{answers_always}
 use Rattle.config_report.specs.Notes.{fault_position}
@@ -11,7 +11,7 @@ returns c =
     let text = c.args.text.now in
     let at : c.as_slice.result.now
     ≡ map (fault_position text) (map fault_view c.args.faults.now) =
-    c.as_slice.ensures.value ∙ c.in_ok-positions.ensures in
+    c.as_slice.ensures.value ∙ c.in_ok-positions.ensures ∙ append-nil _ in
     let sorted = c.in_ok-sort_by_key.ensures in (
       c.in_ok-plain.plain.items,
       c.in_ok-plain.ensures text at,

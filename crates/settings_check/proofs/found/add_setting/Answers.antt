@@ -1,11 +1,8 @@
-use Rattle.std.proofs.Common.{arith, ◌≡◌, ◌∷◌, [], ◌++◌, true, false, ap, sym, ◌∙◌, append-nil, inr, refl, rules}
+use Rattle.std.proofs.Common.{◌≡◌, ◌∷◌, [], ◌++◌, true, false, ap, sym, ◌∙◌, inr, refl, rules}
 use Rattle.settings_check.specs.Found.{difference}
 use Rattle.settings_check.specs.Found.{reports_of}
 use Rattle.settings_check.proofs.Finding.{reported}
 use Rattle.settings_check.proofs.found.add_setting.Goals as goal
-
-pub returns-then-is_same : goal.returns-then-is_same
-returns-then-is_same c = grind (arith, append-nil)
 
 pub returns : goal.returns
 returns c =

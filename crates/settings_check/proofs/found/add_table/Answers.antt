@@ -1,6 +1,6 @@
-use Rattle.std.proofs.Common.{arith, sym}
+use Rattle.std.proofs.Common.{sym}
 use Rattle.std.proofs.lemmas.Option.{slice_get-get_or}
-use Rattle.config_report.proofs.Pairs.{setting_next, ends_past, ends_at_rows}
+use Rattle.config_report.proofs.Pairs.{setting_next, ends_at_rows}
 use Rattle.settings_check.specs.Found.{IsDifference}
 use Rattle.settings_check.proofs.found.add_table.Goals as goal
 
@@ -13,9 +13,6 @@ loop-index-preserved c =
     (slice_get-get_or rows c.loop-index.index _ c.loop-index-test.true)
     (sym c.in-Some.ensures) (sym c.in-Some-value_at.ensures) c.in_ok-add_setting.ensures
     was follows
-
-pub returns-in_default : goal.returns-in_default
-returns-in_default c = grind (arith, ends_past)
 
 pub returns : goal.returns
 returns c =
