@@ -48,7 +48,7 @@ module _ {S : Type 0} (Step : S → ℕ → S → Type 0) where
   frontier_settled links slots es olds configs settled table sound complete a = record {
     sound = λ k has.
         let is = a.sound k has in
-        followed_made _ _ _ _ _ _ table sound (made_settled _ _ _ _ _ is.2
+        followed_made _ _ _ _ _ _ table sound (made_settled _ _ _ (spot_of is.0) _ is.2
         (is.0, is.1, ([], (refl, refl), path_none _)));
     complete = λ old order new from ex.
         let lead = complete old order new from ex in (

@@ -22,7 +22,7 @@ fn settle_slot<M: Machine>(
 ) -> Result<bool, AllocError>
     requires few { length slots.now ≤ 64 }
     requires within { slot < length slots.now }
-    ensures settled { OnOk result (IsSettled (M.Step machine.now) slots.now config.old
+    ensures settled { OnOk result (IsSettled (M.Step machine.now) slots.now (spot_of config.old)
         (spot_of config.new)) }
     ensures same { IfOk result (λ made. IsFalse made → config.new ≡ config.old) }
 {
@@ -50,7 +50,7 @@ pub fn settle<M: Machine>(
     config: &mut Config<M::State>,
 ) -> Result<bool, AllocError>
     requires few { length slots.now ≤ 64 }
-    ensures settled { OnOk result (IsSettled (M.Step machine.now) slots.now config.old
+    ensures settled { OnOk result (IsSettled (M.Step machine.now) slots.now (spot_of config.old)
         (spot_of config.new)) }
     ensures same { IfOk result (λ made. IsFalse made → config.new ≡ config.old) }
 {

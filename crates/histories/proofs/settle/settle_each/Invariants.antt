@@ -4,5 +4,5 @@ use Rattle.histories.proofs.settle.settle_each.Given as goal
 
 abbrev pub invariant-loop-config : goal.invariant-loop-config
 invariant-loop-config g l =
-    AreDone (λ x y. IsSettled (g.M.Machine.Step l.machine) l.slots x (spot_of y)) l.fn.configs
-    l.configs l.config-index × (IsFalse l.any → AreSame l.fn.configs l.configs)
+    AreDone (λ x y. IsSettled (g.M.Machine.Step l.machine) l.slots (spot_of x) (spot_of y))
+    l.fn.configs l.configs l.config-index × (IsFalse l.any → AreSame l.fn.configs l.configs)
