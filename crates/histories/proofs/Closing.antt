@@ -1,5 +1,5 @@
 -- A call that ends is made.
-use Rattle.histories.proofs.Words.{◌≡◌, ◌↔◌, ℕ, ◌+◌, ◌<◌, ◌≤◌, List, [], ◌∷◌, ◌++◌, length, refl, sym, ◌∙◌, ap, arith, inl, inr, append-nil, append_assoc, Option, AllPairs, cases_eq, bit_at, Contains, Contains-append_left, Contains-push, Contains-push_cases, Config, HasSlot, IsLighter, IsSame, LeadTo, Path, Runs, cleared, path_more, path_of, AreSettled, ComesFirst, FromOne, Gathers, GoesFrom, GoesOn, IsClosed, IsClosing, IsCopy, IsDone, IsMadeFrom, IsNextAt, IsSettled, MovesFirst, Settles, Spot, ones, spot_of}
+use Rattle.histories.proofs.Words.{◌≡◌, ◌↔◌, ℕ, ◌+◌, ◌<◌, ◌≤◌, List, [], ◌∷◌, ◌++◌, length, refl, sym, ◌∙◌, ap, arith, inl, inr, append-nil, append_assoc, Option, AllPairs, cases_eq, bit_at, Contains, Contains-append_left, Contains-push, Contains-push_cases, Config, HasSlot, IsLighter, IsSame, LeadTo, Path, Runs, cleared, path_more, path_of, ComesFirst, FromOne, Gathers, GoesFrom, GoesOn, IsClosed, IsClosing, IsCopy, IsDone, IsMadeFrom, IsNextAt, IsSettled, MovesFirst, Settles, Spot, ones, spot_of}
 use Rattle.histories.specs.Gathering.{IsNext}
 use Rattle.histories.proofs.Places.{nothing_in, only}
 use Rattle.histories.proofs.Bits.{bit_cases, cleared_le, cleared_same, ones_le, ones_less, ones_most, slot_64, slot_once, slot_within}
@@ -58,14 +58,7 @@ module _ {S : Type 0} (Step : S → ℕ → S → Type 0) (slots : List (Option 
         (less.0, less.1, rw same less.2, lighter_then _ _ _ _ _ less.3 more),
       )
 
-  pub leads_settled : (configs settled : List (Config S)) (new : S) (rest : ℕ)
-      → length slots ≤ 64 → AreSettled Step slots configs settled
-      → LeadTo Step slots configs new rest → LeadTo Step slots settled new rest
-  leads_settled configs settled new rest few a l =
-      let one = a.complete l.0 l.1 in
-      leads_covered _ (spot_of l.0) one.0 _ _ _ _ few one.1 one.2 one.3 l.2.2 l.2.3
-
-  leads_sought : (Found : Spot S → Type 0) (old new : List (Config S)) (from : Spot S)
+  pub leads_sought : (Found : Spot S → Type 0) (old new : List (Config S)) (from : Spot S)
       (calls : List ℕ) (s : S) (fewer rest : ℕ) → length slots ≤ 64 → ¬ (4096 < length new)
       → Settles Step slots Found old new → Found from
       → Runs Step slots from.state from.waiting calls s fewer
@@ -370,25 +363,28 @@ module _ {S : Type 0} (A B : S → ℕ → S → Type 0) (slots : List (Option �
       → IsMadeFrom B slots configs spot
   made_as configs spot m = search (arith, as_run)
 
-  pub settled_as : (configs settled : List (Config S)) → AreSettled A slots configs settled
-      → AreSettled B slots configs settled
-  settled_as configs settled a = record {
-    sound = λ k has.
-        let is = a.sound k has in
-        let s = is.2 in (
-          is.0,
-          is.1,
-          record {
-            state = s.state;
-            calls = s.calls;
-            runs = as_run _ _ _ _ _ s.runs;
-            lighter = as_light _ _ s.lighter;
-            made = s.made;
-          },
-        );
-    complete = λ config has.
-        let one = a.complete config has in
+  pub settles_steps : (Found : Spot S → Type 0) (old new : List (Config S))
+      → Settles A slots Found old new → Settles B slots Found old new
+  settles_steps Found old new a = record {
+    sound = λ k has. elim (a.sound k has) [
+      | inl m ↦ inl m
+      | inr p ↦ inr (
+        p.0,
+        p.1,
+        record {
+          state = p.2.state;
+          calls = p.2.calls;
+          runs = as_run _ _ _ _ _ p.2.runs;
+          lighter = as_light _ _ p.2.lighter;
+          made = p.2.made;
+        },
+      )
+    ];
+    kept = a.kept;
+    complete = λ few k found.
+        let one = a.complete few k found in
         (one.0, one.1, one.2, as_light _ _ one.3);
+    longer = a.longer;
     once = a.once;
   }
 

@@ -1,5 +1,5 @@
 -- Configurations that are gathered, and put into chains.
-use Rattle.histories.proofs.Words.{◌≡◌, Option, ℕ, ◌+◌, ◌%◌, ◌<◌, ◌⊎◌, List, [], ◌∷◌, ◌++◌, length, take, get_or, refl, sym, ◌∙◌, ap, subst, arith, inl, inr, true, false, ◌≢◌, ◌-◌, ◌≤◌, Bool, All, drop, set, replicate, bit_at, Contains, cases_order, cases_eq, cases_lt, take_more, get_or-drop, get_or-replicate, get_or-set_other, get_or-set_same, get_or_default, get_or_past, length-drop, length-replicate, length_push, All-contains, Contains-append_left, Contains-push, Contains-push_cases, all_pairs_push, Config, AreAll, IsSame, IsWaiting, Path, cleared, no_path, path_more, path_of, FromOne, Gathers, IsCopy, IsDone, IsDropped, IsFirst, IsKnown, IsMadeIn, IsNextAt, IsNextBeside, IsNextIn, IsNextOther, IsSettled, IsWith, Settles, Spot, spot_of, AreChained, AreLinked, AreOther, chain_at, chain_of, get_or-append, get_or-append_seam}
+use Rattle.histories.proofs.Words.{◌≡◌, Option, ℕ, ◌+◌, ◌%◌, ◌<◌, ◌⊎◌, List, [], ◌∷◌, ◌++◌, length, take, get_or, refl, sym, ◌∙◌, ap, subst, arith, inl, inr, true, false, ◌≢◌, ◌-◌, ◌≤◌, Bool, All, drop, set, replicate, bit_at, cases_order, cases_eq, cases_lt, take_more, get_or-drop, get_or-replicate, get_or-set_other, get_or-set_same, get_or_default, get_or_past, length-drop, length-replicate, length_push, All-contains, Contains-append_left, Contains-push, Contains-push_cases, all_pairs_push, slice_set, Config, AreAll, IsSame, IsWaiting, Path, cleared, no_path, path_more, path_of, FromOne, Gathers, IsBegun, IsCopy, IsDone, IsDropped, IsFirst, IsKnown, IsMadeIn, IsNextAt, IsNextBeside, IsNextIn, IsNextOther, IsOpened, IsSettled, IsWith, Settles, Spot, spot_of, AreChained, AreLinked, AreOther, chain_at, chain_of, get_or-append, get_or-append_seam}
 use Rattle.histories.specs.Gathering.{IsNext}
 use Rattle.histories.proofs.Bits.{slot_once}
 use Rattle.histories.proofs.Places.{less_of, nothing_in, only}
@@ -87,16 +87,28 @@ module _ {S : Type 0} where
   gathers_no_state waiting made old = gathers_none _ _ (λ k f. nothing_in _ f.0)
 
   -- one configuration more of those from which others are found
+  from_either : (Fact : Config S → Spot S → Type 0) (layer : List (Config S)) (from : Config S)
+      (k : Spot S) → FromOne Fact (layer ++ from ∷ []) k → FromOne Fact layer k ⊎ Fact from k
+  from_either Fact layer from k r =
+      elim (Contains-push_cases layer from r.0 r.1) [
+        | inl m ↦ inl (r.0, m, r.2)
+        | inr e ↦ inr (rw e r.2)
+      ]
+
+  from_first : (Fact : Config S → Spot S → Type 0) (layer : List (Config S)) (from : Config S)
+      (k : Spot S) → FromOne Fact layer k → FromOne Fact (layer ++ from ∷ []) k
+  from_first Fact layer from k p = (p.0, Contains-append_left layer (from ∷ []) p.0 p.1, p.2)
+
+  from_last : (Fact : Config S → Spot S → Type 0) (layer : List (Config S)) (from : Config S)
+      (k : Spot S) → Fact from k → FromOne Fact (layer ++ from ∷ []) k
+  from_last Fact layer from k q = (from, Contains-push layer from, q)
+
   pub gathers_pushed : (Fact : Config S → Spot S → Type 0) (layer : List (Config S))
       (from : Config S) (old mid new : List (Config S)) → Gathers (FromOne Fact layer) old mid
       → Gathers (Fact from) mid new → Gathers (FromOne Fact (layer ++ from ∷ [])) old new
   gathers_pushed Fact layer from old mid new f g =
-      gathers_then _ _ _ _ _ _
-      (λ k r. elim (Contains-push_cases layer from r.0 r.1) [
-        | inl m ↦ inl (r.0, m, r.2)
-        | inr e ↦ inr (rw e r.2)
-      ]) (λ k p. (p.0, Contains-append_left layer (from ∷ []) p.0 p.1, p.2))
-      (λ k q. (from, Contains-push layer from, q)) f g
+      gathers_then _ _ _ _ _ _ (from_either Fact layer from) (from_first Fact layer from)
+      (from_last Fact layer from) f g
 
   -- the same of a place
   pub gathers_one : (Fact : Config S → Spot S → Type 0) (layer : List (Config S)) (at : ℕ)
@@ -227,14 +239,15 @@ module _ {S : Type 0} (Step : S → ℕ → S → Type 0) (slots : List (Option 
     once = λ a. g.once (f.once a);
   }
 
-  -- a configuration is added once it is settled
-  pub settles_one : (from one : Config S) (old new : List (Config S))
-      → IsSettled Step slots (spot_of from) (spot_of one) → Gathers (IsCopy one) old new
-      → length old ≤ length new → Settles Step slots (IsCopy from) old new
+  -- a configuration is added, which has come from what was found by calls that change nothing
+  pub settles_one : (from : Spot S) (one : Config S) (old new : List (Config S))
+      → IsSettled Step slots from (spot_of one) → Gathers (IsCopy one) old new
+      → length old ≤ length new → Settles Step slots
+      (λ k. (k.state ≡ from.state) × (k.waiting ≡ from.waiting) × (k.made ≡ from.made)) old new
   settles_one from one old new is g longer = record {
     sound = λ k has. elim (g.sound k has) [
       | inl m ↦ inl m
-      | inr copy ↦ inr (spot_of from, (refl, refl, refl), settled_copy _ one _ is copy)
+      | inr copy ↦ inr (from, (refl, refl, refl), settled_copy _ one _ is copy)
     ];
     kept = g.kept;
     complete = λ few k copy.
@@ -247,6 +260,40 @@ module _ {S : Type 0} (Step : S → ℕ → S → Type 0) (slots : List (Option 
     longer = λ n h. omega (arith, h, longer);
     once = g.once;
   }
+
+  -- the call in the slot begins in the configuration
+  pub settles_begun : (slot : ℕ) (from one : Config S) (old new : List (Config S))
+      → IsBegun Step slots slot from one → Gathers (IsCopy one) old new
+      → length old ≤ length new → Settles Step slots (IsOpened slot from) old new
+  settles_begun slot from one old new is g longer =
+      let o = is.1 in
+      settles_as _ _ _ _ (λ k p. (p.0 ∙ o.0, p.1 ∙ o.1, p.2 ∙ o.2))
+      (λ k p. (p.0 ∙ sym o.0, p.1 ∙ sym o.1, p.2 ∙ sym o.2))
+      (settles_one is.0 one _ _ is.2 g longer)
+
+  pub settles_no_one : (Fact : Config S → Spot S → Type 0) (old : List (Config S))
+      → Settles Step slots (FromOne Fact []) old old
+  settles_no_one Fact old = settles_none _ _ (λ k f. nothing_in _ f.1)
+
+  -- in one configuration more
+  pub settles_pushed : (Fact : Config S → Spot S → Type 0) (layer : List (Config S))
+      (from : Config S) (old mid new : List (Config S))
+      → Settles Step slots (FromOne Fact layer) old mid → Settles Step slots (Fact from) mid new
+      → Settles Step slots (FromOne Fact (layer ++ from ∷ [])) old new
+  settles_pushed Fact layer from old mid new f g =
+      settles_then _ _ _ _ _ _ (from_either Fact layer from) (from_first Fact layer from)
+      (from_last Fact layer from) f g
+
+  -- in the one that there is
+  pub settles_alone : (slot : ℕ) (configs : List (Config S)) (from one : Config S)
+      → length configs ≡ 1 → from ≡ get_or configs 0 from → IsBegun Step slots slot from one
+      → Settles Step slots (FromOne (IsOpened slot) configs) [] (slice_set configs 0 one)
+  settles_alone slot [] from one many is begun = absurd (omega (arith, many))
+  settles_alone slot (x ∷ []) from one many is begun =
+      rw (← is) (settles_pushed (IsOpened slot) [] from _ _ _ (settles_no_one _ _)
+      (settles_begun slot from one _ _ begun (gathers_new [] one (λ i d h. absurd (omega arith)))
+      (omega arith)))
+  settles_alone slot (x ∷ y ∷ configs) from one many is begun = absurd (omega (arith, many))
 
   -- all states that a call leaves: none, one, and one more
   pub settles_no_state : (waiting : ℕ) (made : Path) (old : List (Config S))

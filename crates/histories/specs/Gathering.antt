@@ -67,10 +67,10 @@ IsCopy config copy =
     (copy.state ≡ config.state) × (copy.waiting ≡ config.waiting) × (copy.made ≡ path_of config)
 
 -- the call in this slot waits too
-abbrev pub IsOpened : {S : Type 0} → ℕ → Config S → Config S → Type 0
+abbrev pub IsOpened : {S : Type 0} → ℕ → Config S → Spot S → Type 0
 IsOpened slot config opened =
     (opened.state ≡ config.state) × (opened.waiting ≡ put config.waiting slot)
-    × (path_of opened ≡ path_of config)
+    × (opened.made ≡ path_of config)
 
 -- as many, each of which is related to the one at its place
 abbrev pub AreEach : {X : Type 0} → (X → X → Type 0) → List X → List X → Type 0
@@ -78,19 +78,11 @@ AreEach {X} R olds news =
     (length news ≡ length olds)
     × ((index : ℕ) (d : X) → index < length news → R (get_or olds index d) (get_or news index d))
 
--- the same in each of the configurations, at its place
-abbrev pub AreOpened : {S : Type 0} → ℕ → List (Config S) → List (Config S) → Type 0
-AreOpened slot configs opened = AreEach (IsOpened slot) configs opened
-
 -- the call in this slot waits in none of the configurations
 abbrev pub WaitsInNone : {S : Type 0} → ℕ → List (Config S) → Type 0
 WaitsInNone {S} slot configs =
     (index : ℕ) (d : Config S) → index < length configs
     → bit_at (get_or configs index d).waiting slot ≡ 0
-
--- the same value at each place
-abbrev pub AreSame : {S : Type 0} → List (Config S) → List (Config S) → Type 0
-AreSame {S} configs same = (index : ℕ) (d : Config S) → get_or same index d ≡ get_or configs index d
 
 -- calls that can be made and change nothing were made
 pub record IsSettled {S : Type 0} (Step : S → ℕ → S → Type 0) (slots : List (Option ℕ))
@@ -101,22 +93,11 @@ pub record IsSettled {S : Type 0} (Step : S → ℕ → S → Type 0) (slots : L
   pub lighter : IsLighter Step slots settled.waiting from.waiting
   pub made : settled.made ≡ path_more from.made calls
 
--- the same in each of the configurations, at its place
-abbrev pub AreSettledEach : {S : Type 0} → (S → ℕ → S → Type 0) → List (Option ℕ)
-    → List (Config S) → List (Config S) → Type 0
-AreSettledEach Step slots configs settled =
-    AreEach (λ config one. IsSettled Step slots (spot_of config) (spot_of one)) configs settled
-
--- each is settled from a configuration, each configuration has one, and each is there once
-pub record AreSettled {S : Type 0} (Step : S → ℕ → S → Type 0) (slots : List (Option ℕ))
-    (configs settled : List (Config S)) : Type 0 where
-  pub sound : (one : Config S) → Contains settled one
-      → (config : Config S) × Contains configs config
-      × IsSettled Step slots (spot_of config) (spot_of one)
-  pub complete : (config : Config S) → Contains configs config
-      → (one : Config S) × Contains settled one × (one.state ≡ config.state)
-      × IsLighter Step slots one.waiting config.waiting
-  pub once : AllPairs (λ a b. ¬ (IsSame a b)) settled
+-- the call in the slot waits too, or was made, where it can be and changes nothing
+abbrev pub IsBegun : {S : Type 0} → (S → ℕ → S → Type 0) → List (Option ℕ) → ℕ → Config S → Config S
+    → Type 0
+IsBegun {S} Step slots slot config begun =
+    (opened : Spot S) × IsOpened slot config opened × IsSettled Step slots opened (spot_of begun)
 
 -- the call was made in the configuration, and could leave no other state; or nothing changed
 abbrev pub IsMadeIn : {S : Type 0} → (S → ℕ → S → Type 0) → Config S → ℕ → Config S → Bool → Type 0

@@ -9,6 +9,6 @@ on_both (Err e) f p q = tt
 
 pub returns : goal.returns
 returns g c =
-    on_both c.add.result (settles_one (g.M.Machine.Step c.args.machine.now) _ c.args.config
-    c.settle.new.config _ _ c.in_ok-settle.ensures.settled) c.add.ensures.gathers
+    on_both c.add.result (settles_one (g.M.Machine.Step c.args.machine.now) _ _
+    c.settle.new.config _ _ c.in_ok-settle.ensures) c.add.ensures.gathers
     c.add.ensures.longer

@@ -18,7 +18,7 @@ returns g c apart =
     let idle : IsSettled Step slots (spot_of made) (spot_of settled) =
     subst (λ (x : Config g.row.M-State.Denot). IsSettled Step slots (spot_of x) (spot_of settled))
     (ap (λ (l : List (Config g.row.M-State.Denot)). get_or l 0 c.index-configs-0-2.result) parts.1)
-    c.in_ok-settle.ensures.settled in
+    c.in_ok-settle.ensures in
     rw (← parts.0) at (subst (λ l. IsClosed Step slots (config ∷ []) c.args.slot
     (slice_set l 0 settled))
     (sym parts.1) (closed_in_place _ _ c.requires.few _ _ c.requires.has _ made settled first idle))
