@@ -21,9 +21,6 @@ returns g c =
     rw c.into_configs-done.ensures (closing_end _ _ _ _ _
     _ _ (omega (arith, c.loop-left-test.false)) c.loop-left.invariant.0)
 
-pub returns-then-len-gt-MAX_CONFIGS : goal.returns-then-len-gt-MAX_CONFIGS
-returns-then-len-gt-MAX_CONFIGS g c = grind arith
-
 pub returns-then-len-gt-MAX_CONFIGS-2 : goal.returns-then-len-gt-MAX_CONFIGS-2
 returns-then-len-gt-MAX_CONFIGS-2 g c = (
   c.loop-left.done,
