@@ -1,13 +1,13 @@
 -- What an event does to a front, and the configurations after the begin of a call.
-use Rattle.histories.proofs.Words.{map, get_or-map, length-map, zero, ◌≡◌, ℕ, ◌+◌, ◌<◌, ◌≤◌, List, [], ◌∷◌, ◌++◌, length, get_or, sym, ◌∙◌, ap, subst, arith, inl, inr, Option, suc, refl, Some, None, bit_at, Contains, cases_lt, Config, Link, Event, Begin, End, begins, times, Explains, IsOpen, HasSlot, IsFrontier, IsLighter, IsSound, IsTable, IsWaiting, LeadTo, Leaves, Path, Runs, order_at, order_of, put, HasManyOpen, IsFrontOf, AreOpened, AreSettled, IsOpened, TakesSlot, AreLaidIn, AreTaken, Finishes, FreesSlot, HasMany, IsClosed, IsLeft, Advance, Front, AdvancesIn, Agrees, Ends, EndsOpen, IsSameFront}
+use Rattle.histories.proofs.Words.{map, get_or-map, length-map, zero, ◌≡◌, ℕ, ◌+◌, ◌<◌, ◌≤◌, List, [], ◌∷◌, ◌++◌, length, get_or, sym, ◌∙◌, ap, subst, arith, inl, inr, Option, suc, refl, Some, None, bit_at, Contains, cases_lt, Config, Link, Event, Begin, End, begins, times, Explains, IsOpen, HasSlot, IsFrontier, IsLighter, IsSound, IsTable, IsWaiting, LeadTo, Leaves, Path, Runs, order_at, order_of, path_more, path_of, put, HasManyOpen, HasManyOrders, IsFrontOf, FromOne, IsOpened, Settles, Spot, TakesSlot, AreLaidIn, AreTaken, Finishes, FreesSlot, HasMany, IsClosed, IsLeft, Advance, Front, AdvancesIn, Agrees, Ends, EndsOpen, IsSameFront}
 use Rattle.histories.proofs.Bits.{cleared_put, put_other, put_same}
 use Rattle.histories.proofs.Counting.{not_some, split_times, times-append, times-cons, times_one, times_same, at_times, times_once}
 use Rattle.histories.proofs.Events.{begins_begin, table_begin, taken_cases, taken_other, taken_still, begin_no_end, ends_one, open_begin_now, open_begin_still}
 use Rattle.histories.proofs.Running.{leads_split, leaves_run, runs_in, runs_lighter, runs_order, runs_then}
-use Rattle.histories.proofs.Explaining.{behind_open, explains_begin, explains_front, explains_without}
-use Rattle.histories.proofs.Frontiers.{AreComplete, AreSound, frontier_settled, front_many, frontier_end}
-use Rattle.histories.proofs.Places.{frontier_laid, each_from, each_to}
-use Rattle.histories.proofs.Closing.{HaveSameSteps, closed_as, made_as}
+use Rattle.histories.proofs.Explaining.{behind_open, explains_begin, explains_front, explains_run, explains_without}
+use Rattle.histories.proofs.Frontiers.{AreComplete, AreSound, front_many, frontier_end}
+use Rattle.histories.proofs.Places.{frontier_laid, nothing_in, order_more}
+use Rattle.histories.proofs.Closing.{HaveSameSteps, closed_as, leads_sought, made_as, none_same}
 use Rattle.histories.specs.declared.front.Advance.TheVariants as advance
 
 module _ {S : Type 0} (Step : S → ℕ → S → Type 0) where
@@ -34,22 +34,15 @@ module _ {S : Type 0} (Step : S → ℕ → S → Type 0) where
         )) run
 
     -- the same leads on where one call more waits
-    leads_put : (configs opened : List (Config S)) (new : S) (rest : ℕ) → AreOpened t configs opened
+    leads_put : (configs opened : List (Config S)) (new : S) (rest : ℕ) → length more ≤ 64
+        → ¬ (4096 < length opened) → Settles Step more (FromOne (IsOpened t) configs) [] opened
         → LeadTo Step slots configs new rest → LeadTo Step more opened new (put rest t)
-    leads_put configs opened new rest o l =
+    leads_put configs opened new rest short enough g l =
         let from = l.0 in
-        let one = each_to (IsOpened t) configs opened from o l.1 in
-        let k = one.0 in
-        let is = one.2 in (
-          k,
-          one.1,
-          (
-            l.2.0,
-            put l.2.1 t,
-            rw is.0 (rw (← is.1) at (runs_put from.state new from.waiting l.2.1 l.2.0 l.2.2)),
-            lighter_put l.2.1 rest l.2.3,
-          ),
-        )
+        let at : Spot S =
+        record { state = from.state; waiting = put from.waiting t; made = path_of from } in
+        leads_sought Step more _ _ _ at _ _ _ _ short enough g (from, l.1, (refl, refl, refl))
+        (runs_put from.state new from.waiting l.2.1 l.2.0 l.2.2) (lighter_put l.2.1 rest l.2.3)
 
     -- and other calls go on from there
     leads_on : (opened : List (Config S)) (mid new : S) (rest last : ℕ) (calls : List ℕ)
@@ -64,33 +57,45 @@ module _ {S : Type 0} (Step : S → ℕ → S → Type 0) where
 
     module _ (links : List Link) (es : List Event) (olds : List S)
         (configs opened : List (Config S)) (s : IsSound es) (fresh : begins c es ≡ 0)
-        (f : IsFrontier Step links slots es olds configs) (o : AreOpened t configs opened) where
+        (f : IsFrontier Step links slots es olds configs)
+        (g : Settles Step more (FromOne (IsOpened t) configs) [] opened) where
       opened_table : IsTable (es ++ Begin c ∷ []) more
       opened_table = table_begin _ _ _ _ _ s fresh f.table takes
 
       opened_sound : AreSound Step links more (es ++ Begin c ∷ []) olds opened
       opened_sound k has =
-          let at = each_from (IsOpened t) _ _ _ o has in
-          let from = at.0 in
-          let one = at.2 in
-          let is = f.sound from at.1 in
-          let order : order_of links k ≡ order_of links from =
-          ap (λ (p : Path). order_at links p) one.2 in
-          let none : times c (order_of links from) ≡ 0 =
-          not_some _
-          (λ some. absurd (omega (arith, is.explains.begun c some, fresh))) in record {
-            old = is.old;
-            from = is.from;
-            explains = grind (arith, order_of, explains_begin);
-            leaves = grind (arith, order_of, leaves_put);
-            within = omega (arith, is.within, ap (λ (p : Path). p.base) one.2);
-          }
+          elim (g.sound k has) [
+            | inl none ↦ absurd (nothing_in _ none)
+            | inr found ↦
+                let from = found.1.0 in
+                let at = found.1.2 in
+                let is = f.sound from found.1.1 in
+                let idle = found.2 in
+                let path : path_of k ≡ path_more (path_of from) idle.calls =
+                idle.made ∙ ap (λ (p : Path). path_more p idle.calls) at.2 in
+                let order : order_of links k ≡ order_of links from ++ idle.calls =
+                ap (λ (p : Path). order_at links p) path ∙ order_more _ _ _ in
+                let none : times c (order_of links from) ≡ 0 =
+                not_some _ (λ some. absurd (omega (arith, is.explains.begun c some, fresh))) in
+                let run : Runs Step more from.state (put from.waiting t) idle.calls k.state
+                k.waiting = rw (idle.state, ← at.0, ← at.1) idle.runs in
+                let now = explains_run _ _ _ _ _ _ _ _ _ _ opened_table
+                (explains_begin _ _ _ _ _ _ fresh is.explains) (leaves_put _ _ none is.leaves) run
+                in record {
+                  old = is.old;
+                  from = is.from;
+                  explains = rw order now.0;
+                  leaves = rw order now.1;
+                  within = omega (arith, is.within, ap (λ (p : Path). p.base) path);
+                }
+          ]
 
       -- where the order has the call
-      opened_with : (old new : S) (front back : List ℕ) → Contains olds old
+      opened_with : (old new : S) (front back : List ℕ) → ¬ (4096 < length opened)
+          → Contains olds old
           → Explains Step (es ++ Begin c ∷ []) old (front ++ c ∷ back) new
           → (rest : ℕ) × Leaves more (front ++ c ∷ back) rest × LeadTo Step more opened new rest
-      opened_with old new front back from ex =
+      opened_with old new front back enough from ex =
           let order = front ++ c ∷ back in
           let next = opened_table in
           let parts = leads_split _ _ _ _ _ ex.leads in
@@ -125,27 +130,39 @@ module _ {S : Type 0} (Step : S → ℕ → S → Type 0) where
           (λ x. omega (arith, counts x, ex.once x, times-cons x c back)) all parts.2 in (
             run.0,
             leaves_run _ _ _ _ _ _ run.0 _ next.few next.apart (leaves_put _ _ none lead.1) run.1,
-            leads_on _ _ _ _ run.0 (c ∷ back) next.few (leads_put _ _ _ _ o lead.2) run.1,
+            leads_on _ _ _ _ run.0 (c ∷ back) next.few
+                (leads_put _ _ _ _ next.few enough g lead.2) run.1,
           )
 
-      opened_complete : AreComplete Step more (es ++ Begin c ∷ []) olds opened
-      opened_complete old order new from ex =
+      opened_complete : ¬ (4096 < length opened)
+          → AreComplete Step more (es ++ Begin c ∷ []) olds opened
+      opened_complete enough old order new from ex =
           elim (cases_lt 0 (times c order)) [
-            | inl some ↦ grind (arith, split_times, opened_with)
-            | inr few_ ↦
-                let none : times c order ≡ 0 = omega (arith, few_) in
+            | inl some ↦
+                let parts = split_times _ _ some in
+                rw parts.2 (opened_with old new parts.0 parts.1 enough from (rw parts.2 at ex))
+            | inr less ↦
+                let none : times c order ≡ 0 = omega (arith, less) in
                 let lead = f.complete old order new from (explains_without _ _ _ _ _ _ ex none) in (
                   put lead.0 t,
                   leaves_put _ _ none lead.1,
-                  leads_put _ _ _ _ o lead.2,
+                  leads_put _ _ _ _ takes.few enough g lead.2,
                 )
           ]
 
       -- a call begins
-      pub frontier_begin : (settled : List (Config S)) → AreSettled Step more opened settled
-          → IsFrontier Step links more (es ++ Begin c ∷ []) olds settled
-      frontier_begin settled a =
-          search (arith, frontier_settled, opened_table, opened_sound, opened_complete)
+      pub frontier_begin : ¬ (4096 < length opened)
+          → IsFrontier Step links more (es ++ Begin c ∷ []) olds opened
+      frontier_begin enough = record {
+        sound = opened_sound;
+        complete = opened_complete enough;
+        once = g.once none_same;
+        table = opened_table;
+      }
+
+      pub many_begin : 4096 < length opened → HasManyOrders Step (es ++ Begin c ∷ []) olds
+      many_begin many =
+          (links, more, opened, many, g.once none_same, opened_table, opened_sound)
 
 module _ {S : Type 0} (Step : S → ℕ → S → Type 0) (events : List Event) (olds : List S)
     (event : Event) where

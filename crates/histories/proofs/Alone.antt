@@ -1,7 +1,7 @@
 -- Calls that are made at once: those that change nothing, and those that come first or overlap
 -- nothing.
-use Rattle.histories.proofs.Words.{◌≡◌, ◌↔◌, slice_set, true, ℕ, zero, suc, ◌+◌, ◌<◌, List, [], ◌∷◌, ◌++◌, length, get_or, Option, refl, sym, ◌∙◌, ap, subst, arith, inl, inr, append_assoc, cases_lt, Event, Begin, End, Config, Link, AreAll, begins, times, Explains, Leads, HasSlot, IsFrontier, IsSound, IsTable, Path, order_at, order_of, path_more, path_of, Agrees, IsQuiet, IsMadeIn, CallsAloneAreRuns, ◌≤◌, AllPairs, Contains-push, IsIdle, IsSame, IsWaiting, cleared, AreOpened, AreSame, AreSettled, AreSettledEach, FromOne, Gathers, IsCopy, IsSettled, Spot, WaitsInNone, spot_of, IsClosed, IsClosing, IsMadeFirst, IsNextAt, bit_at}
-use Rattle.histories.proofs.Places.{order_more, only, each_from, each_to, nothing_in}
+use Rattle.histories.proofs.Words.{◌≡◌, ◌↔◌, slice_set, true, ℕ, zero, suc, ◌+◌, ◌<◌, List, [], ◌∷◌, ◌++◌, length, get_or, Option, refl, sym, ◌∙◌, ap, subst, arith, inl, inr, append_assoc, cases_lt, Event, Begin, End, Config, Link, AreAll, begins, times, Explains, Leads, HasSlot, IsFrontier, IsSound, IsTable, Path, order_at, order_of, path_more, path_of, Agrees, IsQuiet, IsMadeIn, CallsAloneAreRuns, ◌≤◌, AllPairs, IsIdle, IsSame, IsWaiting, cleared, IsCopy, IsSettled, Settles, Spot, WaitsInNone, spot_of, IsClosed, IsClosing, IsMadeFirst, IsNextAt, bit_at}
+use Rattle.histories.proofs.Places.{order_more, only, nothing_in}
 use Rattle.histories.specs.Laws.{calls_alone, in_order}
 use Rattle.histories.proofs.Counting.{no_times, not_some, split_times, times-append, times-cons, times_one, times_other, times_same}
 use Rattle.histories.proofs.Events.{answered_now, begins_begin, begins_ends, begins_none, ended_now, ended_still, open_begin_cases, open_begin_now, open_end_before, open_end_other, sound_begin, sound_end, sound_none}
@@ -9,9 +9,9 @@ use Rattle.histories.proofs.Running.{leads_push, leads_split, lighter_idle, ligh
 use Rattle.histories.proofs.Explaining.{behind_open, explains_begin, explains_end, explains_front, explains_open, explains_pushed}
 use Rattle.histories.proofs.Frontiers.{explains_none, no_calls}
 use Rattle.histories.proofs.Cutting.{quiet_empty, runs_nothing}
-use Rattle.histories.proofs.Bits.{put_apart, cleared_same, slot_64}
-use Rattle.histories.proofs.Closing.{closing_begin, closing_more, closing_settled, goes_by, none_same, path_none, path_then}
-use Rattle.histories.proofs.Gathering.{gathers_call, gathers_new, gathers_none, gathers_state}
+use Rattle.histories.proofs.Bits.{cleared_same, slot_64}
+use Rattle.histories.proofs.Closing.{closing_begin, closing_more, goes_by, path_none, path_then}
+use Rattle.histories.proofs.Gathering.{gathers_new, gathers_none, settles_call, settles_one, settles_state}
 
 -- one event after the other
 two_more : (es : List Event) (a b : Event) → es ++ a ∷ b ∷ [] ≡ (es ++ a ∷ []) ++ b ∷ []
@@ -223,7 +223,7 @@ made_none {S} configs config made one is same = grind (arith, one_of_one)
 module _ {S : Type 0} (Step : S → ℕ → S → Type 0) (slots : List (Option ℕ)) where
   -- nothing was made
   pub settled_none : (config : Config S) (copy : Spot S) → IsCopy config copy
-      → IsSettled Step slots config copy
+      → IsSettled Step slots (spot_of config) copy
   settled_none config copy is = record {
     state = is.0;
     calls = [];
@@ -233,22 +233,22 @@ module _ {S : Type 0} (Step : S → ℕ → S → Type 0) (slots : List (Option 
   }
 
   -- one call more
-  pub settled_then : (config mid : Config S) (one : Spot S)
-      → IsSettled Step slots config (spot_of mid) → IsSettled Step slots mid one
-      → IsSettled Step slots config one
-  settled_then config mid one a b = record {
+  pub settled_then : (from mid one : Spot S) → IsSettled Step slots from mid
+      → IsSettled Step slots mid one → IsSettled Step slots from one
+  settled_then from mid one a b = record {
     state = b.state ∙ a.state;
     calls = a.calls ++ b.calls;
     runs = grind (arith, runs_then);
     lighter = lighter_then _ _ _ _ _ b.lighter a.lighter;
     made = b.made ∙ (ap (λ (p : Path). path_more p b.calls) a.made
-        ∙ path_then (path_of config) a.calls b.calls);
+        ∙ path_then from.made a.calls b.calls);
   }
 
   pub settled_call : (config : Config S) (one : Spot S) (slot call : ℕ) → length slots ≤ 64
       → IsWaiting slots config.waiting slot call → Step config.state call config.state
       → IsIdle Step call → one.state ≡ config.state → one.waiting ≡ cleared config.waiting slot
-      → one.made ≡ path_more (path_of config) (call ∷ []) → IsSettled Step slots config one
+      → one.made ≡ path_more (path_of config) (call ∷ [])
+      → IsSettled Step slots (spot_of config) one
   settled_call config one slot call few is step idle state set made = record {
     state = state;
     calls = call ∷ [];
@@ -257,102 +257,42 @@ module _ {S : Type 0} (Step : S → ℕ → S → Type 0) (slots : List (Option 
     made = made;
   }
 
-  -- a copy of what was settled
-  settled_copy : (config one : Config S) (copy : Spot S) → IsSettled Step slots config (spot_of one)
-      → IsCopy one copy → IsSettled Step slots config copy
-  settled_copy config one copy s is = grind arith
-
-  -- the settled one is of the configuration
-  abbrev Settles : Config S → Config S → Type 0
-  Settles config one = IsSettled Step slots config (spot_of one)
-
-  -- each was settled, and none has become the same as another
-  pub settled_apart : (configs settled : List (Config S))
-      → AreSettledEach Step slots configs settled → AreSame configs settled
-      → AllPairs (λ a b. ¬ (IsSame a b)) configs → AreSettled Step slots configs settled
-  settled_apart configs settled each same apart = record {
-    sound = λ one has. each_from Settles configs settled one each has;
-    complete = λ config has.
-        let one = each_to Settles configs settled config each has in
-        (one.0, one.1, one.2.state, one.2.lighter);
-    once = λ i j d less h. grind arith;
-  }
-
-  -- each was settled, and the new ones are these, each once
-  pub settled_once : (configs settled new : List (Config S))
-      → AreSettledEach Step slots configs settled → Gathers (FromOne IsCopy settled) [] new
-      → AreSettled Step slots configs new
-  settled_once configs settled new each g = record {
-    sound = λ k has.
-        elim (g.sound k has) [
-          | inl none ↦ absurd (nothing_in k none)
-          | inr copy ↦
-              let from = each_from Settles configs settled copy.0 each copy.1 in
-              (from.0, from.1, settled_copy from.0 copy.0 (spot_of k) from.2 copy.2)
-        ];
-    complete = λ config has.
-        let one = each_to Settles configs settled config each has in
-        let known = g.complete (spot_of one.0) (one.0, one.1, (refl, refl, refl)) in (
-          known.0,
-          known.1,
-          known.2.0 ∙ one.2.state,
-          rw known.2.1 one.2.lighter,
-        );
-    once = g.once none_same;
-  }
-
--- a call that waits in each, and waited in none, makes no two the same
-pub opened_apart : {S : Type 0} (slot : ℕ) (configs opened : List (Config S)) → slot < 64
-    → AreOpened slot configs opened → WaitsInNone slot configs
-    → AllPairs (λ a b. ¬ (IsSame a b)) configs → AllPairs (λ a b. ¬ (IsSame a b)) opened
-opened_apart slot configs opened within o none apart i j d less h same = grind (arith, put_apart)
-
 module _ {S : Type 0} (Step : S → ℕ → S → Type 0) (slots : List (Option ℕ))
     (few : length slots ≤ 64) (slot call : ℕ) (here : HasSlot slots slot call)
     (config made settled : Config S) (first : IsMadeFirst Step slots slot call config made true)
-    (idle : IsSettled Step slots made (spot_of settled)) where
+    (idle : IsSettled Step slots (spot_of made) (spot_of settled)) where
   one_apart : (k : Config S) → AllPairs (λ a b. ¬ (IsSame a b)) (k ∷ [])
   one_apart k = λ i j d less h. absurd (omega (arith, less, h))
 
   gone : bit_at settled.waiting slot ≡ 0
   gone = grind (arith, slot_64, bit_at, cleared_same, runs_fewer)
 
-  are_settled : AreSettled Step slots (made ∷ []) (settled ∷ [])
-  are_settled = record {
-    sound = λ k has. (made, Contains-push [] made, rw (only _ _ has) idle);
-    complete = λ k has. (
-      settled,
-      Contains-push [] settled,
-      idle.state ∙ ap (λ (x : Config S). x.state) (sym (only _ _ has)),
-      rw (only _ _ has) idle.lighter,
-    );
-    once = one_apart _;
-  }
-
-  gathered : Gathers (IsNextAt Step slots config slot) [] (made ∷ [])
-  gathered =
-      gathers_call Step slots config slot call (made.state ∷ []) [] (made ∷ []) (here, first.0)
-      first.2 (gathers_state config made slot call made.state [] (made ∷ []) refl first.4 first.3
-      (gathers_new [] made (λ i d h. absurd (omega arith))))
+  added : Settles Step slots (IsNextAt Step slots config slot) [] (settled ∷ [])
+  added =
+      settles_call Step slots config slot call (made.state ∷ []) _ _ (here, first.0) first.2
+      (settles_state Step slots config made slot call made.state _ _ refl first.4 first.3
+      (settles_one Step slots (spot_of made) settled _ _ idle
+      (gathers_new [] settled (λ i d h. absurd (omega arith))) (omega arith)))
 
   closing : IsClosing Step slots (config ∷ []) slot [] (settled ∷ []) (length slots)
   closing =
-      closing_settled _ _ _ _ _ _ _ _ few are_settled (closing_more _ _ _ _ _ _ _ _ _
-      _ few here (closing_begin _ _ _ _) (gathers_none _ _ (λ k found. absurd
+      (closing_more _ _ _ _ _ _ _ _ _ _ few here (closing_begin _ _ _ _)
+      (λ new rest l over. inr l) (gathers_none _ _ (λ k found. absurd
       (omega (
         arith,
         first.0,
         found.2.0,
         ap (λ (x : Config S). bit_at x.waiting slot) (only config found.0 found.1),
-      )))) (goes_by _ _ _ _ config _ _ few here first.0 first.1 gathered))
+      )))) (goes_by _ _ _ _ config _ _ few here first.0 first.1 added)).0
 
   pub closed_in_place : IsClosed Step slots (config ∷ []) slot (settled ∷ [])
   closed_in_place = record {
     sound = λ k has. (closing.under_way k has, rw (only _ _ has) gone);
-    complete = λ new rest l over. elim (closing.complete new rest l over) [
-      | inl none ↦ absurd (nothing_in _ none.1)
-      | inr there ↦ there
-    ];
+    complete = λ new rest l over.
+        elim (closing.complete (λ many. absurd (omega (arith, many))) new rest l over) [
+          | inl none ↦ absurd (nothing_in _ none.1)
+          | inr there ↦ there
+        ];
     once = one_apart _;
   }
 

@@ -1,5 +1,5 @@
 -- Sets of slots.
-use Rattle.histories.proofs.Words.{◌≡◌, ◌≢◌, ℕ, zero, suc, ◌<◌, ◌≤◌, ◌⊎◌, List, length, ◌*◌, ◌^◌, ◌%◌, ◌-◌, refl, sym, ◌∙◌, ap, arith, inl, inr, Option, bit_at, bit_not, w64, cases_eq, cases_lt, get_or_past, bit_at-lt, bit_at_above, bit_at_and, bit_at_clear_other, bit_at_clear_same, bit_at_set_other, bit_at_set_same, same_from_bits, and_assoc, and_comm, HasSlot}
+use Rattle.histories.proofs.Words.{◌≡◌, ◌≢◌, ℕ, zero, suc, ◌<◌, ◌≤◌, ◌⊎◌, List, length, ◌*◌, ◌^◌, ◌%◌, ◌-◌, refl, sym, ◌∙◌, arith, inl, inr, Option, bit_at, bit_not, w64, cases_eq, cases_lt, get_or_past, bit_at-lt, bit_at_above, bit_at_and, bit_at_clear_other, bit_at_clear_same, bit_at_set_other, bit_at_set_same, same_from_bits, and_assoc, and_comm, HasSlot}
 use Rattle.histories.specs.Frontier.{cleared, put}
 use Rattle.histories.proofs.Places.{less_of}
 use Rattle.histories.specs.Gathering.{ones}
@@ -21,16 +21,6 @@ pub put_other : (set slot other : ℕ) → slot < 64 → other ≢ slot
     → bit_at (put set slot) other ≡ bit_at set other
 unfolding put
 put_other set slot other h ne = bit_at_set_other w64 set slot h other ne
-
--- two sets without the slot differ with it too
-pub put_apart : (one other slot : ℕ) → slot < 64 → bit_at one slot ≡ 0 → bit_at other slot ≡ 0
-    → put one slot ≡ put other slot → one ≡ other
-put_apart one other slot h none gone same =
-    same_from_bits one other (λ i.
-    elim (cases_eq i slot) [
-      | inl e ↦ ap (bit_at one) e ∙ (none ∙ sym (ap (bit_at other) e ∙ gone))
-      | inr ne ↦ sym (put_other _ _ _ h ne) ∙ (ap (λ w. bit_at w i) same ∙ put_other _ _ _ h ne)
-    ])
 
 -- the order in which slots go is free
 pub cleared_swap : (set one other : ℕ)

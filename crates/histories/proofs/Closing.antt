@@ -1,10 +1,14 @@
 -- A call that ends is made.
-use Rattle.histories.proofs.Words.{◌≡◌, ◌↔◌, ℕ, ◌+◌, ◌<◌, ◌≤◌, List, [], ◌∷◌, ◌++◌, length, refl, sym, ◌∙◌, ap, arith, inl, inr, append-nil, append_assoc, Option, AllPairs, cases_eq, bit_at, Contains-append_left, Contains-push, Contains-push_cases, Config, HasSlot, IsLighter, IsSame, LeadTo, Path, Runs, cleared, path_more, path_of, AreSettled, ComesFirst, FromOne, Gathers, GoesOn, IsClosed, IsClosing, IsCopy, IsDone, IsMadeFrom, IsNextAt, IsNextLayer, IsSettled, MovesFirst, Spot, ones, spot_of}
+use Rattle.histories.proofs.Words.{◌≡◌, ◌↔◌, ℕ, ◌+◌, ◌<◌, ◌≤◌, List, [], ◌∷◌, ◌++◌, length, refl, sym, ◌∙◌, ap, arith, inl, inr, append-nil, append_assoc, Option, AllPairs, cases_eq, bit_at, Contains, Contains-append_left, Contains-push, Contains-push_cases, Config, HasSlot, IsLighter, IsSame, LeadTo, Path, Runs, cleared, path_more, path_of, ComesFirst, FromOne, Gathers, GoesFrom, GoesOn, IsClosed, IsClosing, IsCopy, IsDone, IsMadeFrom, IsNextAt, IsSettled, MovesFirst, Settles, Spot, ones, spot_of}
 use Rattle.histories.specs.Gathering.{IsNext}
 use Rattle.histories.proofs.Places.{nothing_in, only}
 use Rattle.histories.proofs.Bits.{bit_cases, cleared_le, cleared_same, ones_le, ones_less, ones_most, slot_64, slot_once, slot_within}
 use Rattle.histories.proofs.Gathering.{gathers_none}
 use Rattle.histories.proofs.Running.{lighter_then, runs_fewer, runs_first, runs_lighter, runs_then}
+
+-- of none, all are different
+pub none_same : {S : Type 0} → AllPairs (λ (a b : Config S). ¬ (IsSame a b)) []
+none_same {S} = λ i j d less h. absurd (omega arith)
 
 path_with : ℕ → List ℕ → Path
 path_with base calls = record { base = base; calls = calls }
@@ -42,24 +46,33 @@ module _ {S : Type 0} (Step : S → ℕ → S → Type 0) (slots : List (Option 
       )
 
   -- where calls that change nothing were made, the others lead to the same
-  pub leads_settled : (configs settled : List (Config S)) (new : S) (rest : ℕ)
-      → length slots ≤ 64 → AreSettled Step slots configs settled
-      → LeadTo Step slots configs new rest → LeadTo Step slots settled new rest
-  leads_settled configs settled new rest few a l =
-      let config = l.0 in
-      let one = a.complete config l.1 in
-      let more = runs_lighter _ _ _ _ _ _ _ _ few one.3 l.2.2 in (
-        one.0,
-        one.1,
-        (more.0, more.1, rw one.2 more.2, lighter_then _ _ _ _ _ more.3 l.2.3),
+  leads_covered : (new : List (Config S)) (from : Spot S) (known : Config S) (calls : List ℕ)
+      (s : S) (fewer rest : ℕ) → length slots ≤ 64 → Contains new known
+      → known.state ≡ from.state → IsLighter Step slots known.waiting from.waiting
+      → Runs Step slots from.state from.waiting calls s fewer
+      → IsLighter Step slots fewer rest → LeadTo Step slots new s rest
+  leads_covered new from known calls s fewer rest few has same light run more =
+      let less = runs_lighter _ _ _ _ _ _ _ _ few light run in (
+        known,
+        has,
+        (less.0, less.1, rw same less.2, lighter_then _ _ _ _ _ less.3 more),
       )
 
+  pub leads_sought : (Found : Spot S → Type 0) (old new : List (Config S)) (from : Spot S)
+      (calls : List ℕ) (s : S) (fewer rest : ℕ) → length slots ≤ 64 → ¬ (4096 < length new)
+      → Settles Step slots Found old new → Found from
+      → Runs Step slots from.state from.waiting calls s fewer
+      → IsLighter Step slots fewer rest → LeadTo Step slots new s rest
+  leads_sought Found old new from calls s fewer rest few short g found run light =
+      let one = g.complete short from found in
+      leads_covered _ from one.0 _ _ _ _ few one.1 one.2 one.3 run light
+
   -- more calls are made
-  made_then : (configs : List (Config S)) (config : Config S) (one : Spot S) (calls : List ℕ)
-      → Runs Step slots config.state config.waiting calls one.state one.waiting
-      → one.made ≡ path_more (path_of config) calls
-      → IsMadeFrom Step slots configs (spot_of config) → IsMadeFrom Step slots configs one
-  made_then configs config one calls run made m = (
+  made_then : (configs : List (Config S)) (from one : Spot S) (calls : List ℕ)
+      → Runs Step slots from.state from.waiting calls one.state one.waiting
+      → one.made ≡ path_more from.made calls
+      → IsMadeFrom Step slots configs from → IsMadeFrom Step slots configs one
+  made_then configs from one calls run made m = (
     m.0,
     m.1,
     (
@@ -70,24 +83,25 @@ module _ {S : Type 0} (Step : S → ℕ → S → Type 0) (slots : List (Option 
   )
 
   -- the calls of a settled one are made after those of its configuration
-  pub made_settled : (configs : List (Config S)) (config : Config S) (one : Spot S)
-      → IsSettled Step slots config one → IsMadeFrom Step slots configs (spot_of config)
+  pub made_settled : (configs : List (Config S)) (from one : Spot S)
+      → IsSettled Step slots from one → IsMadeFrom Step slots configs from
       → IsMadeFrom Step slots configs one
-  made_settled configs config one is m = made_then _ config _ _ (rw is.state is.runs) is.made m
+  made_settled configs from one is m = made_then _ from _ _ (rw is.state is.runs) is.made m
 
   pub closing_begin : (configs : List (Config S)) (slot : ℕ)
       → IsClosing Step slots configs slot [] configs (length slots + 1)
   closing_begin configs slot = record {
     sound = λ k has. absurd (nothing_in _ has);
     under_way = λ k has. (k, has, ([], (refl, refl), path_none _));
-    complete = λ new rest l over. inr l;
+    complete = λ few new rest l over. inr l;
     short = λ k has. omega (arith, ones_most k.waiting (length slots));
     once = λ i j d less h. absurd (omega arith);
   }
 
   made_done : (configs : List (Config S)) (config : Config S) (copy : Spot S) → IsCopy config copy
       → IsMadeFrom Step slots configs (spot_of config) → IsMadeFrom Step slots configs copy
-  made_done configs config copy is m = made_then _ config _ _ (is.0, is.1) (is.2 ∙ path_none _) m
+  made_done configs config copy is m =
+      made_then _ (spot_of config) _ _ (is.0, is.1) (is.2 ∙ path_none _) m
 
   made_next : (configs : List (Config S)) (config : Config S) (next : Spot S)
       → IsNext Step slots config next → IsMadeFrom Step slots configs (spot_of config)
@@ -104,42 +118,44 @@ module _ {S : Type 0} (Step : S → ℕ → S → Type 0) (slots : List (Option 
 
   -- where the call waits and in the end does not, one that waits is made next
   leads_next : (old new : List (Config S)) (slot : ℕ) (config : Config S) (calls : List ℕ)
-      (last : S) (fewer rest : ℕ) → Gathers (IsNext Step slots config) old new
+      (last : S) (fewer rest : ℕ) → length slots ≤ 64 → ¬ (4096 < length new)
+      → Settles Step slots (IsNext Step slots config) old new
       → bit_at config.waiting slot ≡ 1 → bit_at fewer slot ≡ 0
       → Runs Step slots config.state config.waiting calls last fewer
       → IsLighter Step slots fewer rest → LeadTo Step slots new last rest
-  leads_next old new slot config [] last fewer rest g waits over run light =
+  leads_next old new slot config [] last fewer rest few short g waits over run light =
       absurd (omega (arith, ap (λ w. bit_at w slot) run.1, waits, over))
-  leads_next old new slot config (c ∷ calls) last fewer rest g waits over run light =
-      leads_found _ _ _ _ _ _ _ _ g
+  leads_next old new slot config (c ∷ calls) last fewer rest few short g waits over run light =
+      leads_sought _ _ _ (spot_after config run.0 c run.2.0) _ _ _ _ few short g
       (run.0, slot_within _ _ _ run.1.0, (c, run.1, run.2.1, refl, refl)) run.2.2 light
 
   -- from one configuration, in which the call in the slot waits
   goes_one : (slot : ℕ) (config : Config S) (Found : Spot S → Type 0) (old new : List (Config S))
       → bit_at config.waiting slot ≡ 1
       → ((spot : Spot S) → Found spot → IsNext Step slots config spot)
-      → ((calls : List ℕ) (last : S) (fewer rest : ℕ) → bit_at fewer slot ≡ 0
-      → Runs Step slots config.state config.waiting calls last fewer
+      → (¬ (4096 < length new) → (calls : List ℕ) (last : S) (fewer rest : ℕ)
+      → bit_at fewer slot ≡ 0 → Runs Step slots config.state config.waiting calls last fewer
       → IsLighter Step slots fewer rest → LeadTo Step slots new last rest)
-      → Gathers Found old new → GoesOn Step slots slot (config ∷ []) old new
+      → Settles Step slots Found old new → GoesOn Step slots slot (config ∷ []) old new
   goes_one slot config Found old new waits next leads g = record {
     sound = λ k has. elim (g.sound k has) [
       | inl m ↦ inl m
-      | inr p ↦ inr (config, Contains-push [] config, (waits, next (spot_of k) p))
+      | inr p ↦ inr (config, Contains-push [] config, (waits, (p.0, next p.0 p.1, p.2)))
     ];
     kept = g.kept;
-    complete = λ k calls last fewer rest has w over run light. leads calls last fewer rest over
-        (rw (← only _ _ has) run) light;
+    complete = λ short k calls last fewer rest has w over run light.
+        leads short calls last fewer rest over (rw (← only _ _ has) run) light;
+    longer = g.longer;
     once = g.once;
   }
 
   -- by each call that waits
-  pub goes_all : (slot : ℕ) (config : Config S) (old new : List (Config S))
-      → bit_at config.waiting slot ≡ 1 → Gathers (IsNext Step slots config) old new
+  pub goes_all : (slot : ℕ) (config : Config S) (old new : List (Config S)) → length slots ≤ 64
+      → bit_at config.waiting slot ≡ 1 → Settles Step slots (IsNext Step slots config) old new
       → GoesOn Step slots slot (config ∷ []) old new
-  goes_all slot config old new waits g =
-      goes_one _ _ _ _ _ waits (λ spot found. found) (λ calls last fewer rest over run light.
-      leads_next _ _ _ config _ _ _ _ g waits over run light) g
+  goes_all slot config old new few waits g =
+      goes_one _ _ _ _ _ waits (λ spot found. found) (λ short calls last fewer rest over run light.
+      leads_next _ _ _ config _ _ _ _ few short g waits over run light) g
 
   -- the call in the slot goes before all that is made, where it comes first
   runs_before : (config : Config S) (slot call : ℕ) (new : S) (fewer : ℕ) (calls : List ℕ)
@@ -158,21 +174,35 @@ module _ {S : Type 0} (Step : S → ℕ → S → Type 0) (slots : List (Option 
   -- by the call in the slot alone, which comes first
   pub goes_by : (slot call : ℕ) (config : Config S) (old new : List (Config S))
       → length slots ≤ 64 → HasSlot slots slot call → bit_at config.waiting slot ≡ 1
-      → ComesFirst Step slots config slot → Gathers (IsNextAt Step slots config slot) old new
+      → ComesFirst Step slots config slot
+      → Settles Step slots (IsNextAt Step slots config slot) old new
       → GoesOn Step slots slot (config ∷ []) old new
   goes_by slot call config old new few here waits comes g =
       goes_one _ _ _ _ _ waits (λ spot found. (slot, slot_within _ _ _ here, found))
-      (λ calls last fewer rest over run light.
+      (λ short calls last fewer rest over run light.
       let first = runs_before config _ _ _ _ _ few here waits comes over run in
-      leads_found _ _ _ _ _ _ _ _ g (call, (here, waits), first.1, refl, refl) first.2.1 light) g
+      leads_sought _ _ _ (spot_after config slot call first.0) _ _ _ _ few short g
+      (call, (here, waits), first.1, refl, refl) first.2.1 light) g
 
   pub goes_first : (slot : ℕ) (config : Config S) (old new : List (Config S))
       → length slots ≤ 64 → bit_at config.waiting slot ≡ 1
       → MovesFirst Step slots slot config.waiting
-      → Gathers (IsNextAt Step slots config slot) old new
+      → Settles Step slots (IsNextAt Step slots config slot) old new
       → GoesOn Step slots slot (config ∷ []) old new
   goes_first slot config old new few waits moves g =
       goes_by _ _ _ _ _ few moves.1 waits (inl moves) g
+
+  -- where there are too many already
+  pub goes_full : (slot : ℕ) (layer old : List (Config S)) → 4096 < length old
+      → GoesOn Step slots slot layer old old
+  goes_full slot layer old many = record {
+    sound = λ k has. inl has;
+    kept = λ k has. has;
+    complete = λ short k calls last fewer rest has waits over run light.
+        absurd (short many);
+    longer = λ n h. h;
+    once = λ a. a;
+  }
 
   -- where the call does not wait
   pub goes_not : (slot : ℕ) (config : Config S) (old : List (Config S))
@@ -197,15 +227,16 @@ module _ {S : Type 0} (Step : S → ℕ → S → Type 0) (slots : List (Option 
       | inr q ↦ inr (from, Contains-push layer from, rw (← only _ _ q.1) q.2)
     ];
     kept = λ k has. g.kept k (f.kept k has);
-    complete = λ k calls last fewer rest has waits over run light.
+    complete = λ short k calls last fewer rest has waits over run light.
         elim (Contains-push_cases layer from k has) [
           | inl m ↦
-              let l = f.complete k calls last fewer rest m waits over run light in
-              (l.0, g.kept l.0 l.1, l.2)
+              let l = f.complete (λ many. short (g.longer 4096 many)) k calls last fewer rest m
+              waits over run light in (l.0, g.kept l.0 l.1, l.2)
           | inr e ↦
-              g.complete k calls last fewer rest (rw (← e) (Contains-push [] from))
+              g.complete short k calls last fewer rest (rw (← e) (Contains-push [] from))
               waits over run light
         ];
+    longer = λ n h. g.longer n (f.longer n h);
     once = λ a. g.once (f.once a);
   }
 
@@ -214,107 +245,88 @@ module _ {S : Type 0} (Step : S → ℕ → S → Type 0) (slots : List (Option 
       → IsLighter Step slots fewer rest → bit_at rest slot ≡ 0 → bit_at fewer slot ≡ 0
   lighter_gone fewer rest slot call here light over = grind arith
 
-  -- one call more is made where the call waits
+  -- one call more is made where the call waits, and then some that change nothing
   pub closing_more : (configs done layer more next : List (Config S)) (slot call left : ℕ)
       → length slots ≤ 64 → HasSlot slots slot call
       → IsClosing Step slots configs slot done layer (left + 1)
+      → GoesFrom Step slots configs slot done layer
       → Gathers (FromOne (IsDone slot) layer) done more
       → GoesOn Step slots slot layer [] next → IsClosing Step slots configs slot more next left
-  closing_more configs done layer more next slot call left few here cl f g = record {
-    sound = λ k has.
-        elim (f.sound k has) [
-          | inl before ↦ cl.sound k before
-          | inr found ↦ (
-            made_done _ found.0 _ found.2.1 (cl.under_way found.0 found.1),
-            ap (λ w. bit_at w slot) found.2.1.1 ∙ found.2.0,
-          )
-        ];
-    under_way = λ k has.
-        elim (g.sound k has) [
-          | inl none ↦ absurd (nothing_in _ none)
-          | inr found ↦ made_next _ found.0 _ found.2.1 (cl.under_way found.0 found.1)
-        ];
-    complete = λ new rest l over.
-        elim (cl.complete new rest l over) [
-          | inl before ↦ inl (leads_kept _ _ _ _ _ f before)
-          | inr m ↦
-              elim (bit_cases _ _) [
-                | inr waits ↦ inr (g.complete m.0 m.2.0 new m.2.1 rest m.1 waits
-                    (lighter_gone _ _ _ _ here m.2.3 over) m.2.2 m.2.3)
-                | inl gone ↦ inl (leads_found _ _ _ _ _ _
-                    _ _ f (m.0, m.1, (gone, (refl, refl, refl))) m.2.2 m.2.3)
-              ]
-        ];
-    short = λ k has. elim (g.sound k has) [
-      | inl none ↦ absurd (nothing_in _ none)
-      | inr found ↦
-          let from = found.0 in
-          let at = found.2.1.0 in
-          let h = slot_64 _ at found.2.1.2.0 few found.2.1.2.1.0 in
-          let less : ones (cleared from.waiting at) (length slots) < ones from.waiting (length
-          slots) = grind (arith, ones_less, cleared_le, cleared_same) in
-          omega (arith, cl.short from found.1, less, ap (λ w. ones w (length slots)) found.2.1.2.3)
-    ];
-    once = f.once cl.once;
-  }
-
-  -- calls that change nothing were made in those under way
-  pub closing_settled : (configs done layer settled : List (Config S)) (slot left : ℕ)
-      → length slots ≤ 64 → AreSettled Step slots layer settled
-      → IsClosing Step slots configs slot done layer left
-      → IsClosing Step slots configs slot done settled left
-  closing_settled configs done layer settled slot left few a cl = record {
-    sound = cl.sound;
-    under_way = λ k has.
-        let is = a.sound k has in
-        made_settled _ _ _ is.2 (cl.under_way is.0 is.1);
-    complete = λ new rest l over.
-        elim (cl.complete new rest l over) [
-          | inl there ↦ inl there
-          | inr m ↦ inr (leads_settled _ _ _ _ few a m)
-        ];
-    short = λ k has.
-        let is = a.sound k has in
-        let from = is.0 in
-        omega (
-          arith,
-          cl.short from is.1,
-          ones_le k.waiting from.waiting (length slots)
-              (λ i within. runs_fewer Step slots from.state from.state from.waiting k.waiting i
-              is.2.calls few (omega (arith, within, few)) is.2.runs),
-        );
-    once = cl.once;
-  }
-
-  -- both
-  pub closing_layer : (configs done layer more next : List (Config S)) (slot call left : ℕ)
-      → length slots ≤ 64 → HasSlot slots slot call
-      → IsClosing Step slots configs slot done layer (left + 1)
-      → Gathers (FromOne (IsDone slot) layer) done more → IsNextLayer Step slots slot layer next
-      → IsClosing Step slots configs slot more next left × AllPairs (λ a b. ¬ (IsSame a b)) next
-  closing_layer configs done layer more next slot call left few here cl f n =
-      search (arith, closing_settled, closing_more)
+      × AllPairs (λ a b. ¬ (IsSame a b)) next
+  closing_more configs done layer more next slot call left few here cl goes f g = (
+    record {
+      sound = λ k has.
+          elim (f.sound k has) [
+            | inl before ↦ cl.sound k before
+            | inr found ↦ (
+              made_done _ found.0 _ found.2.1 (cl.under_way found.0 found.1),
+              ap (λ w. bit_at w slot) found.2.1.1 ∙ found.2.0,
+            )
+          ];
+      under_way = λ k has.
+          elim (g.sound k has) [
+            | inl none ↦ absurd (nothing_in _ none)
+            | inr found ↦
+                let made = found.2.1 in
+                made_settled _ made.0 _ made.2
+                (made_next _ found.0 _ made.1 (cl.under_way found.0 found.1))
+          ];
+      complete = λ short new rest l over.
+          elim (goes new rest l over) [
+            | inl before ↦ inl (leads_kept _ _ _ _ _ f before)
+            | inr m ↦
+                elim (bit_cases _ _) [
+                  | inr waits ↦ inr (g.complete short m.0 m.2.0 new m.2.1 rest m.1 waits
+                      (lighter_gone _ _ _ _ here m.2.3 over) m.2.2 m.2.3)
+                  | inl gone ↦ inl (leads_found _ _ _ _ _ _
+                      _ _ f (m.0, m.1, (gone, (refl, refl, refl))) m.2.2 m.2.3)
+                ]
+          ];
+      short = λ k has. elim (g.sound k has) [
+        | inl none ↦ absurd (nothing_in _ none)
+        | inr found ↦
+            let from = found.0 in
+            let made = found.2.1.0 in
+            let next = found.2.1.1 in
+            let is = found.2.1.2 in
+            let at = next.0 in
+            let h = slot_64 _ at next.2.0 few next.2.1.0 in
+            let less : ones (cleared from.waiting at) (length slots) < ones from.waiting (length
+            slots) = grind (arith, ones_less, cleared_le, cleared_same) in
+            omega (
+              arith,
+              cl.short from found.1,
+              less,
+              ap (λ w. ones w (length slots)) next.2.3,
+              ones_le k.waiting made.waiting (length slots)
+                  (λ i within. runs_fewer Step slots made.state made.state made.waiting k.waiting i
+                  is.calls few (omega (arith, within, few)) is.runs),
+            )
+      ];
+      once = f.once cl.once;
+    },
+    g.once none_same,
+  )
 
   -- of no configurations
   pub layer_none : (layer done : List (Config S)) (slot : ℕ) → length layer ≡ 0
-      → Gathers (FromOne (IsDone slot) layer) done done × IsNextLayer Step slots slot layer layer
-  layer_none layer done slot none = grind (arith, gathers_none, nothing_in)
+      → Gathers (FromOne (IsDone slot) layer) done done × GoesOn Step slots slot layer [] layer
+  layer_none [] done slot none = grind (arith, gathers_none, goes_none, nothing_in)
+  layer_none (k ∷ layer) done slot none = absurd (omega (arith, none))
 
   pub closing_end : (configs done layer : List (Config S)) (slot left : ℕ) → left ≡ 0
       → IsClosing Step slots configs slot done layer left → IsClosed Step slots configs slot done
-  closing_end configs done layer slot left none cl = record {
+  closing_end configs done [] slot left none cl = record {
     sound = cl.sound;
     complete = λ new rest l over.
-        elim (cl.complete new rest l over) [
+        elim (cl.complete (λ many. absurd (omega (arith, many))) new rest l over) [
           | inl there ↦ there
-          | inr m ↦ absurd (omega (arith, cl.short m.0 m.1, none))
+          | inr m ↦ absurd (nothing_in _ m.1)
         ];
     once = cl.once;
   }
-
--- of none, all are different
-pub none_same : {S : Type 0} → AllPairs (λ (a b : Config S). ¬ (IsSame a b)) []
-none_same {S} = λ i j d less h. absurd (omega arith)
+  closing_end configs done (k ∷ layer) slot left none cl =
+      absurd (omega (arith, cl.short k (0, omega arith, refl), none))
 
 -- the calls that have slots take the same steps
 abbrev pub HaveSameSteps : {S : Type 0} → (S → ℕ → S → Type 0) → (S → ℕ → S → Type 0)
@@ -351,25 +363,28 @@ module _ {S : Type 0} (A B : S → ℕ → S → Type 0) (slots : List (Option �
       → IsMadeFrom B slots configs spot
   made_as configs spot m = search (arith, as_run)
 
-  pub settled_as : (configs settled : List (Config S)) → AreSettled A slots configs settled
-      → AreSettled B slots configs settled
-  settled_as configs settled a = record {
-    sound = λ k has.
-        let is = a.sound k has in
-        let s = is.2 in (
-          is.0,
-          is.1,
-          record {
-            state = s.state;
-            calls = s.calls;
-            runs = as_run _ _ _ _ _ s.runs;
-            lighter = as_light _ _ s.lighter;
-            made = s.made;
-          },
-        );
-    complete = λ config has.
-        let one = a.complete config has in
+  pub settles_steps : (Found : Spot S → Type 0) (old new : List (Config S))
+      → Settles A slots Found old new → Settles B slots Found old new
+  settles_steps Found old new a = record {
+    sound = λ k has. elim (a.sound k has) [
+      | inl m ↦ inl m
+      | inr p ↦ inr (
+        p.0,
+        p.1,
+        record {
+          state = p.2.state;
+          calls = p.2.calls;
+          runs = as_run _ _ _ _ _ p.2.runs;
+          lighter = as_light _ _ p.2.lighter;
+          made = p.2.made;
+        },
+      )
+    ];
+    kept = a.kept;
+    complete = λ few k found.
+        let one = a.complete few k found in
         (one.0, one.1, one.2, as_light _ _ one.3);
+    longer = a.longer;
     once = a.once;
   }
 

@@ -1,11 +1,11 @@
 -- The configurations after one event more.
-use Rattle.histories.proofs.Words.{◌≡◌, ◌≢◌, ℕ, ◌<◌, ◌≤◌, List, [], ◌∷◌, ◌++◌, length, refl, sym, ◌∙◌, ap, subst, arith, inl, inr, Option, AllPairs, bit_at, Contains, Config, Link, Event, End, Crash, times, Explains, Ends, HasManyOrders, HasSlot, IsFollowed, IsFrontier, IsLighter, IsSame, IsTable, LeadTo, Leaves, Path, cleared, no_path, order_at, order_of, path_of, AreSettled, FreesSlot, FromOne, Gathers, HasMany, IsClosed, IsDropped, IsFirst, IsMadeFrom, Spot, spot_of}
+use Rattle.histories.proofs.Words.{◌≡◌, ◌≢◌, ℕ, ◌<◌, ◌≤◌, List, [], ◌∷◌, ◌++◌, length, refl, sym, ◌∙◌, ap, subst, arith, inl, inr, Option, AllPairs, bit_at, Contains, Config, Link, Event, End, Crash, times, Explains, Ends, HasManyOrders, HasSlot, IsFollowed, IsFrontier, IsLighter, IsSame, IsTable, LeadTo, Leaves, Path, cleared, no_path, order_at, order_of, path_of, FreesSlot, FromOne, Gathers, HasMany, IsClosed, IsDropped, IsFirst, IsMadeFrom, Spot, spot_of}
 use Rattle.histories.proofs.Bits.{bit_cases, cleared_other, cleared_same, slot_64, slot_within}
 use Rattle.histories.proofs.Counting.{not_some, times_none, no_times}
 use Rattle.histories.proofs.Events.{answered_now, begins_none, freed_before, table_end}
 use Rattle.histories.proofs.Running.{lighter_cleared, runs_fewer, runs_in, runs_without, lighter_without}
 use Rattle.histories.proofs.Explaining.{explains_end, explains_open, explains_run}
-use Rattle.histories.proofs.Closing.{leads_found, leads_kept, leads_settled, made_settled, none_same, path_none}
+use Rattle.histories.proofs.Closing.{leads_found, leads_kept, none_same}
 use Rattle.histories.proofs.Places.{nothing_in, order_more, order_none}
 
 module _ {S : Type 0} (Step : S → ℕ → S → Type 0) where
@@ -39,26 +39,6 @@ module _ {S : Type 0} (Step : S → ℕ → S → Type 0) where
         leaves = rw order more.1;
         within = omega (arith, is.within, ap (λ (p : Path). p.base) made.2.2);
       }
-
-  -- calls that change nothing were made
-  pub frontier_settled : (links : List Link) (slots : List (Option ℕ)) (es : List Event)
-      (olds : List S) (configs settled : List (Config S)) → IsTable es slots
-      → AreSound links slots es olds configs → AreComplete slots es olds configs
-      → AreSettled Step slots configs settled → IsFrontier Step links slots es olds settled
-  frontier_settled links slots es olds configs settled table sound complete a = record {
-    sound = λ k has.
-        let is = a.sound k has in
-        followed_made _ _ _ _ _ _ table sound (made_settled _ _ _ _ _ is.2
-        (is.0, is.1, ([], (refl, refl), path_none _)));
-    complete = λ old order new from ex.
-        let lead = complete old order new from ex in (
-          lead.0,
-          lead.1,
-          leads_settled _ _ _ _ _ _ table.few a lead.2,
-        );
-    once = a.once;
-    table = table;
-  }
 
   module _ (slots more : List (Option ℕ)) (t : ℕ) (frees : FreesSlot slots t more)
       (few : length slots ≤ 64) where

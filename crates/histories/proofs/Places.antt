@@ -1,5 +1,5 @@
 -- Lists that are changed place by place, and orders that are read from links.
-use Rattle.histories.proofs.Words.{zero, suc, [], ◌∷◌, ◌≡◌, ◌≢◌, ℕ, ◌+◌, ◌<◌, ◌≤◌, List, ◌++◌, take, drop, append-nil, take_all, length, get_or, set, refl, sym, ◌∙◌, ap, arith, Contains, map, get_or-map, cases_eq, cases_lt, Contains-get_or, AreEach, drop_all, get_or-set_other, get_or-set_same, get_or_default, length-set, set-get_or, length-map, Option, take-append-drop, reverse, length-append, append_assoc, get_or-append, get_or-append_seam, get_or_past, length-take-le, reverse-append, take_more, Config, Link, Event, IsFollowed, IsFrontier, Path, no_path, order_at, path_more, AreLaid, Grows, IsLaid, IsLaidOut}
+use Rattle.histories.proofs.Words.{zero, suc, [], ◌∷◌, ◌≡◌, ◌≢◌, ℕ, ◌+◌, ◌<◌, ◌≤◌, List, ◌++◌, take, drop, append-nil, take_all, length, get_or, set, refl, sym, ◌∙◌, ap, arith, Contains, map, get_or-map, cases_eq, cases_lt, Contains-get_or, AreEach, drop_all, get_or-set_other, get_or-set_same, get_or_default, length-set, length-map, Option, take-append-drop, reverse, length-append, append_assoc, get_or-append, get_or-append_seam, get_or_past, length-take-le, reverse-append, take_more, Config, Link, Event, IsFollowed, IsFrontier, Path, no_path, order_at, path_more, AreLaid, Grows, IsLaid, IsLaidOut}
 use Rattle.histories.specs.Frontier.{orders, read}
 
 -- up to a place each value is related to the one that was there, and from there on it is that one
@@ -26,12 +26,6 @@ done_more {X} R olds now at item one h is r a =
 pub done_as : {X : Type 0} (P Q : X → X → Type 0) (olds now : List X) (at : ℕ)
     → ((x y : X) → P x y → Q x y) → AreDone P olds now at → AreDone Q olds now at
 done_as P Q olds now at follows a = grind arith
-
--- an element is put where it stood
-pub same_set : {X : Type 0} (now : List X) (at : ℕ) (item one : X) → at < length now
-    → item ≡ get_or now at item → one ≡ item → set now at one ≡ now
-same_set {X} now at item one h is same =
-    ap (λ (x : X). set now at x) (same ∙ is) ∙ set-get_or now at item
 
 -- from each a new one has come, and each has a new one
 pub each_from : {X : Type 0} (R : X → X → Type 0) (olds news : List X) (y : X) → AreEach R olds news

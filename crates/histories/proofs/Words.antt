@@ -19,7 +19,7 @@ pub use Rattle.std.specs.List.{Contains, remove}
 pub use Rattle.std.specs.Result.{IfOk}
 pub use Rattle.histories.specs.Advances.{AdvancesIn, Agrees, Ends, EndsOpen, IsAdvance, IsQuiet, IsSameFront, IsVerdict}
 pub use Rattle.histories.specs.Frontier.{HasManyOpen, HasManyOrders, HasSlot, IsFollowed, IsFrontOf, IsFrontier, IsIdle, IsLighter, IsSame, IsSound, IsTable, IsWaiting, LeadTo, Leaves, MovesBefore, Path, Runs, cleared, no_path, order_at, order_of, path_more, path_of, put, read}
-pub use Rattle.histories.specs.Gathering.{AreChained, AreEach, AreLaid, AreLaidIn, AreLinked, AreOpened, AreOther, AreSame, AreSettled, AreSettledEach, AreTaken, ComesFirst, Finishes, FreesSlot, FromOne, Gathers, GoesOn, Grows, HasMany, IsAt, IsBeside, IsClosed, IsClosing, IsCopy, IsDone, IsDropped, IsFirst, IsKnown, IsLaid, IsLaidOut, IsLeft, IsMadeFirst, IsMadeFrom, IsMadeIn, IsNextAt, IsNextBeside, IsNextIn, IsNextLayer, IsNextOther, IsOpened, IsSettled, IsUnderWay, IsUnlinked, IsWith, MovesFirst, Spot, TakesSlot, WaitsInNone, chain_at, chain_of, ones, spot_of}
+pub use Rattle.histories.specs.Gathering.{AreChained, AreEach, AreLaid, AreLaidIn, AreLinked, AreOther, AreTaken, ComesFirst, Finishes, FreesSlot, FromOne, Gathers, GoesFrom, GoesOn, Grows, HasMany, IsAt, IsBegun, IsBeside, IsClosed, IsClosing, IsCopy, IsDone, IsDropped, IsFirst, IsKnown, IsLaid, IsLaidOut, IsLeft, IsMadeFirst, IsMadeFrom, IsMadeIn, IsNextAt, IsNextBeside, IsNextIn, IsNextOther, IsOpened, IsSettled, IsUnderWay, IsUnlinked, IsWith, MovesFirst, Settles, Spot, TakesSlot, WaitsInNone, chain_at, chain_of, ones, spot_of}
 pub use Rattle.histories.specs.Histories.{AreAll, EndsAt, Explains, HasEnded, IsAnswered, IsExplained, IsHistory, IsOpen, IsOver, Leads, MayFollow, StandsAt, begins, times}
 pub use Rattle.histories.specs.Laws.{CallsAloneAreRuns, VerdictsExclude}
 pub use Rattle.histories.specs.declared.event.Event.{Event}

@@ -67,10 +67,10 @@ IsCopy config copy =
     (copy.state ≡ config.state) × (copy.waiting ≡ config.waiting) × (copy.made ≡ path_of config)
 
 -- the call in this slot waits too
-abbrev pub IsOpened : {S : Type 0} → ℕ → Config S → Config S → Type 0
+abbrev pub IsOpened : {S : Type 0} → ℕ → Config S → Spot S → Type 0
 IsOpened slot config opened =
     (opened.state ≡ config.state) × (opened.waiting ≡ put config.waiting slot)
-    × (path_of opened ≡ path_of config)
+    × (opened.made ≡ path_of config)
 
 -- as many, each of which is related to the one at its place
 abbrev pub AreEach : {X : Type 0} → (X → X → Type 0) → List X → List X → Type 0
@@ -78,44 +78,26 @@ AreEach {X} R olds news =
     (length news ≡ length olds)
     × ((index : ℕ) (d : X) → index < length news → R (get_or olds index d) (get_or news index d))
 
--- the same in each of the configurations, at its place
-abbrev pub AreOpened : {S : Type 0} → ℕ → List (Config S) → List (Config S) → Type 0
-AreOpened slot configs opened = AreEach (IsOpened slot) configs opened
-
 -- the call in this slot waits in none of the configurations
 abbrev pub WaitsInNone : {S : Type 0} → ℕ → List (Config S) → Type 0
 WaitsInNone {S} slot configs =
     (index : ℕ) (d : Config S) → index < length configs
     → bit_at (get_or configs index d).waiting slot ≡ 0
 
--- the same value at each place
-abbrev pub AreSame : {S : Type 0} → List (Config S) → List (Config S) → Type 0
-AreSame {S} configs same = (index : ℕ) (d : Config S) → get_or same index d ≡ get_or configs index d
-
 -- calls that can be made and change nothing were made
 pub record IsSettled {S : Type 0} (Step : S → ℕ → S → Type 0) (slots : List (Option ℕ))
-    (config : Config S) (settled : Spot S) : Type 0 where
-  pub state : settled.state ≡ config.state
+    (from settled : Spot S) : Type 0 where
+  pub state : settled.state ≡ from.state
   pub calls : List ℕ
-  pub runs : Runs Step slots config.state config.waiting calls config.state settled.waiting
-  pub lighter : IsLighter Step slots settled.waiting config.waiting
-  pub made : settled.made ≡ path_more (path_of config) calls
+  pub runs : Runs Step slots from.state from.waiting calls from.state settled.waiting
+  pub lighter : IsLighter Step slots settled.waiting from.waiting
+  pub made : settled.made ≡ path_more from.made calls
 
--- the same in each of the configurations, at its place
-abbrev pub AreSettledEach : {S : Type 0} → (S → ℕ → S → Type 0) → List (Option ℕ)
-    → List (Config S) → List (Config S) → Type 0
-AreSettledEach Step slots configs settled =
-    AreEach (λ config one. IsSettled Step slots config (spot_of one)) configs settled
-
--- each is settled from a configuration, each configuration has one, and each is there once
-pub record AreSettled {S : Type 0} (Step : S → ℕ → S → Type 0) (slots : List (Option ℕ))
-    (configs settled : List (Config S)) : Type 0 where
-  pub sound : (one : Config S) → Contains settled one
-      → (config : Config S) × Contains configs config × IsSettled Step slots config (spot_of one)
-  pub complete : (config : Config S) → Contains configs config
-      → (one : Config S) × Contains settled one × (one.state ≡ config.state)
-      × IsLighter Step slots one.waiting config.waiting
-  pub once : AllPairs (λ a b. ¬ (IsSame a b)) settled
+-- the call in the slot waits too, or was made, where it can be and changes nothing
+abbrev pub IsBegun : {S : Type 0} → (S → ℕ → S → Type 0) → List (Option ℕ) → ℕ → Config S → Config S
+    → Type 0
+IsBegun {S} Step slots slot config begun =
+    (opened : Spot S) × IsOpened slot config opened × IsSettled Step slots opened (spot_of begun)
 
 -- the call was made in the configuration, and could leave no other state; or nothing changed
 abbrev pub IsMadeIn : {S : Type 0} → (S → ℕ → S → Type 0) → Config S → ℕ → Config S → Bool → Type 0
@@ -164,12 +146,12 @@ IsNext Step slots config next =
 abbrev pub IsDone : {S : Type 0} → ℕ → Config S → Spot S → Type 0
 IsDone slot config copy = (bit_at config.waiting slot ≡ 0) × IsCopy config copy
 
--- the call in the slot waits, and one that waits is made
-abbrev pub IsUnderWay : {S : Type 0} → (S → ℕ → S → Type 0) → List (Option ℕ) → ℕ → Config S →
-    Spot S
-    → Type 0
-IsUnderWay Step slots slot config next =
-    (bit_at config.waiting slot ≡ 1) × IsNext Step slots config next
+-- the call in the slot waits, and one that waits is made, and then some that change nothing
+abbrev pub IsUnderWay : {S : Type 0} → (S → ℕ → S → Type 0) → List (Option ℕ) → ℕ → Config S
+    → Spot S → Type 0
+IsUnderWay {S} Step slots slot config next =
+    (bit_at config.waiting slot ≡ 1)
+    × ((made : Spot S) × IsNext Step slots config made × IsSettled Step slots made next)
 
 -- the call in the slot waits, and is never made
 abbrev pub IsDropped : {S : Type 0} → ℕ → Config S → Spot S → Type 0
@@ -226,18 +208,33 @@ pub record Gathers {S : Type 0} (Found : Spot S → Type 0) (old new : List (Con
         → (known : Config S) × Contains new known × IsAt known spot
     pub once : AllPairs (λ a b. ¬ (IsSame a b)) old → AllPairs (λ a b. ¬ (IsSame a b)) new
 
+-- The same, where calls that change nothing are made in those that are found. Once the new ones are
+-- too many, others need not be there.
+pub record Settles {S : Type 0} (Step : S → ℕ → S → Type 0) (slots : List (Option ℕ))
+    (Found : Spot S → Type 0) (old new : List (Config S)) : Type 0 where
+  pub sound : (config : Config S) → Contains new config → Contains old config
+      ⊎ ((spot : Spot S) × Found spot × IsSettled Step slots spot (spot_of config))
+  pub kept : (config : Config S) → Contains old config → Contains new config
+  pub complete : ¬ (4096 < length new) → (spot : Spot S) → Found spot
+      → (known : Config S) × Contains new known × (known.state ≡ spot.state)
+      × IsLighter Step slots known.waiting spot.waiting
+  pub longer : (count : ℕ) → count < length old → count < length new
+  pub once : AllPairs (λ a b. ¬ (IsSame a b)) old → AllPairs (λ a b. ¬ (IsSame a b)) new
+
 -- The new ones are the old ones and some to which one more call leads from one of these, in which
 -- the call in the slot waits. What calls lead to from there, the call among them, is led to from
--- the new ones. Each is there once.
+-- the new ones, where these are not too many. Each is there once.
 pub record GoesOn {S : Type 0} (Step : S → ℕ → S → Type 0) (slots : List (Option ℕ)) (slot : ℕ)
     (layer old new : List (Config S)) : Type 0 where
   pub sound : (config : Config S) → Contains new config
       → Contains old config ⊎ FromOne (IsUnderWay Step slots slot) layer (spot_of config)
   pub kept : (config : Config S) → Contains old config → Contains new config
-  pub complete : (config : Config S) (calls : List ℕ) (last : S) (fewer rest : ℕ)
+  pub complete : ¬ (4096 < length new)
+      → (config : Config S) (calls : List ℕ) (last : S) (fewer rest : ℕ)
       → Contains layer config → bit_at config.waiting slot ≡ 1 → bit_at fewer slot ≡ 0
       → Runs Step slots config.state config.waiting calls last fewer
       → IsLighter Step slots fewer rest → LeadTo Step slots new last rest
+  pub longer : (count : ℕ) → count < length old → count < length new
   pub once : AllPairs (λ a b. ¬ (IsSame a b)) old → AllPairs (λ a b. ¬ (IsSame a b)) new
 
 -- calls that waited in one of the configurations were made
@@ -248,17 +245,24 @@ IsMadeFrom {S} Step slots configs next =
     × ((calls : List ℕ) × Runs Step slots config.state config.waiting calls next.state next.waiting
     × (next.made ≡ path_more (path_of config) calls))
 
+-- what some calls lead to, the call in the slot among them, is led to from those done or under way
+abbrev pub GoesFrom : {S : Type 0} → (S → ℕ → S → Type 0) → List (Option ℕ) → List (Config S) → ℕ
+    → List (Config S) → List (Config S) → Type 0
+GoesFrom {S} Step slots configs slot done layer =
+    (new : S) (rest : ℕ) → LeadTo Step slots configs new rest → bit_at rest slot ≡ 0
+    → LeadTo Step slots done new rest ⊎ LeadTo Step slots layer new rest
+
 -- The call in the slot is made: of those that are done each has come from a configuration, and the
 -- call does not wait there. What some calls lead to, the call among them, is still led to from
--- those done, or from those under way, in each of which fewer calls wait.
+-- those done, or from those under way, in each of which fewer calls wait, where these are not too
+-- many.
 pub record IsClosing {S : Type 0} (Step : S → ℕ → S → Type 0) (slots : List (Option ℕ))
     (configs : List (Config S)) (slot : ℕ) (done layer : List (Config S)) (left : ℕ) : Type 0 where
   pub sound : (config : Config S) → Contains done config
       → IsMadeFrom Step slots configs (spot_of config) × (bit_at config.waiting slot ≡ 0)
   pub under_way : (config : Config S) → Contains layer config
       → IsMadeFrom Step slots configs (spot_of config)
-  pub complete : (new : S) (rest : ℕ) → LeadTo Step slots configs new rest → bit_at rest slot ≡ 0
-      → LeadTo Step slots done new rest ⊎ LeadTo Step slots layer new rest
+  pub complete : ¬ (4096 < length layer) → GoesFrom Step slots configs slot done layer
   pub short : (config : Config S) → Contains layer config
       → ones config.waiting (length slots) < left
   pub once : AllPairs (λ a b. ¬ (IsSame a b)) done
@@ -278,13 +282,6 @@ abbrev pub IsClosedInPlace : {S : Type 0} → (S → ℕ → S → Type 0) → L
 IsClosedInPlace Step slots slot old new true =
     AllPairs (λ a b. ¬ (IsSame a b)) old → IsClosed Step slots old slot new
 IsClosedInPlace Step slots slot old new false = new ≡ old
-
--- of those to which one more call leads, where it goes on so, each is settled
-abbrev pub IsNextLayer : {S : Type 0} → (S → ℕ → S → Type 0) → List (Option ℕ) → ℕ
-    → List (Config S) → List (Config S) → Type 0
-IsNextLayer {S} Step slots slot layer next =
-    (raw : List (Config S)) × GoesOn Step slots slot layer [] raw
-    × AreSettled Step slots raw next
 
 -- an order of no calls has come to the spot from one of these states
 abbrev pub IsFirst : {S : Type 0} → List S → Spot S → Type 0

@@ -2,13 +2,13 @@
 ghost use Rattle.std.specs.Prelude.{◌≡◌, ◌<◌, ◌≤◌, ◌++◌, ◌∷◌, [], ℕ, IfNone, IfOk, IfSome, IsTrue, OnOk, length};
 ghost use Rattle.std.specs.Int.{bit_at};
 ghost use Rattle.histories.specs.Frontier.{HasSlot, IsWaiting, cleared};
-ghost use Rattle.histories.specs.Gathering.{FromOne, Gathers, GoesOn, IsAlone, IsBeside, IsCloseOutcome, IsClosedInPlace, IsDone, IsDropped, IsMadeFirst, IsMadeIn, IsNextAt, IsNextIn, IsNextLayer, IsNextOther, MovesFirst, WaitsInNone};
+ghost use Rattle.histories.specs.Gathering.{FromOne, Gathers, GoesOn, IsAlone, IsBeside, IsCloseOutcome, IsClosedInPlace, IsCopy, IsDone, IsDropped, IsMadeFirst, IsMadeIn, IsNextAt, IsNextIn, IsNextOther, MovesFirst, Settles, WaitsInNone};
 
 use super::front::{Config, MAX_CONFIGS};
-use super::gather::{Gathered, add, add_new, has_same};
+use super::gather::{Gathered, add};
 use super::left::Left;
 use super::machine::Machine;
-use super::settle::{settle, settle_all};
+use super::settle::settle;
 use super::slots::{ALL, has, without};
 use std::alloc::{AllocError, Global};
 
@@ -25,49 +25,73 @@ fn with_call(alloc: Global, calls: &[usize], call: usize) -> Result<Vec<usize>, 
     Ok(more)
 }
 
-/// Adds the configuration in which the call in the slot was made and left this state. Where there
-/// is the same, its calls are not listed.
-#[tactic(auto, using(crate::proofs::Closing::path_is, crate::proofs::Gathering::gathers_state))]
+/// Makes calls in the configuration that can be made and change nothing, and adds it, unless there
+/// is the same.
+fn add_settled<M: Machine>(
+    alloc: Global,
+    machine: &M,
+    slots: &[Option<usize>],
+    config: Config<M::State>,
+    next: &mut Gathered<M>,
+) -> Result<(), AllocError>
+    requires few { length slots.now ≤ 64 }
+    ensures { OnOk result (Settles (M.Step machine.now) slots.now (IsCopy config)
+        next.old next.new) }
+{
+    let mut settled = config;
+    settle(machine, slots, ALL, &mut settled)?;
+    add(alloc, machine, next, settled)
+}
+
+/// Adds the configuration in which the call in the slot was made and left this state, unless there
+/// are too many.
+#[tactic(auto, using(crate::proofs::Closing::path_is, crate::proofs::Gathering::settles_full, crate::proofs::Gathering::settles_state))]
 fn make_state<M: Machine>(
     alloc: Global,
     machine: &M,
+    slots: &[Option<usize>],
     config: &Config<M::State>,
     slot: usize,
     call: usize,
     state: M::State,
     next: &mut Gathered<M>,
 ) -> Result<(), AllocError>
-    requires { slot < 64 }
-    ensures { OnOk result (Gathers (IsNextIn config.now slot call (state ∷ [])) next.old next.new) }
+    requires few { length slots.now ≤ 64 }
+    requires within { slot < 64 }
+    ensures { OnOk result (Settles (M.Step machine.now) slots.now
+        (IsNextIn config.now slot call (state ∷ [])) next.old next.new) }
 {
-    let mut made = Config {
+    if next.is_full() {
+        return Ok(());
+    }
+    let made = with_call(alloc, &config.made, call)?;
+    let after = Config {
         state,
         waiting: without(config.waiting, slot),
         base: config.base,
-        made: Vec::new(alloc),
+        made,
     };
-    if has_same(machine, next, &made) {
-        return Ok(());
-    }
-    made.made = with_call(alloc, &config.made, call)?;
-    add_new(alloc, machine, next, made)
+    add_settled(alloc, machine, slots, after, next)
 }
 
 /// The same for each of these states.
 fn make_states<M: Machine>(
     alloc: Global,
     machine: &M,
+    slots: &[Option<usize>],
     config: &Config<M::State>,
     slot: usize,
     call: usize,
     states: Vec<M::State>,
     next: &mut Gathered<M>,
 ) -> Result<(), AllocError>
-    requires { slot < 64 }
-    ensures { OnOk result (Gathers (IsNextIn config.now slot call states.items) next.old next.new) }
+    requires few { length slots.now ≤ 64 }
+    requires within { slot < 64 }
+    ensures { OnOk result (Settles (M.Step machine.now) slots.now
+        (IsNextIn config.now slot call states.items) next.old next.new) }
 {
     for state in states {
-        make_state(alloc, machine, config, slot, call, state, next)?;
+        make_state(alloc, machine, slots, config, slot, call, state, next)?;
     }
     Ok(())
 }
@@ -85,8 +109,9 @@ fn waits_beside(slots: &[Option<usize>], waiting: u64, slot: usize, at: usize) -
     slots[at]
 }
 
-/// Adds the configurations to which the call in the slot, which waits, leads.
-#[tactic(auto, using(crate::proofs::Gathering::gathers_call, crate::proofs::Gathering::gathers_no_state))]
+/// Adds the configurations to which the call in the slot, which waits, leads, unless there are too
+/// many.
+#[tactic(auto, using(crate::proofs::Gathering::settles_call, crate::proofs::Gathering::settles_full, crate::proofs::Gathering::settles_no_state))]
 fn make_call<M: Machine>(
     alloc: Global,
     machine: &M,
@@ -96,20 +121,24 @@ fn make_call<M: Machine>(
     call: usize,
     next: &mut Gathered<M>,
 ) -> Result<(), AllocError>
+    requires few { length slots.now ≤ 64 }
     requires within { slot < 64 }
     requires waits { IsWaiting slots.now config.now.waiting slot call }
-    ensures { OnOk result (Gathers (IsNextAt (M.Step machine.now) slots.now config.now slot)
-        next.old next.new) }
+    ensures { OnOk result (Settles (M.Step machine.now) slots.now
+        (IsNextAt (M.Step machine.now) slots.now config.now slot) next.old next.new) }
 {
+    if next.is_full() {
+        return Ok(());
+    }
     match machine.follow(&config.state, call)? {
         Left::Nothing => Ok(()),
-        Left::One(state) => make_state(alloc, machine, config, slot, call, state, next),
-        Left::All(states) => make_states(alloc, machine, config, slot, call, states, next),
+        Left::One(state) => make_state(alloc, machine, slots, config, slot, call, state, next),
+        Left::All(states) => make_states(alloc, machine, slots, config, slot, call, states, next),
     }
 }
 
 /// The same, if a call has the slot and waits, and it is not this other slot.
-#[tactic(auto, using(crate::proofs::Gathering::gathers_none, crate::proofs::Gathering::gathers_other))]
+#[tactic(auto, using(crate::proofs::Gathering::settles_none, crate::proofs::Gathering::settles_other))]
 fn make_other<M: Machine>(
     alloc: Global,
     machine: &M,
@@ -121,8 +150,8 @@ fn make_other<M: Machine>(
 ) -> Result<(), AllocError>
     requires few { length slots.now ≤ 64 }
     requires within { other < length slots.now }
-    ensures { OnOk result (Gathers (IsNextOther (M.Step machine.now) slots.now config.now slot
-        other) next.old next.new) }
+    ensures { OnOk result (Settles (M.Step machine.now) slots.now
+        (IsNextOther (M.Step machine.now) slots.now config.now slot other) next.old next.new) }
 {
     match waits_beside(slots, config.waiting, slot, other) {
         Some(call) => make_call(alloc, machine, slots, config, other, call, next),
@@ -146,7 +175,7 @@ pub fn make_in<M: Machine>(
 }
 
 /// The same for the slot itself, whose call waits. It is made in place where it leaves one state.
-#[tactic(auto, using(crate::proofs::Gathering::gathers_made))]
+#[tactic(auto, using(crate::proofs::Gathering::settles_made))]
 fn make_last<M: Machine>(
     alloc: Global,
     machine: &M,
@@ -158,8 +187,8 @@ fn make_last<M: Machine>(
     requires few { length slots.now ≤ 64 }
     requires within { slot < length slots.now }
     requires waits { bit_at config.waiting slot ≡ 1 }
-    ensures { OnOk result (Gathers (IsNextAt (M.Step machine.now) slots.now config slot)
-        next.old next.new) }
+    ensures { OnOk result (Settles (M.Step machine.now) slots.now
+        (IsNextAt (M.Step machine.now) slots.now config slot) next.old next.new) }
 {
     let mut config = config;
     let Some(call) = slots[slot] else {
@@ -167,7 +196,7 @@ fn make_last<M: Machine>(
     };
     if make_in(machine, &mut config, call)? {
         config.waiting = without(config.waiting, slot);
-        return add(alloc, machine, next, config);
+        return add_settled(alloc, machine, slots, config, next);
     }
     make_call(alloc, machine, slots, &config, slot, call, next)
 }
@@ -275,9 +304,10 @@ pub fn close_in_place<M: Machine>(
     Ok(true)
 }
 
-/// Adds the configurations to which one more call leads, that in the slot last. Where this moves
-/// before all others that wait, it is made alone: they can be made after it.
-#[tactic(auto, using(crate::proofs::Closing::goes_first, crate::proofs::Gathering::gathers_no_slot, crate::proofs::Gathering::gathers_slot))]
+/// Adds the configurations to which one more call leads, that in the slot last, unless there are
+/// too many. Where this moves before all others that wait, it is made alone: they can be made after
+/// it.
+#[tactic(auto, using(crate::proofs::Closing::goes_first, crate::proofs::Closing::goes_full, crate::proofs::Gathering::settles_no_slot, crate::proofs::Gathering::settles_slot))]
 fn make_calls<M: Machine>(
     alloc: Global,
     machine: &M,
@@ -292,6 +322,9 @@ fn make_calls<M: Machine>(
     ensures { OnOk result (GoesOn (M.Step machine.now) slots.now slot (config ∷ [])
         next.old next.new) }
 {
+    if next.is_full() {
+        return Ok(());
+    }
     if moves_first(machine, slots, config.waiting, slot) {
         return make_last(alloc, machine, slots, config, slot, next);
     }
@@ -324,7 +357,9 @@ fn close_one<M: Machine>(
     add(alloc, machine, done, config)
 }
 
-/// The same for each of these configurations. Returns the next ones.
+/// The same for each of these configurations. Returns the next ones: once there are too many, no
+/// more.
+#[tactic(auto, using(crate::proofs::Closing::goes_none, crate::proofs::Closing::layer_none))]
 fn close_round<M: Machine>(
     alloc: Global,
     machine: &M,
@@ -338,35 +373,15 @@ fn close_round<M: Machine>(
     ensures { IfOk result (λ next. Gathers (FromOne (IsDone slot) layer.items) done.old done.new
         × GoesOn (M.Step machine.now) slots.now slot layer.items [] next.items) }
 {
+    if layer.is_empty() {
+        return Ok(layer);
+    }
     let count = layer.len().saturating_mul(2).saturating_add(2);
     let mut next = Gathered::with_capacity(alloc, count)?;
     for config in layer {
         close_one(alloc, machine, slots, config, slot, done, &mut next)?;
     }
     Ok(next.into_configs())
-}
-
-/// The same, where calls that change nothing are made at once in the next ones.
-#[tactic(auto, using(crate::proofs::Closing::layer_none, crate::proofs::Closing::none_same))]
-fn close_settled<M: Machine>(
-    alloc: Global,
-    machine: &M,
-    slots: &[Option<usize>],
-    layer: Vec<Config<M::State>>,
-    slot: usize,
-    done: &mut Gathered<M>,
-) -> Result<Vec<Config<M::State>>, AllocError>
-    requires few { length slots.now ≤ 64 }
-    requires within { slot < length slots.now }
-    ensures { IfOk result (λ next. Gathers (FromOne (IsDone slot) layer.items) done.old done.new
-        × IsNextLayer (M.Step machine.now) slots.now slot layer.items next.items) }
-{
-    if layer.is_empty() {
-        return Ok(layer);
-    }
-    let mut next = close_round(alloc, machine, slots, layer, slot, done)?;
-    settle_all(alloc, machine, slots, ALL, &mut next, true)?;
-    Ok(next)
 }
 
 /// Makes waiting calls until the one in this slot is made. Returns the configurations in which it
@@ -385,12 +400,12 @@ pub fn close<M: Machine>(
 {
     let mut left = slots.len();
     let mut done = Gathered::with_capacity(alloc, configs.len())?;
-    let mut layer = close_settled(alloc, machine, slots, configs, slot, &mut done)?;
+    let mut layer = close_round(alloc, machine, slots, configs, slot, &mut done)?;
     while left > 0 {
         if layer.len() > MAX_CONFIGS {
             return Ok(None);
         }
-        layer = close_settled(alloc, machine, slots, layer, slot, &mut done)?;
+        layer = close_round(alloc, machine, slots, layer, slot, &mut done)?;
         left -= 1;
     }
     let done = done.into_configs();

@@ -8,7 +8,7 @@ ghost use Rattle.histories.specs.declared.front.Link.{Link};
 ghost use Rattle.histories.specs.Gathering.{AreChained, AreOther, FromOne, Gathers, HasSame, IsCopy, IsKnown, chain_of};
 ghost use Rattle.histories.specs.Frontier.{IsFrontOf, IsSame};
 
-use super::front::{Config, Front};
+use super::front::{Config, Front, MAX_CONFIGS};
 use super::machine::Machine;
 use std::alloc::{AllocError, Global};
 use std::marker::Model;
@@ -181,6 +181,13 @@ impl<M: Machine> Gathered<M> {
         configs
     }
 
+    /// Whether these are more than are followed.
+    pub fn is_full(&self) -> bool
+        ensures { IsTrue result → 4096 < length self.now }
+    {
+        self.configs.len() > MAX_CONFIGS
+    }
+
     /// Puts configurations into chains once many of them are in none.
     fn link_many(&mut self, alloc: Global, machine: &M) -> Result<(), AllocError>
         ensures { self.new ≡ self.old }
@@ -231,48 +238,28 @@ fn is_known<M: Machine>(
     is_among(machine, &configs[before.len()..], config)
 }
 
-/// Whether one of the configurations that were gathered is the same.
-pub fn has_same<M: Machine>(machine: &M, gathered: &Gathered<M>, config: &Config<M::State>) -> bool
-    ensures { IsKnown gathered.now config.now result }
-{
-    is_known(
-        machine,
-        &gathered.configs,
-        &gathered.heads,
-        &gathered.before,
-        config,
-    )
-}
-
-/// Adds a configuration, where none is the same.
-#[tactic(auto, using(crate::proofs::Gathering::gathers_new))]
-pub fn add_new<M: Machine>(
-    alloc: Global,
-    machine: &M,
-    gathered: &mut Gathered<M>,
-    config: Config<M::State>,
-) -> Result<(), AllocError>
-    requires { IsKnown gathered.old config false }
-    ensures { OnOk result (Gathers (IsCopy config) gathered.old gathered.new) }
-{
-    gathered.configs.push(config)?;
-    gathered.link_many(alloc, machine)
-}
-
 /// Adds a configuration, unless there is the same.
-#[tactic(auto, using(crate::proofs::Gathering::gathers_known))]
+#[tactic(auto, using(crate::proofs::Gathering::gathers_new))]
 pub fn add<M: Machine>(
     alloc: Global,
     machine: &M,
     gathered: &mut Gathered<M>,
     config: Config<M::State>,
 ) -> Result<(), AllocError>
-    ensures { OnOk result (Gathers (IsCopy config) gathered.old gathered.new) }
+    ensures gathers { OnOk result (Gathers (IsCopy config) gathered.old gathered.new) }
+    ensures longer { OnOk result (length gathered.old ≤ length gathered.new) }
 {
-    if has_same(machine, gathered, &config) {
+    if is_known(
+        machine,
+        &gathered.configs,
+        &gathered.heads,
+        &gathered.before,
+        &config,
+    ) {
         return Ok(());
     }
-    add_new(alloc, machine, gathered, config)
+    gathered.configs.push(config)?;
+    gathered.link_many(alloc, machine)
 }
 
 /// The first configurations, and of the others those that are not there yet.

@@ -1,44 +1,62 @@
 //! One event more, and where no call is open: a call that overlaps nothing, and a new beginning.
-ghost use Rattle.std.specs.Prelude.{◌≡◌, ◌<◌, ◌≤◌, IfOk, IsTrue, length};
-ghost use Rattle.std.specs.Int.{bit_at};
+ghost use Rattle.std.specs.Prelude.{◌<◌, ◌≤◌, [], IfOk, OnOk, length};
 ghost use Rattle.histories.specs.declared.event.Event.TheVariants.{Begin, End, Crash};
 ghost use Rattle.histories.specs.Advances.{BeginsAnew, EndsInPlace, IsAdvance, IsMadeAlone};
 ghost use Rattle.histories.specs.Frontier.{HasSlot};
-ghost use Rattle.histories.specs.Gathering.{AreEach, AreOpened, Finishes, IsOpened, IsUnlinked, LaysOut, WaitsInNone};
+ghost use Rattle.histories.specs.Gathering.{AreEach, Finishes, FromOne, IsBegun, IsOpened, IsUnlinked, LaysOut, Settles};
 
 use super::close::{close, close_in_place, dropped_all, make_in};
 use super::event::Event;
 use super::front::{Advance, Config, Front, MAX_CONFIGS};
-use super::gather::joined;
+use super::gather::{Gathered, add, joined};
 use super::links::lay_all;
 use super::machine::Machine;
-use super::settle::settle_all;
-use super::slots::{are_free, free, has, slot_of, take_slot, with};
+use super::settle::settle;
+use super::slots::{are_free, free, slot_of, take_slot, with};
 use std::alloc::{AllocError, Global};
 use std::mem;
 
-/// The call in the slot waits in the configuration. Returns whether it did not before.
-fn open<S>(config: &mut Config<S>, slot: usize) -> bool
-    requires { slot < 64 }
-    ensures opened { IsOpened slot config.old config.new }
-    ensures new { IsTrue result → bit_at config.old.waiting slot ≡ 0 }
+/// The call in the slot waits in the configuration, or is made at once, where it changes nothing.
+fn open<M: Machine>(
+    machine: &M,
+    slots: &[Option<usize>],
+    slot: usize,
+    config: &mut Config<M::State>,
+) -> Result<(), AllocError>
+    requires few { length slots.now ≤ 64 }
+    requires within { slot < 64 }
+    ensures { OnOk result (IsBegun (M.Step machine.now) slots.now slot config.old config.new) }
 {
-    let was = has(config.waiting, slot);
     config.waiting = with(config.waiting, slot);
-    !was
+    // The state is as it was, and the other calls were tried in it.
+    settle(machine, slots, with(0, slot), config)
 }
 
-/// The call in the slot waits in each of the configurations. Returns whether it did in none before.
-fn open_all<S>(configs: &mut [Config<S>], slot: usize) -> bool
-    requires { slot < 64 }
-    ensures opened { AreOpened slot configs.old configs.new }
-    ensures new { IsTrue result → WaitsInNone slot configs.old }
+/// The same in each of the configurations, and each is there once then.
+fn open_all<M: Machine>(
+    alloc: Global,
+    machine: &M,
+    slots: &[Option<usize>],
+    slot: usize,
+    configs: Vec<Config<M::State>>,
+) -> Result<Vec<Config<M::State>>, AllocError>
+    requires few { length slots.now ≤ 64 }
+    requires within { slot < 64 }
+    ensures { IfOk result (λ opened. Settles (M.Step machine.now) slots.now
+        (FromOne (IsOpened slot) configs.items) [] opened.items) }
 {
-    let mut is_new = true;
-    for config in configs.iter_mut() {
-        is_new = open(config, slot) && is_new;
+    let mut configs = configs;
+    if configs.len() == 1 {
+        open(machine, slots, slot, &mut configs[0])?;
+        return Ok(configs);
     }
-    is_new
+    let mut opened = Gathered::with_capacity(alloc, configs.len())?;
+    for config in configs {
+        let mut config = config;
+        open(machine, slots, slot, &mut config)?;
+        add(alloc, machine, &mut opened, config)?;
+    }
+    Ok(opened.into_configs())
 }
 
 /// The calls that were made go into the links. Returns what was done.
@@ -66,17 +84,12 @@ fn begin<M: Machine>(
     let Some(slot) = take_slot(&mut front.slots, call)? else {
         return Ok(Advance::ManyOpen);
     };
-    let is_new = open_all(&mut front.configs, slot);
-    // The states are as they were, and the other calls were tried in them.
-    let own = with(0, slot);
-    settle_all(
-        alloc,
-        machine,
-        &front.slots,
-        own,
-        &mut front.configs,
-        is_new,
-    )?;
+    let configs = mem::replace(&mut front.configs, Vec::new(alloc));
+    let opened = open_all(alloc, machine, &front.slots, slot, configs)?;
+    if opened.len() > MAX_CONFIGS {
+        return Ok(Advance::ManyConfigs);
+    }
+    front.configs = opened;
     lay(front)
 }
 

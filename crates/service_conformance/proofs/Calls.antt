@@ -56,15 +56,6 @@ module _ (call : Call) (s : Service) where
   module _ (is : IsService s) (rest : quiet s ≡ s) (covered : IsCovered call.command) where
     module _ (p : Possible) (words : List ℕ) (has : call.words ≡ Some words)
         (all : ArePossible s (ServesCall call s) p) where
-      pub seen_never : Tells s p words None → (new : Service) → ¬ (CallStep call s new)
-      seen_never tells new step =
-          let q = step.2.0 in
-          let on = step.2.2 in
-          tells q (all.only q on.0 on.1 on.2) (rw has at step.2.1)
-
-      pub seen_none : Tells s p words None → AreAll (CallStep call s) []
-      seen_none tells = all_of_none (CallStep call s) (seen_never tells)
-
       pub seen_one : (r : Reply) (next : Service) → Tells s p words (Some r)
           → LeadsTo (ServesCall call s) r next → AreAll (CallStep call s) (next ∷ [])
       seen_one r next tells leads =

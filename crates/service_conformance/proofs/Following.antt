@@ -1,11 +1,10 @@
 -- The one state that a reply leaves.
 use Rattle.service_conformance.proofs.Prelude.{Err, None, Ok, Option, Some, ap, false, inl, inr, refl, subst, true, ℕ, ◌∙◌, ◌≡◌}
-use Rattle.service_conformance.proofs.Names.{AddStep, Adds, AddsPort, CanServe, ContainerHandleNotOwnedByContainer, ContainerState, Default, First, Handle, IsNeither, IsRegistry, IsService, LeadsTo, LockIfLastIndex, MayGive, OnSide, OutOfSpace, PatternKind, PortDetails, Ports, RegistryState, ReleaseState, RemoveStep, Removes, RemovesPort, Reply, Reports, Role, Second, ServesAdd, ServesDeregister, ServesRegister, ServesRelease, Service, Side, TakesEntry, at_rest, first_role, handle_in, is_removal, of_side, other_side, ports_at, quiet, role_at, role_of, second_role}
+use Rattle.service_conformance.proofs.Names.{AddStep, Adds, AddsPort, CanServe, ContainerHandleNotOwnedByContainer, ContainerState, Default, First, Handle, IsRegistry, IsService, LeadsTo, LockIfLastIndex, MayGive, OnSide, OutOfSpace, PatternKind, PortDetails, Ports, RegistryState, ReleaseState, RemoveStep, Removes, RemovesPort, Reply, Reports, Role, Second, ServesAdd, ServesDeregister, ServesRegister, ServesRelease, Service, Side, TakesEntry, at_rest, first_role, handle_in, is_removal, of_side, other_side, ports_at, quiet, role_at, role_of, second_role}
 use Rattle.service_conformance.proofs.Sides.{has_role, lacks, one_side, step_at}
 use Rattle.service_descriptions.specs.declared.replay.machine.reply.Reply.TheVariants as reply
 use Rattle.service_conformance.proofs.Adds.{add_once, was_given}
 use Rattle.service_conformance.proofs.Quiet.{service_quiet}
-use Rattle.service_conformance.proofs.Releasing.{never}
 
 -- the one state that can be led to is a service
 pub one_kept : (Step : Reply → Service → Type 0) (r : Reply) (new : Service) → CanServe Step r
@@ -132,11 +131,6 @@ module _ (s : Service) (d : PortDetails) where
   attach_stays rest reply.WrongPattern e = λ w so. ap quiet so.1 ∙ rest
   attach_stays rest _ e = λ w so. absurd so
 
-  pub attach_nowhere : (h : Handle) (seen : Service)
-      → IsNeither (first_role s.pattern) (second_role s.pattern) (role_of d)
-      → LeadsTo (ServesAdd s d) (reply.Handle h) seen
-  attach_nowhere h seen n = λ w so. absurd (lacks s.pattern (role_of d) n so.0)
-
   module _ (side : Side) (h : Handle) (role : role_of d ≡ role_at s.pattern side) where
     pub attach_enters : CanServe (ServesAdd s d) (reply.Handle h)
         → (m : RegistryState PortDetails)
@@ -182,13 +176,6 @@ module _ (s : Service) (h : Handle) where
   release_stays rest reply.Released e = absurd (let z : true ≡ false = e in cc)
   release_stays rest reply.NotOwned e = λ w so. refused_removal rest w so
   release_stays rest _ e = λ w so. absurd so
-
-  pub release_nowhere : (r : Reply) (seen : Service) → is_removal r ≡ true
-      → IsNeither (first_role s.pattern) (second_role s.pattern) h.role
-      → LeadsTo (ServesRelease s (Some h)) r seen
-  release_nowhere reply.Released seen e n = λ w so. absurd (never s h so.0 w.ports n so.1.0)
-  release_nowhere reply.NotOwned seen e n = absurd (let z : false ≡ true = e in cc)
-  release_nowhere _ seen e n = λ w so. absurd so
 
   module _ (side : Side) (role : h.role ≡ role_at s.pattern side) (m : RegistryState PortDetails)
       (gone : (state : ReleaseState) (new : RegistryState PortDetails)

@@ -1,9 +1,9 @@
 -- What is given of a service that was in use.
 use Rattle.service_conformance.proofs.Prelude.{All, All-cons, All-head, All-nil, All-push, All-weaker, AllPairs, Bool, IfOk, List, OnErr, [], all_pairs_push, ap, arith, false, filter-append, length, length-append, refl, subst, sym, true, ℕ, ◌++◌, ◌<◌, ◌∙◌, ◌∷◌, ◌≡◌, ◌≢◌, ◌≤◌, false_from_ne_true}
-use Rattle.service_conformance.proofs.Names.{Becomes, Entry, First, GivesNode, GivesNodes, GivesPort, GivesPorts, IsBefore, IsNeither, IsPortRegistry, IsRegistry, IsService, IsUnused, MayStand, PortDetails, Registered, RegistryState, Role, Second, Service, Side, StandsLast, UsedSo, candidates, entries_of_node, first_role, is_of, node_of, ports_at, role_at, role_of, second_role, slot_entry, with_last, with_nodes, with_ports, with_used}
+use Rattle.service_conformance.proofs.Names.{Becomes, Entry, First, GivesNode, GivesNodes, GivesPort, GivesPorts, IsBefore, IsPortRegistry, IsRegistry, IsService, IsUnused, MayStand, PortDetails, Registered, RegistryState, Role, Second, Service, Side, StandsLast, UsedSo, candidates, entries_of_node, is_of, node_of, ports_at, role_at, role_of, slot_entry, with_last, with_nodes, with_ports, with_used}
 use Rattle.std.specs.Prelude.{Result, Ok, Err}
 use Rattle.iox2_container.proofs.Gaining.{All-back, AllPairs-head, AllPairs-tail}
-use Rattle.service_conformance.proofs.Sides.{has_role, lacks, one_side, ports_are}
+use Rattle.service_conformance.proofs.Sides.{one_side, ports_are}
 
 -- so many tickets of an unused registry make it one
 pub used_is : {T : Type 0} (r : RegistryState T) (used : ℕ) (locked : Bool) → IsUnused r
@@ -298,17 +298,6 @@ pub kept_by : {A E T : Type 0} (P : A → Type 0) (Is : T → Type 0) (result : 
     → IfOk result P → OnErr result (new ≡ old) → ((v : A) → P v → Is new) → Is old → Is new
 kept_by P Is (Ok v) old new h e f i = f v h
 kept_by P Is (Err x) old new h e f i = subst Is (sym e) i
-
-pub err_by : {A E T S : Type 0} (f : T → S) (result : Result A E) (old new : T)
-    → OnErr result (new ≡ old) → OnErr result (f new ≡ f old)
-err_by f (Ok v) old new e = e
-err_by f (Err x) old new e = ap f e
-
--- a pattern without the role
-pub no_side : (s : Service) (role : Role)
-    → IsNeither (first_role s.pattern) (second_role s.pattern) role → (side : Side)
-    → role ≢ role_at s.pattern side
-no_side s role n side e = lacks s.pattern role n (has_role s.pattern side role e)
 
 -- a node is registered in what is the same service
 pub has_moved : (s t : Service) (node id : ℕ) → s ≡ t → node ≡ id

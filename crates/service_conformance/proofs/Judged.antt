@@ -90,12 +90,6 @@ module _ (first : ℕ) (calls : List Judged) (number : ℕ) where
           (subst (λ c. JudgedStep number c old new) (one_call call step.0 has step.1) step.2),
     )
 
-    pub window_blocked : ((n : ℕ) (new : Watched) → ¬ (JudgedStep n call s new))
-        → (new : Watched) → ¬ (WindowStep first calls s number new)
-    window_blocked blocked new step =
-        blocked number new
-        (subst (λ c. JudgedStep number c s new) (one_call call step.0 has step.1) step.2)
-
   pub window_none : LacksNumber first calls number → (s : Watched)
       → AreAll (λ new. WindowStep first calls s number new) []
   window_none lacks s =

@@ -53,19 +53,6 @@ module _ (s : Service) where
     }
 
   module _ (role : Role) where
-    list_lacks : LacksRole s.pattern role → (r : Reply) (new : Service)
-        → Reports s (ServesList s role) r new
-        → reply.WrongPattern ≡ r
-    list_lacks n (reply.Ports ports) new so =
-        absurd (some_role s.pattern (λ r items. items ≡ listed r) s.ports role ports.items so.0 n)
-    list_lacks n reply.WrongPattern new so = refl
-    list_lacks n _ new so = absurd so.0
-
-    pub lists_none : IsService s → LacksRole s.pattern role
-        → ArePossible s (Reports s (ServesList s role)) (possible.One (line.Word word.WrongPattern))
-    lists_none i n =
-        alone _ _ (line.Word word.WrongPattern) s (λ r. refl) (n, refl) i (list_lacks n)
-
     count_lacks : LacksRole s.pattern role → (r : Reply) (new : Service)
         → Reports s (ServesCount s role) r new → reply.WrongPattern ≡ r
     count_lacks n (reply.Count k) new so =

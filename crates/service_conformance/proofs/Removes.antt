@@ -1,28 +1,11 @@
 -- Removals of a given entry.
-use Rattle.service_conformance.proofs.Prelude.{All, All-weaker, Bool, List, Ok, Some, ap, arith, drop, get_or, get_or_from_slice_get, length, refl, remove, slice_get_within, split_at, subst, suc, sym, take, ℕ, ◌++◌, ◌+◌, ◌<◌, ◌∙◌, ◌∷◌, ◌≡◌, ◌≢◌}
-use Rattle.service_conformance.proofs.Names.{Entry, Handle, HasAt, HasEntry, InsertsOne, IsAt, IsRegistry, IsUnknownHandle, RegistryState, ReleaseMode, ReleaseState, RemoveStep, StandsAt, handle_of, lock_after, release_state, with_left}
+use Rattle.service_conformance.proofs.Prelude.{Bool, List, Ok, Some, ap, arith, drop, get_or, get_or_from_slice_get, length, refl, remove, slice_get_within, split_at, subst, suc, sym, take, ℕ, ◌++◌, ◌+◌, ◌<◌, ◌∙◌, ◌∷◌, ◌≡◌}
+use Rattle.service_conformance.proofs.Names.{Entry, Handle, HasAt, HasEntry, InsertsOne, IsAt, IsRegistry, RegistryState, ReleaseMode, ReleaseState, RemoveStep, StandsAt, handle_of, lock_after, release_state, with_left}
 use Rattle.std.specs.Prelude.{slice_get}
 use Rattle.iox2_container.proofs.Gaining.{length-InsertsOne}
 use Rattle.iox2_container.proofs.Keeping.{kept_remove, All-loss}
 use Rattle.iox2_container.proofs.Removing.{nothing_left, locks_empty}
 use Rattle.service_conformance.proofs.Rising.{one_gone}
-
--- who has another service or role than the registry has no entry of it
-pub foreign_service : {T : Type 0} (r : RegistryState T) (handle : Handle)
-    → handle.service ≢ r.service → IsUnknownHandle r handle
-foreign_service r handle n k d h e = n (ap (λ (q : Handle). q.service) e)
-
-pub foreign_role : {T : Type 0} (r : RegistryState T) (handle : Handle) → handle.role ≢ r.role
-    → IsUnknownHandle r handle
-foreign_role r handle n k d h e = n (ap (λ (q : Handle). q.role) e)
-
-pub foreign_all : {T : Type 0} (r : RegistryState T) (handle : Handle)
-    → All (λ e. ¬ (IsAt handle.slot handle.ticket e)) r.entries → IsUnknownHandle r handle
-foreign_all {T} r handle n =
-    All-weaker (λ (e : Entry T). ¬ (IsAt handle.slot handle.ticket e))
-    (λ (e : Entry T). handle ≢ handle_of r e)
-    (λ e h q. h (sym (ap (λ (k : Handle). k.slot) q), sym (ap (λ (k : Handle). k.ticket) q)))
-    r.entries n
 
 pub has_handle : {T : Type 0} (r : RegistryState T) (handle : Handle) (x : Entry T)
     → handle.service ≡ r.service → handle.role ≡ r.role → IsAt handle.slot handle.ticket x

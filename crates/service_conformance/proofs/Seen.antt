@@ -1,6 +1,6 @@
 -- What the words of replies say.
 use Rattle.service_conformance.proofs.Prelude.{All-cons, All-head, All-map, All-nil, All-tail, Bool, List, None, Option, Some, [], ap, append-nil, append_cancel_left, arith, codes, cond, decimal, decimal_injective, eq-or-lt_of_le, false, flat_map, get_or, get_or-map, inl, inr, length, length-map, map, refl, subst, suc, sym, take, take_all, true, zero, ℕ, ◌++◌, ◌+◌, ◌<◌, ◌^◌, ◌↔◌, ◌∙◌, ◌∷◌, ◌≡◌, ◌≢◌, ◌≤◌, nil_from_length, same_Some, take_more}
-use Rattle.service_conformance.proofs.Names.{Bytes, EndsNumber, EndsWord, Handle, IsIdNumber, IsSeen, IsToLine, OthersFit, PortDetails, Reads, Reply, ReplyWord, SeenReply, Spelling, after, apart, changes_nothing, cons_same, count_words, handle_in, handle_words, has_no_space, hexadecimal, id_word, is_removal, line_end, list_words, listed_one, number, others_text, port_of, port_value, port_word, printed_id, printed_one, reply_named, same_id, seen_text, sequence, text_of, word_of, word_text}
+use Rattle.service_conformance.proofs.Names.{Bytes, EndsNumber, EndsWord, Handle, IsIdNumber, IsToLine, OthersFit, PortDetails, Reads, Reply, ReplyWord, SeenReply, Spelling, after, apart, changes_nothing, cons_same, count_words, handle_in, handle_words, has_no_space, hexadecimal, id_word, is_removal, line_end, list_words, listed_one, number, others_text, port_of, port_value, port_word, printed_id, printed_one, reply_named, same_id, seen_text, sequence, text_of, word_of, word_text}
 use Rattle.std.proofs.Common.{◌&&◌, All, ◌==◌}
 use Rattle.line_streams.specs.Spelling.{listed}
 use Rattle.service_descriptions.specs.declared.replay.machine.reply.Reply.TheVariants as reply
@@ -111,12 +111,6 @@ module _ (words : List ℕ)
     (plain : (w : ReplyWord) → word_text w ≢ words)
     (counts : (n : ℕ) → n < 2 ^ 64 → count_words n ≢ words)
     (lists : (ids : List ℕ) → All IsIdNumber ids → list_words ids ≢ words) where
-  pub none_seen : (r : SeenReply) → IsSeen r → seen_text r ≢ words
-  none_seen (seen.Handle slot ticket) i = handles slot ticket i.0 i.1
-  none_seen (seen.Word w) i = plain w
-  none_seen (seen.List ids) i = lists ids.items i
-  none_seen (seen.Count n) i = counts n i
-
   pub none_replied : (r : Reply) → IsToLine r → text_of r ≢ words
   none_replied (reply.Handle h) i = handles h.slot h.ticket i.0 i.1
   none_replied reply.Locked i = plain word.Locked
@@ -180,15 +174,6 @@ has_word r w e = sym (of_reply r) ∙ (ap by_text e ∙ of_word w)
 pub is_named : (r : Reply) (w : ReplyWord) → text_of r ≡ word_text w → r ≡ reply_named w
 is_named r w e = sym (by_its_word r) ∙ ap (by_word r) (has_word r w e)
 
-pub no_word : (r : Reply) (w : ReplyWord) → word_of r ≡ None → text_of r ≢ word_text w
-no_word r w none e = (let z : None ≡ Some w = sym none ∙ has_word r w e in cc)
-
-pub same_word : (v w : ReplyWord) → (v ≡ w) ↔ (word_text v ≡ word_text w)
-same_word v w = (
-  ap word_text,
-  λ e. (let z : Some v ≡ Some w = sym (of_word v) ∙ (ap by_text e ∙ of_word w) in cc),
-)
-
 -- whether a text begins with these letters
 abbrev begins : ℕ → ℕ → List ℕ → Bool
 begins first third text = (get_or text 0 0 == first) && (get_or text 2 0 == third)
@@ -219,17 +204,6 @@ same_count m n p q = (
   ap count_words,
   λ e. decimal_injective m n p q (append_cancel_left (codes "count ") (decimal m) (decimal n) e),
 )
-
--- a handle's words are of no other kind
-pub not_handle : (slot ticket : ℕ) (s : SeenReply)
-    → ((a b : ℕ) → s ≢ seen.Handle a b) → handle_words slot ticket ≢ seen_text s
-not_handle slot ticket (seen.Handle a b) none = absurd (none a b refl)
-not_handle slot ticket (seen.Word w) none = λ e.
-    (let z : None ≡ Some w = ap by_text e ∙ of_word w in cc)
-not_handle slot ticket (seen.List ids) none = λ e.
-    differs (list_words ids.items) (handle_words slot ticket) 104 110 refl refl (sym e)
-not_handle slot ticket (seen.Count n) none = λ e.
-    differs (count_words n) (handle_words slot ticket) 104 110 refl refl (sym e)
 
 space_first : (ids : List ℕ) → EndsWord (flat_map id_word ids)
 space_first [] = refl

@@ -1,6 +1,6 @@
 -- What words tell.
 use Rattle.service_conformance.proofs.Prelude.{All-map, List, None, Option, Some, Vec, [], ap, append-nil, append_assoc, append_cancel_left, arith, codes, decimal, decimal_injective, map, refl, subst, sym, ℕ, ◌++◌, ◌+◌, ◌<◌, ◌^◌, ◌∙◌, ◌∷◌, ◌≡◌, ◌≢◌, get_or-map, length-map}
-use Rattle.service_conformance.proofs.Names.{AllowsWords, ArePossible, ArePossibleWords, ByPort, Bytes, Command, EndsNumber, Entry, Handle, IsCovered, IsNextHandle, IsNextIn, IsSameReply, LineReply, MayGive, MayGiveIn, NextHandle, Part, PortDetails, RegistryState, Reply, Request, Serves, ServesDeregister, ServesRelease, Service, Spelling, Tells, TellsHandle, after, cons_same, handle_words, line_end, named, number_one, reply_in, request_command, sequence, text_of}
+use Rattle.service_conformance.proofs.Names.{AllowsWords, ArePossible, ArePossibleWords, ByPort, Bytes, Command, EndsNumber, Entry, Handle, IsCovered, IsNextHandle, IsNextIn, IsSameReply, MayGive, MayGiveIn, NextHandle, Part, PortDetails, RegistryState, Reply, Request, Serves, ServesDeregister, ServesRelease, Service, Spelling, TellsHandle, after, cons_same, handle_words, line_end, named, number_one, request_command, sequence, text_of}
 use Rattle.std.proofs.Common.{All}
 use Rattle.service_descriptions.specs.declared.replay.machine.command.Command.TheVariants as command
 use Rattle.service_descriptions.specs.declared.replay.machine.reply.Reply.TheVariants as reply
@@ -118,27 +118,6 @@ same_text (reply.Ports ports) r e =
     let a = is_ports ports r e in rw (a.1, ← a.2) refl
 same_text _ r e = ap text_of e
 
-module _ (s : Service) (words : List ℕ) where
-  pub one_reported : (one : LineReply) → text_of (reply_in one) ≡ words
-      → Tells s (possible.One one) words (Some (reply_in one))
-  one_reported one e = (same_reply (reply_in one), e, λ other a f. a)
-
-  pub one_not : (one : LineReply) → ¬ (text_of (reply_in one) ≡ words)
-      → Tells s (possible.One one) words None
-  one_not one never r a e = never (same_text (reply_in one) r a ∙ e)
-
-  pub given_reported : (part : Part) (h : Handle) → TellsHandle (MayGiveIn s part) words (Some h)
-      → Tells s (possible.Given part) words (Some (reply.Handle h))
-  given_reported part h tells = (
-    (h, refl, tells.0),
-    tells.1,
-    λ other a e. ap reply.Handle (tells.2 a.0 a.2 (ap text_of (sym a.1) ∙ e)) ∙ sym a.1,
-  )
-
-  pub given_not : (part : Part) → TellsHandle (MayGiveIn s part) words None
-      → Tells s (possible.Given part) words None
-  given_not part never r a e = never a.0 a.2 (ap text_of (sym a.1) ∙ e)
-
 from_map : {X Y : Type 0} (P : X → Type 0) (f : Y → X) (ys : List Y) → All P (map f ys)
     → All (λ y. P (f y)) ys
 from_map P f ys a = λ k d h.
@@ -172,13 +151,6 @@ module _ {T : Type 0} (r : RegistryState T) (next : NextHandle) (is : IsNextHand
   )
 
 module _ (s : Service) (Step : Reply → Service → Type 0) where
-  pub one_words : (one : LineReply) → ArePossible s Step (possible.One one)
-      → ArePossibleWords Step (replies.One (reply_in one))
-  one_words one all words = (
-    λ e. (reply_in one, e, all.can (reply_in one) (same_reply (reply_in one))),
-    λ a. same_text (reply_in one) a.0 (all.only a.0 a.2.0 a.2.1 a.2.2) ∙ a.1,
-  )
-
   module _ (part : Part) (next : NextHandle)
       (all : ArePossible s Step (possible.Given part)) where
     -- where the handles that may be given are those of a registry

@@ -15,13 +15,13 @@ returns g c apart =
     let first : IsMadeFirst Step slots c.args.slot c.args.call config made true =
     subst (λ (x : Config g.row.M-State.Denot). IsMadeFirst Step slots c.args.slot c.args.call x made
     true) (sym c.index-configs-0.is) (rw c.if-not-branch.false at c.in_ok-make_first.ensures) in
-    let idle : IsSettled Step slots made (spot_of settled) =
-    subst (λ (x : Config g.row.M-State.Denot). IsSettled Step slots x (spot_of settled))
+    let idle : IsSettled Step slots (spot_of made) (spot_of settled) =
+    subst (λ (x : Config g.row.M-State.Denot). IsSettled Step slots (spot_of x) (spot_of settled))
     (ap (λ (l : List (Config g.row.M-State.Denot)). get_or l 0 c.index-configs-0-2.result) parts.1)
-    c.in_ok-settle.ensures.settled in
+    c.in_ok-settle.ensures in
     rw (← parts.0) at (subst (λ l. IsClosed Step slots (config ∷ []) c.args.slot
     (slice_set l 0 settled))
-    (sym parts.1) (closed_in_place _ _ c.requires.few _ _ c.requires.has _ _ _ first idle))
+    (sym parts.1) (closed_in_place _ _ c.requires.few _ _ c.requires.has _ made settled first idle))
 
 pub returns-then-waits_in_none : goal.returns-then-waits_in_none
 returns-then-waits_in_none g c apart =

@@ -1,9 +1,9 @@
 use Rattle.histories.proofs.Words.{on_ok_weaker}
-use Rattle.histories.proofs.Gathering.{gathers_call}
+use Rattle.histories.proofs.Gathering.{settles_call}
 use Rattle.histories.proofs.close.make_call.Goals as goal
 
 pub returns-in-All : goal.returns-in-All
 returns-in-All g c =
     on_ok_weaker c.make_states.result
-    (gathers_call (g.M.Machine.Step c.args.machine.now) _ c.args.config.now
+    (settles_call (g.M.Machine.Step c.args.machine.now) _ c.args.config.now
     _ _ _ _ _ c.requires.waits (rw c.in-All.is at c.in_ok-follow.ensures)) c.make_states.ensures

@@ -1,13 +1,13 @@
 use Rattle.histories.proofs.Words.{◌≡◌, ◌∙◌, sym, map-id, YieldsList-from_vec, YieldsList-end}
-use Rattle.histories.proofs.Gathering.{gathers_no_state, gathers_states}
+use Rattle.histories.proofs.Gathering.{settles_no_state, settles_states}
 use Rattle.histories.proofs.close.make_states.Goals as goal
 
 pub loop-state-init : goal.loop-state-init
-loop-state-init g c = gathers_no_state _ _ _
+loop-state-init g c = settles_no_state _ _ _ _ _
 
 pub loop-state-preserved : goal.loop-state-preserved
 loop-state-preserved g c =
-    gathers_states _ _ _ _ _ _ _ c.loop-state.invariant c.in_ok-make_state.ensures
+    settles_states _ _ _ _ _ _ _ _ _ c.loop-state.invariant c.in_ok-make_state.ensures
 
 pub returns : goal.returns
 returns g c =

@@ -19,9 +19,6 @@ loop-left-smaller g c =
     (omega (arith, c.loop-left-test.true)) refl c.index-configs-at.is
     (λ same. cc (c.is_same.ensures.1 same, c.if-is_same.false)) c.requires c.loop-left.invariant).1
 
-pub returns-clause-no : goal.returns-clause-no
-returns-clause-no g c is index d from below = grind arith
-
 pub returns-then-is_same-clause-yes : goal.returns-then-is_same-clause-yes
 returns-then-is_same-clause-yes g c is = (
   c.index-configs-at.result,

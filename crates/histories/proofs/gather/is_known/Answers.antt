@@ -2,8 +2,5 @@ use Rattle.histories.proofs.Words.{arith, length-drop, take_all}
 use Rattle.histories.proofs.Gathering.{known_rest}
 use Rattle.histories.proofs.gather.is_known.Goals as goal
 
-pub returns-then-is_in_chain : goal.returns-then-is_in_chain
-returns-then-is_in_chain g c = c.is_in_chain.ensures.yes c.if-is_in_chain.true
-
 pub returns : goal.returns
 returns g c = grind (arith, known_rest, take_all, length-drop)

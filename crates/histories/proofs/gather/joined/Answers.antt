@@ -6,7 +6,8 @@ pub loop-config-init : goal.loop-config-init
 loop-config-init g c = rw c.of-all.ensures (gathers_no_one _ _)
 
 pub loop-config-preserved : goal.loop-config-preserved
-loop-config-preserved g c = gathers_pushed _ _ _ _ _ _ c.loop-config.invariant c.in_ok-add.ensures
+loop-config-preserved g c =
+    gathers_pushed _ _ _ _ _ _ c.loop-config.invariant c.in_ok-add.ensures.gathers
 
 pub returns : goal.returns
 returns g c =

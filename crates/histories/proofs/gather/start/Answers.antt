@@ -16,7 +16,7 @@ loop-from-preserved g c =
       base = 0;
       made = c.new-made.result;
     }) _ _ _ c.loop-from-test.true c.from-item.is c.in_ok-state.ensures (search rules)
-    (path_is _ _ refl c.new-made.ensures.items) c.loop-from.invariant c.in_ok-add.ensures
+    (path_is _ _ refl c.new-made.ensures.items) c.loop-from.invariant c.in_ok-add.ensures.gathers
 
 pub returns : goal.returns
 returns g c whole =

@@ -19,6 +19,3 @@ loop-config-preserved g c =
           (λ x y l. laid_grows _ _ _ x y laid.2 l) before.0),
       grows_then _ _ _ before.1 laid.2,
     )
-
-pub returns : goal.returns
-returns g c = grind arith

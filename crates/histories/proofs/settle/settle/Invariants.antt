@@ -1,7 +1,6 @@
-use Rattle.histories.proofs.Words.{◌≡◌, IsFalse, IsSettled, spot_of}
+use Rattle.histories.proofs.Words.{IsSettled, spot_of}
 use Rattle.histories.proofs.settle.settle.Given as goal
 
 abbrev pub invariant-loop-slot : goal.invariant-loop-slot
 invariant-loop-slot g l =
-    IsSettled (g.M.Machine.Step l.machine) l.slots l.fn.config (spot_of l.config)
-    × (IsFalse l.any → l.config ≡ l.fn.config)
+    IsSettled (g.M.Machine.Step l.machine) l.slots (spot_of l.fn.config) (spot_of l.config)
