@@ -213,12 +213,7 @@ fn is_among<M: Machine>(
 ) -> bool
     ensures { IsKnown configs.now config.now result }
 {
-    for known in configs {
-        if is_same(machine, known, config) {
-            return true;
-        }
-    }
-    false
+    configs.iter().any(|known| is_same(machine, known, config))
 }
 
 /// The same, where the first ones are in chains.

@@ -1,11 +1,11 @@
 -- What callers do.
-use Rattle.std.proofs.Common.{Any, IsFalse, MatchBool, ◌≡◌, ◌≢◌, ℕ, suc, ◌+◌, ◌<◌, List, [], ◌∷◌, ◌++◌, Bool, bytes_eq, true, false, Option, Some, None, drop, length, get_or, set, take, refl, sym, ◌∙◌, ap, subst, arith, if◌then◌else◌, drop-cons}
+use Rattle.std.proofs.Common.{Any, HoldsAt, IfSome, IsFalse, MatchBool, MatchOption, ◌<◌, ◌≡◌, ◌≢◌, ℕ, suc, ◌+◌, ◌<◌, List, [], ◌∷◌, ◌++◌, Bool, bytes_eq, true, false, Option, Some, None, drop, length, get_or, set, take, refl, sym, ◌∙◌, ap, subst, arith, if◌then◌else◌, drop-cons}
 use Rattle.std.proofs.Math.Seq.{set-append_seam}
 use Rattle.std.specs.List.{AllWithin, slice_get}
-use Rattle.std.proofs.lemmas.List.{append-nil, length-take-le, take-append-drop, take_more}
+use Rattle.std.proofs.lemmas.List.{append-nil, get_or-take, length-take, length-take-le, take-append-drop}
 use Rattle.std.proofs.lemmas.Slice.Eq.{bytes_eq-Decides}
-use Rattle.std.proofs.lemmas.List.Elements.{All-head, All-push, All-tail}
-use Rattle.std.proofs.lemmas.Option.{get_or_from_slice_get, same_Some, slice_get_within}
+use Rattle.std.proofs.lemmas.List.Elements.{All-head, All-tail}
+use Rattle.std.proofs.lemmas.Option.{get_or_from_slice_get, same_Some, slice_get-get_or, slice_get_within}
 use Rattle.history_logs.specs.declared.logs.callers.Caller.{Caller}
 use Rattle.history_logs.specs.declared.logs.callers.CallerState.{CallerState}
 use Rattle.history_logs.specs.declared.logs.callers.CallerState.TheVariants as caller
@@ -123,14 +123,23 @@ push_known name state known n none named does = record {
       ∙ ap (λ (l : List Caller). state_in l other) (append-nil known);
 }
 
--- one caller more that has another name
-pub unknown_more : (known : List Caller) (name : List ℕ) (at : ℕ) (d : Caller)
-    → at < length known → IsUnknown (take at known) name → d ≡ get_or known at d
-    → d.name.items ≢ name → IsUnknown (take (at + 1) known) name
-unknown_more known name at d h none is ne =
-    subst (λ (l : List Caller). IsUnknown l name) (sym (take_more known at d h))
-    (All-push (λ (c : Caller). c.name.items ≢ name) (take at known) (get_or known at d) none
-    (λ e. ne (ap (λ (x : Caller). x.name.items) is ∙ e)))
+-- what a search finds that passes over the callers of other names
+pub named_first : (known : List Caller) (name : List ℕ) (found : Option ℕ)
+    → MatchOption found
+    (AllWithin (λ (c : Caller). c.name.items ≢ name) known 0 (length known))
+    (λ at. (at < length known) × HoldsAt (λ (c : Caller). c.name.items ≡ name) known at
+    × AllWithin (λ (c : Caller). c.name.items ≢ name) known 0 at)
+    → IfSome found (HasName known name)
+named_first known name None none = tt
+named_first [] name (Some at) first = absurd (omega (arith, first.0))
+named_first (d ∷ known) name (Some at) first = record {
+  c = get_or (d ∷ known) at d;
+  there = slice_get-get_or (d ∷ known) at d first.0;
+  named = first.1 d;
+  first = λ k e within.
+      let below : k < at = omega (arith, within, length-take at (d ∷ known)) in
+      rw (get_or-take at (d ∷ known) k e below) (first.2 k e (omega arith) below);
+}
 
 -- a caller of this name that does this
 abbrev Does : List ℕ → CallerState → Caller → Type 0

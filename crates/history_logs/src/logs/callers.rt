@@ -29,12 +29,9 @@ fn position_of(known: &[Caller], name: &[u8]) -> Option<usize>
     ensures some { IfSome result (HasName known.now name.now) }
     ensures none { IfNone result (IsUnknown known.now name.now) }
 {
-    for at in 0..known.len() {
-        if known[at].name.as_slice() == name {
-            return Some(at);
-        }
-    }
-    None
+    known
+        .iter()
+        .position(|caller| caller.name.as_slice() == name)
 }
 
 /// The callers that have begun calls.
