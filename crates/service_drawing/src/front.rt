@@ -10,6 +10,7 @@ use line_streams::{after_word, before_byte};
 use std::alloc::Global;
 
 /// The lines before the first line `end`, and what follows that.
+#[tactic(auto, using(crate::proofs::Fronts::none_passed, crate::proofs::Fronts::one_passed, crate::proofs::Fronts::ends_here, crate::proofs::Fronts::front_is))]
 fn before_end(bytes: &[u8]) -> Option<(&[u8], &[u8])>
     ensures { MatchOption result ((inside rest : List ℕ) → ¬ Ends inside rest bytes.now)
         (λ found. Ends found.0.now found.1.now bytes.now) }

@@ -51,6 +51,7 @@ fn exchange_before(bytes: &[u8], kind: PatternKind) -> Result<(Exchange, &[u8]),
 
 /// The service that the lines describe over a configuration, or what was expected instead of the
 /// first bad one.
+#[tactic(auto, using(crate::proofs::Descriptions::no_service_here, crate::proofs::Answered::handed_on, crate::proofs::SettingLines::no_service_reason, crate::proofs::Descriptions::no_more))]
 pub(crate) fn read_description(bytes: &[u8], base: Config) -> Result<Description, Expected<'_>>
     ensures { MatchResult result (λ d. HasDescription base d bytes.now)
         (λ expected. StopsReading base expected.rest.now bytes.now

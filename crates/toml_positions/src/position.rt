@@ -101,6 +101,7 @@ fn agree(keys: &[String], path: &[&str]) -> bool
 }
 
 /// Whether an expression writes a path.
+#[tactic(auto, using(crate::proofs::Paths::writes_apart))]
 fn writes(keys: &[String], pair: bool, path: &KeyPath<'_>) -> bool
     ensures { (start : _) → result
         ≡ writes (written start (keys_view keys.now) pair) (path_view path.now) }
@@ -200,6 +201,7 @@ fn mark(
 /// through. A path that no expression writes has none.
 ///
 /// The text is gone over once. Nothing is said of a text that is no TOML.
+#[tactic(auto, using(crate::proofs::Known::document_lines))]
 pub fn positions_of(
     alloc: Global,
     text: &str,

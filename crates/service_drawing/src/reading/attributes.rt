@@ -11,6 +11,7 @@ use iox2_texts::attribute::{AttributeKey, AttributeSet, AttributeValue, Attribut
 use line_streams::{after_word, before_byte};
 
 /// The key and the value of a text. The key has no space.
+#[tactic(auto, using(crate::proofs::Attributes::found_pair))]
 fn pair_in(text: &[u8]) -> Option<(AttributeKey, AttributeValue)>
     ensures { MatchOption result
         ((pair : Pair) → IsPair pair → ¬ (text.now ≡ pair_text pair))
@@ -44,6 +45,7 @@ fn key_in(text: &[u8]) -> Option<AttributeKey>
 }
 
 /// The lines of the attributes that the service has, at most 16.
+#[tactic(auto, using(crate::proofs::Forms::all_read))]
 pub(super) fn attributes_before(bytes: &[u8]) -> Result<(AttributeSet, &[u8]), Expected<'_>>
     ensures { MatchResult result (λ found. HasAttributes found.0 found.1.now bytes.now)
         (IsFailure (line_by_line HasAttributes) bytes.now) }

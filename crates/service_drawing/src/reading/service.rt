@@ -46,6 +46,7 @@ pub(super) struct Service {
 }
 
 /// The service of a line, or why it has none.
+#[tactic(auto, using(crate::proofs::Words::of_the_line))]
 fn service_in(line: &[u8]) -> Result<Service, Reason>
     ensures spelled { IfOk result (λ service.
         line.now ≡ pattern_word service.kind ++ 32 ∷ service.name) }

@@ -59,7 +59,7 @@ fn find(defaults: &Defaults, kind: PatternKind, word: &[u8]) -> Option<(usize, V
 
 /// Sets the setting with the name and the value of the text, and marks it as set, or returns why it
 /// does not.
-#[tactic(auto, using(crate::proofs::SettingLines::restored_same))]
+#[tactic(auto, using(crate::proofs::SettingLines::restored_same, crate::proofs::SettingLines::as_word, crate::proofs::SettingLines::marked_at, crate::proofs::SettingLines::spaced, crate::proofs::SettingLines::no_value_follows))]
 fn set(
     defaults: &mut Defaults,
     kind: PatternKind,
@@ -110,6 +110,7 @@ fn expected(kind: PatternKind, bytes: &[u8], reason: Reason) -> Expected<'_>
 }
 
 /// The lines of the settings of a pattern, with which the configuration is changed.
+#[tactic(auto, using(crate::proofs::Forms::all_read))]
 pub(super) fn settings_before<'a>(
     bytes: &'a [u8],
     kind: PatternKind,

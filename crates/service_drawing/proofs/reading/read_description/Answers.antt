@@ -1,18 +1,9 @@
 use Rattle.std.proofs.Common.{inl, inr}
 use Rattle.service_drawing.specs.Descriptions.{after_settings}
-use Rattle.service_drawing.proofs.Descriptions.{Breaks, no_service_here, stops_behind_service, no_more}
+use Rattle.service_drawing.proofs.Descriptions.{Breaks, stops_behind_service}
 use Rattle.service_drawing.proofs.Answered.{handed_on}
-use Rattle.service_drawing.proofs.SettingLines.{no_service_reason, reason_in_settings, stops_behind_settings}
+use Rattle.service_drawing.proofs.SettingLines.{reason_in_settings, stops_behind_settings}
 use Rattle.service_drawing.proofs.reading.read_description.Goals as goal
-
-pub returns-in_err-service : goal.returns-in_err-service
-returns-in_err-service c =
-    let bad = c.in_err-service in
-    handed_on _ _ _ _ c.from_residual.ensures (
-      rw bad.ensures.place (no_service_here c.args.base c.args.bytes.now bad.ensures.spelled),
-      no_service_reason c.args.base bad.field-0.0.reason _ c.args.bytes.now bad.ensures.spelled
-          bad.ensures.reason,
-    )
 
 pub returns-in_err-rest : goal.returns-in_err-rest
 returns-in_err-rest c =
@@ -60,16 +51,3 @@ returns-then-not-is_empty c =
     rw c.prefixed.ensures.place
     (stops_behind_settings _ _ _ _ c.settings_before.new.config _ _ _ _ c.prefixed.ensures.reason
     c.in_ok-service.ensures.spelled c.in_ok-rest.ensures left)
-
-pub returns : goal.returns
-returns c =
-    let exchange = c.in_ok-exchange.ensures in
-    let attributes = c.in_ok-attributes.ensures in
-    let required =
-    rw (no_more c.in_ok-required.rest.now c.if-not-is_empty.ensures) at c.in_ok-required.ensures in
-    record {
-      rest = c.in_ok-service.rest.now;
-      service = c.in_ok-service.ensures.spelled;
-      hash = c.in_ok-service.ensures.hash;
-      lines = (_, c.in_ok-rest.ensures, (_, exchange, (_, attributes, required)));
-    }

@@ -1,38 +1,17 @@
-use Rattle.std.proofs.Common.{◌≡◌, ◌++◌, ◌<◌, ◌-◌, ℕ, refl, [], length, map, take, drop, get_or, suc, List, Some, None, option_map, subst, sym, ap, ◌∙◌, rules, arith}
-use Rattle.std.specs.Prelude.{slice_index_or}
+use Rattle.std.proofs.Common.{◌≡◌, ◌++◌, ◌<◌, ◌-◌, ℕ, [], length, map, take, drop, get_or, List, Some, None, option_map, subst, sym, ap, ◌∙◌, rules, arith}
 use Rattle.std.proofs.lemmas.Grind.{common_steps}
 use Rattle.std.proofs.lemmas.List.{length-map}
 use Rattle.std.proofs.lemmas.Option.{none-some, same_Some}
 use Rattle.std.specs.Option.{option_or}
 use Rattle.toml_parser.specs.Lexical.{skip_blank}
 use Rattle.toml_parser.specs.Reading.{key_view, path_view as keys_view}
-use Rattle.toml.specs.Tables.{no_nodes}
 use Rattle.toml.specs.Parse.{line, lines}
 use Rattle.toml_positions.specs.Reading.{head_view, seen_in, seen_view}
 use Rattle.toml_positions.specs.Written.{path_view, position_in, seen, header_after, path_below, past_brackets, written, written_below, marked, first_position}
-use Rattle.toml_positions.proofs.Known.{document_lines, line_of, line_expression, no_line, not_empty, known_step, known_all, none_below}
+use Rattle.toml_positions.proofs.Known.{line_of, line_expression, no_line, not_empty, known_step, known_all, none_below}
 use Rattle.toml_positions.proofs.Passed.{seen_is}
 use Rattle.toml_positions.proofs.Paths.{all_by_index}
 use Rattle.toml_positions.proofs.position.positions_of.Goals as goal
-
-pub expressions-init : goal.expressions-init
-expressions-init c = (
-  search rules,
-  c.skip_bom-rest.ensures.within,
-  omega arith,
-  grind (arith, common_steps),
-  λ some.
-      let (final, is) = document_lines c.args.text.now some in (
-        suc (length c.args.text.now),
-        (no_nodes, []),
-        final,
-        rw c.skip_bom-rest.ensures.rest is,
-        λ k few.
-            let start : slice_index_or c.resize.new.self.items k None ≡ None =
-            grind (arith, common_steps) in
-            rw (start, c.skip_bom-rest.ensures.rest) refl,
-      ),
-)
 
 pub returns-in_default : goal.returns-in_default
 returns-in_default c some =

@@ -1,15 +1,8 @@
 use Rattle.std.proofs.Common.{◌≡◌, ◌≤◌, ◌<◌, [], bytes_eq, length, map, get_or, sym, ap, ◌∙◌, string_bytes, arith}
 use Rattle.std.proofs.lemmas.List.{length-map}
 use Rattle.toml_parser.specs.Reading.{path_view as keys_view}
-use Rattle.toml_positions.proofs.Paths.{writes_apart, writes_short, writes_more, key_at}
+use Rattle.toml_positions.proofs.Paths.{writes_short, writes_more, key_at}
 use Rattle.toml_positions.proofs.position.writes.Goals as goal
-
-pub returns-then-not-agree : goal.returns-then-not-agree
-returns-then-not-agree c start =
-    let keys = keys_view c.args.keys.now in
-    let table = map (λ k. k.now) c.args.path.now.table.now in
-    sym (writes_apart start keys table c.args.path.now.key.now c.args.pair
-    (sym c.agree.ensures ∙ c.if-not-agree.true))
 
 pub returns-then-keys-path : goal.returns-then-keys-path
 returns-then-keys-path c start =

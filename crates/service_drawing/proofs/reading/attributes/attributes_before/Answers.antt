@@ -1,6 +1,5 @@
 use Rattle.std.proofs.Common.{length, inl, inr, rules}
 use Rattle.service_drawing.proofs.Attributes.{one_more_line, stops_at_attribute, many}
-use Rattle.service_drawing.proofs.Forms.{all_read}
 use Rattle.service_drawing.proofs.reading.attributes.attributes_before.Goals as goal
 
 pub loop-text-preserved : goal.loop-text-preserved
@@ -23,6 +22,3 @@ returns-in-Err c =
     let stops = stops_at_attribute _ _ _ c.in-Some.text.now c.in-Some.tail.now
     c.loop-text.invariant (search rules) (inl full) in
     (rw expected.place stops, expected.reason)
-
-pub returns : goal.returns
-returns c = all_read _ _ _ _ _ _ c.loop-text.invariant c.in_default.ensures.line

@@ -1,4 +1,4 @@
-use Rattle.service_drawing.proofs.Attributes.{no_key_of, no_value_of, no_name_of, found_pair}
+use Rattle.service_drawing.proofs.Attributes.{no_key_of, no_value_of, no_name_of}
 use Rattle.service_drawing.proofs.reading.attributes.pair_in.Goals as goal
 
 pub returns-in_default : goal.returns-in_default
@@ -9,11 +9,6 @@ pub returns-in_default-new : goal.returns-in_default-new
 returns-in_default-new c =
     let read = c.in-Some.ensures.read in
     no_key_of _ _ _ read.0 read.1 (no_name_of 64 _ _ c.in_default-new.ensures)
-
-pub returns-in-Ok-new : goal.returns-in-Ok-new
-returns-in-Ok-new c =
-    let read = c.in-Some.ensures.read in
-    found_pair _ _ _ _ _ c.in-Ok.ensures c.in-Ok-new.ensures read.0 read.1
 
 pub returns-in-Err : goal.returns-in-Err
 returns-in-Err c =

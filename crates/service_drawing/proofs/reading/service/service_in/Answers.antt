@@ -4,11 +4,6 @@ use Rattle.service_drawing.specs.Lines.{MayBeNamed}
 use Rattle.service_drawing.proofs.Words.{of_the_line, not_internal, no_name, not_hashed}
 use Rattle.service_drawing.proofs.reading.service.service_in.Goals as goal
 
-pub returns-then-is_internal-clause-none : goal.returns-then-is_internal-clause-none
-returns-then-is_internal-clause-none c =
-    of_the_line MayBeNamed _ _ _ c.in-Some.ensures
-    (λ may. may.from_outside (sym c.if-is_internal.ensures))
-
 pub returns-in_default-from_utf8-clause-none : goal.returns-in_default-from_utf8-clause-none
 returns-in_default-from_utf8-clause-none c =
     of_the_line MayBeNamed _ _ _ c.in-Some.ensures

@@ -1,12 +1,7 @@
-use Rattle.std.proofs.Common.{◌≡◌, false, refl, inl, inr, rules}
+use Rattle.std.proofs.Common.{◌≡◌, false, refl, inr, rules}
 use Rattle.service_drawing.specs.Settings.{setting_names, word_of}
-use Rattle.service_drawing.proofs.SettingLines.{as_word, marked_at, spaced, no_value_follows, not_a_value}
+use Rattle.service_drawing.proofs.SettingLines.{as_word, marked_at, spaced, not_a_value}
 use Rattle.service_drawing.proofs.reading.settings.set.Goals as goal
-
-pub returns-in_default-clause-refused : goal.returns-in_default-clause-refused
-returns-in_default-clause-refused c =
-    let none : word_of c.args.text.now ≡ c.args.text.now = search rules in
-    (inl none, no_value_follows (setting_names c.args.kind) _ c.args.text.now none)
 
 pub returns-in_default-find-clause-refused : goal.returns-in_default-find-clause-refused
 returns-in_default-find-clause-refused c =
@@ -14,16 +9,6 @@ returns-in_default-find-clause-refused c =
       spaced c.args.text.now c.in-Some.word.now c.in-Some.text.now word (search rules),
       λ index h. c.in_default-find.ensures.name index (rw word at h),
     )
-
-pub returns-then-given-index-clause-refused : goal.returns-then-given-index-clause-refused
-returns-then-given-index-clause-refused c = (
-  spaced c.args.text.now c.in-Some.word.now c.in-Some.text.now (search rules) (search rules),
-  record {
-    index = c.in-Some-find.index;
-    setting = search (rules, as_word);
-    marked = search (rules, marked_at);
-  },
-)
 
 pub returns-in-Some-of_kind-clause-set : goal.returns-in-Some-of_kind-clause-set
 returns-in-Some-of_kind-clause-set c = record {
@@ -41,10 +26,6 @@ returns-in-Some-of_kind-clause-set c = record {
   changed = search rules;
   noted = refl;
 }
-
-pub returns-in_default-of_kind-clause-refused : goal.returns-in_default-of_kind-clause-refused
-returns-in_default-of_kind-clause-refused c =
-    absurd (search (rules, c.if-set_value.ensures.refused))
 
 pub returns-in_default-of_kind-2-clause-refused : goal.returns-in_default-of_kind-2-clause-refused
 returns-in_default-of_kind-2-clause-refused c =

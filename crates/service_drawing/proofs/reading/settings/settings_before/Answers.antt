@@ -1,5 +1,4 @@
 use Rattle.std.proofs.Common.{rules}
-use Rattle.service_drawing.proofs.Forms.{all_read}
 use Rattle.service_drawing.proofs.SettingLines.{none_set, one_more_setting, still_restored, stops_at_setting, setting_reason}
 use Rattle.service_drawing.proofs.Descriptions.{same_base}
 use Rattle.service_drawing.proofs.reading.settings.settings_before.Goals as goal
@@ -25,9 +24,3 @@ returns-in-Err c =
           c.in-Some.text.now c.in-Some.tail.now set (search rules) refused,
       setting_reason _ _ _ _ _ _ _ c.in-Some.text.now c.in-Some.tail.now set (search rules) refused,
     )
-
-pub returns : goal.returns
-returns c = (
-  all_read _ _ _ _ _ _ c.loop-text.invariant.0.read c.in_default.ensures.line,
-  c.loop-text.invariant.1,
-)
