@@ -1,18 +1,18 @@
 -- The least call that is open, the last one that begins, and calls that are over.
-use Rattle.std.proofs.Common.{◌≡◌, ◌⊎◌, ℕ, ◌+◌, ◌<◌, ◌≤◌, List, [], ◌∷◌, ◌++◌, Option, Some, None, get_or, length, refl, sym, ◌∙◌, ap, subst, arith, inl, inr, take, take_all}
+use Rattle.std.proofs.Common.{◌≡◌, ◌⊎◌, ℕ, ◌+◌, ◌<◌, ◌≤◌, List, [], ◌∷◌, Option, Some, None, get_or, length, refl, sym, ◌∙◌, ap, subst, arith, inl, inr, take}
 use Rattle.std.proofs.lemmas.Bool.{cases_eq, cases_lt}
 use Rattle.std.proofs.lemmas.List.{get_or_past}
+use Rattle.std.proofs.lemmas.Option.{slice_get-get_or}
 use Rattle.histories.specs.declared.event.Event.{Event}
 use Rattle.histories.specs.declared.event.Event.TheVariants.{Begin, End, Crash}
 use Rattle.histories.specs.Frontier.{HasSlot}
 use Rattle.histories.specs.Histories.{begins}
 use Rattle.histories.proofs.Counting.{times_same}
 use Rattle.histories.proofs.Cutting.{begins-append}
-use Rattle.histories.proofs.Events.{begins_begin, begins_none}
+use Rattle.histories.proofs.Events.{begins_begin, begins_none, stands_begins}
 use Rattle.histories.proofs.Verdicts.{one_more}
 use Rattle.history_logs.specs.Seen.{Service}
 use Rattle.history_logs.specs.Settling.{AreOver, IsBehind, IsBehindBegun, IsOverIn}
-use Rattle.history_logs.proofs.Settled.{begins-one}
 
 -- what an event alone begins
 begins_same : (c call : ℕ) → 0 < begins call (Begin c ∷ []) → c ≡ call
@@ -67,42 +67,12 @@ least_each slots most at first l h slot call has =
           absurd (cc)
     ]
 
--- the last call that begins
-pub last_none : (first : ℕ) (events : List Event) → IsBehindBegun first (take 0 events) first
-last_none first events = inl refl
-
-pub last_more : (first : ℕ) (events : List Event) (at : ℕ) (d : Event) (last next : ℕ)
-    → at < length events → IsBehindBegun first (take at events) last
-    → ((call : ℕ) × (get_or events at d ≡ Begin call) × IsBehind call next) ⊎ (next ≡ last)
-    → IsBehindBegun first (take (at + 1) events) next
-last_more first events at d last next h l is =
-    let e = get_or events at d in
-    subst (λ (es : List Event). IsBehindBegun first es next) (sym (one_more events at d h))
-    (elim is as (λ _. IsBehindBegun first (take at events ++ e ∷ []) next) [
-      | inl now ↦
-          let call = now.0 in
-          subst (λ (x : Event). IsBehindBegun first (take at events ++ x ∷ []) next) (sym now.1)
-          (inr (
-            call,
-            omega (arith, begins-one call, begins-append call (take at events) (Begin call ∷ [])),
-            now.2,
-          ))
-      | inr same ↦
-          subst (IsBehindBegun first (take at events ++ e ∷ [])) (sym same)
-          (elim l as (λ _. IsBehindBegun first (take at events ++ e ∷ []) last) [
-            | inl from ↦ inl from
-            | inr some ↦ inr (
-              some.0,
-              omega (arith, some.1, begins-append some.0 (take at events) (e ∷ [])),
-              some.2,
-            )
-          ])
-    ])
-
-pub last_all : (first : ℕ) (events : List Event) (at last : ℕ) → length events ≤ at
-    → IsBehindBegun first (take at events) last → IsBehindBegun first events last
-last_all first events at last h l =
-    subst (λ (es : List Event). IsBehindBegun first es last) (take_all at events h) l
+-- a call that begins in the events
+pub behind_begun : (first : ℕ) (events : List Event) (at : ℕ) (d : Event) (call next : ℕ)
+    → at < length events → get_or events at d ≡ Begin call → IsBehind call next
+    → IsBehindBegun first events next
+behind_begun first events at d call next h is behind =
+    inr (call, stands_begins call events at (slice_get-get_or events at d h ∙ ap Some is), behind)
 
 -- calls that are over
 pub over_more : (s : Service) (at : ℕ) (d : Event) → at < length s.events

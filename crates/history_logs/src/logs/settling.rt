@@ -1,6 +1,5 @@
 //! Judging what was seen of services while it is read.
 ghost use Rattle.std.specs.Prelude.{◌≡◌, ◌≤◌, ◌<◌, ◌⊎◌, ℕ, IfOk, IsTrue, None, Some, length, take};
-ghost use Rattle.histories.specs.declared.event.Event.TheVariants.{Begin};
 ghost use Rattle.histories.specs.Advances.{Ends};
 ghost use Rattle.histories.specs.Frontier.{HasSlot};
 ghost use Rattle.histories.specs.Histories.{HasEnded};
@@ -105,25 +104,25 @@ fn first_open(slots: &[Option<usize>], most: usize) -> usize
     first
 }
 
-/// The number behind the call that the event begins, or this one, where it begins none.
-fn behind_begun(event: Event, first: usize) -> usize
-    ensures { ((call : ℕ) × (event ≡ Begin call) × IsBehind call result) ⊎ (result ≡ first) }
+/// The number behind that of the call, or its own, where it is the greatest one.
+fn behind(call: usize) -> usize
+    ensures { IsBehind call result }
 {
-    match event {
-        Event::Begin(begun) => begun.saturating_add(1),
-        Event::End(_) | Event::Crash(_) => first,
-    }
+    call.saturating_add(1)
 }
 
 /// The number behind that of the last call that begins in the events, or this one, where none does.
 fn behind_last(events: &[Event], first: usize) -> usize
     ensures { IsBehindBegun first events.now result }
 {
-    let mut last = first;
-    for at in 0..events.len() {
-        last = behind_begun(events[at], last);
+    let mut at = events.len();
+    while at > 0 {
+        at -= 1;
+        if let Event::Begin(last) = events[at] {
+            return behind(last);
+        }
     }
-    last
+    first
 }
 
 /// The front goes on with so many of the events that are kept. Returns whether orders explain them.

@@ -1,14 +1,11 @@
-use Rattle.std.proofs.Common.{rules}
-use Rattle.history_logs.proofs.Least.{last_all, last_more, last_none}
+use Rattle.std.proofs.Common.{◌-◌, arith, inl, refl}
+use Rattle.history_logs.proofs.Least.{behind_begun}
 use Rattle.history_logs.proofs.logs.settling.behind_last.Goals as goal
 
-pub loop-at-init : goal.loop-at-init
-loop-at-init c = last_none c.args.first c.args.events.now
-
-pub loop-at-preserved : goal.loop-at-preserved
-loop-at-preserved c =
-    last_more _ _ _ _ _ _ (search rules) c.loop-at.invariant c.behind_begun-last.ensures
+pub returns-in-Begin : goal.returns-in-Begin
+returns-in-Begin c =
+    behind_begun _ c.args.events.now (c.loop-at.at - 1) _ _ _
+    (omega (arith, c.loop-at.invariant, c.loop-at-test.true)) c.in-Begin.is c.behind.ensures
 
 pub returns : goal.returns
-returns c =
-    last_all _ _ _ _ (search rules) c.loop-at.invariant
+returns c = inl refl
