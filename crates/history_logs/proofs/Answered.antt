@@ -21,7 +21,6 @@ use Rattle.service_conformance.specs.declared.conformance.possible.Part.{Part}
 use Rattle.service_conformance.specs.Judged.{Judged, judged_answered, shown}
 use Rattle.service_conformance.specs.Judged.Judged.{call as judged_call, starts, stops}
 use Rattle.service_descriptions.specs.declared.replay.lines.service_line.ServiceLine.{ServiceLine}
-use Rattle.history_logs.specs.declared.logs.service.LogCall.{LogCall}
 use Rattle.history_logs.specs.declared.logs.verdict.Expected.{Expected}
 use Rattle.history_logs.specs.Good.{IsKept, IsOrderly, IsReadTo}
 use Rattle.history_logs.specs.EventLines.{Answers, IsAnsweredIn, IsLineAt, HasEventLines, IsSaidIn}
@@ -158,22 +157,22 @@ module _ (text : List ℕ) (count : ℕ) (s : Service) (p : HasEventLinesTo text
     }
 
     -- a call begins in this line
-    placed_call : (t : Service) (c : LogCall) → t.events ≡ s.events ++ Begin (length s.calls) ∷ []
-        → t.event_lines ≡ s.event_lines ++ k ∷ [] → t.calls ≡ s.calls ++ c.seen ∷ []
+    placed_call : (t : Service) (c : Judged) → t.events ≡ s.events ++ Begin (length s.calls) ∷ []
+        → t.event_lines ≡ s.event_lines ++ k ∷ [] → t.calls ≡ s.calls ++ c ∷ []
         → HasEventLinesTo text k t
     placed_call t c events lines calls =
         placed_event t (Begin (length s.calls)) events lines
         (λ index number line at rest a. (
           a.0,
           ap (λ (l : List Judged). slice_get l number) calls
-              ∙ get_push s.calls c.seen number a.0 a.1,
+              ∙ get_push s.calls c number a.0 a.1,
           a.2,
         )) (λ number e. absurd (cc))
 
-    placed_part : (c : LogCall) → HasEventLinesTo text k (with_part s c k)
+    placed_part : (c : Judged) → HasEventLinesTo text k (with_part s c k)
     placed_part c = placed_call (with_part s c k) c refl refl refl
 
-    pub placed_begin : (c : LogCall) → HasEventLinesTo text k (with_begin s c k)
+    pub placed_begin : (c : Judged) → HasEventLinesTo text k (with_begin s c k)
     placed_begin c = placed_call (with_begin s c k) c refl refl refl
 
     -- what starts to look is over
@@ -288,7 +287,7 @@ module _ (text : List ℕ) (count : ℕ) where
       let first : Next one = placed_begin text count s p k (omega arith) (starting part) in
       let second : Next (with_over one n k) =
       placed_over text k one first k (omega arith) n part None
-      (get_last s.calls (starting part).seen (length s.calls) refl) in
+      (get_last s.calls (starting part) (length s.calls) refl) in
       placed_part text k (with_over one n k) second k (omega arith) (stopping n)
 
   placed_begun : (s t : Service) (b : Begun) (current : ℕ) → Now s
@@ -318,8 +317,8 @@ module _ (text : List ℕ) (count : ℕ) where
       let begun : HasEventLinesTo text k (with_begin s c k) =
       placed_begin text count s (all_get Now old.services g.0 s all g.5) k (omega arith) c in
       let ended : HasEventLinesTo text k (with_alone s c g.3 k) =
-      placed_end text k (with_begin s c k) begun k (omega arith) (length s.calls) g.3 c.seen
-      (reply words) words (open_new s c k orderly) (get_last s.calls c.seen _ refl)
+      placed_end text k (with_begin s c k) begun k (omega arith) (length s.calls) g.3 c
+      (reply words) words (open_new s c k orderly) (get_last s.calls c _ refl)
       g.6 tt refl there in
       set_next old.services new.services g.0 _ all ended (ap (λ (x : Log). x.services) g.7)
   placed_step old new (begin number name begun) kept all g is there =

@@ -1,14 +1,13 @@
 -- Calls that are answered.
 use Rattle.std.proofs.Common.{◌≡◌, ℕ, zero, suc, List, [], ◌∷◌, Option, Some, None, ◌+◌, ◌<◌, ◌≤◌, ◌-◌, ◌++◌, drop, replicate, get_or, length, set, slice_get, refl, sym, ◌∙◌, ap, arith}
-use Rattle.std.proofs.lemmas.List.{get_or_default, get_or_past, length-replicate}
+use Rattle.std.proofs.lemmas.List.{get_or_past, length-replicate}
 use Rattle.std.proofs.Math.Seq.{drop-append-add}
 use Rattle.histories.specs.declared.event.Event.{Event}
 use Rattle.histories.specs.declared.event.Event.TheVariants.{End}
-use Rattle.iox2_container.specs.declared.container.role.Role.{Role}
 use Rattle.iox2_container.specs.Handle.{Handle}
 use Rattle.service_conformance.specs.declared.conformance.seen_reply.SeenReply.{SeenReply}
-use Rattle.service_conformance.specs.Judged.{Judged, judged_answered, shown, stopped}
-use Rattle.history_logs.specs.Seen.{Service, calls_answered, calls_shown, calls_shown_from, changed, forgetting, forgotten, given_by, given_in, start_of, with_end}
+use Rattle.service_conformance.specs.Judged.{Judged, judged_answered, role_added, shown, stopped}
+use Rattle.history_logs.specs.Seen.{Service, added_by, calls_answered, calls_shown, calls_shown_from, changed, forgetting, forgotten, given_by, given_in, start_of, with_end}
 use Rattle.history_logs.proofs.Orderly.{length_changed}
 
 pub changed_at : (f : Judged → Judged) (calls : List Judged) (number : ℕ) (c n : Judged)
@@ -73,11 +72,6 @@ pub given_past : (s : Service) (number call : ℕ) → slice_get s.commands numb
 given_past s number call there past =
     rw there (sym (get_or_past s.given call None past))
 
--- a default that is what stands there is any default
-pub same_default : {X : Type 0} (xs : List X) (at : ℕ) (d e : X) → at < length xs
-    → d ≡ get_or xs at d → d ≡ get_or xs at e
-same_default xs at d e h is = is ∙ get_or_default xs at d e h
-
 -- forgotten calls stand before those that are kept
 changed_over : (f : Judged → Judged) (first : ℕ) (d : Judged) (calls : List Judged) (number : ℕ)
     → first ≤ number
@@ -138,27 +132,24 @@ module _ (first : ℕ) (calls : List Judged) (number : ℕ) (r : SeenReply) (kep
         ∙ ap (λ (o : Option ℕ). calls_shown all o r) (sym begun))))
 
 pub end_is : (s : Service) (number line : ℕ) (r : SeenReply) (calls : List Judged)
-    (adds : Option Role)
-    (given : Option Handle) (es : List Event) (ps : List ℕ) → number < length s.adds
+    (c : Judged) (given : Option Handle) (es : List Event) (ps : List ℕ)
     → calls ≡ calls_answered s.calls number r
-    → adds ≡ get_or s.adds number adds → given ≡ given_in s adds r
+    → slice_get s.calls number ≡ Some c → given ≡ given_in s (role_added c) r
     → es ≡ s.events ++ End number ∷ [] → ps ≡ s.event_lines ++ line ∷ []
     → (made : Service) → made ≡ record {
       line = s.line;
       start = s.start;
       first = s.first;
       calls = calls;
-      adds = s.adds;
       given = set s.given number given;
       begins = s.begins;
       commands = s.commands;
       events = es;
       event_lines = ps;
     } → made ≡ with_end s number r line
-end_is s number line r calls adds given es ps within a role gives e f made same =
-    let b : given ≡ given_in s (get_or s.adds number None) r =
-    gives ∙ ap (λ (x : Option Role). given_in s x r)
-    (same_default s.adds number adds None within role) in
+end_is s number line r calls c given es ps a there gives e f made same =
+    let b : given ≡ given_in s (added_by (slice_get s.calls number)) r =
+    gives ∙ ap (λ (x : Option Judged). given_in s (added_by x) r) (sym there) in
     same ∙ rw (a, b, e, f) refl
 
 pub length_shown_from : (first : ℕ) (calls : List Judged) (start : Option ℕ) (r : SeenReply)

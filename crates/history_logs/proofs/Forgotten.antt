@@ -31,7 +31,7 @@ length_forgotten first d xs h =
     )
 
 -- calls that are kept agree with those of the service
-get_kept : (first : ℕ) (calls : List Judged) (n : ℕ) → first ≤ n
+pub get_kept : (first : ℕ) (calls : List Judged) (n : ℕ) → first ≤ n
     → slice_get (replicate first forgotten ++ calls) n ≡ slice_get calls (n - first)
 get_kept zero calls n h =
     let same : n - 0 ≡ n = omega arith in

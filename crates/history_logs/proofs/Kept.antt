@@ -404,7 +404,6 @@ kept_new log services callers waits = record {
 
 pub handles_of : (s : Service) → IsOrderly s → HasHandles s
 handles_of s o = record {
-  adds = o.all.adds;
   given = o.all.given;
   first = omega arith;
 }

@@ -15,7 +15,6 @@ use Rattle.service_conformance.specs.Judged.{Judged, judged_answered, shown}
 use Rattle.log_lines.specs.Commands.{Begun}
 use Rattle.log_lines.specs.Commands.Begun.{command, weak}
 use Rattle.service_descriptions.specs.declared.replay.lines.service_line.ServiceLine.{ServiceLine}
-use Rattle.history_logs.specs.declared.logs.service.LogCall.{LogCall}
 use Rattle.history_logs.specs.Good.{IsOrderly}
 use Rattle.history_logs.specs.Seen.{Begins, Service, called, calls_answered, calls_shown, changed, start_of, started, starting, stopping, unseen, with_begin, with_crash, with_end, with_look, with_over, with_part}
 
@@ -42,7 +41,7 @@ history_push es e h may index event at =
 
 pub orderly_new : (line : ServiceLine) → IsOrderly (unseen line)
 orderly_new line = record {
-  all = record { whole = refl; adds = refl; given = refl; begins = refl; event_lines = refl };
+  all = record { whole = refl; given = refl; begins = refl; event_lines = refl };
   history = λ index event at. absurd (cc);
   counts = begun_none;
   sound = sound_none;
@@ -54,7 +53,6 @@ pub orderly_started : (s : Service) (start : dynamic.Service) → IsOrderly s
 orderly_started s start o = record {
   all = record {
     whole = o.all.whole;
-    adds = o.all.adds;
     given = o.all.given;
     begins = o.all.begins;
     event_lines = o.all.event_lines;
@@ -94,7 +92,7 @@ fresh s o =
 pub not_open : (s : Service) → IsOrderly s → ¬ (IsOpen s.events (length s.calls))
 not_open s o live = absurd (omega (arith, live.0, fresh s o))
 
-pub orderly_part : (s : Service) (c : LogCall) (k : ℕ) → IsOrderly s
+pub orderly_part : (s : Service) (c : Judged) (k : ℕ) → IsOrderly s
     → IsOrderly (with_part s c k)
 orderly_part s c k o =
     let n = length s.calls in
@@ -103,13 +101,12 @@ orderly_part s c k o =
     record {
       all = record {
         whole = o.all.whole;
-        adds = both s.adds s.calls c.adds c.seen o.all.adds;
-        given = both s.given s.calls None c.seen o.all.given;
-        begins = both s.begins s.calls k c.seen o.all.begins;
+        given = both s.given s.calls None c o.all.given;
+        begins = both s.begins s.calls k c o.all.begins;
         event_lines = both s.event_lines s.events k (Begin n) o.all.event_lines;
       };
       history = history_push s.events (Begin n) o.history may;
-      counts = omega (arith, length-append s.calls (c.seen ∷ []));
+      counts = omega (arith, length-append s.calls (c ∷ []));
       sound = sound_begin s.events n o.sound (fresh s o);
       numbered = numbered_more s.events (Begin n) o.numbered (next_of s.events (Begin n) may);
     }
@@ -120,7 +117,6 @@ orderly_same : (s : Service) (commands : List ℕ) → IsOrderly s
 orderly_same s commands o = record {
   all = record {
     whole = o.all.whole;
-    adds = o.all.adds;
     given = o.all.given;
     begins = o.all.begins;
     event_lines = o.all.event_lines;
@@ -131,7 +127,7 @@ orderly_same s commands o = record {
   numbered = o.numbered;
 }
 
-pub orderly_begin : (s : Service) (c : LogCall) (k : ℕ) → IsOrderly s
+pub orderly_begin : (s : Service) (c : Judged) (k : ℕ) → IsOrderly s
     → IsOrderly (with_begin s c k)
 orderly_begin s c k o =
     orderly_same (with_part s c k) (s.commands ++ length s.calls ∷ []) (orderly_part s c k o)
@@ -141,7 +137,6 @@ pub orderly_over : (s : Service) (number k : ℕ) → IsOrderly s → IsOpen s.e
 orderly_over s number k o live = record {
   all = record {
     whole = o.all.whole;
-    adds = o.all.adds;
     given = o.all.given;
     begins = o.all.begins;
     event_lines = both s.event_lines s.events k (End number) o.all.event_lines;
@@ -159,7 +154,6 @@ orderly_end s number r k o live =
     record {
       all = record {
         whole = o.all.whole;
-        adds = o.all.adds ∙ answers;
         given = length-set s.given number _ ∙ (o.all.given ∙ answers);
         begins = o.all.begins ∙ answers;
         event_lines = both s.event_lines s.events k (End number) o.all.event_lines;
@@ -176,7 +170,6 @@ pub orderly_crash : (s : Service) (number k : ℕ) → IsOrderly s → IsOpen s.
 orderly_crash s number k o live = record {
   all = record {
     whole = o.all.whole;
-    adds = o.all.adds;
     given = o.all.given;
     begins = o.all.begins;
     event_lines = both s.event_lines s.events k (Crash number) o.all.event_lines;
@@ -189,11 +182,11 @@ orderly_crash s number k o live = record {
 }
 
 -- which calls are open then
-pub open_new : (s : Service) (c : LogCall) (k : ℕ) → IsOrderly s
+pub open_new : (s : Service) (c : Judged) (k : ℕ) → IsOrderly s
     → IsOpen (with_begin s c k).events (length s.calls)
 open_new s c k o = open_begin_now s.events (length s.calls) o.sound (fresh s o)
 
-pub open_begun : (s : Service) (c : LogCall) (k x : ℕ) → IsOpen s.events x
+pub open_begun : (s : Service) (c : Judged) (k x : ℕ) → IsOpen s.events x
     → IsOpen (with_begin s c k).events x
 open_begun s c k x live = open_begin_still s.events (length s.calls) x live
 
@@ -208,12 +201,12 @@ open_crashed s number k x live ne =
     open_end_still s.events (Crash number) number x (inr refl) live ne
 
 -- a call that begins and ends at once
-pub orderly_alone : (s : Service) (c : LogCall) (r : SeenReply) (k : ℕ) → IsOrderly s
+pub orderly_alone : (s : Service) (c : Judged) (r : SeenReply) (k : ℕ) → IsOrderly s
     → IsOrderly (with_end (with_begin s c k) (length s.calls) r k)
 orderly_alone s c r k o =
     orderly_end (with_begin s c k) (length s.calls) r k (orderly_begin s c k o) (open_new s c k o)
 
-pub open_alone : (s : Service) (c : LogCall) (r : SeenReply) (k x : ℕ) → IsOrderly s
+pub open_alone : (s : Service) (c : Judged) (r : SeenReply) (k x : ℕ) → IsOrderly s
     → IsOpen s.events x → IsOpen (with_end (with_begin s c k) (length s.calls) r k).events x
 open_alone s c r k x o live =
     open_ended (with_begin s c k) (length s.calls) r k x (open_begun s c k x live)
@@ -226,7 +219,7 @@ pub record IsBegun (s t : Service) (current : ℕ) : Type 0 where
   pub fresh : ¬ (IsOpen s.events current)
   pub still : (x : ℕ) → IsOpen s.events x → IsOpen t.events x
 
-begun_call : (s : Service) (c : LogCall) (k : ℕ) → IsOrderly s
+begun_call : (s : Service) (c : Judged) (k : ℕ) → IsOrderly s
     → IsBegun s (with_begin s c k) (length s.calls)
 begun_call s c k o = record {
   orderly = orderly_begin s c k o;
@@ -247,7 +240,7 @@ begun_look s p k o =
     let two = with_over one n k in
     let first = orderly_begin s (starting p) k o in
     let second : IsOrderly two = orderly_over one n k first (open_new s (starting p) k o) in
-    let long : length two.calls ≡ n + 1 = length-append s.calls ((starting p).seen ∷ []) in
+    let long : length two.calls ≡ n + 1 = length-append s.calls ((starting p) ∷ []) in
     record {
       orderly = orderly_part two (stopping n) k second;
       now = subst (IsOpen (with_look s p k).events) long (open_new two (stopping n) k second);

@@ -34,7 +34,7 @@ begun-append (Begin c ∷ es) fs = omega (arith, begun-append es fs)
 begun-append (End c ∷ es) fs = begun-append es fs
 begun-append (Crash c ∷ es) fs = begun-append es fs
 
-pub begins-one : (c : ℕ) → 0 < begins c (Begin c ∷ [])
+begins-one : (c : ℕ) → 0 < begins c (Begin c ∷ [])
 unfolding begins
 begins-one c = rw (eqb_true c) (omega arith)
   where

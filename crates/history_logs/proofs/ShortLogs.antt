@@ -13,11 +13,11 @@ use Rattle.log_lines.specs.Commands.{Begun, NamedCommand}
 use Rattle.log_lines.specs.Lines.{Line}
 use Rattle.log_lines.specs.Lines.Line.{service, call, reply, begin, end, crash, given}
 use Rattle.log_lines.specs.States.{State}
+use Rattle.service_conformance.specs.Judged.{Judged}
 use Rattle.service_conformance.specs.Looks.{Watched}
 use Rattle.service_descriptions.specs.declared.replay.lines.service_line.ServiceLine.{ServiceLine}
 use Rattle.history_logs.specs.declared.logs.callers.CallerState.{CallerState}
 use Rattle.history_logs.specs.declared.logs.callers.CallerState.TheVariants as caller
-use Rattle.history_logs.specs.declared.logs.service.LogCall.{LogCall}
 use Rattle.history_logs.specs.Good.{IsKept, IsOrderly}
 use Rattle.history_logs.specs.Reading.{Dies, Gives, GoesOn, HaveNumber, IsNamed, IsSane, Log, MayBegin, Sets, StartsAnewAs, StartsAs}
 use Rattle.history_logs.specs.Seen.{HasHandles, IsKeptCall, Service, called, started, unseen, with_alone, with_begin, with_crash, with_end}
@@ -193,7 +193,7 @@ module _ (log live new : Log) (fronts : List (Option (Front Watched))) (k : ℕ)
         let t = with_alone s c g.3 k in
         let other = with_alone live_one (called live_one g.1) g.3 k in
         let both : IsShort t other front =
-        subst (λ (x : LogCall). IsShort t (with_alone live_one x g.3 k) front) (sym same)
+        subst (λ (x : Judged). IsShort t (with_alone live_one x g.3 k) front) (sym same)
         (subst (λ n. IsShort t (with_end (with_begin live_one c k) n g.3 k) front)
         (sym (short_count s live_one front f.2))
         (short_end (with_begin s c k) (with_begin live_one c k) front begun (length s.calls)
@@ -432,7 +432,6 @@ short_sane log live fronts h kept = record {
       let f = found_at log.services live.services fronts i t h.services here in
       let o = all_get IsOrderly log.services i f.0 kept.orderly f.1 in
       subst HasHandles (sym f.2.is) (record {
-        adds = o.all.adds ∙ sym f.2.keeps.count;
         given = o.all.given ∙ sym f.2.keeps.count;
         first = first_within f.0 f.2.kept f.2.upto (front_at fronts i) f.2.keeps f.2.within;
       }));

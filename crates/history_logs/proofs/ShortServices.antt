@@ -10,12 +10,11 @@ use Rattle.log_lines.specs.Commands.Begun.{command as begun_command, weak}
 use Rattle.log_lines.specs.Commands.NamedCommand.{numbered}
 use Rattle.log_lines.specs.States.{State}
 use Rattle.service_conformance.specs.declared.conformance.possible.Part.{Part}
-use Rattle.service_conformance.specs.Judged.{stopped}
+use Rattle.service_conformance.specs.Judged.{Judged, stopped}
 use Rattle.service_conformance.specs.Looks.{Watched}
 use Rattle.service_conformance.specs.Sides.{HasPart, LacksPart}
 use Rattle.service_descriptions.specs.declared.replay.lines.service_line.ServiceLine.{ServiceLine}
 use Rattle.service_descriptions.specs.declared.replay.machine.command.Command.TheVariants as command
-use Rattle.history_logs.specs.declared.logs.service.LogCall.{LogCall}
 use Rattle.history_logs.specs.Reading.{Gives, StartsAs}
 use Rattle.history_logs.specs.Seen.{Begins, Service, called, started, starting, stopping, unseen, with_begin, with_look, with_over, with_part}
 use Rattle.history_logs.specs.Shortened.{HasFront, IsShort}
@@ -32,12 +31,12 @@ module _ (s live : Service) (front : Option (Front Watched)) (h : IsShort s live
       let one = with_begin s (starting p) line in
       let first = short_begin s live front h (starting p) line refl in
       let other = with_begin live (starting p) line in
-      let long : length one.calls ≡ n + 1 = length-append s.calls ((starting p).seen ∷ []) in
+      let long : length one.calls ≡ n + 1 = length-append s.calls ((starting p) ∷ []) in
       let second = short_over one other front first (End n) line in
-      let next : (start : ℕ) → stopped (stopping n).seen ≡ Some start
+      let next : (start : ℕ) → stopped (stopping n) ≡ Some start
       → start + 1 ≡ length one.calls =
       λ start is. omega (arith, same_Some n start is, long) in
-      let late : (start : ℕ) → stopped (stopping n).seen ≡ Some start → h.upto ≤ start =
+      let late : (start : ℕ) → stopped (stopping n) ≡ Some start → h.upto ≤ start =
       λ start is. omega (arith, same_Some n start is, h.within) in
       subst (λ m. IsShort (with_look s p line)
       (with_part (with_over other m line) (stopping m) line) front)
@@ -53,7 +52,7 @@ module _ (s live : Service) (front : Option (Front Watched)) (h : IsShort s live
       → t ≡ with_begin live (called live c) line → IsShort (with_begin s (called s c) line) t front
   short_call c line t is =
       subst (λ (x : Service). IsShort (with_begin s (called s c) line) x front)
-      (sym (is ∙ ap (λ (x : LogCall). with_begin live x line) (same_call c)))
+      (sym (is ∙ ap (λ (x : Judged). with_begin live x line) (same_call c)))
       (short_begin s live front h (called s c) line (called_stops s c))
 
   pub short_begins : (b : Begun) (line : ℕ) (t : Service) (current : ℕ)

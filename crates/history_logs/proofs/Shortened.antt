@@ -20,8 +20,7 @@ use Rattle.service_conformance.specs.Judged.Judged.{call}
 use Rattle.service_conformance.specs.Looks.{Watched, unwatched}
 use Rattle.service_descriptions.specs.declared.replay.machine.command.Command.{Command}
 use Rattle.service_descriptions.specs.declared.replay.machine.command.Command.TheVariants as command
-use Rattle.history_logs.specs.declared.logs.service.LogCall.{LogCall}
-use Rattle.history_logs.specs.Seen.{Service, called, calls_answered, calls_shown, changed, given_at, given_in, handle_named, start_of, with_begin, with_end, with_part}
+use Rattle.history_logs.specs.Seen.{Service, added_by, called, calls_answered, calls_shown, changed, given_at, given_in, handle_named, start_of, with_begin, with_end, with_part}
 use Rattle.history_logs.specs.Shortened.{HasFront, IsSettled, IsShort, Kept, shortened}
 use Rattle.history_logs.proofs.Orderly.{length_answered}
 
@@ -216,8 +215,8 @@ settled_still s t kept more upto front e k events left first start long same bef
     ended n h =
         subst (λ (l : List Event). HasEnded l n) (sym events) (ended_still s.events e n h)
 
-pub none_stops : (c : LogCall) (P : ℕ → Type 0) → stopped c.seen ≡ None → (start : ℕ)
-    → stopped c.seen ≡ Some start → P start
+pub none_stops : (c : Judged) (P : ℕ → Type 0) → stopped c ≡ None → (start : ℕ)
+    → stopped c ≡ Some start → P start
 none_stops c P none start is = absurd (cc)
 
 module _ (s live : Service) (front : Option (Front Watched)) (h : IsShort s live front) where
@@ -225,14 +224,14 @@ module _ (s live : Service) (front : Option (Front Watched)) (h : IsShort s live
   short_count = ap (λ (x : Service). length x.calls) h.is ∙ h.keeps.count
 
   -- a call begins
-  module _ (c : LogCall) (line : ℕ)
-      (next : (start : ℕ) → stopped c.seen ≡ Some start → start + 1 ≡ length s.calls)
-      (late : (start : ℕ) → stopped c.seen ≡ Some start → h.upto ≤ start)
+  module _ (c : Judged) (line : ℕ)
+      (next : (start : ℕ) → stopped c ≡ Some start → start + 1 ≡ length s.calls)
+      (late : (start : ℕ) → stopped c ≡ Some start → h.upto ≤ start)
     where
       abbrev part : Kept
       part = record {
         first = h.kept.first;
-        calls = h.kept.calls ++ c.seen ∷ [];
+        calls = h.kept.calls ++ c ∷ [];
         begins = h.kept.begins ++ line ∷ [];
         events = h.kept.events ++ Begin (length h.kept.calls) ∷ [];
         event_lines = h.kept.event_lines ++ line ∷ [];
@@ -248,10 +247,10 @@ module _ (s live : Service) (front : Option (Front Watched)) (h : IsShort s live
       part_front (Some f) is =
           settled_still s (with_part s c line) h.kept part h.upto f (Begin (length h.kept.calls)) is
           (ap (λ n. s.events ++ Begin n ∷ []) (sym h.keeps.count)) refl refl refl
-          (omega (arith, length-append s.calls (c.seen ∷ [])))
-          (take-append-le (begun is.past) s.calls (c.seen ∷ []) (omega (arith, is.most, h.within)))
+          (omega (arith, length-append s.calls (c ∷ [])))
+          (take-append-le (begun is.past) s.calls (c ∷ []) (omega (arith, is.most, h.within)))
           (λ n start at below.
-          elim (start_left s.calls c.seen n start at) as (λ _. start_of s.calls n ≡ Some start) [
+          elim (start_left s.calls c n start at) as (λ _. start_of s.calls n ≡ Some start) [
             | inl before ↦ before
             | inr last ↦ absurd (omega (arith, late start last.1, is.most))
           ])
@@ -260,19 +259,19 @@ module _ (s live : Service) (front : Option (Front Watched)) (h : IsShort s live
       short_part = record {
         kept = part;
         upto = h.upto;
-        within = omega (arith, h.within, length-append s.calls (c.seen ∷ []));
+        within = omega (arith, h.within, length-append s.calls (c ∷ []));
         is = ap (λ (x : Service). with_part x c line) h.is;
         keeps = record {
           count = omega (
             arith,
             h.keeps.count,
-            length-append h.kept.calls (c.seen ∷ []),
-            length-append s.calls (c.seen ∷ []),
+            length-append h.kept.calls (c ∷ []),
+            length-append s.calls (c ∷ []),
           );
           calls = λ n low.
-              get_pushed h.kept.calls s.calls c.seen n h.keeps.count (h.keeps.calls n low);
+              get_pushed h.kept.calls s.calls c n h.keeps.count (h.keeps.calls n low);
           stops = λ n start at.
-              elim (start_left s.calls c.seen n start at) as (λ _. start + 1 ≡ n) [
+              elim (start_left s.calls c n start at) as (λ _. start + 1 ≡ n) [
                 | inl before ↦ h.keeps.stops n start before
                 | inr last ↦ next start last.1 ∙ sym last.0
               ];
@@ -280,7 +279,7 @@ module _ (s live : Service) (front : Option (Front Watched)) (h : IsShort s live
         };
       }
 
-  pub begin_front : (c : LogCall) (line : ℕ) (kept : Kept) (upto : ℕ) (f : Option (Front Watched))
+  pub begin_front : (c : Judged) (line : ℕ) (kept : Kept) (upto : ℕ) (f : Option (Front Watched))
       → HasFront (with_part s c line) kept upto f → HasFront (with_begin s c line) kept upto f
   begin_front c line kept upto None is = is
   begin_front c line kept upto (Some f) is = record {
@@ -295,7 +294,7 @@ module _ (s live : Service) (front : Option (Front Watched)) (h : IsShort s live
     front_of = is.front_of;
   }
 
-  abbrev pub short_begin : (c : LogCall) (line : ℕ) → stopped c.seen ≡ None
+  abbrev pub short_begin : (c : Judged) (line : ℕ) → stopped c ≡ None
       → IsShort (with_begin s c line) (with_begin live c line) front
   short_begin c line none =
       let p = short_part c line (none_stops c (λ start. start + 1 ≡ length s.calls) none)
@@ -394,7 +393,10 @@ module _ (s live : Service) (front : Option (Front Watched)) (h : IsShort s live
         upto = h.upto;
         within = omega (arith, h.within, length_answered s.calls number r);
         is = ap (λ (x : Service). with_end x number r line) h.is
-            ∙ rw (gives_same s h.kept (get_or s.adds number None) r) refl;
+            ∙ rw (
+              h.keeps.calls number kept_call,
+              gives_same s h.kept (added_by (slice_get s.calls number)) r,
+            ) refl;
         keeps = record {
           count = length_answered h.kept.calls number r
               ∙ (h.keeps.count ∙ sym (length_answered s.calls number r));

@@ -6,7 +6,6 @@ use Rattle.histories.specs.declared.event.Event.TheVariants.{Begin, End, Crash}
 use Rattle.iox2_container.specs.declared.container.role.Role.{Role}
 use Rattle.iox2_container.specs.declared.container.role.Role.TheVariants as role
 use Rattle.iox2_container.specs.Handle.{Handle}
-use Rattle.iox2_dynamic.specs.Details.{role_of}
 use Rattle.iox2_dynamic.specs.Service as dynamic
 use Rattle.log_lines.specs.Commands.{Begun, NamedCommand}
 use Rattle.log_lines.specs.Commands.Begun.{command as begun_command, weak}
@@ -16,19 +15,18 @@ use Rattle.service_conformance.specs.declared.conformance.seen_reply.SeenReply.T
 use Rattle.service_conformance.specs.declared.conformance.possible.Part.{Part}
 use Rattle.service_conformance.specs.declared.conformance.possible.Part.TheVariants as part
 use Rattle.service_conformance.specs.Calls.{call_of}
-use Rattle.service_conformance.specs.Judged.{Judged, judged_answered, shown, stopped}
+use Rattle.service_conformance.specs.Judged.{Judged, judged_answered, role_added, shown, stopped}
 use Rattle.service_conformance.specs.Judged.Judged.{call, starts, stops}
 use Rattle.service_conformance.specs.Sides.{HasPart, LacksPart}
-use Rattle.history_logs.specs.declared.logs.service.LogCall.{LogCall}
 use Rattle.service_descriptions.specs.declared.replay.lines.service_line.ServiceLine.{ServiceLine}
 use Rattle.service_descriptions.specs.Script.{first_state}
 use Rattle.service_descriptions.specs.declared.replay.machine.command.Command.{Command}
 use Rattle.service_descriptions.specs.declared.replay.machine.command.Command.TheVariants as command
 
 -- A service of a log, what it is before its first call, and what was seen of it. Its calls stand by
--- their begins. Each has the role of the entry that its command adds, if it adds one, the handle
--- that its reply gave, if it gave one, and the line in which it begins. Each command has the number
--- of the call with which it begins, since a weak listing is two calls. Each event has its line.
+-- their begins. Each has the handle that its reply gave, if it gave one, and the line in which it
+-- begins. Each command has the number of the call with which it begins, since a weak listing is two
+-- calls. Each event has its line.
 -- Where a log is read as a whole, no call is forgotten, and `first` is 0. Where it is judged while
 -- it is read, so many of the first calls are forgotten: what stands for them says nothing.
 pub record Service : Type 0 where
@@ -36,24 +34,21 @@ pub record Service : Type 0 where
   pub start : dynamic.Service
   pub first : ℕ
   pub calls : List Judged
-  pub adds : List (Option Role)
   pub given : List (Option Handle)
   pub begins : List ℕ
   pub commands : List ℕ
   pub events : List Event
   pub event_lines : List ℕ
 
--- each call has its role, its handle and its line, and each event its line; none is forgotten
+-- each call has its handle and its line, and each event its line; none is forgotten
 pub record HasAll (s : Service) : Type 0 where
   pub whole : s.first ≡ 0
-  pub adds : length s.adds ≡ length s.calls
   pub given : length s.given ≡ length s.calls
   pub begins : length s.begins ≡ length s.calls
   pub event_lines : length s.event_lines ≡ length s.events
 
--- each call has its role and its handle, also one that is forgotten
+-- each call has its handle, also one that is forgotten
 pub record HasHandles (s : Service) : Type 0 where
-  pub adds : length s.adds ≡ length s.calls
   pub given : length s.given ≡ length s.calls
   pub first : s.first ≤ length s.calls
 
@@ -68,19 +63,12 @@ unseen line = record {
   start = (first_state line).service;
   first = 0;
   calls = [];
-  adds = [];
   given = [];
   begins = [];
   commands = [];
   events = [];
   event_lines = [];
 }
-
--- the role of the entry that a command adds
-abbrev pub role_added : Command → Option Role
-role_added (command.Register id) = Some role.Node
-role_added (command.Add details) = Some (role_of details)
-role_added _ = None
 
 -- the handle that a call gave, by what is above
 abbrev pub given_at : Service → Option ℕ → Option Handle
@@ -103,31 +91,30 @@ handle_in s r slot ticket =
     record { service = s.line.number; role = r; slot = slot; ticket = ticket }
 
 -- the call of a command, by what is above
-abbrev pub called : Service → NamedCommand → LogCall
-called s (numbered c) =
-    record { seen = call (call_of c (handle_named s c)); adds = role_added c }
-called s (deregister slot ticket) = record {
-  seen = call (call_of (command.Deregister 0) (Some (handle_in s role.Node slot ticket)));
-  adds = None;
-}
-called s (release r slot ticket) = record {
-  seen = call (call_of (command.Release 0) (Some (handle_in s r slot ticket)));
-  adds = None;
-}
+abbrev pub called : Service → NamedCommand → Judged
+called s (numbered c) = call (call_of c (handle_named s c))
+called s (deregister slot ticket) =
+    call (call_of (command.Deregister 0) (Some (handle_in s role.Node slot ticket)))
+called s (release r slot ticket) =
+    call (call_of (command.Release 0) (Some (handle_in s r slot ticket)))
 
 -- the handle that a reply gives to a call that adds an entry of this role
 abbrev pub given_in : Service → Option Role → SeenReply → Option Handle
 given_in s (Some r) (reply.Handle slot ticket) = Some (handle_in s r slot ticket)
 given_in s _ _ = None
 
+-- the role of the entry that the call adds, if it is one that adds one
+abbrev pub added_by : Option Judged → Option Role
+added_by None = None
+added_by (Some c) = role_added c
+
 -- a call begins in this line, with what its reply gives
-abbrev pub with_call : Service → LogCall → Option Handle → ℕ → Service
+abbrev pub with_call : Service → Judged → Option Handle → ℕ → Service
 with_call s c gives line = record {
   line = s.line;
   start = s.start;
   first = s.first;
-  calls = s.calls ++ c.seen ∷ [];
-  adds = s.adds ++ c.adds ∷ [];
+  calls = s.calls ++ c ∷ [];
   given = s.given ++ gives ∷ [];
   begins = s.begins ++ line ∷ [];
   commands = s.commands;
@@ -136,16 +123,16 @@ with_call s c gives line = record {
 }
 
 -- a call begins in this line, and is no command of its own
-abbrev pub with_part : Service → LogCall → ℕ → Service
+abbrev pub with_part : Service → Judged → ℕ → Service
 with_part s c line = with_call s c None line
 
 -- the call of a command begins in this line, with what its reply gives
-abbrev pub with_begun : Service → LogCall → Option Handle → ℕ → Service
+abbrev pub with_begun : Service → Judged → Option Handle → ℕ → Service
 with_begun s c gives line =
     record (with_call s c gives line) { commands = s.commands ++ length s.calls ∷ [] }
 
 -- a call begins in this line
-abbrev pub with_begin : Service → LogCall → ℕ → Service
+abbrev pub with_begin : Service → Judged → ℕ → Service
 with_begin s c line = with_begun s c None line
 
 -- the call of this number is over in this line, and has no reply
@@ -156,11 +143,11 @@ with_over s number line = record s {
 }
 
 -- a weak listing of a part that starts to look, and one that stops, whose replies were not seen
-abbrev pub starting : Part → LogCall
-starting p = record { seen = starts p None; adds = None }
+abbrev pub starting : Part → Judged
+starting p = starts p None
 
-abbrev pub stopping : ℕ → LogCall
-stopping start = record { seen = stops start None; adds = None }
+abbrev pub stopping : ℕ → Judged
+stopping start = stops start None
 
 -- A weak listing of a part begins in this line: it starts to look at once, and then stops until it
 -- ends.
@@ -217,13 +204,13 @@ pub record IsKeptCall (s : Service) (number : ℕ) : Type 0 where
 abbrev pub with_end : Service → ℕ → SeenReply → ℕ → Service
 with_end s number r line = record s {
   calls = calls_answered s.calls number r;
-  given = slice_set s.given number (given_in s (get_or s.adds number None) r);
+  given = slice_set s.given number (given_in s (added_by (slice_get s.calls number)) r);
   events = s.events ++ End number ∷ [];
   event_lines = s.event_lines ++ line ∷ [];
 }
 
 -- a call alone began and was answered so in this line
-abbrev pub with_alone : Service → LogCall → SeenReply → ℕ → Service
+abbrev pub with_alone : Service → Judged → SeenReply → ℕ → Service
 with_alone s c r line = with_end (with_begin s c line) (length s.calls) r line
 
 -- the caller of the call of this number died above this line

@@ -10,7 +10,6 @@ service_of c = record {
   start = c.start;
   first = c.first;
   calls = replicate c.first forgotten ++ c.calls.items;
-  adds = c.adds.items;
   given = c.given.items;
   begins = c.begins.items;
   commands = c.commands.items;

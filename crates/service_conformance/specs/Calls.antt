@@ -1,6 +1,9 @@
 -- Calls as they were seen, and what they do.
 use Rattle.std.specs.Prelude.{◌+◌, ◌<◌, ◌↔◌, ◌∷◌, ◌≡◌, List, None, Option, Some, [], slice_get, ℕ}
 use Rattle.service_conformance.specs.Prelude.{Command, Handle, IsService, Reply, Serves, Service, option_map, text_of}
+use Rattle.iox2_container.specs.declared.container.role.Role.{Role}
+use Rattle.iox2_container.specs.declared.container.role.Role.TheVariants as role
+use Rattle.iox2_dynamic.specs.Details.{role_of}
 use Rattle.service_descriptions.specs.declared.replay.machine.command.Command.TheVariants as command
 use Rattle.service_descriptions.specs.declared.replay.machine.reply.Reply.TheVariants as reply
 use Rattle.service_conformance.specs.declared.conformance.possible.Part.{Part}
@@ -30,6 +33,12 @@ abbrev pub handle_for : Command → Option Handle → Option Handle
 handle_for (command.Deregister k) handle = handle
 handle_for (command.Release k) handle = handle
 handle_for c handle = None
+
+-- the role of the entry that a command adds, if it adds one
+abbrev pub command_adds : Command → Option Role
+command_adds (command.Register id) = Some role.Node
+command_adds (command.Add details) = Some (role_of details)
+command_adds c = None
 
 -- a call whose reply was not seen
 abbrev pub call_of : Command → Option Handle → Call

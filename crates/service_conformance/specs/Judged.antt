@@ -1,13 +1,14 @@
 -- What is judged of a service: calls, and weak listings that start and stop.
 use Rattle.std.specs.Prelude.{if◌then◌else◌, ◌++◌, ◌+◌, ◌<◌, ◌==◌, ◌↔◌, ◌∷◌, ◌≡◌, List, None, Option, Some, [], length, slice_get, ℕ}
 use Rattle.service_conformance.specs.Prelude.{option_map}
+use Rattle.iox2_container.specs.declared.container.role.Role.{Role}
 use Rattle.service_conformance.specs.declared.conformance.possible.Part.{Part}
 use Rattle.service_conformance.specs.declared.conformance.possible.PossibleReplies.{PossibleReplies}
 use Rattle.service_conformance.specs.declared.conformance.possible.PossibleReplies.TheVariants as replies
 use Rattle.service_conformance.specs.declared.conformance.possible.PossibleList.{PossibleList}
 use Rattle.service_conformance.specs.declared.conformance.seen_reply.SeenReply.{SeenReply}
 use Rattle.service_conformance.specs.declared.conformance.seen_reply.SeenReply.TheVariants as seen
-use Rattle.service_conformance.specs.Calls.{AreRepliesOf, Call, CallStep, HasNumber, answered}
+use Rattle.service_conformance.specs.Calls.{AreRepliesOf, Call, CallStep, HasNumber, answered, command_adds}
 use Rattle.service_conformance.specs.Looks.{IsWatched, LacksNothing, Look, Watched, look_of, looks_after, watched}
 use Rattle.service_conformance.specs.declared.conformance.judged_call.JudgedCall.TheInside.{Inside}
 use Rattle.service_conformance.specs.declared.conformance.judged_call.What.{What}
@@ -52,6 +53,11 @@ shown c r = c
 abbrev pub stopped : Judged → Option ℕ
 stopped (stops start reply) = Some start
 stopped _ = None
+
+-- the role of the entry that it adds, if it is a call that adds one
+abbrev pub role_added : Judged → Option Role
+role_added (call c) = command_adds c.command
+role_added _ = None
 
 -- a weak listing with this number starts to look at the service
 abbrev pub StartsLook : ℕ → Part → Option (List ℕ) → Watched → Watched → Type 0

@@ -1,6 +1,5 @@
 //! Judging a log while it is read.
 ghost use Rattle.std.specs.Prelude.{◌≡◌, ◌≤◌, ◌<◌, IfOk, IfSome, IsTrue, OnOk, length};
-ghost use Rattle.history_logs.specs.Fields.{log_of};
 ghost use Rattle.history_logs.specs.Logs.{Judged};
 ghost use Rattle.history_logs.specs.Progress.{AddsCounts};
 ghost use Rattle.history_logs.specs.Settling.{AreRightShort, AreSameFronts, HaveShort, StayAll};
@@ -36,6 +35,7 @@ fn add_fronts(
 }
 
 /// Settles what was seen of each service. Returns whether orders explain what is settled.
+#[inline(never)]
 fn settle_all(
     alloc: Global,
     services: &mut [LogService],
@@ -64,7 +64,9 @@ fn count_kept(services: &[LogService]) -> usize {
 }
 
 /// Settles what was seen of each service from the due line on, and says when that is due again.
-/// Returns whether orders explain what is settled.
+/// Returns whether orders explain what is settled. The test is inlined, since most lines need no
+/// more.
+#[inline(always)]
 fn settle_at(
     alloc: Global,
     line: usize,

@@ -9,7 +9,7 @@ ghost use Rattle.service_descriptions.specs.Script.{first_state};
 ghost use Rattle.history_logs.specs.Good.{Starts};
 ghost use Rattle.history_logs.specs.Reading.{Gives};
 ghost use Rattle.history_logs.specs.Seen.{Begins, HasHandles, IsKeptCall, calls_shown_from, called, given_by, given_in};
-ghost use Rattle.history_logs.specs.Seen.{handle_in, handle_named, role_added, start_of};
+ghost use Rattle.history_logs.specs.Seen.{handle_in, handle_named, start_of};
 ghost use Rattle.history_logs.specs.Seen.{forgetting, forgotten, unseen, with_alone, with_begun, with_crash, with_end};
 ghost use Rattle.history_logs.specs.Seen.{with_call, with_look, with_over};
 
@@ -22,25 +22,17 @@ use service_descriptions::replay::{LineCommand, ServiceLine};
 use std::alloc::{AllocError, Global};
 use std::marker::Model;
 
-/// A call of a log, and the role of the entry that its command adds.
-#[derive(Drop)]
-pub(super) struct LogCall {
-    pub(super) seen: JudgedCall,
-    pub(super) adds: Option<Role>,
-}
-
 /// A service of a log, what it is before its first call, and what was seen of it. So many of its
 /// first calls are forgotten. The calls behind those stand by their begins. Each call, also one
-/// that is forgotten, has the role of the entry that it adds, and the handle that its reply gave.
-/// While none is forgotten, each call has the line in which it begins, and each event its own. Each
-/// command has the number of the call with which it begins.
+/// that is forgotten, has the handle that its reply gave. While none is forgotten, each call has
+/// the line in which it begins, and each event its own. Each command has the number of the call
+/// with which it begins.
 #[derive(Drop)]
 pub(super) struct LogService {
     line: ServiceLine,
     start: ServiceCheck,
     first: usize,
     calls: Vec<JudgedCall>,
-    adds: Vec<Option<Role>>,
     given: Vec<Option<ContainerHandle>>,
     begins: Vec<usize>,
     commands: Vec<usize>,
@@ -55,17 +47,6 @@ impl Model for LogService {
     ghost Value = { Service };
 
     ghost view = { service_of };
-}
-
-/// The role of the entry that a command adds.
-fn added(command: &LineCommand) -> Option<Role>
-    ensures { result ≡ role_added (command_of command.now) }
-{
-    match command {
-        LineCommand::Register(_) => Some(Role::Node),
-        LineCommand::Add(port) => Some(port.details().role()),
-        _ => None,
-    }
 }
 
 /// A new service of its line.
@@ -136,7 +117,6 @@ impl LogService {
             start,
             first: 0,
             calls: Vec::new(alloc),
-            adds: Vec::new(alloc),
             given: Vec::new(alloc),
             begins: Vec::new(alloc),
             commands: Vec::new(alloc),
@@ -278,33 +258,23 @@ impl LogService {
 
     /// The call of a command, whose reply was not seen.
     #[inline(always)]
-    pub(super) fn call(&self, command: LogCommand) -> LogCall
+    fn call(&self, command: LogCommand) -> JudgedCall
         ensures { result ≡ called self.now (named command) }
     {
         match command {
             LogCommand::Numbered(command) => {
                 let handle = self.named_by(&command);
-                let adds = added(&command);
-                LogCall {
-                    seen: JudgedCall::call(SeenCall::new(command, handle)),
-                    adds,
-                }
+                JudgedCall::call(SeenCall::new(command, handle))
             }
             // Of a removal that names its handle the number of a command is not looked at.
-            LogCommand::Deregister(slot, ticket) => LogCall {
-                seen: JudgedCall::call(SeenCall::new(
-                    LineCommand::Deregister(0),
-                    Some(self.handle(Role::Node, slot, ticket)),
-                )),
-                adds: None,
-            },
-            LogCommand::Release(role, slot, ticket) => LogCall {
-                seen: JudgedCall::call(SeenCall::new(
-                    LineCommand::Release(0),
-                    Some(self.handle(role, slot, ticket)),
-                )),
-                adds: None,
-            },
+            LogCommand::Deregister(slot, ticket) => JudgedCall::call(SeenCall::new(
+                LineCommand::Deregister(0),
+                Some(self.handle(Role::Node, slot, ticket)),
+            )),
+            LogCommand::Release(role, slot, ticket) => JudgedCall::call(SeenCall::new(
+                LineCommand::Release(0),
+                Some(self.handle(role, slot, ticket)),
+            )),
         }
     }
 
@@ -314,7 +284,7 @@ impl LogService {
     #[inline(always)]
     fn push(
         &mut self,
-        call: LogCall,
+        call: JudgedCall,
         gives: Option<ContainerHandle>,
         line: usize,
     ) -> Result<usize, AllocError>
@@ -323,9 +293,7 @@ impl LogService {
         ensures number { IfOk result (λ number. number ≡ length self.old.calls) }
     {
         let number = self.given.len();
-        let LogCall { seen, adds } = call;
-        self.calls.push(seen)?;
-        self.adds.push(adds)?;
+        self.calls.push(call)?;
         self.given.push(gives)?;
         self.begins.push(line)?;
         self.events.push(Event::Begin(number))?;
@@ -338,7 +306,7 @@ impl LogService {
     #[inline(always)]
     fn begin(
         &mut self,
-        call: LogCall,
+        call: JudgedCall,
         gives: Option<ContainerHandle>,
         line: usize,
     ) -> Result<usize, AllocError>
@@ -368,17 +336,9 @@ impl LogService {
         ensures looks { OnOk result (self.new ≡ with_look self.old part line) }
         ensures number { IfOk result (λ number. number ≡ length self.old.calls + 1) }
     {
-        let start = LogCall {
-            seen: JudgedCall::starts(part),
-            adds: None,
-        };
-        let number = self.begin(start, None, line)?;
+        let number = self.begin(JudgedCall::starts(part), None, line)?;
         self.finish(number, line)?;
-        let stop = LogCall {
-            seen: JudgedCall::stops(number),
-            adds: None,
-        };
-        self.push(stop, None, line)
+        self.push(JudgedCall::stops(number), None, line)
     }
 
     /// A weak listing of the ports of a role, or of the nodes, begins in this line. Returns the
@@ -439,8 +399,8 @@ impl LogService {
             (self.new ≡ with_alone self.old (called self.old (named command)) reply line) }
     {
         let mut call = self.call(command);
-        let gives = self.given_in(call.adds, &reply);
-        call.seen.answer(reply);
+        let gives = self.given_in(call.adds(), &reply);
+        call.answer(reply);
         let number = self.begin(call, gives, line)?;
         self.finish(number, line)?;
         Ok(())
@@ -460,9 +420,9 @@ impl LogService {
         requires kept { IsKeptCall self.old number }
         ensures { OnOk result (self.new ≡ with_end self.old number reply line) }
     {
-        let given = self.given_in(self.adds[number], &reply);
-        self.given[number] = given;
         let at = number - self.first;
+        let given = self.given_in(self.calls[at].adds(), &reply);
+        self.given[number] = given;
         show(alloc, &mut self.calls, self.first, at, &reply)?;
         self.calls[at].answer(reply);
         self.events.push(Event::End(number))?;

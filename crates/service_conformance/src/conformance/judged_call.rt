@@ -5,7 +5,7 @@ ghost use Rattle.histories.specs.Frontier.{IsMade, states_in};
 ghost use Rattle.histories.specs.Histories.{AreAll};
 ghost use Rattle.service_conformance.specs.Judged.{AreJudgedReplies, IsIdleJudged, IsList, JudgedStep};
 ghost use Rattle.service_conformance.specs.Judged.{MayStop, StartsLook, ids_seen, judged_answered};
-ghost use Rattle.service_conformance.specs.Judged.{shown, stopped};
+ghost use Rattle.service_conformance.specs.Judged.{role_added, shown, stopped};
 ghost use Rattle.service_conformance.specs.Judged.Judged.{call, starts, stops};
 ghost use Rattle.service_conformance.specs.Looks.{Watched, watched};
 ghost use Rattle.service_conformance.specs.Movers.{MakesChange};
@@ -17,6 +17,7 @@ use super::seen_reply::SeenReply;
 use super::service_check::ServiceCheck;
 use super::watched::WatchedService;
 use histories::Left;
+use iox2_container::container::Role;
 use std::alloc::{AllocError, Global};
 use std::marker::Model;
 
@@ -179,6 +180,16 @@ impl JudgedCall {
         match self.what {
             What::Stops(start, _) => Some(start),
             What::Call(_) | What::Starts(_, _) => None,
+        }
+    }
+
+    /// The role of the entry that it adds, if it is a call that adds one.
+    pub fn adds(&self) -> Option<Role>
+        ensures { result ≡ role_added self.now }
+    {
+        match &self.what {
+            What::Call(seen) => seen.adds(),
+            What::Starts(_, _) | What::Stops(_, _) => None,
         }
     }
 

@@ -1,7 +1,7 @@
 //! Commands as they were called.
 ghost use Rattle.std.specs.Prelude.{◌≡◌};
 ghost use Rattle.service_conformance.specs.Requests.{request_command, request_handle};
-ghost use Rattle.service_conformance.specs.Calls.{at_first, handle_for};
+ghost use Rattle.service_conformance.specs.Calls.{at_first, command_adds, handle_for};
 ghost use Rattle.service_descriptions.specs.Lines.{command_of};
 
 use iox2_container::container::{ContainerHandle, Role};
@@ -38,6 +38,17 @@ impl Request {
             LineCommand::List(role) => Request::List(role),
             LineCommand::Count(role) => Request::Count(role),
             LineCommand::Dead(node, kept) => Request::Dead(node, kept),
+        }
+    }
+
+    /// The role of the entry that the command adds, if it adds one.
+    pub(super) fn adds(&self) -> Option<Role>
+        ensures { result ≡ command_adds (request_command self.now) }
+    {
+        match self {
+            Request::Register(_) => Some(Role::Node),
+            Request::Add(port) => Some(port.details().role()),
+            _ => None,
         }
     }
 }

@@ -4,7 +4,7 @@ ghost use Rattle.histories.specs.Frontier.{IsMade, states_in};
 ghost use Rattle.histories.specs.Histories.{AreAll};
 ghost use Rattle.service_conformance.specs.Calls.{AreRepliesOf, CallStep, ChangesNothing, GivesBelow};
 ghost use Rattle.service_conformance.specs.Calls.{IsIdleCall, ServesCall};
-ghost use Rattle.service_conformance.specs.Calls.{answered, call_of};
+ghost use Rattle.service_conformance.specs.Calls.{answered, call_of, command_adds};
 ghost use Rattle.service_conformance.specs.Movers.{IsChange};
 ghost use Rattle.service_conformance.specs.Possible.{ArePossible, IsCovered, reply_in};
 ghost use Rattle.service_conformance.specs.Quiet.{CanServe, LeadsTo, quiet};
@@ -20,7 +20,7 @@ use super::request::Request;
 use super::seen_reply::{SeenReply, changes_nothing};
 use super::service_check::ServiceCheck;
 use histories::Left;
-use iox2_container::container::ContainerHandle;
+use iox2_container::container::{ContainerHandle, Role};
 use service_descriptions::replay::LineCommand;
 use std::alloc::{AllocError, Global};
 use std::marker::Model;
@@ -60,6 +60,13 @@ impl SeenCall {
         ensures { self.new ≡ answered self.old (seen_text reply) }
     {
         self.seen = Some(reply);
+    }
+
+    /// The role of the entry that its command adds, if it adds one.
+    pub(super) fn adds(&self) -> Option<Role>
+        ensures { result ≡ command_adds self.now.command }
+    {
+        self.request.adds()
     }
 
     /// The reply that was seen.
