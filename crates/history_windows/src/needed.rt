@@ -37,11 +37,13 @@ pub fn is_kept(left_out: &[bool], call: usize) -> bool
 fn rest_of(alloc: Global, events: &[Event], left_out: &[bool]) -> Result<Vec<Event>, AllocError>
     ensures { IfOk result (λ rest. rest.items ≡ events_of (is_kept left_out.now) events.now) }
 {
-    events
-        .iter()
-        .copied()
-        .filter(|event| is_kept(left_out, call_of(*event)))
-        .collect(alloc)
+    let mut rest = Vec::new(alloc);
+    for event in events {
+        if is_kept(left_out, call_of(*event)) {
+            rest.push(*event)?;
+        }
+    }
+    Ok(rest)
 }
 
 /// Whether it is found that no order explains the events, and that one explains those before the
@@ -189,10 +191,11 @@ fn shrink<M: Machine>(
 fn states_of<S: Drop>(alloc: Global, configs: Vec<Config<S>>) -> Result<Vec<S>, AllocError>
     ensures { IfOk result (λ states. states.items ≡ states_of configs.items) }
 {
-    configs
-        .into_iter()
-        .map(|config| config.state)
-        .collect(alloc)
+    let mut states = Vec::new(alloc);
+    for config in configs {
+        states.push(config.state)?;
+    }
+    Ok(states)
 }
 
 /// The states that the events have left, where a window begins after them.
