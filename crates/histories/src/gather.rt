@@ -183,7 +183,7 @@ impl<M: Machine> Gathered<M> {
 
     /// Whether these are more than are followed.
     pub fn is_full(&self) -> bool
-        ensures { IsTrue result → 4096 < length self.now }
+        ensures { IsTrue result ↔ (4096 < length self.now) }
     {
         self.configs.len() > MAX_CONFIGS
     }
