@@ -260,6 +260,7 @@ fn index_of(bytes: &[u8], byte: u8) -> Option<usize>
 }
 
 /// What comes before the first such byte, and what follows it.
+#[inline(always)]
 pub fn before_byte(bytes: &[u8], byte: u8) -> Option<(&[u8], &[u8])>
     ensures read { Reads (before byte).Fits (before byte).text
         (option_map (λ found. (found.0.now, found.1.now)) result) bytes.now }
