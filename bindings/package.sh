@@ -50,7 +50,8 @@ mv "$prefix"/share/iox2sd "$work/wrappers"
 tools "$prefix"
 doc=$prefix/share/doc/iox2sd
 install -D -m 644 -t "$doc" "$top"/LICENSE-APACHE "$top"/LICENSE-MIT "$top"/NOTICE \
-    "$top"/docs/{C,CPP,CALLS,GLOSSARY,SCRIPT,DESCRIBE,CONFORM,CONFIG}.md "$top/docs/iceoryx2.toml"
+    "$top"/docs/{C,CPP,CALLS,GLOSSARY,SCRIPT,DESCRIBE,CONFORM,CONFIG,PROMISES}.md \
+    "$top"/docs/{iceoryx2.toml,message-layout.svg,conform-window.svg}
 install -D -m 644 -t "$doc/examples" "$top"/examples/*.c "$top"/examples/*.cpp \
     package/Makefile package/CMakeLists.txt
 "$top/docs/reference" "$doc/reference" > "$work/log"

@@ -262,8 +262,6 @@ by_find_package() {
         done
 }
 
-by_cargo() { alike of_rust ../examples/first.rs "$1/share/iox2sd/rust"; }
-
 by_pip() {
     cp ../examples/first.py "$work/outside" &&
         python3 -m venv "$work/outside/venv" &&
@@ -289,7 +287,8 @@ run "install.sh installs into other directories" \
 if run "install.sh installs" ./install.sh "$work/prefix"; then
     mv "$work/prefix" "$work/moved"
     installed_at "$work/moved" lib moved
-    has cargo && run "cargo, by a path, moved" by_cargo "$work/moved"
+    has cargo && run "cargo, by a path, moved" \
+        alike of_rust ../examples/first.rs "$work/moved/share/iox2sd/rust"
     if [ -e "$work/moved/share/iox2sd/python" ]; then
         run "pip install, moved" by_pip "$work/moved"
     else

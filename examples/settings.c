@@ -13,7 +13,7 @@ static bool report(const char *text) {
     if (!IOX2SD_SUCCEEDED(read.status)) {
         printf("refused: %zu:%zu: %.*s: %.*s\n", read.fault.line, read.fault.column,
                (int)read.fault.key_length, (const char *)read.fault.key,
-               (int)read.fault.reason_length, (const char *)read.fault.reason);
+               (int)sizeof read.fault.reason, (const char *)read.fault.reason);
         return false;
     }
     printf("root path %.*s, %zu subscribers, %zu unknown key\n",

@@ -27,16 +27,16 @@
  *
  * What is proved, and what not
  *
- * - Proved: each function of the library returns what the layer's definitions say, touches nothing
- *   outside its arguments, and comes to an end. A query leaves the service as it was: its own bytes
- *   and what it holds. What a service holds may be sent to another thread.
+ * - Proved: each export (iox2sd_raw.h has them) returns what the layer's definitions say, touches
+ *   nothing outside its arguments, and comes to an end. A query leaves the service as it was: its
+ *   own bytes and what it holds. What a service holds may be sent to another thread.
  * - Assumed: a pointer points to as many elements as are passed, no other thread touches them
  *   during the call, and the bytes of a service are zeros or what the last call left there. So the
  *   proof covers one query at a time.
- * - Tested: a query writes nothing to a service while it runs, so several may run at once. All
- *   queries are made on services in pages that may only be read, by sixteen threads at once. The
- *   declarations below are those of the library, the inline functions pass the numbers that they
- *   say, and NULL with the number 0 is an empty array.
+ * - Tested: the functions of this header, a small source in C, check pointers and call the exports;
+ *   the declarations are those of the library; NULL with the number 0 is an empty array. A query
+ *   writes nothing to a service while it runs, so several may run at once: all queries are made on
+ *   services in pages that may only be read, by sixteen threads at once.
  * - Left to the caller: to free a service, to run no other call beside a change, and what is done
  *   with a pointer.
  */

@@ -20,8 +20,8 @@
 ///   at once, or one other call alone. It may be moved from thread to thread; docs/C.md has what is
 ///   proved of that, and what is tested.
 ///
-/// The library's results are proved, under the rules of the C headers. This header is tested, not
-/// proved.
+/// The library's exports are proved, under the rules of the C headers. Its small source in C and
+/// this header are tested, not proved.
 #ifndef IOX2SD_HPP
 #define IOX2SD_HPP
 

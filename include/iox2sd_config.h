@@ -121,8 +121,8 @@ typedef struct iox2sd_config_fault {
     size_t column;
     uint8_t key[80]; /* The path of the key, as "defaults.event.deadline", then zeros. */
     size_t key_length;
-    uint8_t reason[256]; /* The beginning of what is wrong, in words, then zeros. */
-    size_t reason_length; /* The bytes of all words. */
+    uint8_t reason[256]; /* What is wrong, in words: as much as fits, then zeros. */
+    size_t reason_length; /* The bytes of all words, also of those that do not fit. */
 } iox2sd_config_fault;
 
 /* What reading a file gave. */
@@ -142,7 +142,7 @@ typedef struct iox2sd_unknown_key {
     size_t key_length; /* The bytes of its path, in the buffer of all paths. */
     uint8_t meant[80]; /* The path of the known key that was probably meant, then zeros. */
     size_t meant_length; /* 0 where there is none. */
-    uint8_t reason[256]; /* What is wrong and was probably meant, in words, then zeros. */
+    uint8_t reason[256]; /* What is wrong and was probably meant, in words, as of a fault. */
     size_t reason_length;
 } iox2sd_unknown_key;
 

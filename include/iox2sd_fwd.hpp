@@ -1,6 +1,6 @@
 /// Declarations of what iox2sd.hpp, iox2sd_config.hpp, iox2sd_log.hpp and iox2sd_conform.hpp
-/// define, for headers that only name these types. Ports and patterns of any kind (`PortDetails`,
-/// `MessagingPattern`) are variants, and are not declared here.
+/// define, for headers that only name these types. Not declared here are variants (ports and
+/// patterns of any kind: `PortDetails`, `MessagingPattern`), and the ids of one kind of ports.
 #ifndef IOX2SD_FWD_HPP
 #define IOX2SD_FWD_HPP
 
@@ -25,6 +25,7 @@ enum class ConfigEntry : std::uint32_t;
 enum class ConfigTable : std::uint32_t;
 enum class TomlType : std::uint32_t;
 enum class SettingKind : std::uint32_t;
+enum class Likeness : std::uint32_t;
 enum class DataSegmentType : std::uint32_t;
 enum class DeregisterNodeState;
 enum class Requirement;
@@ -68,12 +69,14 @@ struct PublishSubscribeSettings; struct EventSettings; struct RequestResponseSet
 struct BlackboardSettings; struct SettingsError; struct PublishSubscribeStaticConfig;
 struct RequestResponseStaticConfig; struct BlackboardStaticConfig; class StaticConfig;
 struct Requirements; struct OpenError;
+using EventStaticConfig = EventSettings;
 
 struct PublisherDetails; struct SubscriberDetails; struct NotifierDetails; struct ListenerDetails;
 struct ClientDetails; struct ServerDetails; struct ReaderDetails; struct WriterDetails;
 struct ContainerHandle; struct Capacities; struct PublishSubscribeCapacities;
 struct EventCapacities; struct RequestResponseCapacities; struct BlackboardCapacities;
 struct PortRoles; struct DeadNodeRemoval; class ServiceNumbers; class Service; struct ScriptRun;
+using DynamicConfig = Service;
 
 struct ConfigTexts; struct Config; struct ConfigFile; struct ConfigFault; struct ConfigError;
 struct ConfigWriteError; struct UnknownKey;

@@ -7,7 +7,7 @@
  * pointer to one struct, the export takes a pointer and a count: 1, or 0 where the pointer is NULL.
  * Then the status is IOX2SD_STATUS_NULL. A pointer to an array, a text or a buffer may be NULL only
  * where the number of its elements is 0; the export does not check this.
- * */
+ */
 #ifndef IOX2SD_RAW_H
 #define IOX2SD_RAW_H
 

@@ -8,6 +8,8 @@ template <class T>
 constexpr bool is_declared = true;
 static_assert(is_declared<iox2sd::Result<iox2sd::List<iox2sd::PublisherDetails>>>);
 static_assert(is_declared<iox2sd::AttributeKey> && is_declared<iox2sd::UniqueServiceId>);
+static_assert(is_declared<iox2sd::Likeness> && is_declared<iox2sd::EventStaticConfig> &&
+              is_declared<iox2sd::DynamicConfig>);
 
 /// What a user's header declares.
 struct Monitor {

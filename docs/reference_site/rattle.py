@@ -46,7 +46,7 @@ def text_of(lines):
 
 
 def item_end(lines, at):
-    """The place after the item that begins at a line: it ends with a line of its own indentation,
+    """The index behind the item that begins at a line: it ends with a line of its own indentation,
     or, before a block is opened, with a semicolon."""
     inside = ""
     for end, line in enumerate(lines[at:], at + 1):

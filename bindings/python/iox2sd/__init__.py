@@ -1,5 +1,5 @@
-"""The service layer of the zero-copy middleware iceoryx2, over the proved library libiox2sd: what a
-service is, and which nodes and ports are attached to it.
+"""The service layer of the zero-copy middleware iceoryx2, over the library libiox2sd, whose exports
+are proved: what a service is, and which nodes and ports are attached to it.
 
     >>> import iox2sd
     >>> with iox2sd.DynamicConfig.event(

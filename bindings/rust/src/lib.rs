@@ -29,8 +29,8 @@
 //!
 //! # What is proved
 //!
-//! Each call of the library `libiox2sd` is proved to return what its definitions say. This crate
-//! keeps values, and calls the library for each rule: which texts are legal, how a set is sorted and
+//! Each export of the library `libiox2sd` is proved to return what its definitions say. This crate
+//! keeps values, and calls exports for each rule: which texts are legal, how a set is sorted and
 //! verified, how a message is laid out, who may attach. The crate itself is tested, not proved. Its
 //! `unsafe` calls of C are all in one module; users need none, and may write
 //! `#![forbid(unsafe_code)]`.

@@ -16,7 +16,7 @@
 //!
 //! let ports = DynamicConfigSettings { number_of_listeners: 1, number_of_notifiers: 1 };
 //! let mut log = LogWriter::new(ports, 2, 7);
-//! let registry = AtomicU64::new(0); // Both threads register at a place of their own.
+//! let registry = AtomicU64::new(0); // Both threads register in a slot of their own.
 //! std::thread::scope(|scope| {
 //!     for (slot, name) in ["A", "B"].into_iter().enumerate() {
 //!         let (registry, mut caller) = (&registry, log.caller(name).expect("a name"));

@@ -1,7 +1,8 @@
 //! The layer for C: its calls under C's calling convention, with plain values, in one static
 //! library without global state.
 //!
-//! `include/iox2sd.h` declares each export for C and C++, and says what a caller owes.
+//! `include/iox2sd_raw.h` declares the exports for C and C++, and `include/iox2sd.h` the functions
+//! that call them, with what a caller must ensure.
 #![tactic(auto)]
 
 ghost use Rattle.std.specs.Prelude.{◌≡◌};
