@@ -373,12 +373,16 @@ iox2sd_log_caller_create(iox2sd_log_writer *writer, const char *name) {
 
 /* ---- Recording ---- */
 
+/* Whether a command of this kind has a role. */
+static inline bool iox2sd_log_has_role(uint32_t kind) {
+    return kind == IOX2SD_LOG_ADD || kind == IOX2SD_LOG_RELEASE || kind == IOX2SD_LOG_LIST ||
+           kind == IOX2SD_LOG_COUNT || kind == IOX2SD_LOG_LIST_WEAK;
+}
+
 /* IOX2SD_STATUS_DONE where a command has a line in a log; else why it has none. */
 static inline iox2sd_status iox2sd_log_command_check(const iox2sd_log_command *command) {
     if (command->kind > IOX2SD_LOG_LIST_WEAK) return IOX2SD_STATUS_UNKNOWN_VARIANT;
-    const bool has_role = command->kind == IOX2SD_LOG_ADD || command->kind == IOX2SD_LOG_RELEASE ||
-                          command->kind == IOX2SD_LOG_LIST || command->kind == IOX2SD_LOG_COUNT ||
-                          command->kind == IOX2SD_LOG_LIST_WEAK;
+    const bool has_role = iox2sd_log_has_role(command->kind);
     if (has_role && (command->role == IOX2SD_ROLE_NODE || command->role > IOX2SD_ROLE_WRITER)) {
         return IOX2SD_STATUS_UNKNOWN_ROLE;
     }
@@ -418,7 +422,7 @@ IOX2SD_CHECKED static inline iox2sd_log_token iox2sd_log_begin(iox2sd_log_caller
     token.call = caller->call_count++;
     struct iox2sd_log_call *const call = caller->calls + token.call;
     call->command = (uint8_t)command.kind;
-    call->role = (uint8_t)command.role;
+    call->role = iox2sd_log_has_role(command.kind) ? (uint8_t)command.role : 0;
     call->port = command.port;
     call->node = command.node;
     call->named[0] = command.slot;

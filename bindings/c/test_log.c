@@ -216,7 +216,9 @@ static void refusals(void) {
     }
     CHECK(iox2sd_log_begin(NULL, iox2sd_log_nodes()).status == IOX2SD_STATUS_NULL);
     CHECK(has_lines(&writer, ""));
-    const iox2sd_log_token token = iox2sd_log_begin(a, iox2sd_log_nodes());
+    iox2sd_log_command with_role = iox2sd_log_nodes(); /* Its kind has no role. */
+    with_role.role = IOX2SD_ROLE_NONE;
+    const iox2sd_log_token token = iox2sd_log_begin(a, with_role);
     CHECK(iox2sd_log_begin(a, iox2sd_log_nodes()).status == IOX2SD_STATUS_CALLER_IS_BUSY);
     CHECK(iox2sd_log_end(token, iox2sd_log_listed(NULL, 1)) == IOX2SD_STATUS_NULL);
     CHECK(iox2sd_log_end(token, iox2sd_log_word(12)) == IOX2SD_STATUS_UNKNOWN_VARIANT);
