@@ -1,5 +1,5 @@
 -- What an event does to a front, and the configurations after the begin of a call.
-use Rattle.histories.proofs.Words.{map, get_or-map, length-map, zero, ◌≡◌, ℕ, ◌+◌, ◌<◌, ◌≤◌, List, [], ◌∷◌, ◌++◌, length, get_or, sym, ◌∙◌, ap, subst, arith, inl, inr, Option, suc, refl, Some, None, bit_at, Contains, cases_lt, Config, Link, Event, Begin, End, begins, times, Explains, IsOpen, HasSlot, IsFrontier, IsLighter, IsSound, IsTable, IsWaiting, LeadTo, Leaves, Path, Runs, order_at, order_of, path_more, path_of, put, HasManyOpen, HasManyOrders, IsFrontOf, FromOne, IsOpened, Settles, Spot, TakesSlot, AreLaidIn, AreTaken, Finishes, FreesSlot, HasMany, IsClosed, IsLeft, Advance, Front, AdvancesIn, Agrees, Ends, EndsOpen, IsSameFront}
+use Rattle.histories.proofs.Words.{map, get_or-map, length-map, zero, ◌≡◌, ℕ, ◌+◌, ◌<◌, ◌≤◌, List, [], ◌∷◌, ◌++◌, length, get_or, sym, ◌∙◌, ap, subst, arith, inl, inr, Option, suc, refl, Some, None, bit_at, Contains, cases_lt, Config, Link, Event, Begin, End, begins, times, Explains, IsOpen, HasSlot, IsFrontier, IsLighter, IsSound, IsTable, IsWaiting, LeadTo, Leaves, Path, Runs, order_at, order_of, path_more, path_of, put, HasManyOpen, IsFrontOf, FromOne, IsOpened, Settles, Spot, TakesSlot, AreLaidIn, AreTaken, Finishes, FreesSlot, HasMany, IsClosed, IsLeft, Advance, Front, AdvancesIn, Agrees, Ends, EndsOpen, IsSameFront}
 use Rattle.histories.proofs.Bits.{cleared_put, put_other, put_same}
 use Rattle.histories.proofs.Counting.{not_some, split_times, times-append, times-cons, times_one, times_same, at_times, times_once}
 use Rattle.histories.proofs.Events.{begins_begin, table_begin, taken_cases, taken_other, taken_still, begin_no_end, ends_one, open_begin_now, open_begin_still}
@@ -159,10 +159,6 @@ module _ {S : Type 0} (Step : S → ℕ → S → Type 0) where
         once = g.once none_same;
         table = opened_table;
       }
-
-      pub many_begin : 4096 < length opened → HasManyOrders Step (es ++ Begin c ∷ []) olds
-      many_begin many =
-          (links, more, opened, many, g.once none_same, opened_table, opened_sound)
 
 module _ {S : Type 0} (Step : S → ℕ → S → Type 0) (events : List Event) (olds : List S)
     (event : Event) where

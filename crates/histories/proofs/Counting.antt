@@ -7,9 +7,9 @@ pub not_some : (n : ℕ) → (0 < n → ⊥) → n ≡ 0
 not_some zero h = refl
 not_some (suc n) h = absurd (h (omega arith))
 
--- so many are not too many
-pub not_many : (n : ℕ) → n ≤ 4096 → ¬ (4096 < n)
-not_many n few many = absurd (omega (arith, few, many))
+-- no more than may be followed are not too many
+pub not_many : (n most : ℕ) → n ≤ most → most ≤ 4096 → ¬ (4096 < n)
+not_many n most below few many = absurd (omega (arith, below, few, many))
 
 pub times_none : (c : ℕ) → times c [] ≡ 0
 unfolding times

@@ -6,6 +6,7 @@ pub mod Events
 pub mod Running
 pub mod Explaining
 pub mod Gathering
+pub mod Chains
 pub mod Closing
 pub mod Frontiers
 pub mod Cutting

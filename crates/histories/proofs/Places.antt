@@ -1,6 +1,11 @@
 -- Lists that are changed place by place, and orders that are read from links.
-use Rattle.histories.proofs.Words.{zero, suc, [], ◌∷◌, ◌≡◌, ◌≢◌, ℕ, ◌+◌, ◌<◌, ◌≤◌, List, ◌++◌, take, drop, append-nil, take_all, length, get_or, set, refl, sym, ◌∙◌, ap, arith, Contains, map, get_or-map, cases_eq, cases_lt, Contains-get_or, AreEach, drop_all, get_or-set_other, get_or-set_same, get_or_default, length-set, length-map, Option, take-append-drop, reverse, length-append, append_assoc, get_or-append, get_or-append_seam, get_or_past, length-take-le, reverse-append, take_more, Config, Link, Event, IsFollowed, IsFrontier, Path, no_path, order_at, path_more, AreLaid, Grows, IsLaid, IsLaidOut}
+use Rattle.histories.proofs.Words.{zero, suc, [], ◌∷◌, ◌≡◌, ◌≢◌, ℕ, ◌+◌, ◌<◌, ◌≤◌, List, ◌++◌, take, drop, append-nil, take_all, length, get_or, set, refl, sym, ◌∙◌, ap, arith, Contains, map, get_or-map, cases_eq, cases_lt, Contains-get_or, AreEach, drop_all, get_or-set_other, get_or-set_same, get_or_default, length-set, length-map, Option, None, map-id, take-append-drop, reverse, length-append, append_assoc, get_or-append, get_or-append_seam, get_or_past, length-take-le, reverse-append, take_more, Config, Link, Event, IsFollowed, IsFrontier, Path, no_path, order_at, path_more, AreLaid, Grows, IsLaid, IsLaidOut}
 use Rattle.histories.specs.Frontier.{orders, read}
+use Rattle.std.proofs.lemmas.Iterator.Adapters.{YieldsList-from_vec}
+use Rattle.std.proofs.lemmas.Iterator.Consumers.{YieldsList-end}
+use Rattle.std.specs.Iterator.{Yields}
+use Rattle.std.specs.declared.vec.IntoIter.{IntoIter}
+use Rattle.std.specs.Vec.Iter.{into_iter_items, into_iter_len, into_iter_steps}
 
 -- up to a place each value is related to the one that was there, and from there on it is that one
 pub record AreDone {X : Type 0} (R : X → X → Type 0) (olds now : List X) (at : ℕ) : Type 0 where
@@ -40,6 +45,14 @@ each_to R olds news x e has = grind (arith, Contains-get_or)
 pub put_back : {X : Type 0} (new old : List X) (len : ℕ) → length new ≡ length old
     → len ≡ length old → take len (new ++ drop (length new) old) ≡ new
 put_back new old len many is = grind (arith, drop_all, append-nil, take_all)
+
+-- a loop over a vector that it owns ends once it took all items
+pub all_taken : {A Z : Type 0} (s t u : IntoIter A Z) (r : Option A) (items taken : List A)
+    → into_iter_items s ≡ items → into_iter_len s ≡ length items
+    → Yields into_iter_steps s taken t → r ≡ None → into_iter_steps t r u → taken ≡ items
+all_taken s t u r items taken all many by none end =
+    sym (map-id taken)
+    ∙ (YieldsList-end (YieldsList-from_vec {s = s} items all many) taken t by r u none end).0
 
 -- a list of none has none
 pub nothing_in : {X : Type 0} (k : X) → ¬ (Contains [] k)

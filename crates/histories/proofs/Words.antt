@@ -4,8 +4,6 @@ pub use Rattle.std.proofs.Math.ListN.{get_or-append, get_or-map}
 pub use Rattle.std.proofs.Math.Seq.{get_or-append_seam, split_at, take-append_seam}
 pub use Rattle.std.proofs.lemmas.Bool.{cases_eq, cases_lt, cases_order}
 pub use Rattle.std.proofs.lemmas.Bool.Decides.{eqb_tells}
-pub use Rattle.std.proofs.lemmas.Iterator.Adapters.{YieldsList-from_vec}
-pub use Rattle.std.proofs.lemmas.Iterator.Consumers.{YieldsList-end}
 pub use Rattle.std.proofs.lemmas.List.{drop_all, get_or-append-add, get_or-drop, get_or-replicate, get_or-set_other, get_or-set_same, get_or_default, get_or_past, length-map, length-replicate, length-set, length-take-le, length_push, map-id, reverse-append, set-get_or, take-append-le, take_more}
 pub use Rattle.std.proofs.lemmas.List.Elements.{All-contains, All-more, Contains-append_left, Contains-get_or, Contains-push, Contains-push_cases}
 pub use Rattle.std.proofs.lemmas.List.Quantifiers.{all_pairs_push}

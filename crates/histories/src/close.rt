@@ -1,7 +1,7 @@
 //! A call that ends is made.
 ghost use Rattle.std.specs.Prelude.{◌≡◌, ◌<◌, ◌≤◌, ◌++◌, ◌∷◌, [], ℕ, IfNone, IfOk, IfSome, IsTrue, OnOk, length};
 ghost use Rattle.std.specs.Int.{bit_at};
-ghost use Rattle.histories.specs.Frontier.{HasSlot, IsWaiting, cleared};
+ghost use Rattle.histories.specs.Frontier.{HasSlot, IsWaiting};
 ghost use Rattle.histories.specs.Gathering.{FromOne, Gathers, GoesOn, IsAlone, IsBeside, IsCloseOutcome, IsClosedInPlace, IsCopy, IsDone, IsDropped, IsMadeFirst, IsMadeIn, IsNextAt, IsNextIn, IsNextOther, MovesFirst, Settles, WaitsInNone};
 
 use super::front::{Config, MAX_CONFIGS};

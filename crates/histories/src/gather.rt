@@ -3,8 +3,7 @@
 //! Where they are many, they are in chains by the calls that wait and the state. A chain goes from
 //! its last configuration to the one before it. Links name how many configurations there are up to
 //! the one that they lead to, or 0 at the end.
-ghost use Rattle.std.specs.Prelude.{◌≡◌, ◌+◌, ◌<◌, ◌≤◌, ◌↔◌, ◌∷◌, List, [], IfOk, IsFalse, IsTrue, OnOk, false, get_or, length};
-ghost use Rattle.histories.specs.declared.front.Link.{Link};
+ghost use Rattle.std.specs.Prelude.{◌≡◌, ◌+◌, ◌<◌, ◌≤◌, ◌↔◌, List, [], IfOk, IsFalse, IsTrue, OnOk, get_or, length};
 ghost use Rattle.histories.specs.Gathering.{AreChained, AreOther, FromOne, Gathers, HasSame, IsCopy, IsKnown, chain_of};
 ghost use Rattle.histories.specs.Frontier.{IsFrontOf, IsSame};
 
@@ -62,7 +61,7 @@ fn is_in_chain<M: Machine>(
 }
 
 /// Puts one more configuration into its chain.
-#[tactic(auto, using(crate::proofs::Gathering::chained_more))]
+#[tactic(auto, using(crate::proofs::Chains::chained_more))]
 fn link<M: Machine>(
     machine: &M,
     configs: &[Config<M::State>],
@@ -243,6 +242,7 @@ pub fn add<M: Machine>(
 ) -> Result<(), AllocError>
     ensures gathers { OnOk result (Gathers (IsCopy config) gathered.old gathered.new) }
     ensures longer { OnOk result (length gathered.old ≤ length gathered.new) }
+    ensures most { OnOk result (length gathered.new ≤ length gathered.old + 1) }
 {
     if is_known(
         machine,

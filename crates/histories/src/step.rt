@@ -32,7 +32,7 @@ fn open<M: Machine>(
     settle(machine, slots, with(0, slot), config)
 }
 
-/// The same in each of the configurations, and each is there once then.
+/// The same in each of the configurations, and each is there once then. There are no more.
 fn open_all<M: Machine>(
     alloc: Global,
     machine: &M,
@@ -42,8 +42,9 @@ fn open_all<M: Machine>(
 ) -> Result<Vec<Config<M::State>>, AllocError>
     requires few { length slots.now ≤ 64 }
     requires within { slot < 64 }
-    ensures { IfOk result (λ opened. Settles (M.Step machine.now) slots.now
+    ensures settles { IfOk result (λ opened. Settles (M.Step machine.now) slots.now
         (FromOne (IsOpened slot) configs.items) [] opened.items) }
+    ensures most { IfOk result (λ opened. length opened.items ≤ length configs.items) }
 {
     let mut configs = configs;
     if configs.len() == 1 {
@@ -79,17 +80,14 @@ fn begin<M: Machine>(
     call: usize,
 ) -> Result<Advance, AllocError>
     requires few { length front.old.slots.items ≤ 64 }
+    requires enough { length front.old.configs.items ≤ 4096 }
     ensures { IfOk result (IsAdvance M.Step machine.now front.old (Begin call) front.new) }
 {
     let Some(slot) = take_slot(&mut front.slots, call)? else {
         return Ok(Advance::ManyOpen);
     };
     let configs = mem::replace(&mut front.configs, Vec::new(alloc));
-    let opened = open_all(alloc, machine, &front.slots, slot, configs)?;
-    if opened.len() > MAX_CONFIGS {
-        return Ok(Advance::ManyConfigs);
-    }
-    front.configs = opened;
+    front.configs = open_all(alloc, machine, &front.slots, slot, configs)?;
     lay(front)
 }
 

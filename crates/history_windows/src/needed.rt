@@ -1,5 +1,5 @@
 //! The calls that a refused event needs.
-ghost use Rattle.std.specs.Prelude.{◌≡◌, ◌<◌, ◌++◌, ℕ, IfOk, IfSome, IsTrue, OnOk, length};
+ghost use Rattle.std.specs.Prelude.{◌≡◌, ◌<◌, ◌++◌, IfOk, IfSome, IsTrue, OnOk, length};
 ghost use Rattle.histories.specs.Frontier.{IsIdle};
 ghost use Rattle.histories.specs.Histories.{IsExplained, IsHistory};
 ghost use Rattle.history_windows.specs.Windows.{IsCut};

@@ -1,5 +1,6 @@
-use Rattle.histories.proofs.Words.{◌≡◌, ◌∙◌, sym, map-id, YieldsList-from_vec, YieldsList-end}
+use Rattle.histories.proofs.Words.{◌≡◌, ◌∙◌}
 use Rattle.histories.proofs.Gathering.{settles_no_state, settles_states}
+use Rattle.histories.proofs.Places.{all_taken}
 use Rattle.histories.proofs.close.make_states.Goals as goal
 
 pub loop-state-init : goal.loop-state-init
@@ -11,10 +12,9 @@ loop-state-preserved g c =
 
 pub returns : goal.returns
 returns g c =
-    let items = c.args.states.items in
-    let from = c.into_iter-state-iterator.ensures.into_iter_gives in
-    let end = YieldsList-end (YieldsList-from_vec {s = c.into_iter-state-iterator.result} items
-    from.0 (from.1 ∙ c.args.states.ok.0)) c.loop-state.yielded _ c.loop-state.yielded_by _
-    c.next.new.self c.in-None.is c.next.ensures.steps in
-    let all : c.loop-state.yielded ≡ items = sym (map-id c.loop-state.yielded) ∙ end.0 in
+    let given = c.into_iter-state-iterator in
+    let from = given.ensures.into_iter_gives in
+    let all : c.loop-state.yielded ≡ c.args.states.items =
+    all_taken given.result _ c.next.new.self _ _ _ from.0 (from.1 ∙ c.args.states.ok.0)
+    c.loop-state.yielded_by c.in-None.is c.next.ensures.steps in
     rw all at c.loop-state.invariant

@@ -1,5 +1,6 @@
 use Rattle.histories.proofs.Words.{List, subst, true, Config, IsKnown}
-use Rattle.histories.proofs.Gathering.{chained_push, gathers_known}
+use Rattle.histories.proofs.Chains.{chained_push}
+use Rattle.histories.proofs.Gathering.{gathers_known}
 use Rattle.histories.proofs.gather.add.Goals as goal
 
 pub invariant_of-gathered-2 : goal.invariant_of-gathered-2

@@ -1,5 +1,5 @@
 use Rattle.histories.proofs.Words.{◌-◌, arith, refl, sym}
-use Rattle.histories.proofs.Gathering.{following_head, following_more}
+use Rattle.histories.proofs.Chains.{following_head, following_more}
 use Rattle.histories.proofs.gather.is_in_chain.Goals as goal
 
 pub loop-left-init : goal.loop-left-init

@@ -1,4 +1,4 @@
-use Rattle.histories.proofs.Gathering.{IsFollowing}
+use Rattle.histories.proofs.Chains.{IsFollowing}
 use Rattle.histories.proofs.gather.is_in_chain.Given as goal
 
 abbrev pub invariant-loop-left : goal.invariant-loop-left

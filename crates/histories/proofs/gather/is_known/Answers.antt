@@ -1,5 +1,5 @@
 use Rattle.histories.proofs.Words.{arith, length-drop, take_all}
-use Rattle.histories.proofs.Gathering.{known_rest}
+use Rattle.histories.proofs.Chains.{known_rest}
 use Rattle.histories.proofs.gather.is_known.Goals as goal
 
 pub returns : goal.returns

@@ -1,5 +1,6 @@
-use Rattle.histories.proofs.Words.{◌≡◌, ◌∙◌, sym, map-id, YieldsList-from_vec, YieldsList-end}
+use Rattle.histories.proofs.Words.{◌≡◌, ◌∙◌}
 use Rattle.histories.proofs.Gathering.{gathers_no_one, gathers_pushed}
+use Rattle.histories.proofs.Places.{all_taken}
 use Rattle.histories.proofs.gather.joined.Goals as goal
 
 pub loop-config-init : goal.loop-config-init
@@ -11,10 +12,9 @@ loop-config-preserved g c =
 
 pub returns : goal.returns
 returns g c =
-    let items = c.args.others.items in
-    let from = c.into_iter-config-iterator.ensures.into_iter_gives in
-    let end = YieldsList-end (YieldsList-from_vec {s = c.into_iter-config-iterator.result} items
-    from.0 (from.1 ∙ c.args.others.ok.0)) c.loop-config.yielded _ c.loop-config.yielded_by _
-    c.next.new.self c.in-None.is c.next.ensures.steps in
-    let all : c.loop-config.yielded ≡ items = sym (map-id c.loop-config.yielded) ∙ end.0 in
+    let given = c.into_iter-config-iterator in
+    let from = given.ensures.into_iter_gives in
+    let all : c.loop-config.yielded ≡ c.args.others.items =
+    all_taken given.result _ c.next.new.self _ _ _ from.0 (from.1 ∙ c.args.others.ok.0)
+    c.loop-config.yielded_by c.in-None.is c.next.ensures.steps in
     rw c.into_configs.ensures (rw all at c.loop-config.invariant)

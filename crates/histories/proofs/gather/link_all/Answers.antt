@@ -1,5 +1,5 @@
 use Rattle.histories.proofs.Words.{◌≡◌, length, replicate, ap}
-use Rattle.histories.proofs.Gathering.{chained_none, copies}
+use Rattle.histories.proofs.Chains.{chained_none, copies}
 use Rattle.histories.proofs.gather.link_all.Goals as goal
 
 pub link_rest-requires-2-clause-chained : goal.link_rest-requires-2-clause-chained
