@@ -27,10 +27,19 @@ use std::marker::Model;
 
 /// A call: its command, with the handle that a removal names, if it names one, and the reply that
 /// was seen, or none.
-#[derive(Drop)]
 pub struct SeenCall {
     request: Request,
     seen: Option<SeenReply>,
+}
+
+impl Drop for SeenCall {
+    #[inline(always)]
+    fn drop(self) {
+        let SeenCall {
+            request: _request,
+            seen: _seen,
+        } = self;
+    }
 }
 
 impl Model for SeenCall {
@@ -94,6 +103,7 @@ impl SeenCall {
     }
 
     /// Makes the call in this state, with this reply. Where memory is refused, nothing changes.
+    #[inline(always)]
     fn make_with(&self, state: &mut ServiceCheck, reply: &LineReply) -> Result<(), AllocError>
         requires { CanServe (ServesCall self.now state.old) (reply_in reply.now) }
         ensures ok { OnOk result (LeadsTo (ServesCall self.now state.old) (reply_in reply.now)

@@ -83,39 +83,52 @@ fn slot_and_ticket(words: &[u8]) -> Option<(usize, u64)>
     Some((slot as usize, ticket))
 }
 
-/// The reply without numbers that the words are.
+/// Whether the words are this one, which is compared in place.
+#[inline(always)]
+fn is_word(words: &[u8], word: &[u8]) -> bool
+    ensures yes { IsTrue result → word.now ≡ words.now }
+    ensures no { word.now ≡ words.now → IsTrue result }
+{
+    match after_word(words, word) {
+        Some(rest) => rest.is_empty(),
+        None => false,
+    }
+}
+
+/// The reply without numbers that the words are. Those of removals come first, since logs have most
+/// of these.
 fn word_in(words: &[u8]) -> Option<ReplyWord>
     ensures some { IfSome result (λ w. word_text w ≡ words.now) }
     ensures none { IfNone result ((w : ReplyWord) → word_text w ≢ words.now) }
 {
-    if words == b"locked".as_slice() {
-        return Some(ReplyWord::Locked);
-    }
-    if words == b"full".as_slice() {
-        return Some(ReplyWord::Full);
-    }
-    if words == b"not-registered".as_slice() {
-        return Some(ReplyWord::NotRegistered);
-    }
-    if words == b"has-owners".as_slice() {
+    if is_word(words, b"has-owners") {
         return Some(ReplyWord::HasOwners);
     }
-    if words == b"no-owners".as_slice() {
-        return Some(ReplyWord::NoMoreOwners);
-    }
-    if words == b"ports-attached".as_slice() {
-        return Some(ReplyWord::PortsAttached);
-    }
-    if words == b"released".as_slice() {
+    if is_word(words, b"released") {
         return Some(ReplyWord::Released);
     }
-    if words == b"not-owned".as_slice() {
+    if is_word(words, b"locked") {
+        return Some(ReplyWord::Locked);
+    }
+    if is_word(words, b"full") {
+        return Some(ReplyWord::Full);
+    }
+    if is_word(words, b"not-registered") {
+        return Some(ReplyWord::NotRegistered);
+    }
+    if is_word(words, b"no-owners") {
+        return Some(ReplyWord::NoMoreOwners);
+    }
+    if is_word(words, b"ports-attached") {
+        return Some(ReplyWord::PortsAttached);
+    }
+    if is_word(words, b"not-owned") {
         return Some(ReplyWord::NotOwned);
     }
-    if words == b"no-handle".as_slice() {
+    if is_word(words, b"no-handle") {
         return Some(ReplyWord::NoHandle);
     }
-    if words == b"wrong-pattern".as_slice() {
+    if is_word(words, b"wrong-pattern") {
         return Some(ReplyWord::WrongPattern);
     }
     None

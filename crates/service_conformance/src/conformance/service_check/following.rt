@@ -112,6 +112,7 @@ impl ServiceCheck {
 
     /// The service after a command and its reply.
     #[tactic(auto, using(crate::proofs::Following::reported))]
+    #[inline(always)]
     pub(in super::super) fn follow_request(
         &mut self,
         request: &Request,

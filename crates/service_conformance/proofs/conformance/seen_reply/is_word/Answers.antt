@@ -1,0 +1,7 @@
+use Rattle.std.proofs.Common.{◌∙◌, [], sym}
+use Rattle.std.proofs.lemmas.List.{append-nil}
+use Rattle.service_conformance.proofs.conformance.seen_reply.is_word.Goals as goal
+
+pub returns-in-None-clause-no : goal.returns-in-None-clause-no
+returns-in-None-clause-no c e =
+    absurd (c.in-None.ensures.none [] (sym e ∙ sym (append-nil c.args.word.now)))
