@@ -1,5 +1,5 @@
 -- What is found in a file of settings, in which order it is listed, and what is reported of it.
-use Rattle.std.specs.Prelude.{◌≡◌, ◌≤◌, ◌⊎◌, ℕ, List, codes, length, take, Some, None, IsUtf8, ⊤, ◌-◌, ◌^◌, [], ◌∷◌, ◌++◌, map, flat_map, Option, Bool, true, ◌&&◌, Result, Ok, Err, string_bytes}
+use Rattle.std.specs.Prelude.{◌≡◌, ◌≤◌, ◌⊎◌, ℕ, List, codes, length, take, Some, None, IsSome, IsUtf8, ⊤, ◌-◌, ◌^◌, [], ◌∷◌, ◌++◌, map, flat_map, Option, Bool, true, ◌&&◌, Result, Ok, Err, string_bytes}
 use Rattle.std.specs.Str.{IsValidUpTo}
 use Rattle.iox2_config_file.specs.Depth.{too_deep}
 use Rattle.config_report.specs.Notes.{Note, finding_view, note, Topic, fault, unknown, note_in, note_text, has_no_control}
@@ -35,6 +35,10 @@ error_behind n bytes words = note (Some (position_after (take n bytes))) Error N
 -- the bytes are a text whose tables and arrays are at most 32 deep in one another
 abbrev pub IsText : List ℕ → Type 0
 IsText bytes = IsUtf8 bytes × (too_deep bytes ≡ None)
+
+-- the bytes are a text that is TOML
+abbrev pub IsToml : List ℕ → Type 0
+IsToml bytes = IsUtf8 bytes × IsSome (parse_document bytes)
 
 -- the bytes are no UTF-8, which is said behind their longest front that is
 abbrev pub IsNoUtf8 : List ℕ → Note → Type 0

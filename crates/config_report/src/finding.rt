@@ -3,20 +3,20 @@ ghost use Rattle.std.specs.Prelude.{◌≡◌, ◌++◌, ◌∷◌, [], IfOk, Is
 ghost use Rattle.std.specs.Prelude.{option_map, slice_index_or, string_bytes};
 ghost use Rattle.iox2_config_file.specs.Read.{fault_view};
 ghost use Rattle.iox2_config_file.specs.Unknown.{unknown_view, proposal_view};
-ghost use Rattle.config_report.specs.Findings.{place_of};
+ghost use Rattle.config_report.specs.Findings.{place_of, IsToml};
 ghost use Rattle.config_report.specs.Notes.{at_text, fault, fault_position, finding_view};
 ghost use Rattle.config_report.specs.Notes.{has_no_control, in_line, meant_text, note, note_text};
 ghost use Rattle.config_report.specs.Notes.{position_for, proposed_text, severity_text};
 ghost use Rattle.config_report.specs.Notes.{subject_view, table_path, topic_note};
 ghost use Rattle.config_report.specs.Notes.{topic_path, topic_position, unknown, unknown_position};
 ghost use Rattle.toml.specs.Parse.{parse_document};
-ghost use Rattle.toml_positions.specs.Written.{path_view};
+ghost use Rattle.toml_positions.specs.Written.{path_view, position_in};
 ghost use Rattle.toml_writer.specs.Text.{key_text};
 
 use iox2_config::config::Config;
 use iox2_config_file::{Likeness, Proposal, Section, SettingFault, UnknownKey};
 use std::alloc::{AllocError, Global};
-use std::fmt;
+use std::{fmt, str};
 use toml_positions::{KeyPath, Position, positions_of};
 use toml_writer::write_key;
 
@@ -264,6 +264,24 @@ pub(crate) fn position_of(
 {
     let found = positions_for(alloc, text, &[path])?;
     Ok(position_at(found.as_slice(), 0))
+}
+
+/// Where the text of a file of settings writes a key of a table first, however large the file is.
+/// Nothing is said of a text that is no TOML.
+pub fn written_at(
+    alloc: Global,
+    bytes: &[u8],
+    section: Section,
+    key: &str,
+) -> Result<Option<Position>, AllocError>
+    ensures { IfOk result (λ found. IsToml bytes.now
+        → found ≡ position_in bytes.now (table_path section ++ key.now ∷ [])) }
+{
+    let Ok(text) = str::from_utf8(bytes) else {
+        return Ok(None);
+    };
+    let positions = positions_of(alloc, text, &[key_path(section, key)])?;
+    Ok(position_at(positions.as_slice(), 0))
 }
 
 /// The positions of the keys of some subjects.

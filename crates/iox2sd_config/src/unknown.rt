@@ -188,7 +188,11 @@ fn listed_keys(alloc: Global, text: &str, keys: &[UnknownKey]) -> Result<Vec<Nam
 fn plain_of(alloc: Global, listed: &[NamedKey]) -> Result<Vec<PlainUnknown>, AllocError>
     ensures { IfOk result (λ plain. plain.items ≡ plain_of listed.now) }
 {
-    listed.iter().map(|key| key.plain).collect(alloc)
+    let mut plain = Vec::with_capacity(alloc, listed.len())?;
+    for key in listed {
+        plain.push(key.plain)?;
+    }
+    Ok(plain)
 }
 
 /// The paths of some unknown keys, one after the other.

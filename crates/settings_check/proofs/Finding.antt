@@ -4,7 +4,6 @@ use Rattle.std.specs.Prelude.{String}
 use Rattle.std.proofs.lemmas.List.{map-append}
 use Rattle.std.specs.declared.alloc.Global.{Global}
 use Rattle.settings_check.specs.Found.{Said, report_of, reports_of, Seen, nothing_seen, both_seen, AddsFile, IsFound, AreFound}
-use Rattle.iox2_config.specs.declared.config.Config.{Config}
 use Rattle.settings_check.specs.Words.{texts_of}
 use Rattle.settings_check.specs.declared.found.FileError.{FileError}
 use Rattle.settings_check.specs.declared.found.Report.{Report}
@@ -14,7 +13,7 @@ pub both_assoc : (a b c : Seen) → both_seen (both_seen a b) c ≡ both_seen a 
 both_assoc a b c = grind (arith, append_assoc)
 
 pub both_nothing : (a : Seen) → both_seen a nothing_seen ≡ a
-both_nothing a = rw (append-nil a.said, append-nil a.unread, append-nil a.configs) refl
+both_nothing a = rw (append-nil a.said, append-nil a.unread, append-nil a.valid) refl
 
 -- what is found from a file on follows what was found before it
 abbrev pub FoundFollows : (List ℕ → Result (List ℕ) FileError → Type 0) → List ℕ
@@ -53,11 +52,8 @@ found_end Gives input names i done all follows =
     subst (λ s. AreFound Gives input (texts_of names) s) (both_nothing done)
     (follows nothing_seen none)
 
-abbrev seen : List Said → List (List ℕ × FileError) → List Config → Seen
-seen said unread configs = record { said = said; unread = unread; configs = configs }
-
 -- what has the same parts is the same
-pub same_parts : (a b : Seen) → a.said ≡ b.said → a.unread ≡ b.unread → a.configs ≡ b.configs
+pub same_parts : (a b : Seen) → a.said ≡ b.said → a.unread ≡ b.unread → a.valid ≡ b.valid
     → a ≡ b
 same_parts a b p q r = grind arith
 

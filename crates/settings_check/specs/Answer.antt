@@ -1,5 +1,5 @@
 -- What is answered to a request, and what the streams of the program get.
-use Rattle.std.specs.Prelude.{◌≡◌, ℕ, Bool, true, false, ◌&&◌, ◌||◌, nat_lt, List, [], ◌∷◌, ◌++◌, flat_map, if◌then◌else◌, slice_get, codes, ◌⊎◌, Option, Some, None, IfSome, Result, Ok, Err, String, string_bytes}
+use Rattle.std.specs.Prelude.{◌≡◌, ⊤, ℕ, Bool, true, false, ◌&&◌, ◌||◌, nat_lt, List, [], ◌∷◌, ◌++◌, flat_map, length, if◌then◌else◌, slice_get, codes, ◌⊎◌, Option, Some, None, IfSome, Result, Ok, Err, String, string_bytes}
 use Rattle.std.specs.Io.KnownBytes.{Appends, IsAtEnd}
 use Rattle.std.specs.List.{list_any}
 use Rattle.std.specs.Str.{bytes_eq}
@@ -7,10 +7,9 @@ use Rattle.std.specs.declared.alloc.Global.{Global}
 use Rattle.std.specs.declared.io.Error.{Error}
 use Rattle.std.specs.declared.vec.IntoIter.{IntoIter}
 use Rattle.line_streams.specs.Filters.{status_number}
-use Rattle.iox2_config.specs.declared.config.Config.{Config}
-use Rattle.config_report.specs.Findings.{HasDefaults}
+use Rattle.config_report.specs.Findings.{HasDefaults, IsToml}
 use Rattle.config_report.specs.Text.{IsReportText}
-use Rattle.settings_check.specs.Found.{AreAllDifferences, Said, Seen, AreFound}
+use Rattle.settings_check.specs.Found.{AreAllDifferences, Said, Seen, AreFound, ValidFile}
 use Rattle.settings_check.specs.Lines.{lines_in, end_text, errors_in, warnings_in, unread_line, style_of}
 use Rattle.settings_check.specs.Schema.{IsSchema}
 use Rattle.settings_check.specs.Words.{Requests, texts_of}
@@ -24,6 +23,7 @@ use Rattle.settings_check.specs.declared.arguments.RequestError.TheVariants.{Bad
 use Rattle.settings_check.specs.declared.arguments.Task.{Task}
 use Rattle.settings_check.specs.declared.arguments.Task.TheVariants as task
 use Rattle.settings_check.specs.declared.found.FileError.{FileError}
+use Rattle.settings_check.specs.declared.lines.Omitted.{Omitted}
 use Rattle.settings_check.specs.declared.lines.Style.{Style}
 use Rattle.settings_check.specs.declared.lines.Style.TheVariants as style
 
@@ -31,6 +31,11 @@ use Rattle.settings_check.specs.declared.lines.Style.TheVariants as style
 abbrev pub has_unread : List (List ℕ × FileError) → Bool
 has_unread [] = false
 has_unread (file ∷ files) = true
+
+-- files are to be compared
+abbrev pub is_comparison : Task → Bool
+is_comparison task.Compare = true
+is_comparison other = false
 
 -- the status, by whether a file cannot be read, and whether there is an error, or a warning that
 -- counts as one
@@ -44,54 +49,66 @@ status_of strict seen =
 abbrev pub unread_text : Seen → List ℕ
 unread_text seen = flat_map unread_line seen.unread
 
--- what was found is reported, of which so many are errors of the files: to the output, and the
--- files that cannot be read to the errors
-pub record IsChecked (way : Style) (strict : Bool) (faults : ℕ) (seen : Seen) (answer : Answer)
-    : Type 0 where
+-- what a report on files leaves out: contradictions where a file has an error, and differences
+-- where they are requested and there are not two files without errors
+abbrev pub omitted_in : Task → Seen → Omitted
+omitted_in asked seen = record {
+  contradictions = nat_lt 0 (errors_in seen.said);
+  differences = is_comparison asked && nat_lt (length seen.valid) 2;
+  files = has_unread seen.unread;
+}
+
+-- what was found is reported, and what is left out: to the output, and the files that cannot be
+-- read to the errors
+pub record IsChecked (way : Style) (strict : Bool) (omitted : Omitted) (seen : Seen)
+    (answer : Answer) : Type 0 where
   pub output : string_bytes answer.output
-      ≡ lines_in way seen.said ++ end_text way faults (has_unread seen.unread) seen.said
+      ≡ lines_in way seen.said ++ end_text way omitted seen.said
   pub errors : string_bytes answer.errors ≡ unread_text seen
   pub status : answer.status ≡ status_of strict seen
 
--- all settings of a configuration and what follows from them, or nothing where there is none
-abbrev pub IsTextOf : Option Config → List ℕ → Type 0
+-- all settings of a file and what follows from them, or nothing where there is none
+abbrev pub IsTextOf : Option ValidFile → List ℕ → Type 0
 IsTextOf None text = text ≡ []
-IsTextOf (Some config) text = IsReportText config text
+IsTextOf (Some file) text = IsReportText file.config text
 
 -- the settings are shown, and all else is reported to the errors
 pub record IsShown (strict : Bool) (seen : Seen) (answer : Answer) : Type 0 where
-  pub output : IsTextOf (slice_get seen.configs 0) (string_bytes answer.output)
+  pub output : IsTextOf (slice_get seen.valid 0) (string_bytes answer.output)
   pub errors : string_bytes answer.errors ≡ lines_in style.Plain seen.said ++ unread_text seen
   pub status : answer.status ≡ status_of strict seen
 
--- what is said of the differences of two configurations, or nothing where there are not two
-abbrev pub AreCompared : Option (String Global) → Option Config → Option Config → List Said → Type 0
-AreCompared (Some file) (Some a) (Some b) said = AreAllDifferences (string_bytes file) a b said
-AreCompared file a b said = said ≡ []
+-- what is said of the differences of two files without errors, or nothing where there are not two
+abbrev pub AreCompared : List ValidFile → List Said → Type 0
+AreCompared (a ∷ (b ∷ more)) said = AreAllDifferences (a, b) said
+AreCompared files said = said ≡ []
 
--- what is said of the settings of the first file and the second is added to what was found
-abbrev pub AddsCompared : List (String Global) → Seen → Seen → Type 0
-AddsCompared files old new =
-    (said : List Said)
-    × AreCompared (slice_get files 0) (slice_get old.configs 0) (slice_get old.configs 1) said
-    × (new.said ≡ old.said ++ said) × (new.unread ≡ old.unread) × (new.configs ≡ old.configs)
+-- what is said of the differences is added to what was found
+abbrev pub AddsCompared : Seen → Seen → Type 0
+AddsCompared old new =
+    (said : List Said) × AreCompared old.valid said
+    × (new.said ≡ old.said ++ said) × (new.unread ≡ old.unread) × (new.valid ≡ old.valid)
+
+-- the texts of files are TOML
+abbrev pub AreToml : List ValidFile → Type 0
+AreToml [] = ⊤
+AreToml (file ∷ files) = IsToml file.text × AreToml files
 
 -- what is answered to a request for files, by what was found in them
-abbrev pub AnswersTask : Task → Style → Bool → List (String Global) → Seen → Answer → Type 0
-AnswersTask task.Show way strict files seen answer = IsShown strict seen answer
-AnswersTask task.Compare way strict files seen answer =
-    (compared : Seen) × AddsCompared files seen compared
-    × IsChecked way strict (errors_in seen.said) compared answer
-AnswersTask other way strict files seen answer =
-    IsChecked way strict (errors_in seen.said) seen answer
+abbrev pub AnswersTask : Task → Style → Bool → Seen → Answer → Type 0
+AnswersTask task.Show way strict seen answer = IsShown strict seen answer
+AnswersTask task.Compare way strict seen answer =
+    (compared : Seen) × AddsCompared seen compared
+    × IsChecked way strict (omitted_in task.Compare seen) compared answer
+AnswersTask other way strict seen answer =
+    IsChecked way strict (omitted_in other seen) seen answer
 
 -- the files are read, and what is found in them is answered
 abbrev pub AnswersFiles : (List ℕ → Result (List ℕ) FileError → Type 0) → Bool → List ℕ → Request
     → Answer → Type 0
 AnswersFiles Gives coloured input request answer =
     (seen : Seen) × AreFound Gives input (texts_of request.files.items) seen
-    × AnswersTask request.task (style_of request.format coloured) request.strict
-    request.files.items seen answer
+    × AnswersTask request.task (style_of request.format coloured) request.strict seen answer
 
 -- this text is answered
 pub record IsTextAnswer (text : List ℕ) (answer : Answer) : Type 0 where

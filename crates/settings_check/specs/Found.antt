@@ -1,13 +1,14 @@
 -- Files, by their names, what is found in them, and which settings of two of them differ.
-use Rattle.std.specs.Prelude.{◌≡◌, ◌≢◌, ◌⊎◌, ℕ, List, codes, Result, Ok, Err, Vec, Bool, true, false, [], ◌∷◌, ◌++◌, map, if◌then◌else◌, Some, None, String, string_bytes, option_to_list}
+use Rattle.std.specs.Prelude.{◌≡◌, ◌≢◌, ◌⊎◌, ℕ, List, codes, Result, Ok, Err, Vec, Bool, true, false, [], ◌∷◌, ◌++◌, map, if◌then◌else◌, Option, Some, None}
 use Rattle.std.specs.declared.alloc.Global.{Global}
 use Rattle.std.specs.declared.io.ErrorKind.{ErrorKind}
 use Rattle.std.specs.declared.io.ErrorKind.TheVariants as kind
+use Rattle.std.specs.Fmt.{decimal}
 use Rattle.settings_check.specs.declared.found.FileError.{FileError}
 use Rattle.settings_check.specs.declared.found.FileError.TheVariants.{NotFound, PermissionDenied, IsADirectory, Other}
 use Rattle.iox2_config.specs.declared.config.Config.{Config}
-use Rattle.config_report.specs.Findings.{Checks}
-use Rattle.config_report.specs.Notes.{Note, finding_view}
+use Rattle.config_report.specs.Findings.{Checks, IsToml}
+use Rattle.config_report.specs.Notes.{Note, finding_view, table_path}
 use Rattle.config_report.specs.declared.finding.Finding.{Finding}
 use Rattle.config_report.specs.declared.finding.Findings.{Findings}
 use Rattle.config_report.specs.declared.finding.Severity.{Severity}
@@ -16,12 +17,17 @@ use Rattle.config_report.specs.Text.{TablesGive}
 use Rattle.iox2_config_file.specs.Read.{sections}
 use Rattle.iox2_config_file.specs.Settings.{prefix_of, Setting}
 use Rattle.iox2_config_file.specs.Values.{SettingValue}
-use Rattle.iox2_config_file.specs.Write.{value_text}
+use Rattle.iox2_config_file.specs.Write.{value_text, value_view}
 use Rattle.iox2_config_file.specs.declared.section.Section.{Section}
 use Rattle.iox2_config_file.specs.declared.section.Section.TheVariants as section
 use Rattle.settings_check.specs.declared.found.Found.{Found}
 use Rattle.settings_check.specs.declared.found.Report.{Report}
+use Rattle.settings_check.specs.declared.found.FileSetting.{FileSetting as HeldSetting}
+use Rattle.settings_check.specs.declared.found.Pair.{Pair}
 use Rattle.settings_check.specs.declared.found.Unread.{Unread}
+use Rattle.settings_check.specs.declared.found.ValidFile.{ValidFile as Held}
+use Rattle.toml_positions.specs.Written.{position_in}
+use Rattle.toml_positions.specs.declared.position.Position.{Position}
 
 -- what reading a file gives
 abbrev pub given_bytes : Result (Vec ℕ Global) FileError → Result (List ℕ) FileError
@@ -64,48 +70,62 @@ reports_of reports = map (λ r. report_of r.file.now r.finding) reports
 abbrev pub unread_of : List Unread → List (List ℕ × FileError)
 unread_of unread = map (λ u. (u.file.now, u.why)) unread
 
--- what was found in some files: what is said of them, those that cannot be read, and the settings
--- of those without errors
+-- a file without errors: its name, its text and its settings
+pub record ValidFile : Type 0 where
+  pub file : List ℕ
+  pub text : List ℕ
+  pub config : Config
+
+abbrev pub valid_view : Held → ValidFile
+valid_view v = record { file = v.file.now; text = v.text.items; config = v.config }
+
+-- the file, if it has settings
+abbrev pub valid_in : List ℕ → List ℕ → Option Config → List ValidFile
+valid_in file text None = []
+valid_in file text (Some config) = record { file = file; text = text; config = config } ∷ []
+
+-- what was found in some files: what is said of them, those that cannot be read, and those without
+-- errors
 pub record Seen : Type 0 where
   pub said : List Said
   pub unread : List (List ℕ × FileError)
-  pub configs : List Config
+  pub valid : List ValidFile
 
 abbrev pub found_view : Found → Seen
 found_view f = record {
   said = reports_of f.reports.items;
   unread = unread_of f.unread.items;
-  configs = f.configs.items;
+  valid = map valid_view f.valid.items;
 }
 
 -- nothing was found
 abbrev pub nothing_seen : Seen
-nothing_seen = record { said = []; unread = []; configs = [] }
+nothing_seen = record { said = []; unread = []; valid = [] }
 
 -- both were found
 abbrev pub both_seen : Seen → Seen → Seen
 both_seen a b = record {
   said = a.said ++ b.said;
   unread = a.unread ++ b.unread;
-  configs = a.configs ++ b.configs;
+  valid = a.valid ++ b.valid;
 }
 
--- what is found in a file
-abbrev pub findings_seen : List ℕ → Findings → Seen
-findings_seen file findings = record {
+-- what is found in a file of this text
+abbrev pub findings_seen : List ℕ → List ℕ → Findings → Seen
+findings_seen file text findings = record {
   said = map (report_of file) findings.list.items;
   unread = [];
-  configs = option_to_list findings.config;
+  valid = valid_in file text findings.config;
 }
 
 -- that a file cannot be read
 abbrev pub unread_seen : List ℕ → FileError → Seen
-unread_seen file why = record { said = []; unread = (file, why) ∷ []; configs = [] }
+unread_seen file why = record { said = []; unread = (file, why) ∷ []; valid = [] }
 
 -- what is found in a file for which this is given
 abbrev pub IsSeenIn : List ℕ → Result (List ℕ) FileError → Seen → Type 0
 IsSeenIn file (Ok bytes) seen =
-    (findings : Findings) × Checks bytes findings × (seen ≡ findings_seen file findings)
+    (findings : Findings) × Checks bytes findings × (seen ≡ findings_seen file bytes findings)
 IsSeenIn file (Err why) seen = seen ≡ unread_seen file why
 
 -- what is found in a file, read by its name or from the standard input
@@ -151,25 +171,77 @@ abbrev pub sharing_text : Section → List ℕ
 sharing_text s =
     if is_shared s then codes ", and must be the same in all processes of one system" else []
 
--- what is said of a setting that differs: its value in the file, and that in the other one
-abbrev pub difference : List ℕ → Section → List ℕ → SettingValue → SettingValue → Said
-difference file s key value other = (
-  file,
+-- a setting as a file has it: the name of the file, where it writes the key, if it does, and the
+-- value
+pub record FileSetting : Type 0 where
+  pub file : List ℕ
+  pub position : Option Position
+  pub value : SettingValue
+
+abbrev pub setting_view : HeldSetting → FileSetting
+setting_view s = record {
+  file = s.file.now;
+  position = s.position;
+  value = value_view s.value;
+}
+
+-- the setting of this key and this value
+abbrev pub setting_in : ValidFile → Section → List ℕ → SettingValue → FileSetting
+setting_in v s key value = record {
+  file = v.file;
+  position = position_in v.text (table_path s ++ key ∷ []);
+  value = value;
+}
+
+-- where a file writes a key, or that it has the default
+abbrev pub elsewhere_text : Option Position → List ℕ → List ℕ
+elsewhere_text (Some p) file =
+    codes " at " ++ (file ++ (codes ":" ++ (decimal p.line ++ (codes ":" ++ decimal p.column))))
+elsewhere_text None file = codes " by default in " ++ file
+
+-- what is said of a setting of one file that differs from that of the other
+abbrev pub said_beside : Section → List ℕ → FileSetting → FileSetting → Said
+said_beside s key one other = (
+  one.file,
   record {
-    position = None;
+    position = one.position;
     severity = difference_severity s;
     key = Some (prefix_of s ++ key);
-    message = codes "is " ++ (value_text value ++ (codes " here and " ++ (value_text other
-        ++ (codes " in the other file" ++ sharing_text s))));
+    message = codes "is " ++ (value_text one.value
+        ++ (codes " here and " ++ (value_text other.value
+        ++ (elsewhere_text other.position other.file ++ sharing_text s))));
   },
 )
 
+-- what is said of a setting that differs: of the first file, unless the second alone writes its key
+abbrev said_where : Option Position → Option Position → Section → List ℕ → FileSetting
+    → FileSetting → Said
+said_where None (Some at) s key first second = said_beside s key second first
+said_where _ _ s key first second = said_beside s key first second
+
+abbrev pub difference : Section → List ℕ → FileSetting → FileSetting → Said
+difference s key first second = said_where first.position second.position s key first second
+
+-- two files that are compared
+abbrev pub pair_view : Pair → ValidFile × ValidFile
+pair_view p = (valid_view p.first.now, valid_view p.second.now)
+
+-- their texts are TOML
+abbrev pub AreParsed : ValidFile × ValidFile → Type 0
+AreParsed (a, b) = IsToml a.text × IsToml b.text
+
+-- what is said of a setting of this key, by its values in both files
+abbrev pub difference_in : ValidFile × ValidFile → Section → List ℕ → SettingValue
+    → SettingValue → Said
+difference_in (a, b) s key value other =
+    difference s key (setting_in a s key value) (setting_in b s key other)
+
 -- what is said of a setting beside that of the other file: something exactly where they differ
-abbrev pub IsDifference : List ℕ → Section → Setting → Setting → List Said → Type 0
-IsDifference file s x y said =
+abbrev pub IsDifference : ValidFile × ValidFile → Section → Setting → Setting → List Said → Type 0
+IsDifference files s x y said =
     ((x.value ≡ y.value) × (said ≡ []))
-    ⊎ ((x.value ≢ y.value) × (said ≡ difference file s x.key x.value y.value ∷ []))
+    ⊎ ((x.value ≢ y.value) × (said ≡ difference_in files s x.key x.value y.value ∷ []))
 
 -- what is said of all settings, in the order of the tables: those that all processes share first
-abbrev pub AreAllDifferences : List ℕ → Config → Config → List Said → Type 0
-AreAllDifferences file a b said = TablesGive (IsDifference file) a b sections said
+abbrev pub AreAllDifferences : ValidFile × ValidFile → List Said → Type 0
+AreAllDifferences (a, b) said = TablesGive (IsDifference (a, b)) a.config b.config sections said

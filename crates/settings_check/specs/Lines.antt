@@ -12,6 +12,7 @@ use Rattle.settings_check.specs.Found.{why_text, Said}
 use Rattle.settings_check.specs.declared.arguments.Format.{Format}
 use Rattle.settings_check.specs.declared.arguments.Format.TheVariants.{Text, Json}
 use Rattle.settings_check.specs.declared.found.FileError.{FileError}
+use Rattle.settings_check.specs.declared.lines.Omitted.{Omitted}
 use Rattle.settings_check.specs.declared.lines.Style.{Style}
 use Rattle.settings_check.specs.declared.lines.Style.TheVariants as style
 use Rattle.toml_positions.specs.declared.position.Position.{Position}
@@ -103,28 +104,28 @@ warnings_in said = count_by (λ s. not (is_error s)) said
 abbrev pub plural : ℕ → List ℕ
 plural n = if nat_eq n 1 then [] else codes "s"
 
--- what is not looked for where the files have so many errors
-abbrev pub unsought : ℕ → List ℕ
-unsought errors =
-    if nat_eq errors 0 then []
-    else codes "; contradictions are looked for in files without errors"
+-- a note, or nothing
+abbrev pub note_if : Bool → List ℕ → List ℕ
+note_if is_said note = if is_said then note else []
 
--- that a file cannot be read
-abbrev pub unread_note : Bool → List ℕ
-unread_note is_unread = if is_unread then codes "; a file cannot be read" else []
+-- what a report leaves out, in words
+abbrev pub omitted_text : Omitted → List ℕ
+omitted_text o =
+    note_if o.contradictions (codes "; contradictions are looked for in files without errors")
+    ++ (note_if o.differences (codes "; the files are not compared")
+    ++ note_if o.files (codes "; a file cannot be read"))
 
--- the line that counts them, where so many are errors of the files
-abbrev pub counts_text : ℕ → Bool → List Said → List ℕ
-counts_text faults is_unread said =
+-- the line that counts them, and says what is left out
+abbrev pub counts_text : Omitted → List Said → List ℕ
+counts_text omitted said =
     decimal (errors_in said) ++ (codes " error" ++ (plural (errors_in said)
     ++ (codes ", " ++ (decimal (warnings_in said) ++ (codes " warning"
-    ++ (plural (warnings_in said) ++ (unsought faults ++ (unread_note is_unread
-    ++ codes "\n"))))))))
+    ++ (plural (warnings_in said) ++ (omitted_text omitted ++ codes "\n")))))))
 
 -- the last line, which counts the findings: there is none among objects of JSON
-abbrev pub end_text : Style → ℕ → Bool → List Said → List ℕ
-end_text style.Json faults is_unread said = []
-end_text way faults is_unread said = counts_text faults is_unread said
+abbrev pub end_text : Style → Omitted → List Said → List ℕ
+end_text style.Json omitted said = []
+end_text way omitted said = counts_text omitted said
 
 -- the line of a file that cannot be read
 abbrev pub unread_line : List ℕ × FileError → List ℕ

@@ -1,22 +1,23 @@
 //! The program: files come by their names, and what is answered to a request goes to writers.
 ghost use Rattle.std.specs.Prelude.{◌≡◌, ◌++◌, ◌<◌, ◌⊎◌, true, IfErr, IfOk, OnOk, List, option_copied};
-ghost use Rattle.std.specs.Prelude.{string_bytes};
+ghost use Rattle.std.specs.Prelude.{map, option_map, string_bytes};
 ghost use Rattle.std.specs.Io.KnownBytes.{IsAtEnd};
 ghost use Rattle.line_streams.specs.Filters.{status_number};
 ghost use Rattle.line_streams.specs.Streams.{Fails, IsFlushed, ReadFails};
 ghost use Rattle.settings_check.specs.Answer.{status_of, IsChecked, IsTextOf, IsShown};
-ghost use Rattle.settings_check.specs.Answer.{AreCompared, AddsCompared, AnswersFiles};
+ghost use Rattle.settings_check.specs.Answer.{AddsCompared, AreToml, AnswersFiles, omitted_in};
 ghost use Rattle.settings_check.specs.Answer.{IsDefaultAnswer, IsRefusedAnswer, IsSchemaAnswer, IsTextAnswer, Answers};
 ghost use Rattle.settings_check.specs.Answer.{reads_input, input_is_read, AnswersArguments, Reported};
 ghost use Rattle.settings_check.specs.Answer.{Ends, RefusesMemory};
-ghost use Rattle.settings_check.specs.Found.{Said, found_view, reports_of};
+ghost use Rattle.settings_check.specs.Found.{found_view, valid_view};
 
 use crate::arguments::{Request, RequestError, Task, request_of};
-use crate::found::{Files, Found, Report, add_differences, find_in};
-use crate::lines::{Style, errors_in, style_of, warnings_in, write_end, write_lines, write_unread};
+use crate::found::{Files, Found, Pair, ValidFile, add_differences, find_in};
+use crate::lines::{
+    Omitted, Style, errors_in, style_of, warnings_in, write_end, write_lines, write_unread,
+};
 use crate::schema::schema;
 use config_report::{default_file, settings_text};
-use iox2_config::config::Config;
 use line_streams::{Outcome, Sink, Source, Status, read_all, write_outcome, write_whole};
 use std::alloc::{AllocError, Global};
 use std::env::Args;
@@ -99,27 +100,31 @@ fn status_of(strict: bool, found: &Found<'_>) -> Status
     }
 }
 
-/// What was found is reported, of which so many are errors of the files.
+/// What a report on files leaves out.
+fn omitted_in(task: Task, found: &Found<'_>) -> Omitted
+    ensures { result ≡ omitted_in task (found_view found.now) }
+{
+    Omitted {
+        contradictions: errors_in(found.reports.as_slice()) > 0,
+        differences: matches!(task, Task::Compare) && found.valid.len() < 2,
+        files: !found.unread.is_empty(),
+    }
+}
+
+/// What was found is reported, and what is left out.
 fn checked(
     alloc: Global,
     style: Style,
     strict: bool,
-    faults: usize,
+    omitted: Omitted,
     found: &Found<'_>,
 ) -> Result<Answer, AllocError>
-    ensures { IfOk result (IsChecked style strict faults (found_view found.now)) }
+    ensures { IfOk result (IsChecked style strict omitted (found_view found.now)) }
 {
     let mut output = String::new(alloc);
     let mut errors = String::new(alloc);
     write_lines(alloc, &mut output, style, found.reports.as_slice())?;
-    let is_unread = !found.unread.is_empty();
-    write_end(
-        &mut output,
-        style,
-        faults,
-        is_unread,
-        found.reports.as_slice(),
-    )?;
+    write_end(&mut output, style, omitted, found.reports.as_slice())?;
     write_unread(alloc, &mut errors, found.unread.as_slice())?;
     Ok(Answer {
         output,
@@ -128,13 +133,14 @@ fn checked(
     })
 }
 
-/// The text of the settings, or none.
+/// The text of the settings of a file, or none.
 #[tactic(auto, using(crate::proofs::Comparing::shown))]
-fn text_of(alloc: Global, config: Option<&Config>) -> Result<String, AllocError>
-    ensures { IfOk result (λ text. IsTextOf (option_copied config.entry) (string_bytes text)) }
+fn text_of(alloc: Global, file: Option<&ValidFile<'_>>) -> Result<String, AllocError>
+    ensures { IfOk result (λ text. IsTextOf
+        (option_map valid_view (option_copied file.entry)) (string_bytes text)) }
 {
-    match config {
-        Some(config) => settings_text(alloc, config),
+    match file {
+        Some(file) => settings_text(alloc, &file.config),
         None => Ok(String::new(alloc)),
     }
 }
@@ -143,7 +149,7 @@ fn text_of(alloc: Global, config: Option<&Config>) -> Result<String, AllocError>
 fn shown(alloc: Global, strict: bool, found: &Found<'_>) -> Result<Answer, AllocError>
     ensures { IfOk result (IsShown strict (found_view found.now)) }
 {
-    let output = text_of(alloc, found.configs.first())?;
+    let output = text_of(alloc, found.valid.first())?;
     let mut errors = String::new(alloc);
     write_lines(alloc, &mut errors, Style::Plain, found.reports.as_slice())?;
     write_unread(alloc, &mut errors, found.unread.as_slice())?;
@@ -154,40 +160,17 @@ fn shown(alloc: Global, strict: bool, found: &Found<'_>) -> Result<Answer, Alloc
     })
 }
 
-/// Adds in what two configurations differ, if there are two.
-fn add_between<'a>(
-    alloc: Global,
-    reports: &mut Vec<Report<'a>>,
-    file: Option<&'a String>,
-    first: Option<&Config>,
-    second: Option<&Config>,
-) -> Result<(), AllocError>
-    ensures { OnOk result ((said : List Said)
-        × (reports_of reports.new.items ≡ reports_of reports.old.items ++ said)
-        × AreCompared (option_copied file.entry) (option_copied first.entry)
-        (option_copied second.entry) said) }
+/// Adds in what two files differ, if there are two without errors.
+fn add_compared(alloc: Global, found: &mut Found<'_>) -> Result<(), AllocError>
+    requires { AreToml (found_view found.old).valid }
+    ensures { OnOk result (AddsCompared (found_view found.old) (found_view found.new)) }
 {
-    match (file, first, second) {
-        (Some(file), Some(first), Some(second)) => {
-            add_differences(alloc, reports, file.as_str(), first, second)
+    match found.valid.as_slice() {
+        [first, second, ..] => {
+            add_differences(alloc, &mut found.reports, Pair { first, second })
         }
         _ => Ok(()),
     }
-}
-
-/// Adds in what the settings of two files differ, if both have some.
-fn add_compared<'a>(
-    alloc: Global,
-    found: &mut Found<'a>,
-    files: &'a [String],
-) -> Result<(), AllocError>
-    ensures { OnOk result
-        (AddsCompared files.now (found_view found.old) (found_view found.new)) }
-{
-    let file = files.first();
-    let first = found.configs.first();
-    let second = found.configs.get(1);
-    add_between(alloc, &mut found.reports, file, first, second)
 }
 
 /// What is found in files is answered.
@@ -200,17 +183,16 @@ fn answer_files<F: Files>(
 ) -> Result<Answer, AllocError>
     ensures { IfOk result (AnswersFiles (F.Gives files.now) coloured input.now request.now) }
 {
-    let names = request.files.as_slice();
     let style = style_of(request.format, coloured);
-    let mut found = find_in(alloc, files, input, names)?;
-    let faults = errors_in(found.reports.as_slice());
+    let mut found = find_in(alloc, files, input, request.files.as_slice())?;
+    let omitted = omitted_in(request.task, &found);
     match request.task {
         Task::Show => shown(alloc, request.strict, &found),
         Task::Compare => {
-            add_compared(alloc, &mut found, names)?;
-            checked(alloc, style, request.strict, faults, &found)
+            add_compared(alloc, &mut found)?;
+            checked(alloc, style, request.strict, omitted, &found)
         }
-        _ => checked(alloc, style, request.strict, faults, &found),
+        _ => checked(alloc, style, request.strict, omitted, &found),
     }
 }
 

@@ -1,25 +1,29 @@
 //! Files, by their names, what is found in them, and which settings of two of them differ.
 ghost use Rattle.std.specs.Prelude.{◌≡◌, ℕ, List, Result, IfOk, ⊤, ◌++◌, ◌∷◌, [], OnOk, Ok, Err};
-ghost use Rattle.std.specs.Prelude.{map, option_to_list};
+ghost use Rattle.std.specs.Prelude.{map, Some};
+ghost use Rattle.config_report.specs.Findings.{IsToml};
 ghost use Rattle.config_report.specs.Text.{Adds, SettingsGive};
 ghost use Rattle.iox2_config_file.specs.Settings.{settings_in};
 ghost use Rattle.iox2_config_file.specs.Write.{value_view};
 ghost use Rattle.settings_check.specs.Found.{given_bytes, cause_of, why_text, report_of};
 ghost use Rattle.settings_check.specs.Found.{reports_of};
 ghost use Rattle.settings_check.specs.Found.{found_view, AddsGiven, AddsFile, AreFound, Said};
+ghost use Rattle.settings_check.specs.Found.{pair_view, valid_in, valid_view};
+ghost use Rattle.settings_check.specs.Found.{AreParsed, setting_in, setting_view};
 ghost use Rattle.settings_check.specs.Found.{difference, is_shared, difference_severity};
 ghost use Rattle.settings_check.specs.Found.{AreAllDifferences, IsDifference, sharing_text};
+ghost use Rattle.settings_check.specs.Found.{elsewhere_text, said_beside};
 ghost use Rattle.settings_check.specs.declared.found.FileError.{FileError};
 ghost use Rattle.settings_check.specs.Words.{texts_of};
 
-use config_report::{Finding, Severity, check_file, is_same};
+use config_report::{Finding, Position, Severity, check_file, is_same, written_at};
 use iox2_config::config::Config;
 use iox2_config_file::{Row, SECTIONS, Section, SettingValue, rows, value_at};
 use line_streams::read_all;
 use std::alloc::{AllocError, Global};
-use std::fs;
 use std::fs::File;
 use std::io::ErrorKind;
+use std::{fmt, fs};
 
 /// Why a file cannot be read.
 #[derive(Clone, Copy, Debug, PartialEq, Eq)]
@@ -106,6 +110,17 @@ pub(crate) struct Unread<'a> {
     pub(crate) why: FileError,
 }
 
+/// A file without errors.
+#[derive(Drop)]
+pub(crate) struct ValidFile<'a> {
+    /// Its name.
+    file: &'a str,
+    /// Its text.
+    text: Vec<u8>,
+    /// Its settings.
+    pub(crate) config: Config,
+}
+
 /// What was found in some files.
 #[derive(Drop)]
 pub(crate) struct Found<'a> {
@@ -113,8 +128,8 @@ pub(crate) struct Found<'a> {
     pub(crate) reports: Vec<Report<'a>>,
     /// Those that cannot be read.
     pub(crate) unread: Vec<Unread<'a>>,
-    /// The settings of those without errors.
-    pub(crate) configs: Vec<Config>,
+    /// Those without errors.
+    pub(crate) valid: Vec<ValidFile<'a>>,
 }
 
 /// Adds what was found in one file to what was found before.
@@ -133,30 +148,35 @@ fn add_findings<'a>(
     Ok(())
 }
 
-/// Adds the settings of a file, if it has some.
-fn add_config(configs: &mut Vec<Config>, config: Option<Config>) -> Result<(), AllocError>
-    ensures { OnOk result
-        (configs.new.items ≡ configs.old.items ++ option_to_list config) }
+/// Adds a file, if it has settings.
+fn add_valid<'a>(
+    valid: &mut Vec<ValidFile<'a>>,
+    file: &'a str,
+    text: Vec<u8>,
+    config: Option<Config>,
+) -> Result<(), AllocError>
+    ensures { OnOk result (map valid_view valid.new.items
+        ≡ map valid_view valid.old.items ++ valid_in file.now text.items config) }
 {
     if let Some(config) = config {
-        configs.push(config)?;
+        valid.push(ValidFile { file, text, config })?;
     }
     Ok(())
 }
 
-/// Adds what is found in the bytes of a file.
+/// Adds what is found in the text of a file.
 fn add_checked<'a>(
     alloc: Global,
     found: &mut Found<'a>,
     file: &'a str,
-    bytes: &[u8],
+    text: Vec<u8>,
 ) -> Result<(), AllocError>
     ensures { OnOk result
-        (AddsGiven file.now (Ok bytes.now) (found_view found.old) (found_view found.new)) }
+        (AddsGiven file.now (Ok text.items) (found_view found.old) (found_view found.new)) }
 {
-    let findings = check_file(alloc, bytes)?;
+    let findings = check_file(alloc, &text)?;
     add_findings(&mut found.reports, file, findings.list)?;
-    add_config(&mut found.configs, findings.config)?;
+    add_valid(&mut found.valid, file, text, findings.config)?;
     Ok(())
 }
 
@@ -181,10 +201,11 @@ fn add_file<'a, F: Files>(
         (found_view found.old) (found_view found.new)) }
 {
     if file == "-" {
-        return add_checked(alloc, found, file, input);
+        let text = Vec::from_slice(alloc, input)?;
+        return add_checked(alloc, found, file, text);
     }
     match files.read_file(alloc, file)? {
-        Ok(bytes) => add_checked(alloc, found, file, &bytes),
+        Ok(text) => add_checked(alloc, found, file, text),
         Err(why) => add_unread(found, file, why),
     }
 }
@@ -203,7 +224,7 @@ pub(crate) fn find_in<'a, F: Files>(
     let mut found = Found {
         reports: Vec::new(alloc),
         unread: Vec::new(alloc),
-        configs: Vec::new(alloc),
+        valid: Vec::new(alloc),
     };
     for name in names {
         add_file(alloc, files, input, &mut found, name.as_str())?;
@@ -240,48 +261,129 @@ fn sharing_text(section: Section) -> &'static str
     }
 }
 
-/// What is said of a setting that differs.
-fn difference(
+/// A setting as a file has it.
+#[derive(Clone, Copy)]
+struct FileSetting<'a, 'b> {
+    /// The name of the file.
+    file: &'a str,
+    /// Where the file writes the key, if it does.
+    position: Option<Position>,
+    /// The value.
+    value: SettingValue<'b>,
+}
+
+/// Where a file writes a key, or that it has the default.
+#[derive(Clone, Copy)]
+struct Elsewhere<'a>(Option<Position>, &'a str);
+
+impl fmt::Display for Elsewhere<'_> {
+    ghost output = { λ other. Some (elsewhere_text other.0 other.1.now) };
+
+    fn fmt<W: fmt::Write>(&self, f: &mut fmt::Formatter<W>) -> fmt::Result {
+        let file = self.1;
+        match self.0 {
+            Some(Position { line, column }) => write!(f, " at {file}:{line}:{column}"),
+            None => write!(f, " by default in {file}"),
+        }
+    }
+}
+
+/// A setting of this value as a file has it.
+fn setting_in<'a, 'b>(
+    alloc: Global,
+    valid: &ValidFile<'a>,
+    section: Section,
+    key: &str,
+    value: SettingValue<'b>,
+) -> Result<FileSetting<'a, 'b>, AllocError>
+    requires { IsToml (valid_view valid.now).text }
+    ensures { IfOk result (λ setting. setting_view setting
+        ≡ setting_in (valid_view valid.now) section key.now (value_view value.entry)) }
+{
+    Ok(FileSetting {
+        file: valid.file,
+        position: written_at(alloc, &valid.text, section, key)?,
+        value,
+    })
+}
+
+/// What is said of a setting of one file that differs from that of the other.
+fn report_beside<'a>(
     alloc: Global,
     section: Section,
     key: &str,
-    value: SettingValue<'_>,
-    other: SettingValue<'_>,
-) -> Result<Finding, AllocError>
-    ensures { IfOk result (λ finding. (file : List ℕ) → report_of file finding
-        ≡ difference file section key.now (value_view value.entry) (value_view other.entry)) }
+    one: FileSetting<'a, '_>,
+    other: FileSetting<'a, '_>,
+) -> Result<Report<'a>, AllocError>
+    ensures { IfOk result (λ report. report_of report.file.now report.finding
+        ≡ said_beside section key.now (setting_view one.entry) (setting_view other.entry)) }
 {
     let prefix = section.prefix();
     let sharing = sharing_text(section);
+    let here = one.value;
+    let there = other.value;
+    let elsewhere = Elsewhere(other.position, other.file);
     let key = format!(in alloc; "{prefix}{key}")?;
-    let message = format!(in alloc; "is {value} here and {other} in the other file{sharing}")?;
-    Ok(Finding {
-        position: None,
-        severity: severity_of(section),
-        key: Some(key),
-        message,
+    let message = format!(in alloc; "is {here} here and {there}{elsewhere}{sharing}")?;
+    Ok(Report {
+        file: one.file,
+        finding: Finding {
+            position: one.position,
+            severity: severity_of(section),
+            key: Some(key),
+            message,
+        },
     })
+}
+
+/// What is said of a setting that differs: of the first file, unless the second alone writes it.
+fn difference<'a>(
+    alloc: Global,
+    section: Section,
+    key: &str,
+    first: FileSetting<'a, '_>,
+    second: FileSetting<'a, '_>,
+) -> Result<Report<'a>, AllocError>
+    ensures { IfOk result (λ report. report_of report.file.now report.finding
+        ≡ difference section key.now (setting_view first.entry) (setting_view second.entry)) }
+{
+    match (first.position, second.position) {
+        (None, Some(_)) => report_beside(alloc, section, key, second, first),
+        _ => report_beside(alloc, section, key, first, second),
+    }
+}
+
+/// Two files that are compared.
+#[derive(Clone, Copy)]
+pub(crate) struct Pair<'a, 'b> {
+    /// The first one.
+    pub(crate) first: &'b ValidFile<'a>,
+    /// The second one.
+    pub(crate) second: &'b ValidFile<'a>,
 }
 
 /// Adds a setting if it differs.
 fn add_setting<'a>(
     alloc: Global,
     reports: &mut Vec<Report<'a>>,
-    file: &'a str,
+    files: Pair<'a, '_>,
     section: Section,
     row: &Row,
     value: SettingValue<'_>,
     other: SettingValue<'_>,
 ) -> Result<(), AllocError>
-    ensures { OnOk result (Adds (IsDifference file.now section) row.now.key.now
+    requires { AreParsed (pair_view files) }
+    ensures { OnOk result (Adds (IsDifference (pair_view files.entry) section) row.now.key.now
         (value_view value.entry) (value_view other.entry)
         (reports_of reports.old.items) (reports_of reports.new.items)) }
 {
     if is_same(value, other) {
         return Ok(());
     }
-    let finding = difference(alloc, section, row.key, value, other)?;
-    reports.push(Report { file, finding })?;
+    let first = setting_in(alloc, files.first, section, row.key, value)?;
+    let second = setting_in(alloc, files.second, section, row.key, other)?;
+    let report = difference(alloc, section, row.key, first, second)?;
+    reports.push(report)?;
     Ok(())
 }
 
@@ -290,25 +392,25 @@ fn add_setting<'a>(
 fn add_table<'a>(
     alloc: Global,
     reports: &mut Vec<Report<'a>>,
-    file: &'a str,
+    files: Pair<'a, '_>,
     section: Section,
-    first: &Config,
-    second: &Config,
 ) -> Result<(), AllocError>
+    requires { AreParsed (pair_view files) }
     ensures { OnOk result ((said : List Said)
         × (reports_of reports.new.items ≡ reports_of reports.old.items ++ said)
-        × SettingsGive (IsDifference file.now section)
-        (settings_in section first.now) (settings_in section second.now) said) }
+        × SettingsGive (IsDifference (pair_view files.entry) section)
+        (settings_in section files.entry.first.now.config)
+        (settings_in section files.entry.second.now.config) said) }
 {
     let rows = rows(section);
     for index in 0..rows.len() {
-        let Some(value) = value_at(first, section, index) else {
+        let Some(value) = value_at(&files.first.config, section, index) else {
             return Ok(());
         };
-        let Some(other) = value_at(second, section, index) else {
+        let Some(other) = value_at(&files.second.config, section, index) else {
             return Ok(());
         };
-        add_setting(alloc, reports, file, section, &rows[index], value, other)?;
+        add_setting(alloc, reports, files, section, &rows[index], value, other)?;
     }
     Ok(())
 }
@@ -317,16 +419,15 @@ fn add_table<'a>(
 pub(crate) fn add_differences<'a>(
     alloc: Global,
     reports: &mut Vec<Report<'a>>,
-    file: &'a str,
-    first: &Config,
-    second: &Config,
+    files: Pair<'a, '_>,
 ) -> Result<(), AllocError>
+    requires { AreParsed (pair_view files) }
     ensures { OnOk result ((said : List Said)
         × (reports_of reports.new.items ≡ reports_of reports.old.items ++ said)
-        × AreAllDifferences file.now first.now second.now said) }
+        × AreAllDifferences (pair_view files.entry) said) }
 {
     for section in &SECTIONS {
-        add_table(alloc, reports, file, *section, first, second)?;
+        add_table(alloc, reports, files, *section)?;
     }
     Ok(())
 }

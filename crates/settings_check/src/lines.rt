@@ -1,17 +1,18 @@
 //! How findings are written, so that a terminal takes no text of theirs as a command.
-ghost use Rattle.std.specs.Prelude.{◌≡◌, ◌++◌, IfOk, OnOk, flat_map, string_bytes, option_map};
+ghost use Rattle.std.specs.Prelude.{◌≡◌, ◌++◌, IfOk, OnOk, Some, flat_map, string_bytes, option_map};
 ghost use Rattle.serde_json.specs.View.{view};
 ghost use Rattle.settings_check.specs.Found.{report_of, reports_of, unread_of};
 ghost use Rattle.settings_check.specs.Lines.{style_of, colour_of, text_of, line_in, lines_in};
 ghost use Rattle.settings_check.specs.Lines.{note_data, number_data, key_data, is_error, errors_in};
 ghost use Rattle.settings_check.specs.Lines.{warnings_in, plural, end_text, unread_line};
-ghost use Rattle.settings_check.specs.Lines.{unsought, unread_note, printable, printable_char};
+ghost use Rattle.settings_check.specs.Lines.{note_if, omitted_text, printable, printable_char};
 
 use crate::arguments::Format;
 use crate::found::{Report, Unread, why_text};
 use config_report::{Finding, Position, Severity};
 use serde_json::{Value, json};
 use std::alloc::{AllocError, Global};
+use std::fmt;
 
 /// How lines are written.
 #[derive(Clone, Copy)]
@@ -211,38 +212,48 @@ fn plural(count: usize) -> &'static str
     if count == 1 { "" } else { "s" }
 }
 
-/// What is not looked for where the files have so many errors.
-fn unsought(errors: usize) -> &'static str
-    ensures { result.now ≡ unsought errors }
-{
-    if errors == 0 {
-        ""
-    } else {
-        "; contradictions are looked for in files without errors"
+/// What a report leaves out.
+#[derive(Clone, Copy)]
+pub(crate) struct Omitted {
+    /// The contradictions of a file that has errors.
+    pub(crate) contradictions: bool,
+    /// The differences between files that are to be compared, and are not two without errors.
+    pub(crate) differences: bool,
+    /// A file that cannot be read.
+    pub(crate) files: bool,
+}
+
+/// The same in words, behind the counts.
+impl fmt::Display for Omitted {
+    ghost output = { λ omitted. Some (omitted_text omitted) };
+
+    fn fmt<W: fmt::Write>(&self, f: &mut fmt::Formatter<W>) -> fmt::Result {
+        let contradictions = note_if(
+            self.contradictions,
+            "; contradictions are looked for in files without errors",
+        );
+        let differences = note_if(self.differences, "; the files are not compared");
+        let files = note_if(self.files, "; a file cannot be read");
+        write!(f, "{contradictions}{differences}{files}")
     }
 }
 
-/// That a file cannot be read.
-fn unread_note(is_unread: bool) -> &'static str
-    ensures { result.now ≡ unread_note is_unread }
+/// A note, or nothing.
+fn note_if(is_said: bool, note: &'static str) -> &'static str
+    ensures { result.now ≡ note_if is_said note.now }
 {
-    if is_unread {
-        "; a file cannot be read"
-    } else {
-        ""
-    }
+    if is_said { note } else { "" }
 }
 
-/// Appends how many errors and warnings there are, for a person. So many are errors of the files.
+/// Appends how many errors and warnings there are, for a person, and what is left out.
 pub(crate) fn write_end(
     out: &mut String,
     style: Style,
-    faults: usize,
-    is_unread: bool,
+    omitted: Omitted,
     reports: &[Report<'_>],
 ) -> Result<(), AllocError>
     ensures { OnOk result (string_bytes out.new
-        ≡ string_bytes out.old ++ end_text style faults is_unread (reports_of reports.now)) }
+        ≡ string_bytes out.old ++ end_text style omitted (reports_of reports.now)) }
 {
     match style {
         Style::Json => Ok(()),
@@ -251,11 +262,9 @@ pub(crate) fn write_end(
             let warnings = warnings_in(reports);
             let more_errors = plural(errors);
             let more_warnings = plural(warnings);
-            let unsought = unsought(faults);
-            let unread = unread_note(is_unread);
             write!(
                 out,
-                "{errors} error{more_errors}, {warnings} warning{more_warnings}{unsought}{unread}\n"
+                "{errors} error{more_errors}, {warnings} warning{more_warnings}{omitted}\n"
             )
         }
     }

@@ -19,6 +19,7 @@ const DOUBTFUL: &[u8] = b"[defaults.blackboard]\nmax-reader = 3\n";
 const FILES: Known<'_> = Known(&[
     ("bad.toml", BAD),
     ("doubtful.toml", DOUBTFUL),
+    ("slash", b"global.prefix = '/'\n"),
     ("\x1b]0;title\x07\n\u{9b}2J", b"x"),
     (
         "one",
@@ -33,7 +34,7 @@ const FILES: Known<'_> = Known(&[
 /// Words, the status, the output and the errors.
 type Run<'a> = (&'a [&'a str], u8, &'a str, &'a str);
 
-const RUNS: [Run<'_>; 10] = [
+const RUNS: [Run<'_>; 12] = [
     (
         &["bad.toml"],
         1,
@@ -95,11 +96,11 @@ const RUNS: [Run<'_>; 10] = [
     (
         &["--compare", "one", "other"],
         1,
-        "one: error: global.prefix: is \"one_\" here and '\"' in the other file, and must be the \
-         same in all processes of one system\n\
-         one: error: global.node.monitor-suffix: is \".node_monitor\" here and \".seen\" in the \
-         other file, and must be the same in all processes of one system\n\
-         one: warning: defaults.event.max-nodes: is 5 here and 36 in the other file\n\
+        "one:1:1: error: global.prefix: is \"one_\" here and '\"' at other:4:1, and must be the same \
+         in all processes of one system\n\
+         other:2:1: error: global.node.monitor-suffix: is \".seen\" here and \".node_monitor\" by \
+         default in one, and must be the same in all processes of one system\n\
+         one:2:1: warning: defaults.event.max-nodes: is 5 here and 36 by default in other\n\
          2 errors, 1 warning\n",
         "",
     ),
@@ -121,11 +122,25 @@ const RUNS: [Run<'_>; 10] = [
         1,
         "doubtful.toml:2:1: warning: defaults.blackboard.max-reader: this table has no such key, \
          defaults.blackboard.max-readers may be meant\n\
-         one: error: global.prefix: is \"one_\" here and \"iox2_\" in the other file, and must be \
-         the same in all processes of one system\n\
-         one: warning: defaults.event.max-nodes: is 5 here and 36 in the other file\n\
+         one:1:1: error: global.prefix: is \"one_\" here and \"iox2_\" by default in doubtful.toml, \
+         and must be the same in all processes of one system\n\
+         one:2:1: warning: defaults.event.max-nodes: is 5 here and 36 by default in doubtful.toml\n\
          1 error, 2 warnings\n",
         "",
+    ),
+    (
+        &["--compare", "one", "slash"],
+        1,
+        "slash:1:1: error: global.prefix: is no name of a file: it has a `/`\n\
+         1 error, 0 warnings; contradictions are looked for in files without errors; the files are \
+         not compared\n",
+        "",
+    ),
+    (
+        &["--compare", "gone", "one"],
+        2,
+        "0 errors, 0 warnings; the files are not compared; a file cannot be read\n",
+        "gone: there is no such file\n",
     ),
     (&["--version"], 0, "iox2-check 0.1.0 (iceoryx2 0.9.3)\n", ""),
 ];

@@ -6,7 +6,7 @@ use Rattle.settings_check.proofs.found.add_checked.Goals as goal
 pub returns : goal.returns
 returns c =
     let findings = c.in_ok-findings.findings in (
-      findings_seen c.args.file.now findings,
-      (findings, c.in_ok-findings.ensures, refl),
-      same_parts _ _ c.in_ok-add_findings.ensures (sym (append-nil _)) c.in_ok-add_config.ensures,
+      findings_seen c.args.file.now c.args.text.items findings,
+      (findings, rw c.deref.ensures.value at c.in_ok-findings.ensures, refl),
+      same_parts _ _ c.in_ok-add_findings.ensures (sym (append-nil _)) c.in_ok-add_valid.ensures,
     )
