@@ -359,6 +359,16 @@ sum_moves ss new (stays x) = omega arith
 sum_moves ss new (sets x at s t there line less) = sum_set ss at s t there less
 sum_moves ss new (adds x t none) = omega (arith, sum_by_push calls_of ss t)
 
+-- where one of the services is another one with the same line, they have one number still
+pub alike_set : (ss : List Service) (at : ℕ) (s t : Service) → slice_get ss at ≡ Some s
+    → t.line ≡ s.line → HaveOneNumber ss → HaveOneNumber (slice_set ss at t)
+alike_set ss at s t there line one =
+    let has = λ (v : Service). v.line.number ≡ one.0 in (
+      one.0,
+      All-set has ss at t
+          (ap (λ (l : ServiceLine). l.number) line ∙ all_get has ss at s one.1 there) one.1,
+    )
+
 -- the services that were there have their numbers still
 alike_moves : (ss new : List Service) → Moves ss new
     → (length ss ≤ length new) × (HaveOneNumber ss → HaveOneNumber (take (length ss) new))
@@ -368,13 +378,9 @@ alike_moves ss new (sets x at s t there line less) =
     let long : length (slice_set ss at t) ≡ length ss = length-set ss at t in (
       omega arith,
       λ one.
-          let has = λ (v : Service). v.line.number ≡ one.0 in
           subst HaveOneNumber
-          (sym (take_all (length ss) (slice_set ss at t) (omega arith))) (
-            one.0,
-            All-set has ss at t
-                (ap (λ (l : ServiceLine). l.number) line ∙ all_get has ss at s one.1 there) one.1,
-          ),
+          (sym (take_all (length ss) (slice_set ss at t) (omega arith)))
+          (alike_set ss at s t there line one),
     )
 alike_moves ss new (adds x t none) = (
   omega (arith, length-append ss (t ∷ [])),

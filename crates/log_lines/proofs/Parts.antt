@@ -9,7 +9,7 @@ use Rattle.service_descriptions.specs.declared.replay.lines.service_line.Service
 use Rattle.service_descriptions.specs.declared.replay.machine.command.Command.{Command}
 use Rattle.service_descriptions.specs.Lines.{IsLine as IsCommand, line_of, line_text as command_line, role_word}
 use Rattle.service_descriptions.specs.Script.{IsServiceLine, service_line}
-use Rattle.log_lines.specs.Commands.{Begun, HasBegun, HasText, IsHandle, NamedCommand, begun_text, command_text, handle_text, weak_text}
+use Rattle.log_lines.specs.Commands.{Begun, HasBegun, HasText, IsHandle, IsRemoval, NamedCommand, begun_text, command_text, handle_text, weak_text}
 use Rattle.log_lines.specs.Commands.Begun.{command, weak}
 use Rattle.log_lines.specs.Commands.NamedCommand.{numbered, deregister, release}
 use Rattle.log_lines.specs.Lines.{HasNone, Comes, IsCaller, IsLine, Line, begin_text, given_text, line_text, mark, number_text}
@@ -32,14 +32,20 @@ NoRelease line =
     (r : Role) (slot ticket : ℕ) → r ≢ role.Node → IsHandle (slot, ticket)
     → line ≢ codes "release " ++ (role_word r ++ (codes " " ++ handle_text (slot, ticket)))
 
+pub no_removal : (line : List ℕ) → NoDeregister line → NoRelease line → (a : NamedCommand)
+    → IsRemoval a → line ≢ command_text a
+no_removal line one other (numbered c) p e = absurd p
+no_removal line one other (deregister slot ticket) p e = one slot ticket p e
+no_removal line one other (release r slot ticket) p e = other r slot ticket p.0 p.1 e
+
 pub no_text : (line : List ℕ)
     → ((a : Command × List ℕ) → IsCommand Bytes a → line ≢ command_line Bytes a)
-    → NoDeregister line → NoRelease line → (a : NamedCommand) → HasText a
+    → ((a : NamedCommand) → IsRemoval a → line ≢ command_text a) → (a : NamedCommand) → HasText a
     → line ≢ command_text a
-no_text line none one other (numbered c) p e =
+no_text line none removals (numbered c) p e =
     none (c, []) (p, refl) (e ∙ sym (append-nil (line_of c)))
-no_text line none one other (deregister slot ticket) p e = one slot ticket p e
-no_text line none one other (release r slot ticket) p e = other r slot ticket p.0 p.1 e
+no_text line none removals (deregister slot ticket) p e = removals (deregister slot ticket) p e
+no_text line none removals (release r slot ticket) p e = removals (release r slot ticket) p e
 
 -- what is the text of no command and of no weak listing is begun by no caller
 pub no_begun_text : (line : List ℕ) → ((c : NamedCommand) → HasText c → line ≢ command_text c)

@@ -38,6 +38,11 @@ HasText (numbered c) = HasLine c
 HasText (deregister slot ticket) = IsHandle (slot, ticket)
 HasText (release r slot ticket) = (r ≢ role.Node) × IsHandle (slot, ticket)
 
+-- a removal that names its handle, and has a text
+abbrev pub IsRemoval : NamedCommand → Type 0
+IsRemoval (numbered c) = ⊥
+IsRemoval c = HasText c
+
 -- the command that a line has
 abbrev pub named : LogCommand → NamedCommand
 named (spelled.Numbered c) = numbered (command_of c)

@@ -3,8 +3,8 @@ ghost use Rattle.std.specs.Prelude.{◌≡◌, ◌≢◌, IfNone, IfOk, IfSome};
 ghost use Rattle.std.specs.Option.{option_map};
 ghost use Rattle.line_streams.specs.Spelling.{Reads};
 ghost use Rattle.iox2_container.specs.declared.container.role.Role.{Role as OneRole};
-ghost use Rattle.log_lines.specs.Commands.{HasBegun, HasText, IsHandle, begun_in, begun_text};
-ghost use Rattle.log_lines.specs.Commands.{command_text, handle_text, named, weak_text};
+ghost use Rattle.log_lines.specs.Commands.{HasBegun, HasText, IsHandle, IsRemoval, begun_in};
+ghost use Rattle.log_lines.specs.Commands.{begun_text, command_text, handle_text, named, weak_text};
 
 use iox2_container::container::Role;
 use line_streams::{After, LineEnd, Number, Phrase, Then, after_word};
@@ -46,30 +46,42 @@ fn handle_of(bytes: &[u8]) -> Option<(usize, u64)>
     Some((slot as usize, ticket))
 }
 
-/// Parses the line of a call alone that names no service: a command as scripts have it, or a
-/// removal that names its handle. Returns `None` where no command has this text.
+/// The removal that names its handle whose text this is.
 #[inline(always)]
-pub fn read_command(alloc: Global, line: &[u8]) -> Result<Option<LogCommand>, AllocError>
-    ensures { IfOk result (λ found. Reads HasText command_text (option_map named found) line.now) }
+fn removal_of(line: &[u8]) -> Option<LogCommand>
+    ensures { Reads IsRemoval command_text (option_map named result) line.now }
 {
-    if let Some((command, _)) = command_before(alloc, line, LineEnd::Bytes)? {
-        return Ok(Some(LogCommand::Numbered(command)));
-    }
     if let Some(rest) = after_word(line, b"deregister ") {
         let Some((slot, ticket)) = handle_of(rest) else {
-            return Ok(None);
+            return None;
         };
-        return Ok(Some(LogCommand::Deregister(slot, ticket)));
+        return Some(LogCommand::Deregister(slot, ticket));
     }
     let Some(rest) = after_word(line, b"release ") else {
-        return Ok(None);
+        return None;
     };
     let handle = Then(NUMBER, After(b" ", Then(NUMBER, LineEnd::Bytes)));
     let Some(((role, (slot, (ticket, ()))), _)) = Then(RoleName, After(b" ", handle)).read(rest)
     else {
-        return Ok(None);
+        return None;
     };
-    Ok(Some(LogCommand::Release(role, slot as usize, ticket)))
+    Some(LogCommand::Release(role, slot as usize, ticket))
+}
+
+/// Parses the line of a call alone that names no service: a command as scripts have it, or a
+/// removal that names its handle. Returns `None` where no command has this text. Most removals in
+/// logs name their handle, so these are tried first.
+#[inline(always)]
+pub fn read_command(alloc: Global, line: &[u8]) -> Result<Option<LogCommand>, AllocError>
+    ensures { IfOk result (λ found. Reads HasText command_text (option_map named found) line.now) }
+{
+    if let Some(removal) = removal_of(line) {
+        return Ok(Some(removal));
+    }
+    match command_before(alloc, line, LineEnd::Bytes)? {
+        Some((command, _)) => Ok(Some(LogCommand::Numbered(command))),
+        None => Ok(None),
+    }
 }
 
 /// The role that a weak listing with this text lists.

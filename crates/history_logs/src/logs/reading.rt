@@ -166,8 +166,9 @@ impl Reading {
     fn call(&mut self, number: Option<u64>, command: LogCommand) -> Option<Expected>
         requires waits { (log_of self.old).waits ≡ None }
         requires ready { IsReady self.old }
-        ensures { (k : ℕ) → Does (log_of self.old) k
+        ensures does { (k : ℕ) → Does (log_of self.old) k
             (call_line number (named_command command)) result (log_of self.new) }
+        ensures alike { IsTrue self.new.are_alike → HaveOneNumber self.new.services.items }
     {
         let Some(at) = service_named(&self.services, self.are_alike, number) else {
             return Some(Expected::Call);
@@ -312,8 +313,10 @@ impl Reading {
     ) -> Result<Option<Expected>, AllocError>
         requires waits { (log_of self.old).waits ≡ None }
         requires ready { IsReady self.old }
-        ensures { IfOk result (λ found.
+        ensures takes { IfOk result (λ found.
             TakesNext (log_of self.old) line text.now found (log_of self.new)) }
+        ensures alike { IfOk result (λ found. IfNone found
+            (IsTrue self.new.are_alike → HaveOneNumber self.new.services.items)) }
     {
         let Some(read) = read_log_line(alloc, text)? else {
             return Ok(Some(self.expected(text)));
@@ -321,7 +324,12 @@ impl Reading {
         if self.services.is_empty() && !is_service(&read) {
             return Ok(Some(Expected::Service));
         }
-        self.take(alloc, read, line)
+        let (known, were_alike) = (self.services.len(), self.are_alike);
+        let Some(expected) = self.take(alloc, read, line)? else {
+            self.are_alike = were_alike && stay_alike(&self.services, known);
+            return Ok(None);
+        };
+        Ok(Some(expected))
     }
 
     /// A line that is no note, where no call waits. Returns what is expected instead, if it
@@ -335,8 +343,10 @@ impl Reading {
     ) -> Result<Option<Expected>, AllocError>
         requires waits { (log_of self.old).waits ≡ None }
         requires ready { IsReady self.old }
-        ensures { IfOk result (λ found.
+        ensures takes { IfOk result (λ found.
             TakesNext (log_of self.old) line text.now found (log_of self.new)) }
+        ensures alike { IfOk result (λ found. IfNone found
+            (IsTrue self.new.are_alike → HaveOneNumber self.new.services.items)) }
     {
         if self.services.is_empty() || !may_be_command(text) {
             return self.other(alloc, text, line);
@@ -358,8 +368,10 @@ impl Reading {
         line: usize,
     ) -> Result<Option<Expected>, AllocError>
         requires { IsReady self.old }
-        ensures { IfOk result (λ found.
+        ensures takes { IfOk result (λ found.
             TakesLine (log_of self.old) line text.now found (log_of self.new)) }
+        ensures alike { IfOk result (λ found. IfNone found
+            (IsTrue self.new.are_alike → HaveOneNumber self.new.services.items)) }
     {
         // To take a call that is not there costs as much as to take one.
         if self.waits.is_none() {
@@ -395,9 +407,7 @@ impl Reading {
         if is_note(text) {
             return Ok(None);
         }
-        let (known, were_alike) = (self.services.len(), self.are_alike);
         let Some(expected) = self.go(alloc, text, line)? else {
-            self.are_alike = were_alike && stay_alike(&self.services, known);
             return Ok(None);
         };
         if ends_in_return(text) {

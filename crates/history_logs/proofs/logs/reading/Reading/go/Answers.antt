@@ -5,11 +5,12 @@ use Rattle.log_lines.specs.declared.command.LogCommand.{LogCommand}
 use Rattle.log_lines.specs.Commands.{named}
 use Rattle.history_logs.specs.Fields.{log_of, waits_in}
 use Rattle.history_logs.specs.Seen.{Service}
+use Rattle.history_logs.proofs.Kept.{alike_set}
 use Rattle.history_logs.proofs.Refused.{ok_next, replied}
 use Rattle.history_logs.proofs.logs.reading.Reading.go.Goals as goal
 
-pub returns : goal.returns
-returns c =
+pub returns-clause-takes : goal.returns-clause-takes
+returns-clause-takes c =
     let at = c.in-Some-take.at in
     let command = c.in-Some-take.command in
     let old = c.args.self.now in
@@ -31,7 +32,22 @@ returns c =
       waits = None;
     }) c.in_ok-alone-in-Some-take.ensures)
 
-pub returns-then-is_none : goal.returns-then-is_none
-returns-then-is_none c =
+pub returns-clause-alike : goal.returns-clause-alike
+returns-clause-alike c one =
+    let at = c.in-Some-take.at in
+    let command = c.in-Some-take.command in
+    let old = c.args.self.now in
+    let services = old.services.items in
+    let own : old.waits ≡ Some (at, command) = search rules in
+    let d : Service = c.index_mut.result.now in
+    let there : slice_get services at ≡ Some d =
+    slice_get-get_or services at d
+    (c.requires.sane.waits at (named command) (ap waits_in own))
+    ∙ ap Some (sym c.index_mut.ensures.value) in
+    alike_set services at d c.alone.new.self there
+    (ap (λ (s : Service). s.line) c.in_ok-alone-in-Some-take.ensures) (c.requires.alike one)
+
+pub returns-then-is_none-clause-takes : goal.returns-then-is_none-clause-takes
+returns-then-is_none-clause-takes c =
     ok_next _ (log_of c.args.self.now) _ _ _
-    (waits_in c.args.self.now.waits) (search rules) (search rules) c.next.ensures
+    (waits_in c.args.self.now.waits) (search rules) (search rules) c.next.ensures.takes

@@ -1,13 +1,17 @@
-use Rattle.std.proofs.Common.{rules, ◌≡◌, length, true, false, refl}
+use Rattle.std.proofs.Common.{rules, ◌≡◌, IsTrue, List, Option, None, Some, arith, length, true, false, refl, subst, sym, take}
 use Rattle.log_lines.specs.Lines.{IsLine, line_seen, line_text}
 use Rattle.history_logs.specs.Fields.{log_of}
-use Rattle.history_logs.specs.Good.{is_service}
-use Rattle.history_logs.proofs.Refused.{nil_of, ok_taken, wrong_first}
+use Rattle.history_logs.specs.Good.{TakesNext, is_service}
+use Rattle.history_logs.specs.Reading.{HaveOneNumber}
+use Rattle.history_logs.specs.Seen.{Service}
+use Rattle.history_logs.proofs.Kept.{alike_line}
+use Rattle.history_logs.proofs.Refused.{nil_of, taken, wrong_first}
 use Rattle.history_logs.proofs.logs.reading.Reading.other.Goals.{else-is_empty-via-then-is_empty+else-not-is_service, else-is_empty-via-else-is_empty}
+use Rattle.history_logs.proofs.logs.reading.Reading.other.Goals.{else-were_alike, then-were_alike}
 use Rattle.history_logs.proofs.logs.reading.Reading.other.Goals as goal
 
-pub returns-then-not-is_service : goal.returns-then-not-is_service
-returns-then-not-is_service c =
+pub returns-then-not-is_service-clause-takes : goal.returns-then-not-is_service-clause-takes
+returns-then-not-is_service-clause-takes c =
     let l = line_seen c.in-Some.read in
     let p : IsLine l = search rules in
     let is : c.args.text.now ≡ line_text l = search rules in
@@ -16,14 +20,55 @@ returns-then-not-is_service c =
     let other : is_service l ≡ false = search rules in
     (wrong_first (log_of c.args.self.now) _ l p is empty other, refl)
 
-pub returns : goal.returns
-returns c =
+pub returns-in_default-2-clause-takes : goal.returns-in_default-2-clause-takes
+returns-in_default-2-clause-takes c =
     let l = line_seen c.in-Some.read in
     let p : IsLine l = search rules in
     let is : c.args.text.now ≡ line_text l = search rules in
-    ok_taken _ (log_of c.args.self.now) _ _ _ l p is
+    taken (log_of c.args.self.now) (log_of c.take.new.self) c.args.line c.args.text.now l None p is
     (λ empty. elim c.else-is_empty.branch as (λ _. is_service l ≡ true) [
       | else-is_empty-via-then-is_empty+else-not-is_service w ↦ search rules
       | else-is_empty-via-else-is_empty w ↦ search rules
     ])
-    c.take.ensures
+    (rw c.in_default-2.is at c.in_ok-expected.ensures)
+
+pub returns-in_default-2-clause-alike : goal.returns-in_default-2-clause-alike
+returns-in_default-2-clause-alike c =
+    let l = line_seen c.in-Some.read in
+    let p : IsLine l = search rules in
+    let is : c.args.text.now ≡ line_text l = search rules in
+    let takes =
+    taken (log_of c.args.self.now) (log_of c.take.new.self) c.args.line c.args.text.now l None p is
+    (λ empty. elim c.else-is_empty.branch as (λ _. is_service l ≡ true) [
+      | else-is_empty-via-then-is_empty+else-not-is_service w ↦ search rules
+      | else-is_empty-via-else-is_empty w ↦ search rules
+    ])
+    (rw c.in_default-2.is at c.in_ok-expected.ensures) in
+    let new = c.take.new.self.services.items in
+    let more = alike_line (log_of c.args.self.now) (log_of c.take.new.self) c.args.line
+    c.args.text.now takes in
+    let long : c.len-known.result ≡ length c.args.self.now.services.items = omega arith in
+    elim c.if-were_alike.branch
+    as (λ _. IsTrue c.if-were_alike.self → HaveOneNumber new) [
+      | then-were_alike w ↦ λ yes.
+          subst HaveOneNumber w.deref.ensures.value
+          (w.stay_alike-self.ensures (rw w.self-is at yes)
+          (subst (λ (l : List Service). HaveOneNumber (take c.len-known.result l))
+          (sym w.deref.ensures.value)
+          (subst (λ n. HaveOneNumber (take n new)) (sym long)
+          (more.1 (c.requires.ready.alike w.if-were_alike.true)))))
+      | else-were_alike w ↦ λ yes. let off = w.self-is in absurd (cc)
+    ]
+
+pub returns-clause-takes : goal.returns-clause-takes
+returns-clause-takes c =
+    let l = line_seen c.in-Some.read in
+    let p : IsLine l = search rules in
+    let is : c.args.text.now ≡ line_text l = search rules in
+    taken (log_of c.args.self.now) (log_of c.take.new.self) c.args.line c.args.text.now l
+    (Some c.in-Some-2.expected) p is
+    (λ empty. elim c.else-is_empty.branch as (λ _. is_service l ≡ true) [
+      | else-is_empty-via-then-is_empty+else-not-is_service w ↦ search rules
+      | else-is_empty-via-else-is_empty w ↦ search rules
+    ])
+    (rw c.in-Some-2.is at c.in_ok-expected.ensures)
