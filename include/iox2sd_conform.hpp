@@ -29,7 +29,14 @@ inline std::string_view take_line(std::string_view& lines, std::string_view fron
     return line.substr(front.size());
 }
 
-/// The same, of a line of ids.
+/// The number of these digits.
+inline std::size_t number_of(std::string_view digits) noexcept {
+    std::size_t number = 0;
+    for (const char digit : digits) number = 10 * number + static_cast<std::size_t>(digit - '0');
+    return number;
+}
+
+/// The same as `take_line`, of a line of ids.
 inline std::string_view take_ids(std::string_view& lines, std::string_view front) noexcept {
     const std::string_view ids = take_line(lines, front);
     return ids.empty() ? ids : ids.substr(1);
@@ -141,27 +148,42 @@ struct [[nodiscard]] LogVerdict {
     std::string_view words() const& noexcept { return line_below(1, "seen: "); }
     std::string_view words() const&& = delete;
 
+    /// With `NoOrder`: the line of the command of its call, which is that in which the call begins,
+    /// but of a call alone. Else 0.
+    std::size_t call() const noexcept {
+        const std::string_view called = line_below(2, "call: ");
+        if (called.empty()) return 0;
+        const std::size_t front = command().size() + before_line.size();
+        return detail::number_of(called.substr(front, called.size() - front - 1));
+    }
+
+    /// With `NoOrder`: the text of that line. Else nothing.
+    std::string_view command() const& noexcept {
+        const std::string_view called = line_below(2, "call: ");
+        return called.substr(0, called.rfind(before_line));
+    }
+    std::string_view command() const&& = delete;
+
     /// With `NoOrder`: the line from which the window is open, which is that of the first event of
     /// the service since none of its calls was open. Else 0.
     std::size_t window() const noexcept {
-        std::size_t number = 0;
-        for (const char digit : line_below(2, "window: from line ")) {
-            number = 10 * number + static_cast<std::size_t>(digit - '0');
-        }
-        return number;
+        return detail::number_of(line_below(3, "window: from line "));
     }
 
     /// With `NoOrder`: the lines, by rising number, in which the calls of the window begin that are
     /// needed, with a space between: no order explains these alone, and the others change nothing.
     /// Else nothing.
-    std::string_view needed() const& noexcept { return line_below(3, "needed: lines "); }
+    std::string_view needed() const& noexcept { return line_below(4, "needed: lines "); }
     std::string_view needed() const&& = delete;
 
     /// With `NoOrder`: what the calls before the reply can have led to, at least one. Else none.
-    Configurations configurations() const& noexcept { return Configurations(below(4)); }
+    Configurations configurations() const& noexcept { return Configurations(below(5)); }
     Configurations configurations() const&& = delete;
 
 private:
+    /// What stands between a command and its line.
+    static constexpr std::string_view before_line = " (line ";
+
     /// With `NoOrder`: the lines of the report below so many first ones. Else nothing.
     std::string_view below(std::size_t count) const noexcept {
         if (status != Status::NoOrder) return {};

@@ -83,6 +83,7 @@ static const char conforming_report[] = "conforms, 3 calls on 1 service\n";
 
 static const char refused_report[] = "line 9: no order of the calls explains this reply\n"
                                      "seen: handle 0 0\n"
+                                     "call: add listener 1.0.0.11 1.0.0.1 (line 8)\n"
                                      "window: from line 9\n"
                                      "needed: lines 9\n"
                                      "made: none\n"
@@ -93,6 +94,7 @@ static const char refused_report[] = "line 9: no order of the calls explains thi
 static const char two_in_one_place_report[] =
     "line 5: no order of the calls explains this reply\n"
     "seen: handle 0 1\n"
+    "call: B> register 2.0.0.2 (line 3)\n"
     "window: from line 2\n"
     "needed: lines 2 3\n"
     "made: none\n"
@@ -103,6 +105,7 @@ static const char two_in_one_place_report[] =
 static const char three_states_report[] =
     "line 13: no order of the calls explains this reply\n"
     "seen: count 7\n"
+    "call: count listener (line 12)\n"
     "window: from line 13\n"
     "needed: lines 13\n"
     "made: none\n"

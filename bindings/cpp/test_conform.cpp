@@ -20,8 +20,9 @@ bool is(const LogVerdict& found, Status status, std::size_t line, std::size_t ca
 }
 
 bool has_no_parts(const LogVerdict& found) {
-    return found.words().empty() && found.window() == 0 && found.needed().empty() &&
-           found.configurations().empty() && found.configurations().size() == 0;
+    return found.words().empty() && found.call() == 0 && found.command().empty() &&
+           found.window() == 0 && found.needed().empty() && found.configurations().empty() &&
+           found.configurations().size() == 0;
 }
 
 /// The configuration that is alone.
@@ -82,11 +83,12 @@ void refused(int nodes) {
     const LogVerdict found = check_log(log + "release 0\n= released\n");
     CHECK(found.status == Status::NoOrder && found.line == line && found.calls == 0);
     CHECK(found.words() == "released" && found.window() == line);
+    CHECK(found.call() == line - 1 && found.command() == "release 0");
     CHECK((only(found) == Configuration{"", "not-owned", ids, "100000000000000000000000b"}));
     const std::string number = std::to_string(line);
     const std::string report =
         "line " + number + ": no order of the calls explains this reply\nseen: released\n" +
-        "window: from line " + number + "\nneeded: lines " + number +
+        "call: release 0 (line " + std::to_string(line - 1) + ")\nwindow: from line " + number + "\nneeded: lines " + number +
         "\nmade: none\npossible: not-owned\nnodes: " + ids + "\nports: 100000000000000000000000b\n";
     CHECK(found.report() == report);
 }
@@ -112,7 +114,7 @@ void one_place() {
     const LogVerdict two = check_log(both + "A< handle 0 0\nB< handle 0 1\n");
     CHECK(two.status == Status::NoOrder && two.line == 5 && two.words() == "handle 0 1");
     CHECK(two.window() == 2 && (only(two) == Configuration{"", "full", node_1, ""}));
-    CHECK(two.needed() == "2 3");
+    CHECK(two.needed() == "2 3" && two.call() == 3 && two.command() == "B> register 2.0.0.2");
 }
 
 /// The first node is registered again and gets a port, while it is removed as a dead one: first,

@@ -271,6 +271,7 @@ void temporaries() {
     LENT(ScriptRun, .replies());
     LENT(LogVerdict, .report());
     LENT(LogVerdict, .words());
+    LENT(LogVerdict, .command());
     LENT(LogVerdict, .configurations());
     LENT(Recorder, .service());
     LENT(Service, .as_c());

@@ -77,6 +77,10 @@ class NoOrder(_Fails):
     """The number of its line, from 1 on."""
     words: str
     """Its words."""
+    call: int
+    """The line of the command of its call: that in which the call begins, but of a call alone."""
+    command: str
+    """The text of that line."""
     window: int
     """The line from which the window is open: that of the first event of the service since none of
     its calls was open."""
@@ -144,11 +148,13 @@ def check_log(log: Union[str, bytes]) -> Verdict:
 
 def _no_order(line: int, report: str) -> NoOrder:
     """What the lines of a report say, which stand below its first one."""
-    _, words, window, needed, *lines, _ = report.split("\n")
+    _, words, called, window, needed, *lines, _ = report.split("\n")
+    command, _, number = called.removeprefix("call: ").removesuffix(")").rpartition(" (line ")
     told = map(_configuration, lines[::4], lines[1::4], lines[2::4], lines[3::4])
     from_line = int(window.removeprefix("window: from line "))
     begins = tuple(map(int, needed.removeprefix("needed: lines ").split(" ")))
-    return NoOrder(line, words.removeprefix("seen: "), from_line, begins, tuple(told))
+    seen = words.removeprefix("seen: ")
+    return NoOrder(line, seen, int(number), command, from_line, begins, tuple(told))
 
 
 def _configuration(made: str, possible: str, nodes: str, ports: str) -> Configuration:

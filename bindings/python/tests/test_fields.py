@@ -37,7 +37,7 @@ VALUES: "list[Any]" = [
     iox2sd.LogCommand.nodes(), iox2sd.LogReply.count(9),
     iox2sd.Configuration((8,), "list", (NODE,), (1,)),
     iox2sd.Conforms(9),
-    iox2sd.NoOrder(9, "x", 8, (7,), (iox2sd.Configuration((8,), "list", (NODE,), (1,)),)),
+    iox2sd.NoOrder(9, "x", 8, "c", 7, (7,), (iox2sd.Configuration((8,), "list", (NODE,), (1,)),)),
     iox2sd.TooManyConfigurations(9),
     iox2sd.TooManyOpenCalls(9),
     iox2sd.UnexpectedLine(9, iox2sd.Expected.REPLY),

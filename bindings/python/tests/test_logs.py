@@ -48,7 +48,8 @@ class Logs(unittest.TestCase):
         assert isinstance(found, NoOrder)
         lines = [
             f"line {found.line}: no order of the calls explains this reply",
-            f"seen: {found.words}", f"window: from line {found.window}",
+            f"seen: {found.words}", f"call: {found.command} (line {found.call})",
+            f"window: from line {found.window}",
             " ".join(["needed: lines", *map(str, found.needed)]),
         ]
         for one in found.configurations:
@@ -96,14 +97,17 @@ class Logs(unittest.TestCase):
             line = 2 * nodes + 5
             one = told("not-owned", (1,) * nodes, (11,))
             found = check_log(log + "release 0\n= released\n")
-            self.assertEqual(found, NoOrder(line, "released", line, (line,), (one,)))
+            refused = NoOrder(line, "released", line - 1, "release 0", line, (line,), (one,))
+            self.assertEqual(found, refused)
             self.assertFalse(found)
 
     def test_calls_that_overlapped(self):
         both = "service event 7 1 0 0\nA> register 1.0.0.1\nB> register 1.0.0.2\n"
         self.assertEqual(check_log(both + "A< handle 0 0\nB< full\n"), Conforms(2))
         found = check_log(both + "A< handle 0 0\nB< handle 0 1\n")
-        self.assertEqual(found, NoOrder(5, "handle 0 1", 2, (2, 3), (told("full", (1,)),)))
+        full = (told("full", (1,)),)
+        refused = NoOrder(5, "handle 0 1", 3, "B> register 1.0.0.2", 2, (2, 3), full)
+        self.assertEqual(found, refused)
 
     def test_each_configuration_is_told(self):
         found = check_log(THREE + "count listener\n= count 7\n")
@@ -111,6 +115,7 @@ class Logs(unittest.TestCase):
         each = {told("count 1", (2, 1), (9,)), told("count 0", (2,)), told("count 0", (2, 1))}
         self.assertEqual(set(found.configurations), each)
         self.assertEqual((found.line, found.words, found.window), (13, "count 7", 13))
+        self.assertEqual((found.call, found.command), (12, "count listener"))
         self.assertEqual(found.needed, (13,))
         self.assertEqual(len(found.configurations), 3)
         # The port is there, so that one state is left.
@@ -122,7 +127,7 @@ class Logs(unittest.TestCase):
         log = f"A> register 1.0.0.1\nnodes\n= {listed}\nnodes\n= list\n"
         found = check_log(f"service event 7 1 0 0\n{log}")
         made = told(listed, (1,), made=(2,))
-        self.assertEqual(found, NoOrder(6, "list", 2, (2, 4, 6), (made,)))
+        self.assertEqual(found, NoOrder(6, "list", 5, "nodes", 2, (2, 4, 6), (made,)))
 
     def test_verdicts_differ(self):
         one, another = told("list", (1,), (2,), (2,)), told("list", (2,), (2,), (2,))

@@ -72,6 +72,7 @@ pub enum Verdict {
 /// let log = "service event 7 1 0 0\nregister 1.0.0.1\n= handle 0 0\nregister 1.0.0.1\n= locked\n";
 /// let Verdict::NoOrder(refusal) = check_log(log)? else { panic!("an order explains it") };
 /// assert_eq!((refusal.line, refusal.words.as_str(), refusal.window), (5, "locked", 5));
+/// assert_eq!((refusal.call, refusal.command.as_str()), (4, "register 1.0.0.1"));
 /// assert_eq!((refusal.needed, refusal.configurations[0].possible.as_str()), (vec![5], "full"));
 /// # Ok::<(), iox2sd::dynamic_config::AllocError>(())
 /// ```
@@ -81,6 +82,10 @@ pub struct Refusal {
     pub line: usize,
     /// Its words.
     pub words: String,
+    /// The line of the command of its call: that in which the call begins, but of a call alone.
+    pub call: usize,
+    /// The text of that line.
+    pub command: String,
     /// The line from which the window is open: that of the first event of the service since none of
     /// its calls was open.
     pub window: usize,
@@ -253,16 +258,24 @@ impl Error for Verdict {
     }
 }
 
-/// The line, the reply that was seen, and those that are possible.
+/// The line, the call, the reply that was seen, and those that are possible.
 impl fmt::Display for Refusal {
     fn fmt(&self, f: &mut fmt::Formatter<'_>) -> fmt::Result {
         let each = self.configurations.iter();
         let possible: BTreeSet<_> = each.map(|told| &*told.possible).collect();
         let possible = Vec::from_iter(possible).join("; or: ");
-        let Refusal { line, words, .. } = self;
+        let Refusal {
+            line,
+            words,
+            call,
+            command,
+            ..
+        } = self;
         padded(
             f,
-            format_args!("line {line}: seen: {words}; possible: {possible}"),
+            format_args!(
+                "line {line}: seen: {words}; call: {command} (line {call}); possible: {possible}"
+            ),
         )
     }
 }
@@ -280,9 +293,15 @@ impl Refusal {
     fn of(line: usize, report: &str) -> Self {
         let mut lines = report.split_terminator('\n').skip(1);
         let mut next = || lines.next().unwrap_or_default();
+        let words = after("seen: ", next()).to_string();
+        let called = after("call: ", next()).strip_suffix(')');
+        let called = called.and_then(|called| called.rsplit_once(" (line "));
+        let (command, call) = called.expect("the library writes a command and its line");
         Refusal {
             line,
-            words: after("seen: ", next()).to_string(),
+            words,
+            call: number(call),
+            command: command.to_string(),
             window: number(after("window: from line ", next())),
             needed: ids(after("needed: lines", next()), |line| line.parse().ok()),
             configurations: iter::from_fn(|| Configuration::next(&mut lines)).collect(),

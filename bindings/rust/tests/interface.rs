@@ -487,7 +487,10 @@ fn a_verdict_is_told_in_words() -> Tested {
     let refused = judged("nodes\n= locked\n")?;
     assert!(!refused.conforms());
     let error: Box<dyn Error> = refused.into_result().unwrap_err().into();
-    assert_eq!(error.to_string(), "line 3: seen: locked; possible: list");
+    assert_eq!(
+        error.to_string(),
+        "line 3: seen: locked; call: nodes (line 2); possible: list"
+    );
     let refusal = error.source().ok_or("no source")?;
     assert_eq!(refusal.to_string(), error.to_string());
 

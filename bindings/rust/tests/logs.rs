@@ -26,10 +26,18 @@ fn node(counter: u32) -> UniqueNodeId {
     UniqueNodeId::new(1, 0, 0, counter).unwrap()
 }
 
-fn no_order(line: usize, words: &str, needed: &[usize], told: Vec<Configuration>) -> Verdict {
+/// The reply in a line is refused, to the command in another one.
+fn no_order(
+    (line, words): (usize, &str),
+    (call, command): (usize, &str),
+    needed: &[usize],
+    told: Vec<Configuration>,
+) -> Verdict {
     Verdict::NoOrder(Refusal {
         line,
         words: words.to_string(),
+        call,
+        command: command.to_string(),
         window: needed[0],
         needed: needed.to_vec(),
         configurations: told,
@@ -77,7 +85,9 @@ fn a_reply_is_refused_with_what_it_could_have_been() {
         let each = vec![told(&[], "not-owned", &vec![1; nodes], &[11])];
         let line = 2 * nodes + 5;
         let found = check_log(&(SERVICE.to_string() + &registered + calls));
-        assert_eq!(found, Ok(no_order(line, "released", &[line], each)));
+        let release = (line - 1, "release 0");
+        let refused = no_order((line, "released"), release, &[line], each);
+        assert_eq!(found, Ok(refused));
     }
 }
 
@@ -88,7 +98,9 @@ fn calls_that_overlapped_have_an_order_or_none() {
     assert_eq!(one, Ok(Verdict::Conforms { calls: 2 }));
     let two = check_log(&(both + "A< handle 0 0\nB< handle 0 1\n"));
     let full = vec![told(&[], "full", &[1], &[])];
-    assert_eq!(two, Ok(no_order(5, "handle 0 1", &[2, 3], full)));
+    let register = (3, "B> register 1.0.0.2");
+    let refused = no_order((5, "handle 0 1"), register, &[2, 3], full);
+    assert_eq!(two, Ok(refused));
 }
 
 /// The first node is registered again and gets a port, while it is removed as a dead one: first,
@@ -115,6 +127,10 @@ fn a_refusal_has_each_configuration() {
     assert_eq!((refusal.line, refusal.window), (13, 13));
     assert_eq!(refusal.needed, [13]);
     assert_eq!(refusal.words, "count 7");
+    assert_eq!(
+        (refusal.call, refusal.command.as_str()),
+        (12, "count listener")
+    );
     let each = [
         told(&[], "count 1", &[2, 1], &[9]),
         told(&[], "count 0", &[2], &[]),
@@ -134,7 +150,8 @@ fn open_calls_are_told_by_their_lines() {
     let log = format!("A> register 1.0.0.1\nnodes\n= {listed}\nnodes\n= list\n");
     let found = check_log(&format!("service event 7 1 0 0\n{log}"));
     let made = vec![told(&[2], listed, &[1], &[])];
-    assert_eq!(found, Ok(no_order(6, "list", &[2, 4, 6], made)));
+    let refused = no_order((6, "list"), (5, "nodes"), &[2, 4, 6], made);
+    assert_eq!(found, Ok(refused));
 }
 
 #[test]
@@ -178,14 +195,16 @@ fn at_most_4096_configurations_are_followed() {
 #[test]
 fn verdicts_differ_by_each_field() {
     let one = told(&[2], "list", &[1], &[2]);
-    let refusal = |told| no_order(3, "x", &[2, 3], vec![told]);
+    let refusal = |told| no_order((3, "x"), (2, "c"), &[2, 3], vec![told]);
     let bad = |expected| Verdict::BadLine { line: 3, expected };
     let different = [
-        no_order(4, "x", &[2, 3], vec![one.clone()]),
-        no_order(3, "y", &[2, 3], vec![one.clone()]),
-        no_order(3, "x", &[3], vec![one.clone()]),
-        no_order(3, "x", &[2, 4], vec![one.clone()]),
-        no_order(3, "x", &[2, 3], vec![one.clone(), one.clone()]),
+        no_order((4, "x"), (2, "c"), &[2, 3], vec![one.clone()]),
+        no_order((3, "y"), (2, "c"), &[2, 3], vec![one.clone()]),
+        no_order((3, "x"), (1, "c"), &[2, 3], vec![one.clone()]),
+        no_order((3, "x"), (2, "d"), &[2, 3], vec![one.clone()]),
+        no_order((3, "x"), (2, "c"), &[3], vec![one.clone()]),
+        no_order((3, "x"), (2, "c"), &[2, 4], vec![one.clone()]),
+        no_order((3, "x"), (2, "c"), &[2, 3], vec![one.clone(), one.clone()]),
         refusal(told(&[], "list", &[1], &[2])),
         refusal(told(&[2], "count 1", &[1], &[2])),
         refusal(told(&[2], "list", &[2], &[2])),

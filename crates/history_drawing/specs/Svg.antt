@@ -184,9 +184,9 @@ calls_text t =
 abbrev pub lines_text : List (Bor (List ℕ)) → List ℕ
 lines_text notes = flat_map (λ (note : Bor (List ℕ)). note_text note.now) notes
 
--- the lines of a report that are shown: three, and four for each of at most eight configurations
+-- the lines of a report that are shown: four, and four for each of at most eight configurations
 abbrev pub shown : List (Bor (List ℕ)) → List (Bor (List ℕ))
-shown notes = take (min (length notes) 35) notes
+shown notes = take (min (length notes) 36) notes
 
 -- the begin of what stands below the calls
 unfoldable pub below_text : ℕ → List ℕ
@@ -203,11 +203,11 @@ report_text notes more y =
 
 -- the lines of a report as far as they are shown, and the end of the document
 abbrev pub notes_text : List (Bor (List ℕ)) → ℕ → List ℕ
-notes_text notes y = report_text (shown notes) ((length notes - 35) / 4) y
+notes_text notes y = report_text (shown notes) ((length notes - 36) / 4) y
 
 -- A picture of a time line, with the first line of a report above it and the others below.
 unfoldable pub svg_text : Timeline → List ℕ → List (Bor (List ℕ)) → List ℕ
 svg_text t heading notes =
-    open_text (max (right t.bars.items + 12) 760) (bottom t + 40 + 18 * min (length notes) 36)
+    open_text (max (right t.bars.items + 12) 760) (bottom t + 40 + 18 * min (length notes) 37)
     ++ (heading_text heading ++ (names_text t.rows.items
     ++ (calls_text t ++ notes_text notes (bottom t + 12))))

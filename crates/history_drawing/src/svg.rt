@@ -20,9 +20,9 @@ use frame::{write_heading, write_marks, write_more, write_name, write_note, writ
 use place::{right, top};
 use std::alloc::AllocError;
 
-/// How many lines of a report stand below a picture at most: the reply, the window and the needed
-/// calls, a line each, and four for each of eight configurations.
-const MAX_NOTES: usize = 35;
+/// How many lines of a report stand below a picture at most: the reply, its call, the window and
+/// the needed calls, a line each, and four for each of eight configurations.
+const MAX_NOTES: usize = 36;
 
 /// Appends the marks of the lines of calls.
 fn write_all_marks(out: &mut String, bars: &[Bar<'_>], bottom: usize) -> Result<(), AllocError>

@@ -1,5 +1,5 @@
--- Where replies stand in what was read.
-use Rattle.std.proofs.Common.{◌≡◌, ◌≢◌, ℕ, zero, suc, ◌+◌, ◌<◌, ◌≤◌, All, AllPairs, List, [], ◌∷◌, ◌++◌, Option, Some, None, length, slice_get, refl, sym, ◌∙◌, ap, subst, arith, inl, inr, append_assoc}
+-- Where replies and commands stand in what was read.
+use Rattle.std.proofs.Common.{◌≡◌, ◌≢◌, ℕ, zero, suc, ◌+◌, ◌<◌, ◌≤◌, All, AllPairs, List, [], ◌∷◌, ◌++◌, Option, Some, None, get_or, length, slice_get, refl, sym, ◌∙◌, ap, subst, arith, inl, inr, append_assoc}
 use Rattle.std.specs.List.{slice_set}
 use Rattle.std.proofs.lemmas.Bool.{cases_eq}
 use Rattle.std.proofs.lemmas.List.Elements.{All-nil, All-push, All-set, All-weaker}
@@ -23,19 +23,29 @@ use Rattle.service_conformance.specs.Judged.Judged.{call as judged_call, starts,
 use Rattle.service_descriptions.specs.declared.replay.lines.service_line.ServiceLine.{ServiceLine}
 use Rattle.history_logs.specs.declared.logs.verdict.Expected.{Expected}
 use Rattle.history_logs.specs.Good.{IsKept, IsOrderly, IsReadTo}
-use Rattle.history_logs.specs.EventLines.{Answers, IsAnsweredIn, IsLineAt, HasEventLines, IsSaidIn}
+use Rattle.history_logs.specs.EventLines.{Answers, HasCommand, HasEventLines, IsAnsweredIn, IsLineAt, IsSaidIn}
 use Rattle.history_logs.specs.Reading.{Dies, GoesOn, HasRead, Log, Says}
 use Rattle.history_logs.specs.Reading.HasRead.{nothing as none_read, note as note_read, line as line_read}
 use Rattle.history_logs.specs.declared.logs.callers.CallerState.{CallerState}
 use Rattle.history_logs.specs.declared.logs.callers.CallerState.TheVariants as caller
+use Rattle.history_logs.proofs.Commands.{aside_more, own_command}
 use Rattle.history_logs.proofs.AtIndex.{all_get, get_last, get_left, get_push, get_within}
 use Rattle.history_logs.proofs.Kept.{kept_new, kept_step}
 use Rattle.history_logs.proofs.Orderly.{both, open_new}
 use Rattle.history_logs.specs.Seen.{Begins, Service, called, calls_answered, calls_shown, changed, start_of, started, starting, stopping, unseen, with_alone, with_begin, with_crash, with_end, with_look, with_over, with_part}
 use Rattle.history_logs.proofs.Shortened.{get_changed, get_unchanged}
 
--- so it is above a line: the events stand in these lines, and replies where their calls end,
--- whatever follows
+-- the call that begins in this line has a command in the text, whatever follows
+abbrev HasCommandIn : List ℕ → ℕ → Type 0
+HasCommandIn text k = (rest : List ℕ) → HasCommand (text ++ rest) k
+
+-- more of the text is known
+command_on : (text more : List ℕ) (k : ℕ) → HasCommandIn text k → HasCommandIn (text ++ more) k
+command_on text more k has rest =
+    subst (λ (l : List ℕ). HasCommand l k) (sym (append_assoc text more rest)) (has (more ++ rest))
+
+-- so it is above a line: the events stand in these lines, and replies where their calls end, and
+-- each call has its command, whatever follows
 pub record HasEventLinesTo (text : List ℕ) (count : ℕ) (s : Service) : Type 0 where
   pub long : length s.event_lines ≡ length s.events
   pub rising : AllPairs (λ (one other : ℕ). one ≤ other) s.event_lines
@@ -43,6 +53,7 @@ pub record HasEventLinesTo (text : List ℕ) (count : ℕ) (s : Service) : Type 
   pub answers : (index number k : ℕ) → StandsAt s.events index (End number)
       → slice_get s.event_lines index ≡ Some k → (rest : List ℕ)
       → IsAnsweredIn (text ++ rest) s number k
+  pub begun : All (HasCommandIn text) s.begins
 
 -- where a reply is shown, what is said stays said
 said_shown : (bytes : List ℕ) (c : Judged) (r : SeenReply) (k : ℕ) → IsSaidIn bytes c k
@@ -106,6 +117,7 @@ placed_new text count line = record {
   rising = λ i j d h lt. absurd (omega arith);
   upto = All-nil (λ p. p ≤ count);
   answers = λ index number k at is rest. absurd (cc);
+  begun = All-nil (HasCommandIn text);
 }
 
 same_end : (a b : ℕ) → End a ≡ End b → a ≡ b
@@ -121,6 +133,7 @@ module _ (text : List ℕ) (count : ℕ) (s : Service) (p : HasEventLinesTo text
     answers = λ index number line at is rest.
         subst (λ (l : List ℕ). IsAnsweredIn l s number line) (sym (append_assoc text more rest))
         (p.answers index number line at is (more ++ rest));
+    begun = λ i d lt. command_on text more (get_or s.begins i d) (p.begun i d lt);
   }
 
   module _ (k : ℕ) (h : count ≤ k) where
@@ -131,8 +144,8 @@ module _ (text : List ℕ) (count : ℕ) (s : Service) (p : HasEventLinesTo text
         → IsAnsweredIn (text ++ rest) s number line → IsAnsweredIn (text ++ rest) t number line)
         → ((number : ℕ) → e ≡ End number → (rest : List ℕ)
         → IsAnsweredIn (text ++ rest) t number k)
-        → HasEventLinesTo text k t
-    placed_event t e events lines still last = record {
+        → All (HasCommandIn text) t.begins → HasEventLinesTo text k t
+    placed_event t e events lines still last begun = record {
       long = ap length lines ∙ (both s.event_lines s.events k e p.long ∙ ap length (sym events));
       rising = subst (AllPairs (λ (one other : ℕ). one ≤ other)) (sym lines)
           (push_rising s.event_lines count k p.rising p.upto h);
@@ -154,13 +167,14 @@ module _ (text : List ℕ) (count : ℕ) (s : Service) (p : HasEventLinesTo text
                 (sym (get_last s.event_lines k index (own.0 ∙ sym p.long)) ∙ stands) in
                 subst (IsAnsweredIn (text ++ rest) t number) here (last number own.1 rest)
           ];
+      begun = begun;
     }
 
     -- a call begins in this line
     placed_call : (t : Service) (c : Judged) → t.events ≡ s.events ++ Begin (length s.calls) ∷ []
         → t.event_lines ≡ s.event_lines ++ k ∷ [] → t.calls ≡ s.calls ++ c ∷ []
-        → HasEventLinesTo text k t
-    placed_call t c events lines calls =
+        → t.begins ≡ s.begins ++ k ∷ [] → HasCommandIn text k → HasEventLinesTo text k t
+    placed_call t c events lines calls begins has =
         placed_event t (Begin (length s.calls)) events lines
         (λ index number line at rest a. (
           a.0,
@@ -168,12 +182,15 @@ module _ (text : List ℕ) (count : ℕ) (s : Service) (p : HasEventLinesTo text
               ∙ get_push s.calls c number a.0 a.1,
           a.2,
         )) (λ number e. absurd (cc))
+        (subst (All (HasCommandIn text)) (sym begins)
+        (All-push (HasCommandIn text) s.begins k p.begun has))
 
-    placed_part : (c : Judged) → HasEventLinesTo text k (with_part s c k)
-    placed_part c = placed_call (with_part s c k) c refl refl refl
+    placed_part : (c : Judged) → HasCommandIn text k → HasEventLinesTo text k (with_part s c k)
+    placed_part c has = placed_call (with_part s c k) c refl refl refl refl has
 
-    pub placed_begin : (c : Judged) → HasEventLinesTo text k (with_begin s c k)
-    placed_begin c = placed_call (with_begin s c k) c refl refl refl
+    pub placed_begin : (c : Judged) → HasCommandIn text k
+        → HasEventLinesTo text k (with_begin s c k)
+    placed_begin c has = placed_call (with_begin s c k) c refl refl refl refl has
 
     -- what starts to look is over
     placed_over : (over : ℕ) (part : Part) (ids : Option (List ℕ))
@@ -185,13 +202,13 @@ module _ (text : List ℕ) (count : ℕ) (s : Service) (p : HasEventLinesTo text
           starts part ids,
           subst (λ n. slice_get s.calls n ≡ Some (starts part ids)) (same_end over number e) called,
           tt,
-        ))
+        )) p.begun
 
     -- the caller of a call died
     pub placed_crash : (dead : ℕ) → HasEventLinesTo text k (with_crash s dead k)
     placed_crash dead =
         placed_event (with_crash s dead k) (Crash dead) refl refl
-        (λ index number line at rest a. a) (λ number e. absurd (cc))
+        (λ index number line at rest a. a) (λ number e. absurd (cc)) p.begun
 
     -- a call that is open was answered in this line
     pub placed_end : (ended : ℕ) (r : SeenReply) (c : Judged) (l : Line) (words : List ℕ)
@@ -217,7 +234,7 @@ module _ (text : List ℕ) (count : ℕ) (s : Service) (p : HasEventLinesTo text
               (same_end ended number e)
               (get_changed answered shown_calls ended ∙ ap (option_map answered) sh.there),
           said_answered (text ++ rest) sh.now r k l words says is_line answer (there rest),
-        ))
+        )) p.begun
 
 -- the lines that follow the text have their numbers after those of the text
 abbrev FollowsOn : List ℕ → ℕ → Type 0
@@ -255,6 +272,7 @@ module _ (text : List ℕ) (count : ℕ) where
     rising = p.rising;
     upto = λ i d lt. omega (arith, p.upto i d lt);
     answers = p.answers;
+    begun = p.begun;
   }
 
   all_later : (ss : List Service) → All Now ss → All Next ss
@@ -266,8 +284,13 @@ module _ (text : List ℕ) (count : ℕ) where
       subst (All Next) (sym is) (All-set Next ss at t p (all_later ss all))
 
   placed_started : (s : Service) (start : dynamic.Service) → Next s → Next (started s start)
-  placed_started s start p =
-      record { long = p.long; rising = p.rising; upto = p.upto; answers = p.answers }
+  placed_started s start p = record {
+    long = p.long;
+    rising = p.rising;
+    upto = p.upto;
+    answers = p.answers;
+    begun = p.begun;
+  }
 
   placed_dies : (ss new : List Service) (state : Option CallerState) → All Now ss
       → Dies ss (count + 1) state new → All Next new
@@ -279,53 +302,61 @@ module _ (text : List ℕ) (count : ℕ) where
       d.2
   placed_dies ss new _ all d = absurd d
 
-  placed_look : (s : Service) (part : Part) → Now s → Next (with_look s part (count + 1))
-  placed_look s part p =
+  placed_look : (s : Service) (part : Part) → Now s → HasCommandIn text (count + 1)
+      → Next (with_look s part (count + 1))
+  placed_look s part p has =
       let k = count + 1 in
       let n = length s.calls in
       let one = with_begin s (starting part) k in
-      let first : Next one = placed_begin text count s p k (omega arith) (starting part) in
+      let first : Next one = placed_begin text count s p k (omega arith) (starting part) has in
       let second : Next (with_over one n k) =
       placed_over text k one first k (omega arith) n part None
       (get_last s.calls (starting part) (length s.calls) refl) in
-      placed_part text k (with_over one n k) second k (omega arith) (stopping n)
+      placed_part text k (with_over one n k) second k (omega arith) (stopping n) has
 
   placed_begun : (s t : Service) (b : Begun) (current : ℕ) → Now s
-      → Begins s b (count + 1) t current → Next t
-  placed_begun s t (command c) current p begins =
-      subst Next (sym begins.0) (placed_begin text count s p (count + 1) (omega arith) (called s c))
-  placed_begun s t (weak r) current p (inl looks) =
-      subst Next (sym looks.2) (placed_look s looks.0 p)
-  placed_begun s t (weak r) current p (inr lists) =
-      subst Next (sym lists.1) (placed_begin text count s p (count + 1) (omega arith) _)
+      → HasCommandIn text (count + 1) → Begins s b (count + 1) t current → Next t
+  placed_begun s t (command c) current p has begins =
+      subst Next (sym begins.0)
+      (placed_begin text count s p (count + 1) (omega arith) (called s c) has)
+  placed_begun s t (weak r) current p has (inl looks) =
+      subst Next (sym looks.2) (placed_look s looks.0 p has)
+  placed_begun s t (weak r) current p has (inr lists) =
+      subst Next (sym lists.1) (placed_begin text count s p (count + 1) (omega arith) _ has)
 
   placed_step : (old new : Log) (l : Line) → IsKept old → All Now old.services
       → GoesOn old (count + 1) l new → IsLine l
       → ((rest : List ℕ) → IsLineAt (text ++ rest) (count + 1) (line_text l))
-      → All Next new.services
-  placed_step old new (service line) kept all g is there =
+      → (old.waits ≢ None → HasCommandIn text count) → All Next new.services
+  placed_step old new (service line) kept all g is there waits =
       subst (λ (x : Log). All Next x.services) (sym g.2)
       (All-push Next old.services (unseen line) (all_later old.services all)
       (placed_new text (count + 1) line))
-  placed_step old new (call number c) kept all g is there =
+  placed_step old new (call number c) kept all g is there waits =
       subst (λ (x : Log). All Next x.services) (sym g.4) (all_later old.services all)
-  placed_step old new (reply words) kept all g is there =
+  placed_step old new (reply words) kept all g is there waits =
       let s = g.2 in
       let k = count + 1 in
       let orderly = all_get IsOrderly old.services g.0 s kept.orderly g.5 in
       let c = called s g.1 in
+      let has : HasCommandIn text k =
+      λ rest. aside_more (text ++ rest) count (line_text (reply words)) (inr (words, refl))
+      (there rest) (waits (λ none. let e = sym g.4 ∙ none in absurd (cc)) rest) in
       let begun : HasEventLinesTo text k (with_begin s c k) =
-      placed_begin text count s (all_get Now old.services g.0 s all g.5) k (omega arith) c in
+      placed_begin text count s (all_get Now old.services g.0 s all g.5) k (omega arith) c has in
       let ended : HasEventLinesTo text k (with_alone s c g.3 k) =
       placed_end text k (with_begin s c k) begun k (omega arith) (length s.calls) g.3 c
       (reply words) words (open_new s c k orderly) (get_last s.calls c _ refl)
       g.6 tt refl there in
       set_next old.services new.services g.0 _ all ended (ap (λ (x : Log). x.services) g.7)
-  placed_step old new (begin number name begun) kept all g is there =
+  placed_step old new (begin number name begun) kept all g is there waits =
       let s = g.1 in
+      let has : HasCommandIn text (count + 1) =
+      λ rest. own_command (text ++ rest) (count + 1) (begin number name begun) is tt (there rest) in
       set_next old.services new.services g.0 g.5.0 all
-      (placed_begun s g.5.0 begun g.5.1 (all_get Now old.services g.0 s all g.3.there) g.5.2) g.5.3
-  placed_step old new (end name words) kept all g is there =
+      (placed_begun s g.5.0 begun g.5.1 (all_get Now old.services g.0 s all g.3.there) has g.5.2)
+      g.5.3
+  placed_step old new (end name words) kept all g is there waits =
       let s = g.2 in
       let k = count + 1 in
       let orderly = all_get IsOrderly old.services g.0 s kept.orderly g.6 in
@@ -339,9 +370,9 @@ module _ (text : List ℕ) (count : ℕ) where
       set_next old.services new.services g.0 (with_end s g.1 g.3 k) all
       (placed_end text count s (all_get Now old.services g.0 s all g.6) k (omega arith) g.1 g.3 c.0
       (end name words) words live c.1 g.7 is refl there) g.8
-  placed_step old new (crash name) kept all g is there =
+  placed_step old new (crash name) kept all g is there waits =
       placed_dies old.services new.services (old.callers name) all g.1
-  placed_step old new (given number what) kept all g is there =
+  placed_step old new (given number what) kept all g is there waits =
       elim g.5 as (λ _. All Next new.services) [
         | inl first ↦
             set_next old.services new.services g.0 (started g.1 g.2) all
@@ -354,11 +385,31 @@ module _ (text : List ℕ) (count : ℕ) where
             (placed_started (unseen g.1.line) g.2 (placed_new text (count + 1) g.1.line)))
       ]
 
+  -- where a call alone waits for its reply, its command is above
+  waits_step : (old new : Log) (l : Line) → GoesOn old (count + 1) l new → IsLine l
+      → ((rest : List ℕ) → IsLineAt (text ++ rest) (count + 1) (line_text l)) → new.waits ≢ None
+      → HasCommandIn text (count + 1)
+  waits_step old new (service line) g is there some =
+      absurd (some (ap (λ (x : Log). x.waits) g.2 ∙ g.0))
+  waits_step old new (call number c) g is there some =
+      λ rest. own_command (text ++ rest) (count + 1) (call number c) is tt (there rest)
+  waits_step old new (reply words) g is there some =
+      absurd (some (ap (λ (x : Log). x.waits) g.7))
+  waits_step old new (begin number name begun) g is there some = absurd (some g.5.5)
+  waits_step old new (end name words) g is there some = absurd (some g.10)
+  waits_step old new (crash name) g is there some = absurd (some g.3)
+  waits_step old new (given number what) g is there some =
+      elim g.5 as (λ _. HasCommandIn text (count + 1)) [
+        | inl first ↦ absurd (some (ap (λ (x : Log). x.waits) first.1 ∙ g.3))
+        | inr anew ↦ absurd (some (ap (λ (x : Log). x.waits) anew.1 ∙ g.3))
+      ]
+
 -- what is kept from line to line
 record ReadOn (text : List ℕ) (count : ℕ) (log : Log) : Type 0 where
   kept : IsKept log
   cut : FollowsOn text count
   placed : All (HasEventLinesTo text count) log.services
+  waits : log.waits ≢ None → HasCommandIn text count
 
 read_on : (text : List ℕ) (count : ℕ) (log : Log) → HasRead text count log → ReadOn text count log
 read_on text count log (none_read l services callers waits) = record {
@@ -367,6 +418,7 @@ read_on text count log (none_read l services callers waits) = record {
       let same : suc k ≡ 0 + suc k = omega arith in
       subst (λ n. IsLineAt rest n line) same at;
   placed = subst (All (HasEventLinesTo [] 0)) (sym services) (All-nil (HasEventLinesTo [] 0));
+  waits = λ some. absurd (some waits);
 }
 read_on text count log (note_read before n l read first none is) =
     let r = read_on before n l read in
@@ -377,17 +429,24 @@ read_on text count log (note_read before n l read first none is) =
           [])) (n + 1))
           (λ s p. placed_on before n s p (first ++ 10 ∷ []) (n + 1) (omega arith)) log.services
           r.placed;
+      waits = λ some rest.
+          let more = first ++ 10 ∷ [] in
+          aside_more ((before ++ more) ++ rest) n first (inl is)
+          (line_there before n first none r.cut rest)
+          (command_on before more n (r.waits some) rest);
     }
 read_on text count log (line_read before n old read l is none new g) =
     let r = read_on before n old read in
     let more = line_text l ++ 10 ∷ [] in
+    let there = line_there before n (line_text l) none r.cut in
     record {
       kept = kept_step old log (n + 1) l r.kept g;
       cut = follows_on before n (line_text l) none r.cut;
       placed = placed_step (before ++ more) n old log l r.kept
           (All-weaker (HasEventLinesTo before n) (HasEventLinesTo (before ++ more) n)
           (λ s p. placed_on before n s p more n (omega arith)) old.services r.placed)
-          g is (line_there before n (line_text l) none r.cut);
+          g is there (λ some. command_on before more n (r.waits some));
+      waits = waits_step (before ++ more) n old log l g is there;
     }
 
 pub placed_of : (bytes : List ℕ) (services : List Service) (bad : Option (ℕ × Expected))
@@ -402,4 +461,7 @@ placed_of bytes services bad r =
       answers = λ index number k at is.
           subst (λ (b : List ℕ). IsAnsweredIn b s number k) (sym g.spelled)
           (p.answers index number k at is r.rest);
+      begun = All-weaker (HasCommandIn g.text) (HasCommand bytes)
+          (λ k has. subst (λ (b : List ℕ). HasCommand b k) (sym g.spelled) (has r.rest)) s.begins
+          p.begun;
     }) r.log.services on.placed)

@@ -112,7 +112,7 @@ module _ (bytes : List ℕ) (s : Service) (o : IsOrderly s) (p : HasEventLines b
       omega (arith, no_less s.event_lines index i k v p.rising x.there late there)))
       (omega arith) x.stops.before
 
-  right_found : (j k : ℕ) (v : Verdict) → j ≤ k → IsFound s k v → IsRightAbove j s
+  right_found : (j k : ℕ) (v : Verdict) → j ≤ k → IsFound bytes s k v → IsRightAbove j s
   right_found j k (Refused reported) h x = right_stop j k x.index _ h x.stops
   right_found j k (ManyConfigs line) h x = right_stop j k x.1.0 _ h x.1.1
   right_found j k (ManyOpen line) h x = right_stop j k x.1.0 _ h x.1.1
@@ -136,7 +136,7 @@ module _ (bytes : List ℕ) (s : Service) (o : IsOrderly s) (p : HasEventLines b
   none_less j k h (inr x) = none_passed j x.0 x.2
 
   -- a bound is passed in this line
-  passed : (k : ℕ) (v : Verdict) → is_refused v ≡ false → IsFound s k v → PassesBound s k
+  passed : (k : ℕ) (v : Verdict) → is_refused v ≡ false → IsFound bytes s k v → PassesBound s k
   passed k (Refused reported) not x = absurd (cc)
   passed k (ManyConfigs line) not x = (x.1.0, stop.ManyConfigs, (λ e. absurd (cc)), x.1.1)
   passed k (ManyOpen line) not x = (x.1.0, stop.ManyOpen, (λ e. absurd (cc)), x.1.1)
@@ -172,7 +172,7 @@ module _ (bytes : List ℕ) (s : Service) (o : IsOrderly s) (p : HasEventLines b
       cases false e = before_bound k v e (right_all k all) (inl all)
 
   -- what is found does not come before itself
-  own_before : (k : ℕ) (v : Verdict) → IsFound s k v → IsNotBefore k v s
+  own_before : (k : ℕ) (v : Verdict) → IsFound bytes s k v → IsNotBefore k v s
   own_before k v x = cases (is_refused v) refl
     where
       right : IsRightAbove k s
@@ -205,7 +205,7 @@ module _ (bytes : List ℕ) (s : Service) (o : IsOrderly s) (p : HasEventLines b
 
   -- what is found and comes behind something does not come before it
   found_behind : (one other : ℕ × Verdict) → comes_before other one ≡ false
-      → IsFound s other.0 other.1 → IsNotBefore one.0 one.1 s
+      → IsFound bytes s other.0 other.1 → IsNotBefore one.0 one.1 s
   found_behind one other behind x =
       cases (is_refused other.1) (is_refused one.1) (ltb other.0 one.0) refl refl refl behind
     where
@@ -228,9 +228,9 @@ module _ (bytes : List ℕ) (ss : List Service) (os : All IsOrderly ss)
     abbrev pub both : List Service
     both = ss ++ s ∷ []
 
-    other_first : (first : Option (ℕ × Verdict)) (other : ℕ × Verdict) → IsFirstFound ss first
+    other_first : (first : Option (ℕ × Verdict)) (other : ℕ × Verdict) → IsFirstFound bytes ss first
         → ((one : ℕ × Verdict) → first ≡ Some one → comes_before other one ≡ true)
-        → IsFound s other.0 other.1 → IsFirstFound both (Some other)
+        → IsFound bytes s other.0 other.1 → IsFirstFound bytes both (Some other)
     other_first None other f h x = (
       s,
       Contains-push ss s,
@@ -250,8 +250,8 @@ module _ (bytes : List ℕ) (ss : List Service) (os : All IsOrderly ss)
           (own_before bytes s o p other.0 other.1 x),
     )
 
-    one_first : (one : ℕ × Verdict) → IsFirstFound ss (Some one) → IsNotBefore one.0 one.1 s
-        → IsFirstFound both (Some one)
+    one_first : (one : ℕ × Verdict) → IsFirstFound bytes ss (Some one) → IsNotBefore one.0 one.1 s
+        → IsFirstFound bytes both (Some one)
     one_first one f right = (
       f.0,
       Contains-append_left ss (s ∷ []) f.0 f.1,
@@ -259,15 +259,15 @@ module _ (bytes : List ℕ) (ss : List Service) (os : All IsOrderly ss)
       All-push (IsNotBefore one.0 one.1) ss s f.3 right,
     )
 
-    pub first_more : (first found : Option (ℕ × Verdict)) → IsFirstFound ss first
-        → IsFoundOf s found → IsFirstFound both (earlier first found)
+    pub first_more : (first found : Option (ℕ × Verdict)) → IsFirstFound bytes ss first
+        → IsFoundOf bytes s found → IsFirstFound bytes both (earlier first found)
     first_more None None f x = All-push IsSeenRightly ss s f x
     first_more None (Some other) f x = other_first None other f (λ one e. absurd (cc)) x
     first_more (Some one) None f x = one_first one f (all_before bytes s o p one.0 one.1 x)
     first_more (Some one) (Some other) f x = cases (comes_before other one) refl
       where
         cases : (t : Bool) → comes_before other one ≡ t
-            → IsFirstFound both (if t then Some other else Some one)
+            → IsFirstFound bytes both (if t then Some other else Some one)
         cases true e =
             other_first (Some one) other f
             (λ a is. subst (λ (y : ℕ × Verdict). comes_before other y ≡ true)
@@ -283,27 +283,28 @@ item_of P xs i d all h is = subst P (sym is) (all i d h)
 pub first_next : (bytes : List ℕ) (services : List Service) (i : ℕ) (d : Service)
     (first found result : Option (ℕ × Verdict)) → All IsOrderly services
     → All (HasEventLines bytes) services → i < length services
-    → d ≡ get_or services i d → IsFirstFound (take i services) first → IsFoundOf d found
-    → result ≡ earlier first found → IsFirstFound (take (i + 1) services) result
+    → d ≡ get_or services i d → IsFirstFound bytes (take i services) first → IsFoundOf bytes d found
+    → result ≡ earlier first found → IsFirstFound bytes (take (i + 1) services) result
 first_next bytes services i d first found result os ps h is f x same =
     let more : take (i + 1) services ≡ take i services ++ d ∷ [] =
     take_more services i d h ∙ ap (λ (e : Service). take i services ++ e ∷ []) (sym is) in
-    subst (λ (l : List Service). IsFirstFound l result) (sym more)
-    (subst (IsFirstFound (take i services ++ d ∷ [])) (sym same)
+    subst (λ (l : List Service). IsFirstFound bytes l result) (sym more)
+    (subst (IsFirstFound bytes (take i services ++ d ∷ [])) (sym same)
     (first_more bytes (take i services) (All-take IsOrderly i services os)
     (All-take (HasEventLines bytes) i services ps) d (item_of IsOrderly services i d os h is)
     (item_of (HasEventLines bytes) services i d ps h is) first found f x))
 
 -- all services
-pub first_whole : (services : List Service) (i : ℕ) (first result : Option (ℕ × Verdict))
-    → length services ≤ i → IsFirstFound (take i services) first → first ≡ result
-    → IsFirstFound services result
-first_whole services i first result h f is =
-    subst (IsFirstFound services) is
-    (subst (λ (l : List Service). IsFirstFound l first) (take_all i services h) f)
+pub first_whole : (bytes : List ℕ) (services : List Service) (i : ℕ)
+    (first result : Option (ℕ × Verdict)) → length services ≤ i
+    → IsFirstFound bytes (take i services) first → first ≡ result
+    → IsFirstFound bytes services result
+first_whole bytes services i first result h f is =
+    subst (IsFirstFound bytes services) is
+    (subst (λ (l : List Service). IsFirstFound bytes l first) (take_all i services h) f)
 
-pub first_none : IsFirstFound [] None
-first_none = All-nil IsSeenRightly
+pub first_none : (bytes : List ℕ) → IsFirstFound bytes [] None
+first_none bytes = All-nil IsSeenRightly
 
 -- the verdict on the fields of a service is one on the service
 pub verdict_of : (s : Service) (calls : List Judged) (states : List Watched)
@@ -326,13 +327,13 @@ whole_of s calls states events v a b e x =
     (subst (λ (l : List Event). IsWhole (WindowStep 0 calls) states l v) e x))
 
 -- what is told by what was found
-pub explored : (s : Service) (c : Cut) (found : WindowVerdict Watched)
+pub explored : (bytes : List ℕ) (s : Service) (c : Cut) (found : WindowVerdict Watched)
     (reported : Result (Window Watched) (ℕ × Verdict))
     → IsVerdict (StepOf s) (news s) s.events found
-    → (c ≡ cut.Never → IsWhole (StepOf s) (news s) s.events found) → IsReportOf s found reported
-    → Explores s c reported
-explored s c found (Err reported) is whole f = f
-explored s c found (Ok window) is whole same =
+    → (c ≡ cut.Never → IsWhole (StepOf s) (news s) s.events found)
+    → IsReportOf bytes s found reported → Explores bytes s c reported
+explored bytes s c found (Err reported) is whole f = f
+explored bytes s c found (Ok window) is whole same =
     let all = subst (IsVerdict (StepOf s) (news s) s.events) same is in (
       all.0,
       all.1.some,

@@ -1,7 +1,6 @@
 -- What logs are judged to be.
 use Rattle.std.proofs.Common.{◌≡◌, ℕ, ◌<◌, ◌≤◌, All, Contains, List, Option, Some, None, length, sum_by, refl, sym, ◌∙◌, ap, subst}
 use Rattle.std.proofs.lemmas.List.Elements.{All-weaker}
-use Rattle.std.proofs.lemmas.Option.{same_Some}
 use Rattle.history_windows.specs.declared.window.Stop.{Stop}
 use Rattle.history_windows.specs.declared.window.Stop.TheVariants as stop
 use Rattle.history_logs.specs.declared.logs.verdict.Expected.{Expected}
@@ -42,36 +41,37 @@ bound_passed bytes services bad k line v why s r has same x before right = (
   ),
 )
 
-refusal_of : (services : List Service) (k : ℕ) (s : Service) (reported : Refusal)
-    → Contains services s → IsRefusedIn s k reported → All (NoneRefusedAbove k) services
-    → IsRefusal services reported
-refusal_of services k s reported has r above =
-    let same : reported.line ≡ k =
-    same_Some reported.line k (sym r.is_reported.ended ∙ r.stops.there) in
+refusal_of : (bytes : List ℕ) (services : List Service) (k : ℕ) (s : Service) (reported : Refusal)
+    → Contains services s → IsRefusedIn bytes s k reported → All (NoneRefusedAbove k) services
+    → IsRefusal bytes services reported
+refusal_of bytes services k s reported has r above =
     record {
       s = s;
       index = r.index;
       stops = record {
         is = has;
         stops = r.stops.stops;
-        there = r.is_reported.ended;
-        above = subst (λ n. All (NoneRefusedAbove n) services) (sym same) above;
+        there = r.stops.there ∙ ap Some (sym r.line);
+        above = subst (λ n. All (NoneRefusedAbove n) services) (sym r.line) above;
       };
       number = r.number;
       ended = r.ended;
       call = r.call;
       called = r.called;
       words = r.words;
+      begin = r.begin;
+      begun = r.begun;
+      command = r.command;
       window = r.window;
       is_window = r.is_window;
-      begins = r.is_reported.opened;
+      begins = r.begins;
       needed = r.needed;
-      configurations = r.is_reported.configurations;
+      configurations = r.configurations;
     }
 
 -- something was found
 pub judged_found : (bytes : List ℕ) (services : List Service) (bad : Option (ℕ × Expected))
-    (v : Verdict) → IsReadTo bytes services bad → AreJudged services (Some v) → Judged bytes v
+    (v : Verdict) → IsReadTo bytes services bad → AreJudged bytes services (Some v) → Judged bytes v
 unfolding Judged
 judged_found bytes services bad (Conforms n m) r f = absurd f.1.2
 judged_found bytes services bad (Refused reported) r f = (
@@ -79,8 +79,8 @@ judged_found bytes services bad (Refused reported) r f = (
   r.log,
   r.rest,
   r.good,
-  subst (λ (ss : List Service). IsRefusal ss reported) (sym r.same)
-      (refusal_of services f.0 f.1.0 reported f.1.1 f.1.2 f.1.3),
+  subst (λ (ss : List Service). IsRefusal bytes ss reported) (sym r.same)
+      (refusal_of bytes services f.0 f.1.0 reported f.1.1 f.1.2 f.1.3),
 )
 judged_found bytes services bad (ManyConfigs line) r f =
     bound_passed bytes services bad f.0 line (ManyConfigs line) stop.ManyConfigs f.1.0 r f.1.1
@@ -92,7 +92,7 @@ judged_found bytes services bad (BadLine line e) r f = absurd f.1.2
 
 -- nothing was found, and no line is bad
 pub judged_conforms : (bytes : List ℕ) (services : List Service) (n m : ℕ)
-    → IsReadTo bytes services None → AreJudged services None
+    → IsReadTo bytes services None → AreJudged bytes services None
     → n ≡ sum_by (λ (s : Service). length s.commands) services → m ≡ services_in services
     → Judged bytes (Conforms n m)
 unfolding Judged
@@ -110,7 +110,7 @@ judged_conforms bytes services n m r all calls count = (
 
 -- nothing was found above a line that is bad
 pub judged_bad : (bytes : List ℕ) (services : List Service) (line : ℕ) (e : Expected)
-    → IsReadTo bytes services (Some (line, e)) → AreJudged services None
+    → IsReadTo bytes services (Some (line, e)) → AreJudged bytes services None
     → Judged bytes (BadLine line e)
 unfolding Judged
 judged_bad bytes services line e r all = (
@@ -125,7 +125,7 @@ judged_bad bytes services line e r all = (
 
 -- nothing was found
 pub judged_end : (bytes : List ℕ) (services : List Service) (bad : Option (ℕ × Expected))
-    → IsReadTo bytes services bad → AreJudged services None
+    → IsReadTo bytes services bad → AreJudged bytes services None
     → Judged bytes (end_verdict services bad)
 judged_end bytes services None r all =
     judged_conforms bytes services (sum_by (λ (s : Service). length s.commands) services)

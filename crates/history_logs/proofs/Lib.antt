@@ -6,6 +6,7 @@ pub mod AtIndex
 pub mod Answered
 pub mod Answering
 pub mod Callers
+pub mod Commands
 pub mod Counts
 pub mod Found
 pub mod Kept

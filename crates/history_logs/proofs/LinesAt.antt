@@ -92,8 +92,3 @@ pub cut_to : (log rest : List ℕ) (k : ℕ) (line : List ℕ) → suc (k - 1) �
     → ((l : List ℕ) → IsLineAt log (suc (k - 1)) l → IsLineAt rest (suc zero) l)
     → IsLineAt log k line → IsLineAt rest (suc zero) line
 cut_to log rest k line e f at = f line (subst (λ n. IsLineAt log n line) (sym e) at)
-
-pub if_both : {A E : Type 0} (P Q R : A → Type 0) (r : Result A E) → IfOk r P → IfOk r Q
-    → ((v : A) → P v → Q v → R v) → IfOk r R
-if_both P Q R (Ok v) h k f = f v h k
-if_both P Q R (Err e) h k f = h

@@ -71,15 +71,15 @@ orders_all services i orders h all =
     subst (λ (l : List Service). AllZip IsOrderOf l orders) (take_all i services h) all
 
 -- Of the first services this is found before all else; where nothing is, each has an order.
-pub record OrdersTo (services : List Service) (i : ℕ) (first : Option (ℕ × Verdict))
-    (orders : List Order) : Type 0 where
-  pub found : IsFirstFound (take i services) first
+pub record OrdersTo (bytes : List ℕ) (services : List Service) (i : ℕ)
+    (first : Option (ℕ × Verdict)) (orders : List Order) : Type 0 where
+  pub found : IsFirstFound bytes (take i services) first
   pub ordered : first ≡ None → AreOrdered (take i services) orders
 
-pub orders_none : (services : List Service) (orders : List Order) → orders ≡ []
-    → OrdersTo services 0 None orders
-orders_none services orders is = record {
-  found = first_none;
+pub orders_none : (bytes : List ℕ) (services : List Service) (orders : List Order) → orders ≡ []
+    → OrdersTo bytes services 0 None orders
+orders_none bytes services orders is = record {
+  found = first_none bytes;
   ordered = λ none. subst (AreOrdered []) (sym is) tt;
 }
 
@@ -100,9 +100,9 @@ none_of (Some x) P h is = absurd (cc)
 pub orders_next : (bytes : List ℕ) (services : List Service) (i : ℕ) (d : Service)
     (first found result : Option (ℕ × Verdict)) (orders more : List Order)
     → All IsOrderly services → All (HasEventLines bytes) services → i < length services
-    → d ≡ get_or services i d → OrdersTo services i first orders → IsFoundOf d found
+    → d ≡ get_or services i d → OrdersTo bytes services i first orders → IsFoundOf bytes d found
     → IfNone found ((order : Order) × IsOrderOf d order × (more ≡ orders ++ order ∷ []))
-    → result ≡ earlier first found → OrdersTo services (i + 1) result more
+    → result ≡ earlier first found → OrdersTo bytes services (i + 1) result more
 orders_next bytes services i d first found result orders more os ps h is to f added same = record {
   found = first_next bytes services i d first found result os ps h is to.found f same;
   ordered = λ none.
@@ -114,7 +114,7 @@ orders_next bytes services i d first found result orders more os ps h is to f ad
 
 -- what is found is that of a log without orders
 pub no_orders : (bytes : List ℕ) (services : List Service) (v : Verdict) (orders : List Order)
-    → AreJudged services (Some v) → orders ≡ [] → HasOrders bytes v orders
+    → AreJudged bytes services (Some v) → orders ≡ [] → HasOrders bytes v orders
 no_orders bytes services (Conforms n m) orders f none = absurd f.1.2
 no_orders bytes services _ orders f none = none
 

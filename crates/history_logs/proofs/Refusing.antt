@@ -1,7 +1,8 @@
 -- What is told of a reply that is refused.
 use Rattle.std.proofs.Common.{◌≡◌, ◌⊎◌, inl, inr, ℕ, ◌<◌, ◌≤◌, List, Some, length, get_or, slice_get, take, drop, sym, ◌∙◌, ap, subst, arith, length-append}
+use Rattle.std.specs.List.{AllZip}
 use Rattle.std.proofs.lemmas.List.{length-take-le, take-append-drop}
-use Rattle.std.proofs.lemmas.Option.{get_or_from_slice_get, slice_get-get_or, slice_get_within}
+use Rattle.std.proofs.lemmas.Option.{get_or_from_slice_get, slice_get_within}
 use Rattle.histories.specs.declared.event.Event.{Event}
 use Rattle.histories.specs.declared.event.Event.TheVariants.{Begin, Crash, End}
 use Rattle.histories.specs.Histories.{StandsAt, begins}
@@ -14,9 +15,9 @@ use Rattle.service_conformance.specs.Judged.{Judged}
 use Rattle.service_conformance.specs.Looks.{Watched}
 use Rattle.history_logs.specs.declared.logs.verdict.Refusal.{Refusal}
 use Rattle.history_logs.specs.Good.{IsOrderly}
-use Rattle.history_logs.specs.EventLines.{Answers, HasAnswers, IsLineAt}
-use Rattle.history_logs.specs.Judging.{AreBelow, IsRefusedIn, IsReportedAt}
-use Rattle.history_logs.specs.Logs.{AreNeededLines, StepOf, news}
+use Rattle.history_logs.specs.EventLines.{Answers, HasCommand, HasEventLines, IsCommandOf, IsLineAt}
+use Rattle.history_logs.specs.Judging.{AreBelow, IsRefusedIn}
+use Rattle.history_logs.specs.Logs.{AreNeededLines, IsReported, StepOf, news}
 use Rattle.history_logs.specs.Seen.{Service}
 use Rattle.history_logs.proofs.Starts.{says_of}
 
@@ -51,39 +52,56 @@ module _ (s : Service) (o : IsOrderly s) where
           length-take-le index s.events (omega arith),
         )
 
-    module _ (bytes : List ℕ) (answers : HasAnswers bytes s) (call line : ℕ)
+    module _ (bytes : List ℕ) (lines : HasEventLines bytes s) (call line : ℕ)
         (ended : StandsAt s.events index (End call)) (at : slice_get s.event_lines index ≡ Some
         line)
       where
         pub call_within : call < length s.calls
         call_within =
-            let a = answers index call line ended at in
+            let a = lines.answers index call line ended at in
             slice_get_within s.calls call a.0 a.1
 
-        pub refused_in : (words : List ℕ)
+        pub begun_within : call < length s.begins
+        begun_within = omega (arith, call_within, o.all.begins)
+
+        pub refused_in : (begin : ℕ) → slice_get s.begins call ≡ Some begin
+            → (reported : Refusal) → reported.line ≡ line
             → ((seen : Line) (said : List ℕ) → IsLine seen → Answers seen said
-            → IsLineAt bytes line (line_text seen) → words ≡ said)
+            → IsLineAt bytes line (line_text seen) → reported.words.items ≡ said)
+            → ((k : ℕ) (text : List ℕ) → IsCommandOf bytes begin k text
+            → (reported.call ≡ k) × (reported.command.items ≡ text))
             → IsStop (StepOf s) (news s) s.events index stop.Refused
-            → (lines : List ℕ) → AreNeededLines s w.begin index call lines
-            → (reported : Refusal) → reported.words.items ≡ words → reported.needed.items ≡ lines
-            → ((c : Judged) → slice_get s.calls call ≡ Some c → IsReportedAt s index c w reported)
-            → IsRefusedIn s reported.line reported
-        refused_in words said stops lines needed reported its them tells =
-            let a = answers index call line ended at in
-            let t = tells a.0 a.1 in
+            → slice_get s.event_lines w.begin ≡ Some reported.window
+            → AreNeededLines s w.begin index call reported.needed.items
+            → ((c : Judged) → slice_get s.calls call ≡ Some c
+            → AllZip (IsReported s c w.front.slots.items) w.front.configs.items
+            reported.configurations.items)
+            → IsRefusedIn bytes s line reported
+        refused_in begin begun reported own said found stops opened needed tells =
+            let a = lines.answers index call line ended at in
             let b = says_of bytes s index call line a.0 o stops ended a.1 a.2 in
+            let has : HasCommand bytes begin =
+            subst (HasCommand bytes) (get_or_from_slice_get s.begins call begin 0 begun)
+            (lines.begun call 0 begun_within) in
+            let its = found has.0 has.1 has.2 in
             record {
               index = index;
-              stops = record { stops = stops; there = t.ended };
+              stops = record { stops = stops; there = at };
+              line = own;
               number = call;
               ended = ended;
               call = a.0;
               called = a.1;
-              words = b.1 ∙ ap Some (sym (its ∙ said b.2.0 b.0 b.2.1 b.2.2 b.2.3));
+              words = b.1 ∙ ap Some (sym (said b.2.0 b.0 b.2.1 b.2.2 b.2.3));
+              begin = begin;
+              begun = begun;
+              command = subst (λ k. IsCommandOf bytes begin k reported.command.items) (sym its.0)
+                  (subst (IsCommandOf bytes begin has.0) (sym its.1) has.2);
               window = w;
               is_window = is;
-              is_reported = t;
-              needed = subst (AreNeededLines s w.begin index call) (sym them) needed;
+              begins = opened;
+              needed = needed;
+              configurations = tells a.0 a.1;
             }
 
 -- an event that ends a call is no other
@@ -98,9 +116,3 @@ no_other es events index d same ended other =
       | inl b ↦ let other_event = sym b.1 ∙ is in absurd (cc)
       | inr b ↦ let other_event = sym b.1 ∙ is in absurd (cc)
     ]
-
--- what stands at a place
-pub read_index : (ps qs : List ℕ) (i : ℕ) → qs ≡ ps → i < length ps
-    → slice_get ps i ≡ Some (get_or qs i 0)
-read_index ps qs i same h =
-    slice_get-get_or ps i 0 h ∙ ap (λ (l : List ℕ). Some (get_or l i 0)) (sym same)

@@ -1,10 +1,10 @@
--- Where the events of a service stand in a log.
-use Rattle.std.specs.Prelude.{◌≡◌, ◌≤◌, ℕ, zero, suc, List, ◌∷◌, ◌++◌, AllPairs, Some, slice_get}
+-- Where the events of a service, and the commands of its calls, stand in a log.
+use Rattle.std.specs.Prelude.{◌≡◌, ◌⊎◌, ◌<◌, ◌≤◌, ℕ, zero, suc, List, ◌∷◌, ◌++◌, All, AllPairs, IsTrue, Some, codes, slice_get}
 use Rattle.histories.specs.declared.event.Event.TheVariants.{End}
 use Rattle.histories.specs.Histories.{StandsAt}
 use Rattle.line_streams.specs.Spelling.{HasNo}
-use Rattle.log_lines.specs.Lines.{IsLine, Line, line_text}
-use Rattle.log_lines.specs.Lines.Line.{reply, end}
+use Rattle.log_lines.specs.Lines.{IsLine, Line, is_note, line_text}
+use Rattle.log_lines.specs.Lines.Line.{begin, call, end, reply}
 use Rattle.service_conformance.specs.Judged.{Judged, words_of}
 use Rattle.service_conformance.specs.Judged.Judged.{starts}
 use Rattle.history_logs.specs.Seen.{Service}
@@ -42,7 +42,35 @@ HasAnswers bytes s =
     (index number k : ℕ) → StandsAt s.events index (End number)
     → slice_get s.event_lines index ≡ Some k → IsAnsweredIn bytes s number k
 
--- the lines of the events rise, and replies stand in those of their calls' ends
+-- the line is a command: of a call alone, or of one that a caller begins
+abbrev pub IsCommand : Line → Type 0
+IsCommand (call number command) = Unit {0}
+IsCommand (begin number name begun) = Unit {0}
+IsCommand _ = ⊥
+
+-- a note, or the reply to a call alone
+abbrev pub IsAside : List ℕ → Type 0
+IsAside text = IsTrue (is_note text) ⊎ ((words : List ℕ) × (text ≡ codes "= " ++ words))
+
+-- The command of a call that begins in line k has this line and this text: below it, up to k, there
+-- are only notes and replies to calls alone. A call alone begins in the line of its reply.
+pub record IsCommandOf (bytes : List ℕ) (k at : ℕ) (text : List ℕ) : Type 0 where
+  pub line : Line
+  pub is : IsLine line
+  pub command : IsCommand line
+  pub spelled : line_text line ≡ text
+  pub there : IsLineAt bytes at text
+  pub upto : at ≤ k
+  pub below : (later : ℕ) → at < later → later ≤ k
+      → (aside : List ℕ) × IsAside aside × IsLineAt bytes later aside
+
+-- the call that begins in the line has a command
+abbrev pub HasCommand : List ℕ → ℕ → Type 0
+HasCommand bytes k = (at : ℕ) × (text : List ℕ) × IsCommandOf bytes k at text
+
+-- The lines of the events rise, and replies stand in those of their calls' ends. Each call has its
+-- command.
 pub record HasEventLines (bytes : List ℕ) (s : Service) : Type 0 where
   pub rising : AllPairs (λ (one other : ℕ). one ≤ other) s.event_lines
   pub answers : HasAnswers bytes s
+  pub begun : All (HasCommand bytes) s.begins

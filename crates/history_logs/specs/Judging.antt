@@ -20,7 +20,8 @@ use Rattle.history_logs.specs.declared.logs.verdict.Order.{Order}
 use Rattle.history_logs.specs.declared.logs.verdict.Refusal.{Refusal}
 use Rattle.history_logs.specs.declared.logs.verdict.Verdict.{Verdict}
 use Rattle.history_logs.specs.declared.logs.verdict.Verdict.TheVariants as verdict
-use Rattle.history_logs.specs.Logs.{AreNeededLines, IsReported, IsRightAbove, IsSeenRightly, NoneRefused, NoneRefusedAbove, StepOf, StopsIn, news, services_in}
+use Rattle.history_logs.specs.EventLines.{IsCommandOf}
+use Rattle.history_logs.specs.Logs.{AreNeededLines, BeginsIn, IsReported, IsRightAbove, IsSeenRightly, NoneRefused, NoneRefusedAbove, StepOf, StopsIn, news, services_in}
 use Rattle.history_logs.specs.Orders.{IsOrderOf}
 use Rattle.history_logs.specs.Seen.{Service}
 
@@ -57,56 +58,54 @@ abbrev pub BeginBelow : List Event → ℕ → Type 0
 BeginBelow events count =
     (index call : ℕ) → StandsAt events index (Begin call) → call < count
 
--- what is told of the reply in the event of this place, but for its words and the needed calls
-pub record IsReportedAt (s : Service) (index : ℕ) (call : Judged) (window : Window Watched)
-    (reported : Refusal) : Type 0 where
-  pub ended : slice_get s.event_lines index ≡ Some reported.line
-  pub opened : slice_get s.event_lines window.begin ≡ Some reported.window
-  pub configurations : AllZip (IsReported s call window.front.slots.items)
-      window.front.configs.items reported.configurations.items
-
 -- a reply in this line is refused, and this is told of it
-pub record IsRefusedIn (s : Service) (k : ℕ) (reported : Refusal) : Type 0 where
+pub record IsRefusedIn (bytes : List ℕ) (s : Service) (k : ℕ) (reported : Refusal) : Type 0 where
   pub index : ℕ
   pub stops : StopsIn s k index stop.Refused
+  pub line : reported.line ≡ k
   pub number : ℕ
   pub ended : StandsAt s.events index (End number)
   pub call : Judged
   pub called : slice_get s.calls number ≡ Some call
   pub words : words_of call ≡ Some reported.words.items
+  pub begin : ℕ
+  pub begun : BeginsIn s number begin
+  pub command : IsCommandOf bytes begin reported.call reported.command.items
   pub window : Window Watched
   pub is_window : IsWindowOf (StepOf s) (news s) (take index s.events) window
-  pub is_reported : IsReportedAt s index call window reported
+  pub begins : slice_get s.event_lines window.begin ≡ Some reported.window
   pub needed : AreNeededLines s window.begin index number reported.needed.items
+  pub configurations : AllZip (IsReported s call window.front.slots.items)
+      window.front.configs.items reported.configurations.items
 
 -- this is found of the service in this line
-abbrev pub IsFound : Service → ℕ → Verdict → Type 0
-IsFound s k (verdict.Refused reported) = IsRefusedIn s k reported
-IsFound s k (verdict.ManyConfigs line) =
+abbrev pub IsFound : List ℕ → Service → ℕ → Verdict → Type 0
+IsFound bytes s k (verdict.Refused reported) = IsRefusedIn bytes s k reported
+IsFound bytes s k (verdict.ManyConfigs line) =
     (line ≡ k) × ((index : ℕ) × StopsIn s k index stop.ManyConfigs)
-IsFound s k (verdict.ManyOpen line) =
+IsFound bytes s k (verdict.ManyOpen line) =
     (line ≡ k) × ((index : ℕ) × StopsIn s k index stop.ManyOpen)
-IsFound s k _ = ⊥
+IsFound bytes s k _ = ⊥
 
 -- what is found of the service, and its line; none where an order explains all
-abbrev pub IsFoundOf : Service → Option (ℕ × Verdict) → Type 0
-IsFoundOf s None = IsSeenRightly s
-IsFoundOf s (Some found) = IsFound s found.0 found.1
+abbrev pub IsFoundOf : List ℕ → Service → Option (ℕ × Verdict) → Type 0
+IsFoundOf bytes s None = IsSeenRightly s
+IsFoundOf bytes s (Some found) = IsFound bytes s found.0 found.1
 
 -- what is told by what was found of the service: the window that it ends in, where orders explain
 -- all
-abbrev pub IsReportOf : Service → FoundOf Watched → Result (Window Watched)
+abbrev pub IsReportOf : List ℕ → Service → FoundOf Watched → Result (Window Watched)
     (ℕ × Verdict) → Type 0
-IsReportOf s what (Ok window) = what ≡ found.Explained window
-IsReportOf s what (Err reported) = IsFound s reported.0 reported.1
+IsReportOf bytes s what (Ok window) = what ≡ found.Explained window
+IsReportOf bytes s what (Err reported) = IsFound bytes s reported.0 reported.1
 
 -- What was seen of the service is explained, and ends in the window. Where it was never cut, the
 -- configurations of the window are those of all orders that explain it. Else this is found of it.
-abbrev pub Explores : Service → Cut → Result (Window Watched) (ℕ × Verdict) → Type 0
-Explores s where_cut (Ok window) =
+abbrev pub Explores : List ℕ → Service → Cut → Result (Window Watched) (ℕ × Verdict) → Type 0
+Explores bytes s where_cut (Ok window) =
     IsSeenRightly s × (0 < length window.front.configs.items)
     × (where_cut ≡ cut.Never → IsFrontOf (StepOf s) window.front s.events (news s))
-Explores s where_cut (Err reported) = IsFound s reported.0 reported.1
+Explores bytes s where_cut (Err reported) = IsFound bytes s reported.0 reported.1
 
 -- what is found of the service, if anything is, does not come before this, found in this line
 abbrev pub IsNotBefore : ℕ → Verdict → Service → Type 0
@@ -114,10 +113,10 @@ IsNotBefore k (verdict.Refused reported) s = NoneRefusedAbove k s
 IsNotBefore k _ s = IsRightAbove k s × NoneRefused s
 
 -- what is found of one of the services before all else; none where orders explain all
-abbrev pub IsFirstFound : List Service → Option (ℕ × Verdict) → Type 0
-IsFirstFound services None = All IsSeenRightly services
-IsFirstFound services (Some found) =
-    (s : Service) × Contains services s × IsFound s found.0 found.1
+abbrev pub IsFirstFound : List ℕ → List Service → Option (ℕ × Verdict) → Type 0
+IsFirstFound bytes services None = All IsSeenRightly services
+IsFirstFound bytes services (Some found) =
+    (s : Service) × Contains services s × IsFound bytes s found.0 found.1
     × All (IsNotBefore found.0 found.1) services
 
 -- whether a reply is refused
@@ -143,9 +142,9 @@ abbrev pub AreOrdered : List Service → List Order → Type 0
 AreOrdered services orders = AllZip IsOrderOf services orders
 
 -- this is found of the services before all else
-abbrev pub AreJudged : List Service → Option Verdict → Type 0
-AreJudged services None = All IsSeenRightly services
-AreJudged services (Some v) = (k : ℕ) × IsFirstFound services (Some (k, v))
+abbrev pub AreJudged : List ℕ → List Service → Option Verdict → Type 0
+AreJudged bytes services None = All IsSeenRightly services
+AreJudged bytes services (Some v) = (k : ℕ) × IsFirstFound bytes services (Some (k, v))
 
 -- the verdict where orders explain all that was seen of the services
 abbrev pub end_verdict : List Service → Option (ℕ × Expected) → Verdict

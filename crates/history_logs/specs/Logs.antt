@@ -29,6 +29,7 @@ use Rattle.history_logs.specs.declared.logs.verdict.Expected.TheVariants as expe
 use Rattle.history_logs.specs.declared.logs.verdict.Refusal.{Refusal}
 use Rattle.history_logs.specs.declared.logs.verdict.Verdict.{Verdict}
 use Rattle.history_logs.specs.declared.logs.verdict.Verdict.TheVariants as verdict
+use Rattle.history_logs.specs.EventLines.{IsCommandOf}
 use Rattle.history_logs.specs.Reading.{GoesOn, HasRead, IsRefused, Log, Says}
 use Rattle.history_logs.specs.Seen.{Service}
 
@@ -154,10 +155,10 @@ pub record AreNeededLines (s : Service) (begin index refused : ℕ) (lines : Lis
   pub is_kept : kept refused ≡ true
   pub begin_in : lines ≡ lines_begun s.begins (events_of kept (events_from s begin index))
 
--- What is told of a reply that no order explains: its line and its words; the line in which the
--- window begins, and the lines of the calls that are needed; and each configuration to which what
--- is above it leads.
-pub record IsRefusal (services : List Service) (reported : Refusal) : Type 0 where
+-- What is told of a reply that no order explains: its line and its words; the line and the text of
+-- the command of its call; the line in which the window begins, and the lines of the calls that are
+-- needed; and each configuration to which what is above it leads.
+pub record IsRefusal (bytes : List ℕ) (services : List Service) (reported : Refusal) : Type 0 where
   pub s : Service
   pub index : ℕ
   pub stops : RefusesAt services reported.line s index
@@ -166,6 +167,9 @@ pub record IsRefusal (services : List Service) (reported : Refusal) : Type 0 whe
   pub call : Call
   pub called : slice_get s.calls number ≡ Some call
   pub words : words_of call ≡ Some reported.words.items
+  pub begin : ℕ
+  pub begun : BeginsIn s number begin
+  pub command : IsCommandOf bytes begin reported.call reported.command.items
   pub window : Window Watched
   pub is_window : IsWindowOf (StepOf s) (news s) (take index s.events) window
   pub begins : slice_get s.event_lines window.begin ≡ Some reported.window
@@ -243,7 +247,7 @@ Judged bytes (verdict.Conforms n m) =
     × All IsSeenRightly log.services × (n ≡ calls_in log) × (m ≡ services_in log.services) × (0 < m)
 Judged bytes (verdict.Refused reported) =
     (count : ℕ) × (log : Log) × (rest : List ℕ) × HasGood bytes count log rest
-    × IsRefusal log.services reported
+    × IsRefusal bytes log.services reported
 Judged bytes (verdict.ManyConfigs k) =
     (count : ℕ) × (log : Log) × (rest : List ℕ) × HasGood bytes count log rest
     × ((s : Service) × (index : ℕ) × StopsAt log.services k s index stop.ManyConfigs)

@@ -66,19 +66,25 @@ config_text reported =
     choice_text reported.made.items reported.possible ++ attached_text reported.nodes.items
     reported.ports.items
 
+-- the line of the command of the call that is refused
+unfoldable pub call_text : ℕ → List ℕ → List ℕ
+call_text line command =
+    (10 ∷ codes "call: ") ++ command ++ (codes " (line " ++ decimal line) ++ codes ")"
+
 -- the line from which a window is open, and the lines of the calls in it that are needed
 unfoldable pub window_text : ℕ → List ℕ → List ℕ
 window_text window needed =
     ((10 ∷ codes "window: from line ") ++ decimal window)
     ++ ((10 ∷ codes "needed: lines") ++ flat_map number_word needed)
 
--- the lines of a reply that no order explains, of the calls that are needed, and of what the calls
--- before it can have led to
+-- the lines of a reply that no order explains, of its call, of the calls that are needed, and of
+-- what the calls before it can have led to
 abbrev pub refusal_text : Refusal → List ℕ
 refusal_text reported =
     (codes "line " ++ decimal reported.line)
     ++ (codes ": no order of the calls explains this reply" ++ 10 ∷ codes "seen: ")
     ++ reported.words.items
+    ++ call_text reported.call reported.command.items
     ++ window_text reported.window reported.needed.items
     ++ (10 ∷ flat_map config_text reported.configurations.items)
 

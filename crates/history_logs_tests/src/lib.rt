@@ -8,6 +8,8 @@ mod anew;
 #[cfg(test)]
 mod bounds;
 #[cfg(test)]
+mod commands;
+#[cfg(test)]
 mod cuts;
 #[cfg(test)]
 mod deaths;

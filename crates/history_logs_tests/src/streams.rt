@@ -78,19 +78,19 @@ static VERDICTS: [(&str, u8, &str, &str); 16] = [
     (
         "service event 7 2 0 1\nregister 1.0.0.1\n= locked\n",
         1,
-        "line 3: no order of the calls explains this reply\nseen: locked\nwindow: from line 3\nneeded: lines 3\nmade: none\npossible: handle SLOT 0, SLOT below 2 and none of:\nnodes:\nports:\n",
+        "line 3: no order of the calls explains this reply\nseen: locked\ncall: register 1.0.0.1 (line 2)\nwindow: from line 3\nneeded: lines 3\nmade: none\npossible: handle SLOT 0, SLOT below 2 and none of:\nnodes:\nports:\n",
         "",
     ),
     (
         "service event 7 2 1 1\nregister 1.0.0.1\n= handle 1 0\nadd notifier 2.0.0.2 1.0.0.1\n= handle 0 0\nadd listener 2.0.0.1 1.0.0.1\n= handle 0 0\nderegister 0\n= no-owners\n",
         1,
-        "line 9: no order of the calls explains this reply\nseen: no-owners\nwindow: from line 9\nneeded: lines 9\nmade: none\npossible: ports-attached\nnodes: 1000000000000000000000001\nports: 2000000000000000000000001 2000000000000000000000002\n",
+        "line 9: no order of the calls explains this reply\nseen: no-owners\ncall: deregister 0 (line 8)\nwindow: from line 9\nneeded: lines 9\nmade: none\npossible: ports-attached\nnodes: 1000000000000000000000001\nports: 2000000000000000000000001 2000000000000000000000002\n",
         "",
     ),
     (
         "service event 7 2 0 1\nA> register 1.0.0.1\nB> register 1.0.0.2\nB< handle 1 1\nC> nodes\nC< list\n",
         1,
-        "line 6: no order of the calls explains this reply\nseen: list\nwindow: from line 2\nneeded: lines 2 3 5\nmade: lines 2\npossible: list 1000000000000000000000001 1000000000000000000000002\nnodes: 1000000000000000000000001 1000000000000000000000002\nports:\n",
+        "line 6: no order of the calls explains this reply\nseen: list\ncall: C> nodes (line 5)\nwindow: from line 2\nneeded: lines 2 3 5\nmade: lines 2\npossible: list 1000000000000000000000001 1000000000000000000000002\nnodes: 1000000000000000000000001 1000000000000000000000002\nports:\n",
         "",
     ),
     (

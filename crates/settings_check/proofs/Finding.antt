@@ -3,7 +3,7 @@ use Rattle.std.proofs.Common.{arith, ◌≡◌, ℕ, ◌+◌, ◌≤◌, ◌<◌
 use Rattle.std.specs.Prelude.{String}
 use Rattle.std.proofs.lemmas.List.{map-append}
 use Rattle.std.specs.declared.alloc.Global.{Global}
-use Rattle.settings_check.specs.Found.{Said, report_of, reports_of, Seen, nothing_seen, both_seen, AddsFile, IsFound, AreFound}
+use Rattle.settings_check.specs.Found.{report_of, reports_of, Seen, nothing_seen, both_seen, AddsFile, IsFound, AreFound}
 use Rattle.settings_check.specs.Words.{texts_of}
 use Rattle.settings_check.specs.declared.found.FileError.{FileError}
 use Rattle.settings_check.specs.declared.found.Report.{Report}

@@ -11,18 +11,18 @@ ghost use Rattle.log_lines.specs.Lines.{IsLine, Line, line_seen, line_text};
 ghost use Rattle.service_conformance.specs.Judged.{Judged};
 ghost use Rattle.history_logs.specs.Good.{IsOrderly};
 ghost use Rattle.history_logs.specs.Judging.{AreBelow, AreJudged, AreLines, AreLinesTo, Explores};
-ghost use Rattle.history_logs.specs.Judging.{IsFoundOf, IsRefusedIn, IsReportedAt, IsReportOf};
+ghost use Rattle.history_logs.specs.Judging.{IsFoundOf, IsRefusedIn, IsReportOf};
 ghost use Rattle.history_logs.specs.Judging.{comes_before, earlier, is_refused};
 ghost use Rattle.history_logs.specs.Logs.{IsReported, StepOf, news};
-ghost use Rattle.history_logs.specs.EventLines.{Answers, IsLineAt, HasEventLines};
+ghost use Rattle.history_logs.specs.EventLines.{Answers, HasEventLines, IsAside, IsCommandOf, IsLineAt};
 
 use super::needed::{first_states, lines_needed};
 use super::service::LogService;
 use super::verdict::{Configuration, Refusal, Verdict};
 use histories::{Config, Event, Machine};
 use history_windows::{Cut, Verdict as Found, Window, judge_windows};
-use line_streams::before_byte;
-use log_lines::{LogLine, read_log_line};
+use line_streams::{after_word, before_byte};
+use log_lines::{LogLine, is_note, read_log_line};
 use service_conformance::conformance::{Calls, WatchedService, possible_replies};
 use std::alloc::{AllocError, Global};
 
@@ -175,36 +175,30 @@ fn words_in(alloc: Global, log: &[u8], line: usize) -> Result<Vec<u8>, AllocErro
     }
 }
 
-/// The report on the event of this index, by which a call was answered.
-fn refusal(
-    alloc: Global,
-    service: &LogService,
-    index: usize,
-    call: usize,
-    words: Vec<u8>,
-    needed: Vec<usize>,
-    window: &Window<WatchedService>,
-) -> Result<Refusal, AllocError>
-    requires few { length window.now.front.slots.items ≤ 64 }
-    requires below { AreBelow window.now.front.slots.items (length service.now.begins) }
-    requires within { call < length service.now.calls }
-    requires index { index < length service.now.event_lines }
-    requires begin { window.now.begin < length service.now.event_lines }
-    requires whole { service.now.first ≡ 0 }
-    ensures given { IfOk result
-        (λ reported. (reported.words ≡ words) × (reported.needed ≡ needed)) }
-    ensures reported { IfOk result (λ reported. (c : Judged) → slice_get service.now.calls call
-        ≡ Some c → IsReportedAt service.now index c window.now reported) }
+/// Whether the line is a note, or the reply to a call alone.
+fn is_aside(text: &[u8]) -> bool
+    ensures { IsTrue result ↔ IsAside text.now }
 {
-    let front = &window.front;
-    let configurations = configurations(alloc, service, &front.slots, &front.configs, call)?;
-    Ok(Refusal {
-        line: service.event_lines()[index],
-        words,
-        window: service.event_lines()[window.begin],
-        needed,
-        configurations,
-    })
+    is_note(text) || after_word(text, b"= ").is_some()
+}
+
+/// The line and the text of the command of the call that begins in this line.
+fn command_of(log: &[u8], begin: usize) -> (usize, &[u8])
+    ensures { (at : ℕ) (text : List ℕ) → IsCommandOf log.now begin at text
+        → (result.0 ≡ at) × (result.1.now ≡ text) }
+{
+    let mut rest = log;
+    let mut command: (usize, &[u8]) = (0, b"");
+    for above in 0..begin {
+        let Some((text, after)) = before_byte(rest, b'\n') else {
+            return command;
+        };
+        if !is_aside(text) {
+            command = (above + 1, text);
+        }
+        rest = after;
+    }
+    command
 }
 
 /// The line of the event of this index.
@@ -213,6 +207,14 @@ fn line_at(service: &LogService, index: usize) -> usize
     ensures { slice_get service.now.event_lines index ≡ Some result }
 {
     service.event_lines()[index]
+}
+
+/// The line in which the call of this number begins.
+fn begin_of(service: &LogService, number: usize) -> usize
+    requires { number < length service.now.begins }
+    ensures { slice_get service.now.begins number ≡ Some result }
+{
+    service.begins()[number]
 }
 
 /// The call that the event of this index ends.
@@ -241,13 +243,27 @@ fn refused(
         stop.Refused }
     requires window { IsWindowOf (StepOf service.now) (news service.now)
         (take index service.now.events) window.now }
-    ensures { IfOk result (λ reported. IsRefusedIn service.now reported.line reported) }
+    ensures { IfOk result (λ reported.
+        IsRefusedIn log.now service.now reported.line reported) }
 {
-    let call = call_ended(service, index);
+    let number = call_ended(service, index);
     let line = line_at(service, index);
     let words = words_in(alloc, log, line)?;
-    let needed = lines_needed(alloc, service, window.begin, index, call)?;
-    refusal(alloc, service, index, call, words, needed, window)
+    let begin = begin_of(service, number);
+    let (call, text) = command_of(log, begin);
+    let command = Vec::from_slice(alloc, text)?;
+    let needed = lines_needed(alloc, service, window.begin, index, number)?;
+    let front = &window.front;
+    let configurations = configurations(alloc, service, &front.slots, &front.configs, number)?;
+    Ok(Refusal {
+        line,
+        words,
+        call,
+        command,
+        window: line_at(service, window.begin),
+        needed,
+        configurations,
+    })
 }
 
 /// The verdict by what was found of the service, with its line, or the window in which it ends
@@ -261,7 +277,7 @@ fn reported_of(
     requires orderly { IsOrderly service.now }
     requires placed { HasEventLines log.now service.now }
     requires found { IsVerdict (StepOf service.now) (news service.now) service.now.events found }
-    ensures { IfOk result (IsReportOf service.now found) }
+    ensures { IfOk result (IsReportOf log.now service.now found) }
 {
     match found {
         Found::Explained(window) => Ok(Ok(window)),
@@ -290,7 +306,7 @@ pub(super) fn explore(
 ) -> Result<Result<Window<WatchedService>, (usize, Verdict)>, AllocError>
     requires orderly { IsOrderly service.now }
     requires placed { HasEventLines log.now service.now }
-    ensures { IfOk result (Explores service.now cut) }
+    ensures { IfOk result (Explores log.now service.now cut) }
 {
     let machine = Calls {
         alloc,
@@ -311,7 +327,7 @@ fn judge_service(
 ) -> Result<Option<(usize, Verdict)>, AllocError>
     requires orderly { IsOrderly service.now }
     requires placed { HasEventLines log.now service.now }
-    ensures { IfOk result (IsFoundOf service.now) }
+    ensures { IfOk result (IsFoundOf log.now service.now) }
 {
     match explore(alloc, log, service, Cut::WhereQuiet)? {
         Ok(_) => Ok(None),
@@ -367,7 +383,7 @@ pub(super) fn judge_services(
 ) -> Result<Option<Verdict>, AllocError>
     requires orderly { All IsOrderly services.now }
     requires placed { All (HasEventLines log.now) services.now }
-    ensures { IfOk result (AreJudged services.now) }
+    ensures { IfOk result (AreJudged log.now services.now) }
 {
     let mut first: Option<(usize, Verdict)> = None;
     for service in services {

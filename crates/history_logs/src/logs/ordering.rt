@@ -57,7 +57,7 @@ fn order_service(
 ) -> Result<Option<(usize, Verdict)>, AllocError>
     requires orderly { IsOrderly service.now }
     requires placed { HasEventLines log.now service.now }
-    ensures found { IfOk result (IsFoundOf service.now) }
+    ensures found { IfOk result (IsFoundOf log.now service.now) }
     ensures order { IfOk result (λ found. IfNone found ((order : Order)
         × IsOrderOf service.now order
         × (orders.new.items ≡ orders.old.items ++ order ∷ []))) }
@@ -84,7 +84,7 @@ pub(super) fn order_services(
     ensures orders { IfOk result (λ found. IfOk found
         (λ orders. AreOrdered services.now orders.items)) }
     ensures found { IfOk result (λ found. IfErr found
-        (λ verdict. AreJudged services.now (Some verdict))) }
+        (λ verdict. AreJudged log.now services.now (Some verdict))) }
 {
     let mut first: Option<(usize, Verdict)> = None;
     let mut orders = Vec::new(alloc);

@@ -1,7 +1,7 @@
 //! The texts of verdicts.
 ghost use Rattle.std.specs.Prelude.{◌≡◌, ◌++◌, OnOk, codes, decimal};
 ghost use Rattle.std.specs.List.{flat_map};
-ghost use Rattle.history_logs.specs.Reports.{attached_text, choice_text, config_text};
+ghost use Rattle.history_logs.specs.Reports.{attached_text, call_text, choice_text, config_text};
 ghost use Rattle.history_logs.specs.Reports.{conforms_text, expected_text, for_count, form_text};
 ghost use Rattle.history_logs.specs.Reports.{lists_text};
 ghost use Rattle.history_logs.specs.Reports.{line_of, made_text, next_text, number_word, order_text};
@@ -188,6 +188,17 @@ fn append_configurations(reported: &[Configuration], out: &mut Vec<u8>) -> Resul
     Ok(())
 }
 
+/// Appends the line of the command of a call.
+fn append_call(line: usize, command: &[u8], out: &mut Vec<u8>) -> Result<(), AllocError>
+    ensures { OnOk result (out.new.items ≡ out.old.items ++ call_text line command.now) }
+{
+    out.extend_from_slice(b"\ncall: ")?;
+    out.extend_from_slice(command)?;
+    append_number(b" (line ", line as u64, out)?;
+    out.push(b')')?;
+    Ok(())
+}
+
 /// Appends the line from which a window is open, and those of the calls in it that are needed.
 fn append_window(window: usize, needed: &[usize], out: &mut Vec<u8>) -> Result<(), AllocError>
     ensures { OnOk result (out.new.items ≡ out.old.items ++ window_text window needed.now) }
@@ -205,6 +216,7 @@ fn append_refusal(reported: &Refusal, out: &mut Vec<u8>) -> Result<(), AllocErro
     append_number(b"line ", reported.line as u64, out)?;
     out.extend_from_slice(b": no order of the calls explains this reply\nseen: ")?;
     out.extend_from_slice(&reported.words)?;
+    append_call(reported.call, &reported.command, out)?;
     append_window(reported.window, &reported.needed, out)?;
     out.push(b'\n')?;
     append_configurations(&reported.configurations, out)?;

@@ -151,9 +151,9 @@ fn answer<R: Source, W: Sink, E: Sink, P: Progress>(
 /// - 0: orders of the calls explain the replies. `conforms, N calls on M services` was written to
 ///   `output`.
 /// - 1: none do. The first reply that none explains was written to `output`: its line, its words,
-///   the line from which the window is open, and the lines of the calls that are needed. Below them
-///   stands of each configuration which open calls were made, each reply that the call could have
-///   had, and the nodes and ports that are there.
+///   the command of its call, the line from which the window is open, and the lines of the calls
+///   that are needed. Below them stands of each configuration which open calls were made, each
+///   reply that the call could have had, and the nodes and ports that are there.
 /// - 2: a line is not what it should be, or passes a bound, so the log is not decided. The number
 ///   of the line was written to `errors`, with what is expected there or the bound.
 /// - 3: memory was refused, and `no memory` was written to `errors`. Or a read, a write or a flush

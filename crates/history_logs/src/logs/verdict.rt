@@ -53,6 +53,11 @@ pub struct Refusal {
     pub line: usize,
     /// Its words.
     pub words: Vec<u8>,
+    /// The line of the command of its call, which is the line in which the call begins, but of a
+    /// call alone.
+    pub call: usize,
+    /// The text of that line.
+    pub command: Vec<u8>,
     /// The line from which the window is open: that of the first event of the service since no call
     /// of it was open.
     pub window: usize,

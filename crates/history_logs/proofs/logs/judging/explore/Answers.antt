@@ -32,7 +32,7 @@ returns c =
     let states : c.deref.result.now ≡ news s =
     c.deref.ensures.value ∙ c.in_ok-states.ensures in
     if_ok _ _ _ c.reported_of.ensures (λ reported is.
-    explored s _ found reported
+    explored c.args.log.now s _ found reported
     (verdict_of s _ _ _ found c.calls.ensures states c.events.ensures c.in_ok-found.ensures.verdict)
     (λ never.
     whole_of s _ _ _ found c.calls.ensures

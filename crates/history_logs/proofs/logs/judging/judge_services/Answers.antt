@@ -4,7 +4,7 @@ use Rattle.history_logs.proofs.Found.{first_next, first_none, first_whole, item_
 use Rattle.history_logs.proofs.logs.judging.judge_services.Goals as goal
 
 pub loop-service-init : goal.loop-service-init
-loop-service-init c = first_none
+loop-service-init c = first_none c.args.log.now
 
 pub judge_service-requires-clause-orderly : goal.judge_service-requires-clause-orderly
 judge_service-requires-clause-orderly c =
@@ -24,9 +24,9 @@ loop-service-preserved c =
 pub returns-in-Some : goal.returns-in-Some
 returns-in-Some c = (
   c.in-Some.field-0-0,
-  first_whole _ _ _ _ c.loop-service-test.false c.loop-service.invariant c.in-Some.is,
+  first_whole _ _ _ _ _ c.loop-service-test.false c.loop-service.invariant c.in-Some.is,
 )
 
 pub returns-in-None : goal.returns-in-None
 returns-in-None c =
-    first_whole _ _ _ _ c.loop-service-test.false c.loop-service.invariant c.in-None.is
+    first_whole _ _ _ _ _ c.loop-service-test.false c.loop-service.invariant c.in-None.is

@@ -3,4 +3,4 @@ use Rattle.history_logs.specs.Judging.{IsFirstFound}
 use Rattle.history_logs.proofs.logs.judging.judge_services.Given as goal
 
 abbrev pub invariant-loop-service : goal.invariant-loop-service
-invariant-loop-service l = IsFirstFound (take l.service-index l.services) l.first
+invariant-loop-service l = IsFirstFound l.fn.log (take l.service-index l.services) l.first

@@ -1,55 +1,51 @@
-use Rattle.std.proofs.Common.{ap}
-use Rattle.history_logs.proofs.LinesAt.{if_both}
+use Rattle.std.proofs.Common.{◌∙◌, List, Option, ℕ, length, refl, subst, sym}
+use Rattle.history_logs.specs.Judging.{AreBelow}
 use Rattle.history_logs.proofs.Needing.{begin_cut, begin_within}
-use Rattle.history_logs.proofs.Refusing.{call_within, index_within, refused_in, window_below, window_few, window_within}
+use Rattle.history_logs.proofs.Refusing.{begun_within, call_within, refused_in, window_below, window_within}
+use Rattle.history_logs.proofs.Telling.{zip_as}
 use Rattle.history_logs.proofs.logs.judging.refused.Goals as goal
 
-pub call_ended-call-requires : goal.call_ended-call-requires
-call_ended-call-requires c = record {
-  within = c.requires.stops.within;
-  ended = c.requires.stops.at.0;
-}
+pub begin_of-begin-requires : goal.begin_of-begin-requires
+begin_of-begin-requires c =
+    begun_within c.args.service.now c.requires.orderly _ c.args.window.now c.requires.stops.within
+    c.requires.window _ c.requires.placed _ _ c.call_ended-number.ensures c.line_at-line.ensures
 
-pub line_at-line-requires : goal.line_at-line-requires
-line_at-line-requires c =
-    index_within _ c.requires.orderly _ _ c.requires.stops.within c.requires.window
+pub lines_needed-requires-clause-within : goal.lines_needed-requires-clause-within
+lines_needed-requires-clause-within c =
+    begin_within c.args.service.now _ c.args.window.now c.requires.stops.within c.requires.window
 
-pub lines_needed-requires : goal.lines_needed-requires
-lines_needed-requires c =
+pub lines_needed-requires-clause-cut : goal.lines_needed-requires-clause-cut
+lines_needed-requires-clause-cut c =
+    begin_cut c.args.service.now _ c.args.window.now c.requires.stops.within c.requires.window
+
+pub configurations-requires-clause-below : goal.configurations-requires-clause-below
+configurations-requires-clause-below c =
     let s = c.args.service.now in
-    let w = c.args.window.now in
-    record {
-      orderly = c.requires.orderly;
-      stops = c.requires.stops;
-      within = begin_within s _ w c.requires.stops.within c.requires.window;
-      cut = begin_cut s _ w c.requires.stops.within c.requires.window;
-      ended = c.call_ended-call.ensures;
-    }
+    subst (λ (slots : List (Option ℕ)). AreBelow slots (length s.begins))
+    (sym c.deref.ensures.value) (window_below s c.requires.orderly _ c.args.window.now
+    c.requires.stops.within c.requires.window)
 
-pub refusal-requires : goal.refusal-requires
-refusal-requires c =
-    let s = c.args.service.now in
-    let o = c.requires.orderly in
-    let w = c.args.window.now in
-    let within = c.requires.stops.within in
-    let is = c.requires.window in
-    record {
-      few = window_few s o _ w within is;
-      below = window_below s o _ w within is;
-      within = call_within s o _ w within is _ c.requires.placed.answers
-          _ _ c.call_ended-call.ensures c.line_at-line.ensures;
-      index = index_within s o _ w within is;
-      begin = window_within s o _ w within is;
-      whole = o.all.whole;
-    }
+pub configurations-requires-clause-within : goal.configurations-requires-clause-within
+configurations-requires-clause-within c =
+    call_within c.args.service.now c.requires.orderly _ c.args.window.now c.requires.stops.within
+    c.requires.window _ c.requires.placed _ _ c.call_ended-number.ensures c.line_at-line.ensures
+
+pub line_at-requires : goal.line_at-requires
+line_at-requires c =
+    window_within c.args.service.now c.requires.orderly _ c.args.window.now c.requires.stops.within
+    c.requires.window
 
 pub returns : goal.returns
 returns c =
     let s = c.args.service.now in
-    if_both _ _ _ _ c.refusal.ensures.given c.refusal.ensures.reported
-    (λ reported its tells.
-    refused_in s c.requires.orderly _ _ c.requires.stops.within
-    c.requires.window _ c.requires.placed.answers _ _
-    c.call_ended-call.ensures c.line_at-line.ensures _ c.in_ok-words.ensures
-    c.requires.stops _ c.in_ok-needed.ensures reported
-    (ap (λ v. v.items) its.0) (ap (λ v. v.items) its.1) tells)
+    let w = c.args.window.now in
+    refused_in s c.requires.orderly _ w c.requires.stops.within c.requires.window _
+    c.requires.placed _ _ c.call_ended-number.ensures c.line_at-line.ensures _
+    c.begin_of-begin.ensures _ refl c.in_ok-words.ensures
+    (λ k text is.
+    let found = c.command_of-call.ensures k text is in
+    (found.0, c.in_ok-command.ensures.items ∙ found.1))
+    c.requires.stops c.line_at.ensures c.in_ok-needed.ensures
+    (λ x at.
+    zip_as s x w.front.slots.items _ w.front.configs.items _ _ c.deref.ensures.value
+    c.deref-2.ensures.value (c.in_ok-configurations.ensures x at))

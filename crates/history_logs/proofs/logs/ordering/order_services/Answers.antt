@@ -5,7 +5,7 @@ use Rattle.history_logs.proofs.Ordered.{orders_all, orders_next, orders_none}
 use Rattle.history_logs.proofs.logs.ordering.order_services.Goals as goal
 
 pub loop-service-init : goal.loop-service-init
-loop-service-init c = orders_none _ _ c.new-orders.ensures.items
+loop-service-init c = orders_none _ _ _ c.new-orders.ensures.items
 
 pub order_service-requires-clause-orderly : goal.order_service-requires-clause-orderly
 order_service-requires-clause-orderly c =
@@ -25,7 +25,7 @@ loop-service-preserved c =
 pub returns-in-Some-clause-found : goal.returns-in-Some-clause-found
 returns-in-Some-clause-found c = (
   c.in-Some.field-0-0,
-  first_whole _ _ _ _ c.loop-service-test.false c.loop-service.invariant.found c.in-Some.is,
+  first_whole _ _ _ _ _ c.loop-service-test.false c.loop-service.invariant.found c.in-Some.is,
 )
 
 pub returns-in-None-clause-orders : goal.returns-in-None-clause-orders

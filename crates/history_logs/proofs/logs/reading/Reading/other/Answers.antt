@@ -1,7 +1,7 @@
-use Rattle.std.proofs.Common.{rules, ◌≡◌, IsTrue, List, Option, None, Some, arith, length, true, false, refl, subst, sym, take}
+use Rattle.std.proofs.Common.{rules, ◌≡◌, IsTrue, List, None, Some, arith, length, true, false, refl, subst, sym, take}
 use Rattle.log_lines.specs.Lines.{IsLine, line_seen, line_text}
 use Rattle.history_logs.specs.Fields.{log_of}
-use Rattle.history_logs.specs.Good.{TakesNext, is_service}
+use Rattle.history_logs.specs.Good.{is_service}
 use Rattle.history_logs.specs.Reading.{HaveOneNumber}
 use Rattle.history_logs.specs.Seen.{Service}
 use Rattle.history_logs.proofs.Kept.{alike_line}
