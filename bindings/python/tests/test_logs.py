@@ -131,14 +131,17 @@ class Logs(unittest.TestCase):
 
     def test_verdicts_differ(self):
         one, another = told("list", (1,), (2,), (2,)), told("list", (2,), (2,), (2,))
+        refused = NoOrder(3, "x", 2, "nodes", 2, (3,), (one,))
+        told_otherwise = [
+            {"line": 4}, {"words": "y"}, {"call": 3}, {"command": "list"}, {"window": 3},
+            {"needed": (2, 3)},
+            *({"configurations": found} for found in [
+                (one, one), (another,), (dataclasses.replace(one, possible="count 1"),),
+                (dataclasses.replace(one, made=()),), (dataclasses.replace(one, ports=()),)]),
+        ]
         verdicts = [
-            Conforms(3), NoOrder(3, "x", 2, (3,), (one,)), NoOrder(4, "x", 2, (3,), (one,)),
-            NoOrder(3, "y", 2, (3,), (one,)), NoOrder(3, "x", 3, (3,), (one,)),
-            NoOrder(3, "x", 2, (2, 3), (one,)), NoOrder(3, "x", 2, (3,), (one, one)),
-            NoOrder(3, "x", 2, (3,), (another,)),
-            NoOrder(3, "x", 2, (3,), (dataclasses.replace(one, possible="count 1"),)),
-            NoOrder(3, "x", 2, (3,), (dataclasses.replace(one, made=()),)),
-            NoOrder(3, "x", 2, (3,), (dataclasses.replace(one, ports=()),)),
+            Conforms(3), refused, *(dataclasses.replace(refused, **other)
+                                    for other in told_otherwise),
             TooManyConfigurations(3), TooManyConfigurations(4), TooManyOpenCalls(3),
             TooManyOpenCalls(4), *(UnexpectedLine(3, expected) for expected in Expected),
         ]
@@ -152,7 +155,8 @@ class Logs(unittest.TestCase):
                 self.assertTrue(verdict != other and not verdict == other)
 
     def test_verdicts_are_no_tuples(self):
-        for verdict in (Conforms(3), NoOrder(3, "x", 3, (3,), ()), TooManyOpenCalls(3)):
+        for verdict in (Conforms(3), NoOrder(3, "x", 3, "nodes", 3, (3,), ()),
+                        TooManyOpenCalls(3)):
             self.assertNotIsInstance(verdict, tuple)
             field, *_ = dataclasses.fields(verdict)
             self.assertRaises(AttributeError, setattr, verdict, field.name, 4)
