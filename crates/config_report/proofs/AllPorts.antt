@@ -3,7 +3,7 @@ use Rattle.std.proofs.Common.{◌≡◌, ◌∙◌, ◌*◌, ◌<◌, ◌≤◌,
 use Rattle.std.specs.Option.{SomeIff}
 use Rattle.std.proofs.lemmas.List.Sums.{sum_by-append}
 use Rattle.iox2_static.proofs.Greatest.{tells}
-use Rattle.iox2_static.specs.Chunks.{IsGreatest, TellsGreatest}
+use Rattle.iox2_static.specs.Chunks.{IsGreatest, ReportsGreatest}
 use Rattle.config_report.specs.Text.{all_limits}
 
 -- no two numbers are the greatest
@@ -22,7 +22,7 @@ sum-all zero limits = grind arith
 sum-all (suc ports) limits = grind (arith, sum_by-append, sum-all ports limits)
 
 pub all_of_some : (limits : List ℕ) (c ports : ℕ) (all : Option ℕ) → IsGreatest limits c
-    → SomeIff all (c * ports < 2 ^ 64) (c * ports) → TellsGreatest (all_limits ports limits) all
+    → SomeIff all (c * ports < 2 ^ 64) (c * ports) → ReportsGreatest (all_limits ports limits) all
 all_of_some limits c ports None g h =
     tells (all_limits ports limits) None
     (let e = is_sum limits c g in let s = sum-all ports limits in grind (arith, e, s, h))
@@ -30,7 +30,7 @@ all_of_some limits c ports (Some n) g h =
     tells (all_limits ports limits) (Some n)
     (let e = is_sum limits c g in let s = sum-all ports limits in grind (arith, e, s, h))
 
-pub all_of_none : (limits : List ℕ) → TellsGreatest (all_limits 0 limits) (Some 0)
+pub all_of_none : (limits : List ℕ) → ReportsGreatest (all_limits 0 limits) (Some 0)
 all_of_none limits = tells (all_limits 0 limits) (Some 0) refl
 
 -- so many ports need no less than one
@@ -39,8 +39,8 @@ no_less zero c some = absurd (omega arith)
 no_less (suc ports) c some = grind arith
 
 -- a number of chunks that 64 bits do not have stays so where there is a port
-pub all_of_many : (limits : List ℕ) (ports : ℕ) → TellsGreatest limits None → 0 < ports
-    → TellsGreatest (all_limits ports limits) None
+pub all_of_many : (limits : List ℕ) (ports : ℕ) → ReportsGreatest limits None → 0 < ports
+    → ReportsGreatest (all_limits ports limits) None
 all_of_many limits ports (c, g, past) some =
     tells (all_limits ports limits) None
     (let all : sum (all_limits ports limits) ≡ ports * c =

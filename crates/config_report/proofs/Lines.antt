@@ -33,13 +33,14 @@ at_map view f (y ∷ ys) zero x d lt is = ap (λ z. f (view z)) (sym is)
 at_map view f (y ∷ ys) (suc i) x d lt is = at_map view f ys i x d (omega arith) is
 
 -- one more of some values is listed, by what stands beside it in another list
-pub one_placed : {A B C D P : Type 0} (seen : A → B) (at : B → P) (f : P → B → C) (view : D → C)
+pub one_positioned : {A B C D P : Type 0} (seen : A → B) (at : B → P) (f : P → B → C) (view : D → C)
     (xs : List A) (ps : List P) (i j : ℕ) (x : A) (p d : P) (old new : List D) (y : D)
     (whole : List C) → i < length xs → j ≡ i → x ≡ get_or xs i x → ps ≡ map at (map seen xs)
     → p ≡ get_or ps j d → view y ≡ f p (seen x) → new ≡ old ++ y ∷ []
     → map view old ++ map (λ b. f (at b) b) (map seen (drop i xs)) ≡ whole
     → map view new ++ map (λ b. f (at b) b) (map seen (drop (i + 1) xs)) ≡ whole
-one_placed seen at f view xs ps i j x p d old new y whole lt index is same at_is says added before =
+one_positioned seen at f view xs ps i j x p d old new y whole lt index is same at_is says added
+    before =
     let here : p ≡ at (seen x) = at_is ∙ (rw (index, same) (at_map seen at xs i x d lt is)) in
     one_listed seen (λ b. f (at b) b) view xs i x old new y whole lt is before added
     (says ∙ ap (λ q. f q (seen x)) here)

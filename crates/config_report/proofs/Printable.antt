@@ -2,7 +2,7 @@
 use Rattle.std.proofs.Common.{rules, arith, ◌≡◌, ◌∙◌, ◌++◌, ◌&&◌, if◌then◌else◌, Bool, true, false, List, [], ◌∷◌, ℕ, Option, Some, None, option_map, map, ap, refl, inl, inr}
 use Rattle.std.proofs.lemmas.List.Elements.{All-cons, All-nil}
 use Rattle.std.proofs.lemmas.List.Sorted.{All-permutation}
-use Rattle.config_report.specs.Contradictions.{Contradiction, Side, contradiction_note, placed_note, side_note}
+use Rattle.config_report.specs.Contradictions.{Contradiction, Side, contradiction_note, positioned_note, side_note}
 use Rattle.config_report.specs.Findings.{Checks, AreInLine, is_in_line, key_in_line, IsNoFile, error_behind}
 use Rattle.config_report.specs.Notes.{has_no_control, in_line, Note, Topic, fault, unknown, note, note_in, topic_note, finding_view}
 use Rattle.config_report.specs.declared.contradiction.Effect.{Effect}
@@ -43,10 +43,10 @@ choose_note : (b : Bool) (m n : Note) → is_in_line m ≡ true → is_in_line n
 choose_note true m n p q = p
 choose_note false m n p q = q
 
-placed_of : (bytes : List ℕ) (one : Side) (other : Option Side) (effect : Effect)
-    → is_in_line (placed_note bytes one other effect) ≡ true
-placed_of bytes one None effect = grind (arith, side_of)
-placed_of bytes one (Some other) effect = grind (arith, choose_note, side_of)
+positioned_of : (bytes : List ℕ) (one : Side) (other : Option Side) (effect : Effect)
+    → is_in_line (positioned_note bytes one other effect) ≡ true
+positioned_of bytes one None effect = grind (arith, side_of)
+positioned_of bytes one (Some other) effect = grind (arith, choose_note, side_of)
 
 abbrev Lined : Finding → Type 0
 Lined f = is_in_line (finding_view f) ≡ true
@@ -59,7 +59,7 @@ LinedNotes (n ∷ ns) = (is_in_line n ≡ true) × LinedNotes ns
 contradictions_lined : (bytes : List ℕ) (cs : List Contradiction)
     → LinedNotes (map (contradiction_note bytes) cs)
 contradictions_lined bytes [] = tt
-contradictions_lined bytes (c ∷ cs) = grind (arith, placed_of, contradictions_lined bytes cs)
+contradictions_lined bytes (c ∷ cs) = grind (arith, positioned_of, contradictions_lined bytes cs)
 
 topics_lined : (bytes : List ℕ) (ts : List Topic) (more : List Note) → LinedNotes more
     → LinedNotes (map (note_in bytes) ts ++ more)

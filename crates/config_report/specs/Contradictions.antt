@@ -246,10 +246,10 @@ abbrev pub side_position : List ℕ → Side → Option Position
 side_position bytes s = position_for bytes (table_path s.0 ++ s.1 ∷ [])
 
 -- what is said of a contradiction in a file
-abbrev pub placed_note : List ℕ → Side → Option Side → Effect → Note
-placed_note bytes one None effect = side_note (side_position bytes one) one None effect
-placed_note bytes one (Some other) effect =
+abbrev pub positioned_note : List ℕ → Side → Option Side → Effect → Note
+positioned_note bytes one None effect = side_note (side_position bytes one) one None effect
+positioned_note bytes one (Some other) effect =
     later_note (side_position bytes one) (side_position bytes other) one other effect
 
 abbrev pub contradiction_note : List ℕ → Contradiction → Note
-contradiction_note bytes c = placed_note bytes c.one c.other c.effect
+contradiction_note bytes c = positioned_note bytes c.one c.other c.effect

@@ -72,22 +72,22 @@ IsUnread bytes (NotToml finding) = IsNoToml bytes (finding_view finding)
 IsUnread bytes (NoMemory e) = ⊤
 
 -- where it stands among others: by its line and its column, and without them behind all
-abbrev pub place_of : Option Position → ℕ × ℕ
-place_of (Some p) = (p.line, p.column)
-place_of None = (2 ^ 64 - 1, 2 ^ 64 - 1)
+abbrev pub sort_key_of : Option Position → ℕ × ℕ
+sort_key_of (Some p) = (p.line, p.column)
+sort_key_of None = (2 ^ 64 - 1, 2 ^ 64 - 1)
 
-abbrev pub finding_place : Finding → ℕ × ℕ
-finding_place f = place_of f.position
+abbrev pub finding_sort_key : Finding → ℕ × ℕ
+finding_sort_key f = sort_key_of f.position
 
 -- by the first number, and then by the second
-abbrev pub place_cmp : ℕ × ℕ → ℕ × ℕ → Ordering
-place_cmp p q = ordering_then (nat_cmp p.0 q.0) (nat_cmp p.1 q.1)
+abbrev pub sort_key_cmp : ℕ × ℕ → ℕ × ℕ → Ordering
+sort_key_cmp p q = ordering_then (nat_cmp p.0 q.0) (nat_cmp p.1 q.1)
 
 -- the same findings, in the order of the file; those of one position in the order that they had
 pub record IsInOrder (found listed : List Finding) : Type 0 where
   pub same : IsPermutation found listed
-  pub ordered : IsSortedByKey finding_place place_cmp listed
-  pub stable : IsStableByKey finding_place place_cmp found listed
+  pub ordered : IsSortedByKey finding_sort_key sort_key_cmp listed
+  pub stable : IsStableByKey finding_sort_key sort_key_cmp found listed
 
 -- a finding for each of some notes, in the order of the file
 abbrev pub Lists : List Note → List Finding → Type 0

@@ -14,7 +14,7 @@ use Rattle.iox2_config.specs.declared.config.node.Node.{Node}
 use Rattle.iox2_config.specs.declared.config.service.Service.{Service}
 use Rattle.iox2_config_file.specs.Read.{sections}
 use Rattle.iox2_config_file.specs.Write.{value_text, InTurn}
-use Rattle.iox2_static.specs.Chunks.{TellsGreatest}
+use Rattle.iox2_static.specs.Chunks.{ReportsGreatest}
 use Rattle.iox2_texts.specs.Path.{join}
 use Rattle.config_report.specs.declared.text.FileKind.{FileKind}
 
@@ -156,8 +156,8 @@ need_line port one ports all =
 -- the numbers are the greatest that can be in use at once, by the limits of one port
 abbrev pub IsNeedLine : List ℕ → List ℕ → ℕ → List ℕ → Type 0
 IsNeedLine port limits ports line =
-    (one : Option ℕ) × (all : Option ℕ) × TellsGreatest limits one
-    × TellsGreatest (all_limits ports limits) all × (line ≡ need_line port one ports all)
+    (one : Option ℕ) × (all : Option ℕ) × ReportsGreatest limits one
+    × ReportsGreatest (all_limits ports limits) all × (line ≡ need_line port one ports all)
 
 -- how many chunks the ports of each kind need
 abbrev pub needs_text : List ℕ → List ℕ → List ℕ → List ℕ

@@ -19,7 +19,7 @@ ghost use Rattle.toml_positions.specs.Position.{position_after};
 use crate::contradiction::{Contradiction, contradiction_finding};
 use crate::contradictions::contradictions_in;
 use crate::finding::{
-    Finding, Findings, Severity, Subject, in_line, place, position_at, subject_positions,
+    Finding, Findings, Severity, Subject, in_line, position_at, sort_key, subject_positions,
     subjects_of,
 };
 use crate::text::write_text;
@@ -81,7 +81,7 @@ fn list_of(alloc: Global, text: &str, contents: &FileContents) -> Result<Vec<Fin
     let mut list = Vec::new(alloc);
     add_findings(&mut list, alloc, subjects.as_slice(), positions.as_slice())?;
     add_contradictions(&mut list, alloc, text, contradictions.as_slice())?;
-    list.sort_by_key(|finding| place(finding))?;
+    list.sort_by_key(|finding| sort_key(finding))?;
     Ok(list)
 }
 

@@ -3,7 +3,7 @@ ghost use Rattle.std.specs.Prelude.{◌≡◌, ◌++◌, ◌∷◌, [], IfOk, Is
 ghost use Rattle.std.specs.Prelude.{option_map, slice_index_or, string_bytes};
 ghost use Rattle.iox2_config_file.specs.Read.{fault_view};
 ghost use Rattle.iox2_config_file.specs.Unknown.{unknown_view, proposal_view};
-ghost use Rattle.config_report.specs.Findings.{place_of, IsToml};
+ghost use Rattle.config_report.specs.Findings.{sort_key_of, IsToml};
 ghost use Rattle.config_report.specs.Notes.{at_text, fault, fault_position, finding_view};
 ghost use Rattle.config_report.specs.Notes.{has_no_control, in_line, meant_text, note, note_text};
 ghost use Rattle.config_report.specs.Notes.{position_for, proposed_text, severity_text};
@@ -94,8 +94,8 @@ pub struct Findings {
 }
 
 /// Where a finding stands among others: by its line and its column, and without them behind all.
-pub(crate) fn place(finding: &Finding) -> (usize, usize)
-    ensures { result ≡ place_of finding.now.position }
+pub(crate) fn sort_key(finding: &Finding) -> (usize, usize)
+    ensures { result ≡ sort_key_of finding.now.position }
 {
     match finding.position {
         Some(Position { line, column }) => (line, column),

@@ -11,7 +11,7 @@ ghost use Rattle.config_report.specs.Text.{kind_view, service_files_of, node_fil
 ghost use Rattle.config_report.specs.Text.{sample_limits_of, request_limits_of};
 ghost use Rattle.config_report.specs.Text.{all_limits, response_limits_of};
 ghost use Rattle.config_report.specs.Text.{need_line, need_text, IsNeedLine, IsNeedsText};
-ghost use Rattle.iox2_static.specs.Chunks.{TellsGreatest};
+ghost use Rattle.iox2_static.specs.Chunks.{ReportsGreatest};
 ghost use Rattle.std.specs.Duration.{as_nanos};
 ghost use Rattle.iox2_config_file.specs.Values.{duration};
 ghost use Rattle.iox2_texts.specs.Path.{MakesJoined};
@@ -277,7 +277,7 @@ fn write_named(out: &mut String, name: &str, text: &str) -> Result<(), AllocErro
 
 /// How many samples of a publisher can be in use at once.
 pub fn samples(config: &Config) -> Option<usize>
-    ensures { TellsGreatest (sample_limits_of config.now.defaults) result }
+    ensures { ReportsGreatest (sample_limits_of config.now.defaults) result }
 {
     let loans = config
         .defaults
@@ -288,7 +288,7 @@ pub fn samples(config: &Config) -> Option<usize>
 
 /// How many requests of a client can be in use at once.
 pub fn requests(config: &Config) -> Option<usize>
-    ensures { TellsGreatest (request_limits_of config.now.defaults) result }
+    ensures { ReportsGreatest (request_limits_of config.now.defaults) result }
 {
     let loans = config.defaults.request_response.max_loaned_requests;
     request_response::StaticConfig::new(config).required_amount_of_chunks_per_client_data_segment(
@@ -298,7 +298,7 @@ pub fn requests(config: &Config) -> Option<usize>
 
 /// How many responses of a server can be in use at once.
 pub fn responses(config: &Config) -> Option<usize>
-    ensures { TellsGreatest (response_limits_of config.now.defaults) result }
+    ensures { ReportsGreatest (response_limits_of config.now.defaults) result }
 {
     let loans = config
         .defaults
@@ -312,8 +312,8 @@ pub fn responses(config: &Config) -> Option<usize>
 /// How many chunks all ports of a kind can have in use at once, by how many one of them can.
 #[tactic(auto, using(crate::proofs::AllPorts::all_of_some, crate::proofs::AllPorts::all_of_many))]
 fn of_all(one: Option<usize>, ports: usize) -> Option<usize>
-    ensures { (limits : List ℕ) → TellsGreatest limits one
-        → TellsGreatest (all_limits ports limits) result }
+    ensures { (limits : List ℕ) → ReportsGreatest limits one
+        → ReportsGreatest (all_limits ports limits) result }
 {
     match one {
         Some(chunks) => chunks.checked_mul(ports),
@@ -366,7 +366,7 @@ fn write_need(
     one: Option<usize>,
     ports: usize,
 ) -> Result<(), AllocError>
-    ensures { OnOk result ((limits : List ℕ) → TellsGreatest limits one → (line : List ℕ)
+    ensures { OnOk result ((limits : List ℕ) → ReportsGreatest limits one → (line : List ℕ)
         × (string_bytes out.new ≡ string_bytes out.old ++ line)
         × IsNeedLine port.now limits ports line) }
 {

@@ -6,7 +6,7 @@ use Rattle.histories.proofs.Events.{begins_begin, table_begin, taken_cases, take
 use Rattle.histories.proofs.Running.{leads_split, leaves_run, runs_in, runs_lighter, runs_order, runs_then}
 use Rattle.histories.proofs.Explaining.{behind_open, explains_begin, explains_front, explains_run, explains_without}
 use Rattle.histories.proofs.Frontiers.{AreComplete, AreSound, front_many, frontier_end}
-use Rattle.histories.proofs.Places.{frontier_laid, nothing_in, order_more}
+use Rattle.histories.proofs.Indices.{frontier_laid, nothing_in, order_more}
 use Rattle.histories.proofs.Closing.{HaveSameSteps, closed_as, leads_sought, made_as, none_same}
 use Rattle.histories.specs.declared.front.Advance.TheVariants as advance
 

@@ -1,7 +1,7 @@
 -- Calls that are made at once: those that change nothing, and those that come first or overlap
 -- nothing.
 use Rattle.histories.proofs.Words.{◌≡◌, ◌↔◌, slice_set, true, ℕ, zero, suc, ◌+◌, ◌<◌, List, [], ◌∷◌, ◌++◌, length, get_or, Option, refl, sym, ◌∙◌, ap, subst, arith, inl, inr, append_assoc, cases_lt, Event, Begin, End, Config, Link, AreAll, begins, times, Explains, Leads, HasSlot, IsFrontier, IsSound, IsTable, Path, order_at, order_of, path_more, path_of, Agrees, IsQuiet, IsMadeIn, CallsAloneAreRuns, ◌≤◌, AllPairs, IsIdle, IsSame, IsWaiting, cleared, IsCopy, IsSettled, Settles, Spot, WaitsInNone, spot_of, IsClosed, IsClosing, IsMadeFirst, IsNextAt, bit_at}
-use Rattle.histories.proofs.Places.{order_more, only, nothing_in}
+use Rattle.histories.proofs.Indices.{order_more, only, nothing_in}
 use Rattle.histories.specs.Laws.{calls_alone, in_order}
 use Rattle.histories.proofs.Counting.{no_times, not_some, split_times, times-append, times-cons, times_one, times_other, times_same}
 use Rattle.histories.proofs.Events.{answered_now, begins_begin, begins_ends, begins_none, ended_now, ended_still, open_begin_cases, open_begin_now, open_end_before, open_end_other, sound_begin, sound_end, sound_none}
@@ -185,7 +185,7 @@ all_as : {S : Type 0} (Made Step : S → Type 0) (states : List S)
     → ((new : S) → Made new ↔ Step new) → AreAll Made states → AreAll Step states
 all_as Made Step states same all = grind arith
 
--- a list of one value, and the same where another is put in its place
+-- a list of one value, and the same where another is put in its stead
 pub one_of_one : {X : Type 0} (xs : List X) (x y : X) → length xs ≡ 1 → x ≡ get_or xs 0 x
     → (xs ≡ x ∷ []) × (slice_set xs 0 y ≡ y ∷ [])
 one_of_one [] x y one is = absurd (omega (arith, one))

@@ -1,8 +1,8 @@
 -- Configurations in chains.
 use Rattle.histories.proofs.Words.{◌≡◌, ℕ, ◌+◌, ◌%◌, ◌<◌, List, [], ◌∷◌, ◌++◌, length, get_or, sym, ◌∙◌, ap, subst, arith, inl, inr, true, false, ◌≢◌, ◌-◌, ◌≤◌, Bool, All, drop, set, replicate, cases_order, cases_eq, cases_lt, get_or-drop, get_or-replicate, get_or-set_other, get_or-set_same, get_or_default, get_or_past, length-drop, length-replicate, length_push, Config, IsSame, IsKnown, AreChained, AreLinked, AreOther, chain_at, chain_of, get_or-append, get_or-append_seam}
-use Rattle.histories.proofs.Places.{less_of}
+use Rattle.histories.proofs.Indices.{less_of}
 
--- where no place is in a chain
+-- where no index is in a chain
 pub linked_none : (chain : ℕ → ℕ) (heads before : List ℕ) → length before ≡ 0
     → ((number : ℕ) → get_or heads number 0 ≡ 0) → AreLinked chain heads before
 linked_none chain heads before none empty = grind arith
@@ -23,7 +23,7 @@ linked_as one other heads before same l = record {
       );
 }
 
--- one place more
+-- one index more
 pub linked_more : (chain : ℕ → ℕ) (heads before : List ℕ) (number : ℕ)
     → number ≡ chain (length before) → number < length heads → AreLinked chain heads before
     → AreLinked chain (set heads number (length before + 1)) (before ++ get_or heads number 0 ∷ [])

@@ -1,7 +1,7 @@
 -- A call that ends is made.
 use Rattle.histories.proofs.Words.{◌≡◌, ◌↔◌, ℕ, ◌+◌, ◌<◌, ◌≤◌, List, [], ◌∷◌, ◌++◌, length, refl, sym, ◌∙◌, ap, arith, inl, inr, append-nil, append_assoc, Option, AllPairs, cases_eq, bit_at, Contains, Contains-append_left, Contains-push, Contains-push_cases, Config, HasSlot, IsLighter, IsSame, LeadTo, Path, Runs, cleared, path_more, path_of, ComesFirst, FromOne, Gathers, GoesFrom, GoesOn, IsClosed, IsClosing, IsCopy, IsDone, IsMadeFrom, IsNextAt, IsSettled, MovesFirst, Settles, Spot, ones, spot_of}
 use Rattle.histories.specs.Gathering.{IsNext}
-use Rattle.histories.proofs.Places.{nothing_in, only}
+use Rattle.histories.proofs.Indices.{nothing_in, only}
 use Rattle.histories.proofs.Bits.{bit_cases, cleared_le, cleared_same, ones_le, ones_less, ones_most, slot_64, slot_once, slot_within}
 use Rattle.histories.proofs.Gathering.{gathers_none}
 use Rattle.histories.proofs.Running.{lighter_then, runs_fewer, runs_first, runs_lighter, runs_then}

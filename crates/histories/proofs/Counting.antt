@@ -50,11 +50,11 @@ times-remove c xs i d h =
       times-cons c x (drop (suc i) xs),
     )
 
--- what stands at a place stands in the list
+-- what stands at an index stands in the list
 pub times_at : (xs : List ℕ) (i d : ℕ) → i < length xs → 0 < times (get_or xs i d) xs
 times_at xs i d h = omega (arith, times-remove (get_or xs i d) xs i d h, times_one (get_or xs i d))
 
--- what stands in the list stands at a place
+-- what stands in the list stands at an index
 pub at_times : (c : ℕ) (xs : List ℕ) → 0 < times c xs
     → (i : ℕ) × (i < length xs) × (get_or xs i 0 ≡ c)
 at_times c [] h = absurd (omega (arith, times_none c))
@@ -67,7 +67,7 @@ at_times c (x ∷ xs) h =
           (suc more.0, omega (arith, more.1), more.2)
     ]
 
--- a number stands in the list once where it stands at one place alone
+-- a number stands in the list once where it stands at one index alone
 pub times_once : (c : ℕ) (xs : List ℕ)
     → ((i j : ℕ) → i < length xs → j < length xs → get_or xs i 0 ≡ c → get_or xs j 0 ≡ c → i ≡ j)
     → times c xs ≤ 1

@@ -35,7 +35,7 @@ begins_ends c d es (Begin b) ends = absurd (begin_no_end _ _ ends)
 begins_ends c d es (End b) ends = omega (arith, begins-append c es (End b ∷ []))
 begins_ends c d es (Crash b) ends = omega (arith, begins-append c es (Crash b ∷ []))
 
--- what stands at a place of one part stands in both
+-- what stands at an index of one part stands in both
 pub stands_left : (es fs : List Event) (k : ℕ) (x : Event) → StandsAt es k x
     → StandsAt (es ++ fs) k x
 stands_left [] fs k x at = absurd (cc)

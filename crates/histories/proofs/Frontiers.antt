@@ -6,7 +6,7 @@ use Rattle.histories.proofs.Events.{answered_now, begins_none, freed_before, tab
 use Rattle.histories.proofs.Running.{lighter_cleared, runs_fewer, runs_in, runs_without, lighter_without}
 use Rattle.histories.proofs.Explaining.{explains_end, explains_open, explains_run}
 use Rattle.histories.proofs.Closing.{leads_found, leads_kept, none_same}
-use Rattle.histories.proofs.Places.{nothing_in, order_more, order_none}
+use Rattle.histories.proofs.Indices.{nothing_in, order_more, order_none}
 
 module _ {S : Type 0} (Step : S → ℕ → S → Type 0) where
   -- each configuration is that of an order

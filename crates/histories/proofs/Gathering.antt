@@ -2,7 +2,7 @@
 use Rattle.histories.proofs.Words.{◌≡◌, Option, ℕ, ◌+◌, ◌<◌, ◌⊎◌, List, [], ◌∷◌, ◌++◌, length, take, get_or, refl, sym, ◌∙◌, ap, subst, arith, inl, inr, true, false, ◌≤◌, bit_at, cases_order, take_more, All-contains, Contains-append_left, Contains-push, Contains-push_cases, all_pairs_push, slice_set, Config, AreAll, IsSame, IsWaiting, Path, cleared, no_path, path_more, path_of, FromOne, Gathers, IsBegun, IsCopy, IsDone, IsDropped, IsFirst, IsKnown, IsMadeIn, IsNextAt, IsNextBeside, IsNextIn, IsNextOther, IsOpened, IsSettled, IsWith, Settles, Spot, spot_of}
 use Rattle.histories.specs.Gathering.{IsNext}
 use Rattle.histories.proofs.Bits.{slot_once}
-use Rattle.histories.proofs.Places.{nothing_in, only}
+use Rattle.histories.proofs.Indices.{nothing_in, only}
 
 spot_with : {S : Type 0} → S → ℕ → Path → Spot S
 spot_with state waiting made = record { state = state; waiting = waiting; made = made }
@@ -110,7 +110,7 @@ module _ {S : Type 0} where
       gathers_then _ _ _ _ _ _ (from_either Fact layer from) (from_first Fact layer from)
       (from_last Fact layer from) f g
 
-  -- the same of a place
+  -- the same of an index
   pub gathers_one : (Fact : Config S → Spot S → Type 0) (layer : List (Config S)) (at : ℕ)
       (from : Config S) (old mid new : List (Config S)) → at < length layer
       → from ≡ get_or layer at from → Gathers (FromOne Fact (take at layer)) old mid

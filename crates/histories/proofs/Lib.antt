@@ -1,6 +1,6 @@
 pub mod Words
 pub mod Bits
-pub mod Places
+pub mod Indices
 pub mod Counting
 pub mod Events
 pub mod Running

@@ -174,7 +174,7 @@ module _ {S : Type 0} (Step : S → ℕ → S → Type 0) where
       (next_fresh _ _ before.1 (next_of _ _ (may_more _ at history within)))
       (rw (← one_more _ at (Begin 0) within) (rw (plus_suc _ _) at x)))
 
-  -- where no order explains the events up to a place, none explains all
+  -- where no order explains the events up to an index, none explains all
   pub refused_whole : (es : List Event) (olds : List S) (i : ℕ) → i ≤ length es
       → ¬ (IsExplained Step (take i es) olds) → IsHistory es → ¬ (IsExplained Step es olds)
   refused_whole es olds i h none history x =
@@ -210,7 +210,7 @@ history_more : (es : List Event) (e : Event) → IsHistory es → MayFollow es e
 history_more es e history may index event at =
     grind (arith, stands_cases, take-append-le, stands_within, take-append_seam)
 
--- the front is that of the events before a place, which are a history
+-- the front is that of the events before an index, which are a history
 pub record IsJudged {S : Type 0} (Step : S → ℕ → S → Type 0) (front : Front S)
     (events : List Event) (olds : List S) (count at : ℕ) : Type 0 where
   pub front_of : IsFrontOf Step front (take at events) olds

@@ -105,11 +105,11 @@ BeginsAnew {S} Step old new false =
     → (call : ℕ) × IsOpen events call)
 
 -- Explained: the configurations are those of the orders that explain the history, and there is one.
--- Refused: an order explains the events before this place, and none those up to it, nor all.
--- ManyConfigs: orders that explain the events before this place, or those up to it, lead to more
+-- Refused: an order explains the events before this index, and none those up to it, nor all.
+-- ManyConfigs: orders that explain the events before this index, or those up to it, lead to more
 -- than 4,096 configurations.
--- ManyOpen: more than 64 calls are open after the events up to this place.
--- NoHistory: the event at this place may not follow those before it.
+-- ManyOpen: more than 64 calls are open after the events up to this index.
+-- NoHistory: the event at this index may not follow those before it.
 abbrev pub IsVerdict : {S : Type 0} → (S → ℕ → S → Type 0) → List S → List Event → Verdict S
     → Type 0
 IsVerdict Step olds events (verdict.Explained front) =

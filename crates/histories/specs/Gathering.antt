@@ -72,7 +72,7 @@ IsOpened slot config opened =
     (opened.state ≡ config.state) × (opened.waiting ≡ put config.waiting slot)
     × (opened.made ≡ path_of config)
 
--- as many, each of which is related to the one at its place
+-- as many, each of which is related to the one at its index
 abbrev pub AreEach : {X : Type 0} → (X → X → Type 0) → List X → List X → Type 0
 AreEach {X} R olds news =
     (length news ≡ length olds)
@@ -304,7 +304,7 @@ IsLaid links more config laid =
     × (config.base ≤ length links
     → (laid.base ≤ length more) × (order_of more laid ≡ order_of links config))
 
--- the same configurations, each at its place, with the same orders in more links
+-- the same configurations, each at its index, with the same orders in more links
 abbrev pub AreLaid : {S : Type 0} → List Link → List Link → List (Config S) → List (Config S)
     → Type 0
 AreLaid links more configs laid =
@@ -358,13 +358,13 @@ Finishes old slot configs new result =
 abbrev pub chain_of : {S : Type 0} → (S → ℕ) → Config S → ℕ
 chain_of hash config = (config.waiting % 1021 + hash config.state % 1021) % 1021
 
--- the chain of the configuration at a place
+-- the chain of the configuration at an index
 abbrev pub chain_at : {S : Type 0} → (S → ℕ) → List (Config S) → Config S → ℕ → ℕ
 chain_at hash configs d index = chain_of hash (get_or configs index d)
 
--- Places below the length of `before` are in chains. The head of a chain is above each of its
--- places, and one above the last of them. The number of a place is above each earlier place of its
--- chain, and one above the last of these.
+-- Indices below the length of `before` are in chains. The head of a chain is above each of its
+-- indices, and one above the last of them. The number of an index is above each earlier index of
+-- its chain, and one above the last of these.
 pub record AreLinked (chain : ℕ → ℕ) (heads before : List ℕ) : Type 0 where
   pub reached : (index : ℕ) → index < length before → index < get_or heads (chain index) 0
   pub head : (number index : ℕ) → get_or heads number 0 ≡ index + 1
@@ -380,7 +380,7 @@ AreChained {S} hash configs heads before =
     (length before ≤ length configs)
     × ((d : Config S) → AreLinked (chain_at hash configs d) heads before)
 
--- the configurations between two places are others than this one
+-- the configurations between two indices are others than this one
 abbrev pub AreOther : {S : Type 0} → List (Config S) → ℕ → ℕ → Config S → Type 0
 AreOther {S} configs from end config =
     (index : ℕ) (d : Config S) → from ≤ index → index < end

@@ -27,7 +27,7 @@ begun (Begin call ∷ events) = 1 + begun events
 begun (End call ∷ events) = begun events
 begun (Crash call ∷ events) = begun events
 
--- the event stands at this place
+-- the event stands at this index
 abbrev pub StandsAt : List Event → ℕ → Event → Type 0
 StandsAt events index event = slice_get events index ≡ Some event
 
@@ -35,7 +35,7 @@ StandsAt events index event = slice_get events index ≡ Some event
 abbrev pub IsAnswered : List Event → ℕ → Type 0
 IsAnswered events call = (index : ℕ) × StandsAt events index (End call)
 
--- the call is over from this place on: it was answered, or its caller crashed
+-- the call is over from this index on: it was answered, or its caller crashed
 abbrev pub EndsAt : List Event → ℕ → ℕ → Type 0
 EndsAt events index call =
     StandsAt events index (End call) ⊎ StandsAt events index (Crash call)

@@ -7,7 +7,7 @@ use Rattle.histories.specs.declared.whole.Verdict.TheVariants as verdict
 use Rattle.histories.specs.Histories.{Explains, IsHistory, Leads}
 use Rattle.histories.specs.Advances.{IsVerdict}
 
--- A history that is explained is not refused, and it is refused at one place.
+-- A history that is explained is not refused, and it is refused at one index.
 abbrev pub VerdictsExclude : {S : Type 0} → (S → ℕ → S → Type 0) → Type 0
 VerdictsExclude {S} Step =
     (olds : List S) (events : List Event) (front : Front S) (index other : ℕ) → IsHistory events

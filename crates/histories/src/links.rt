@@ -8,7 +8,7 @@ use std::alloc::{AllocError, Global};
 
 /// Adds the calls that were made in the configuration to the links. Returns how many links there
 /// are up to that of the last one.
-#[tactic(auto, using(crate::proofs::Places::laid_out_none))]
+#[tactic(auto, using(crate::proofs::Indices::laid_out_none))]
 fn lay_calls(links: &mut Vec<Link>, base: usize, calls: &[usize]) -> Result<usize, AllocError>
     ensures { IfOk result (IsLaidOut links.old.items base calls.now links.new.items) }
 {

@@ -61,7 +61,7 @@ fn open_all<M: Machine>(
 }
 
 /// The calls that were made go into the links. Returns what was done.
-#[tactic(auto, using(crate::proofs::Places::put_back))]
+#[tactic(auto, using(crate::proofs::Indices::put_back))]
 fn lay<S>(front: &mut Front<S>) -> Result<Advance, AllocError>
     ensures { IfOk result (LaysOut front.old front.new) }
 {

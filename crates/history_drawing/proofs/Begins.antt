@@ -10,7 +10,7 @@ use Rattle.line_streams.specs.Spelling.{HasNo}
 use Rattle.history_drawing.specs.Calls.{texts, BeginsIn, IsAlone, IsElsewhere, Says, text_above, text_at, EndsIn}
 use Rattle.history_drawing.specs.Drawings.{with_newline}
 use Rattle.line_streams.specs.OneWay.{before_one}
-use Rattle.line_streams.proofs.Places.{has_one}
+use Rattle.line_streams.proofs.Indices.{has_one}
 use Rattle.std.proofs.lemmas.Bool.{cases_lt}
 use Rattle.log_lines.specs.Commands.{Begun, NamedCommand}
 use Rattle.log_lines.specs.Laws.{IsAlike}
@@ -19,7 +19,7 @@ use Rattle.log_lines.specs.Lines.Line.{service, call, reply, begin}
 use Rattle.log_lines.proofs.OneReading.{one_way}
 use Rattle.service_descriptions.specs.declared.replay.lines.service_line.ServiceLine.{ServiceLine}
 use Rattle.history_drawing.specs.declared.calls.LogCall.{LogCall}
-use Rattle.history_drawing.specs.declared.timeline.BarEnd.TheVariants.{Answered, Died, Open}
+use Rattle.history_drawing.specs.declared.timeline.BarEnd.TheVariants.{Answered, Crashed, Open}
 use Rattle.history_drawing.specs.declared.timeline.BarEnd.{BarEnd}
 
 -- these lines of the text were read, and the rest follows them
@@ -148,6 +148,6 @@ pub no_mark : (text caller rest : List ℕ) (k : ℕ) → text ≡ caller ++ res
     → (e : BarEnd) → EndsIn text k caller e → ⊥
 no_mark text caller rest k is words mark (Answered line w) h =
     words w.now (append_cancel_left caller rest (codes "< " ++ w.now) (sym is ∙ h.1))
-no_mark text caller rest k is words mark (Died line) h =
+no_mark text caller rest k is words mark (Crashed line) h =
     mark (append_cancel_left caller rest (codes "!") (sym is ∙ h.1))
 no_mark text caller rest k is words mark Open h = h

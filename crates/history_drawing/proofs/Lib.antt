@@ -1,4 +1,4 @@
 mod Begins
-mod Placed
+mod Located
 mod Rising
 mod Shown

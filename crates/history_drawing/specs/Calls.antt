@@ -8,7 +8,7 @@ use Rattle.log_lines.specs.Lines.{IsLine, Line, is_note, line_text}
 use Rattle.log_lines.specs.Lines.Line.{begin, call, crash, end, reply, service}
 use Rattle.service_descriptions.specs.declared.replay.lines.service_line.ServiceLine.{ServiceLine}
 use Rattle.history_drawing.specs.declared.calls.LogCall.{LogCall}
-use Rattle.history_drawing.specs.declared.timeline.BarEnd.TheVariants.{Answered, Died, Open}
+use Rattle.history_drawing.specs.declared.timeline.BarEnd.TheVariants.{Answered, Crashed, Open}
 use Rattle.history_drawing.specs.declared.timeline.BarEnd.{BarEnd}
 
 -- the texts of lines
@@ -33,7 +33,7 @@ text_above lines (suc k) =
 abbrev pub EndsIn : List ℕ → ℕ → List ℕ → BarEnd → Type 0
 EndsIn text k caller (Answered line words) =
     (line ≡ k) × (text ≡ line_text (end caller words.now))
-EndsIn text k caller (Died line) = (line ≡ k) × (text ≡ line_text (crash caller))
+EndsIn text k caller (Crashed line) = (line ≡ k) × (text ≡ line_text (crash caller))
 EndsIn text k caller Open = ⊥
 
 -- no line from one on and above another ends a caller's call

@@ -4,4 +4,4 @@ pub mod Drawings
 pub mod Calls
 pub mod Timelines
 pub mod Svg
-pub mod Places
+pub mod Coordinates

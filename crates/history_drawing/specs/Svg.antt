@@ -2,10 +2,10 @@
 use Rattle.std.specs.Prelude.{ℕ, ◌==◌, ◌&&◌, if◌then◌else◌, leb, List, [], ◌∷◌, ◌++◌, codes, Option, Some, None, ◌+◌, ◌-◌, Bool, true, false, ◌*◌, ◌/◌, length, max, min, take}
 use Rattle.std.specs.List.{flat_map}
 use Rattle.std.specs.Fmt.{decimal}
-use Rattle.history_drawing.specs.Places.{left, own_end, begin_of, end_of, point_of, top, right}
+use Rattle.history_drawing.specs.Coordinates.{left, own_end, begin_of, end_of, point_of, top, right}
 use Rattle.history_drawing.specs.declared.svg.frame.TheConstants.{STYLE}
 use Rattle.history_drawing.specs.declared.timeline.Bar.{Bar}
-use Rattle.history_drawing.specs.declared.timeline.BarEnd.TheVariants.{Answered, Died, Open}
+use Rattle.history_drawing.specs.declared.timeline.BarEnd.TheVariants.{Answered, Crashed, Open}
 use Rattle.history_drawing.specs.declared.timeline.BarEnd.{BarEnd}
 use Rattle.history_drawing.specs.declared.timeline.Point.{Point}
 use Rattle.std.specs.Borrow.{Bor}
@@ -93,7 +93,7 @@ class_text false = codes "call"
 -- what became of a call
 abbrev pub words_of : BarEnd → List ℕ
 words_of (Answered line words) = words.now
-words_of (Died line) = codes "died"
+words_of (Crashed line) = codes "died"
 words_of Open = codes "open"
 
 -- the begin of what is drawn of a call of this class
@@ -106,7 +106,7 @@ title_text b =
     element_text (codes "<title>") b.command.now (codes ": ")
     ++ element_text [] (words_of b.end) (codes "</title>\n")
 
--- the outline of a bar from one place to another, which is open on the right
+-- the outline of a bar from one coordinate to another, which is open on the right
 unfoldable pub outline_text : ℕ → ℕ → ℕ → List ℕ
 outline_text from to y =
     codes "<path class=\"bar\" d=\"M" ++ (decimal to ++ (codes " " ++ (decimal y
@@ -118,7 +118,7 @@ unfoldable pub end_text : ℕ → ℕ → BarEnd → List ℕ
 end_text to y (Answered line words) =
     codes "<path class=\"end\" d=\"M" ++ (decimal to ++ (codes " " ++ (decimal y
     ++ codes "v44\"/>\n")))
-end_text to y (Died line) =
+end_text to y (Crashed line) =
     codes "<path class=\"cross\" d=\"M" ++ (decimal to ++ (codes " " ++ (decimal y
     ++ codes "m-8 14l16 16m0 -16l-16 16\"/>\n")))
 end_text to y Open = []

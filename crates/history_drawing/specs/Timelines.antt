@@ -8,7 +8,7 @@ use Rattle.history_drawing.specs.declared.timeline.Timeline.{Timeline}
 use Rattle.history_drawing.specs.declared.timeline.Window.{Window}
 use Rattle.std.specs.List.{AllZip, flat_map}
 use Rattle.history_logs.specs.declared.logs.verdict.Order.{Order}
-use Rattle.history_drawing.specs.declared.timeline.BarEnd.TheVariants.{Answered, Died, Open}
+use Rattle.history_drawing.specs.declared.timeline.BarEnd.TheVariants.{Answered, Crashed, Open}
 use Rattle.history_drawing.specs.declared.timeline.BarEnd.{BarEnd}
 use Rattle.history_drawing.specs.declared.timeline.Point.{Point}
 
@@ -89,7 +89,7 @@ pub record IsTimeline (lines : List (Bor (List ℕ))) (w : Window) (marked : Opt
 -- the call is not over above this line
 abbrev pub Reaches : BarEnd → ℕ → Type 0
 Reaches (Answered end words) line = line ≤ end
-Reaches (Died end) line = line ≤ end
+Reaches (Crashed end) line = line ≤ end
 Reaches Open line = Unit {0}
 
 -- the point lies in the bar: in its row, below its begin and above its end

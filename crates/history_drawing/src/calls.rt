@@ -105,7 +105,7 @@ fn end_in<'a>(text: &'a [u8], line: usize, caller: &[u8]) -> Option<BarEnd<'a>>
     if !rest.is_empty() {
         return None;
     }
-    Some(BarEnd::Died(line))
+    Some(BarEnd::Crashed(line))
 }
 
 /// How a caller's call ends, in lines from one on and above another.

@@ -6,7 +6,7 @@ ghost use Rattle.history_logs.specs.Reports.{report_text};
 ghost use Rattle.history_drawing.specs.Calls.{BeginsIn, IsAnsweredIn, IsElsewhere, IsServiceOf};
 ghost use Rattle.history_drawing.specs.Drawings.{AreLines, Draws, DrawsAll, DrawsWindow};
 ghost use Rattle.history_drawing.specs.Drawings.{IsDrawingOf, IsDrawn, IsPicture, IsUndrawn, IsWindow};
-ghost use Rattle.history_drawing.specs.Places.{IsDrawable};
+ghost use Rattle.history_drawing.specs.Coordinates.{IsDrawable};
 
 use crate::calls::{LogCall, below_first, call_at, first_service, lines_of, text_at};
 use crate::points::points_of;

@@ -27,7 +27,7 @@ fn reaches(end: &BarEnd<'_>, line: usize) -> bool
 {
     match end {
         BarEnd::Answered(end, _) => line <= *end,
-        BarEnd::Died(end) => line <= *end,
+        BarEnd::Crashed(end) => line <= *end,
         BarEnd::Open => true,
     }
 }

@@ -3,7 +3,7 @@ ghost use Rattle.std.specs.Prelude.{◌≡◌, ◌++◌, ◌≤◌, ◌<◌, All
 ghost use Rattle.std.specs.List.{flat_map};
 ghost use Rattle.history_drawing.specs.Svg.{bar_text, point_text};
 ghost use Rattle.history_drawing.specs.Svg.{marks_text};
-ghost use Rattle.history_drawing.specs.Places.{IsDrawable};
+ghost use Rattle.history_drawing.specs.Coordinates.{IsDrawable};
 ghost use Rattle.history_drawing.specs.Svg.{below_text, calls_text, lines_text, names_text, notes_text};
 ghost use Rattle.history_drawing.specs.Svg.{report_text, tail_text};
 ghost use Rattle.history_drawing.specs.Svg.{rows_text, shown, svg_text};
@@ -11,13 +11,13 @@ ghost use Rattle.history_drawing.specs.declared.timeline.Bar.{Bar};
 ghost use Rattle.history_drawing.specs.declared.timeline.Point.{Point};
 
 mod bar;
+mod coordinates;
 mod frame;
-mod place;
 
 use crate::timeline::{Bar, Point, Timeline};
 use bar::{write_bar, write_point};
+use coordinates::{right, top};
 use frame::{write_heading, write_marks, write_more, write_name, write_note, write_open};
-use place::{right, top};
 use std::alloc::AllocError;
 
 /// How many lines of a report stand below a picture at most: the reply, its call, the window and

@@ -18,7 +18,7 @@ pub(crate) enum BarEnd<'a> {
     /// It was answered in this line, with these words.
     Answered(usize, &'a [u8]),
     /// Its caller died, as this line says.
-    Died(usize),
+    Crashed(usize),
     /// It is open where the picture ends.
     Open,
 }

@@ -24,7 +24,7 @@ use Rattle.service_descriptions.specs.declared.replay.lines.service_line.Service
 use Rattle.history_logs.specs.declared.logs.verdict.Expected.{Expected}
 use Rattle.history_logs.specs.Good.{IsKept, IsOrderly, IsReadTo}
 use Rattle.history_logs.specs.EventLines.{Answers, HasCommand, HasEventLines, IsAnsweredIn, IsLineAt, IsSaidIn}
-use Rattle.history_logs.specs.Reading.{Dies, GoesOn, HasRead, Log, Says}
+use Rattle.history_logs.specs.Reading.{Crashes, GoesOn, HasRead, Log, Says}
 use Rattle.history_logs.specs.Reading.HasRead.{nothing as none_read, note as note_read, line as line_read}
 use Rattle.history_logs.specs.declared.logs.callers.CallerState.{CallerState}
 use Rattle.history_logs.specs.declared.logs.callers.CallerState.TheVariants as caller
@@ -110,9 +110,9 @@ push_upto : (ps : List ℕ) (count k : ℕ) → All (λ p. p ≤ count) ps → c
 push_upto ps count k upto h =
     All-push (λ p. p ≤ k) ps k (λ i d lt. omega (arith, upto i d lt)) (omega arith)
 
-pub placed_new : (text : List ℕ) (count : ℕ) (line : ServiceLine)
+pub located_new : (text : List ℕ) (count : ℕ) (line : ServiceLine)
     → HasEventLinesTo text count (unseen line)
-placed_new text count line = record {
+located_new text count line = record {
   long = refl;
   rising = λ i j d h lt. absurd (omega arith);
   upto = All-nil (λ p. p ≤ count);
@@ -125,8 +125,8 @@ same_end a b e = cc
 
 module _ (text : List ℕ) (count : ℕ) (s : Service) (p : HasEventLinesTo text count s) where
   -- more lines follow
-  pub placed_on : (more : List ℕ) (k : ℕ) → count ≤ k → HasEventLinesTo (text ++ more) k s
-  placed_on more k h = record {
+  pub located_on : (more : List ℕ) (k : ℕ) → count ≤ k → HasEventLinesTo (text ++ more) k s
+  located_on more k h = record {
     long = p.long;
     rising = p.rising;
     upto = λ i d lt. omega (arith, p.upto i d lt);
@@ -138,14 +138,14 @@ module _ (text : List ℕ) (count : ℕ) (s : Service) (p : HasEventLinesTo text
 
   module _ (k : ℕ) (h : count ≤ k) where
     -- one event more, in this line
-    placed_event : (t : Service) (e : Event) → t.events ≡ s.events ++ e ∷ []
+    located_event : (t : Service) (e : Event) → t.events ≡ s.events ++ e ∷ []
         → t.event_lines ≡ s.event_lines ++ k ∷ []
         → ((index number line : ℕ) → StandsAt s.events index (End number) → (rest : List ℕ)
         → IsAnsweredIn (text ++ rest) s number line → IsAnsweredIn (text ++ rest) t number line)
         → ((number : ℕ) → e ≡ End number → (rest : List ℕ)
         → IsAnsweredIn (text ++ rest) t number k)
         → All (HasCommandIn text) t.begins → HasEventLinesTo text k t
-    placed_event t e events lines still last begun = record {
+    located_event t e events lines still last begun = record {
       long = ap length lines ∙ (both s.event_lines s.events k e p.long ∙ ap length (sym events));
       rising = subst (AllPairs (λ (one other : ℕ). one ≤ other)) (sym lines)
           (push_rising s.event_lines count k p.rising p.upto h);
@@ -171,11 +171,11 @@ module _ (text : List ℕ) (count : ℕ) (s : Service) (p : HasEventLinesTo text
     }
 
     -- a call begins in this line
-    placed_call : (t : Service) (c : Judged) → t.events ≡ s.events ++ Begin (length s.calls) ∷ []
+    located_call : (t : Service) (c : Judged) → t.events ≡ s.events ++ Begin (length s.calls) ∷ []
         → t.event_lines ≡ s.event_lines ++ k ∷ [] → t.calls ≡ s.calls ++ c ∷ []
         → t.begins ≡ s.begins ++ k ∷ [] → HasCommandIn text k → HasEventLinesTo text k t
-    placed_call t c events lines calls begins has =
-        placed_event t (Begin (length s.calls)) events lines
+    located_call t c events lines calls begins has =
+        located_event t (Begin (length s.calls)) events lines
         (λ index number line at rest a. (
           a.0,
           ap (λ (l : List Judged). slice_get l number) calls
@@ -185,19 +185,19 @@ module _ (text : List ℕ) (count : ℕ) (s : Service) (p : HasEventLinesTo text
         (subst (All (HasCommandIn text)) (sym begins)
         (All-push (HasCommandIn text) s.begins k p.begun has))
 
-    placed_part : (c : Judged) → HasCommandIn text k → HasEventLinesTo text k (with_part s c k)
-    placed_part c has = placed_call (with_part s c k) c refl refl refl refl has
+    located_part : (c : Judged) → HasCommandIn text k → HasEventLinesTo text k (with_part s c k)
+    located_part c has = located_call (with_part s c k) c refl refl refl refl has
 
-    pub placed_begin : (c : Judged) → HasCommandIn text k
+    pub located_begin : (c : Judged) → HasCommandIn text k
         → HasEventLinesTo text k (with_begin s c k)
-    placed_begin c has = placed_call (with_begin s c k) c refl refl refl refl has
+    located_begin c has = located_call (with_begin s c k) c refl refl refl refl has
 
     -- what starts to look is over
-    placed_over : (over : ℕ) (part : Part) (ids : Option (List ℕ))
+    located_over : (over : ℕ) (part : Part) (ids : Option (List ℕ))
         → slice_get s.calls over ≡ Some (starts part ids)
         → HasEventLinesTo text k (with_over s over k)
-    placed_over over part ids called =
-        placed_event (with_over s over k) (End over) refl refl (λ index number line at rest a. a)
+    located_over over part ids called =
+        located_event (with_over s over k) (End over) refl refl (λ index number line at rest a. a)
         (λ number e rest. (
           starts part ids,
           subst (λ n. slice_get s.calls n ≡ Some (starts part ids)) (same_end over number e) called,
@@ -205,20 +205,20 @@ module _ (text : List ℕ) (count : ℕ) (s : Service) (p : HasEventLinesTo text
         )) p.begun
 
     -- the caller of a call died
-    pub placed_crash : (dead : ℕ) → HasEventLinesTo text k (with_crash s dead k)
-    placed_crash dead =
-        placed_event (with_crash s dead k) (Crash dead) refl refl
+    pub located_crash : (dead : ℕ) → HasEventLinesTo text k (with_crash s dead k)
+    located_crash dead =
+        located_event (with_crash s dead k) (Crash dead) refl refl
         (λ index number line at rest a. a) (λ number e. absurd (cc)) p.begun
 
     -- a call that is open was answered in this line
-    pub placed_end : (ended : ℕ) (r : SeenReply) (c : Judged) (l : Line) (words : List ℕ)
+    pub located_end : (ended : ℕ) (r : SeenReply) (c : Judged) (l : Line) (words : List ℕ)
         → IsOpen s.events ended → slice_get s.calls ended ≡ Some c → Says words r → IsLine l
         → Answers l words → ((rest : List ℕ) → IsLineAt (text ++ rest) k (line_text l))
         → HasEventLinesTo text k (with_end s ended r k)
-    placed_end ended r c l words live called says is_line answer there =
+    located_end ended r c l words live called says is_line answer there =
         let shown_calls = calls_shown s.calls (start_of s.calls ended) r in
         let answered = λ (x : Judged). judged_answered x r in
-        placed_event (with_end s ended r k) (End ended) refl refl
+        located_event (with_end s ended r k) (End ended) refl refl
         (λ index number line before rest a.
         let other : number ≢ ended =
         λ same. live.1 (index, inl (subst (λ n. StandsAt s.events index (End n)) same before)) in
@@ -283,8 +283,8 @@ module _ (text : List ℕ) (count : ℕ) where
   set_next ss new at t all p is =
       subst (All Next) (sym is) (All-set Next ss at t p (all_later ss all))
 
-  placed_started : (s : Service) (start : dynamic.Service) → Next s → Next (started s start)
-  placed_started s start p = record {
+  located_started : (s : Service) (start : dynamic.Service) → Next s → Next (started s start)
+  located_started s start p = record {
     long = p.long;
     rising = p.rising;
     upto = p.upto;
@@ -292,49 +292,50 @@ module _ (text : List ℕ) (count : ℕ) where
     begun = p.begun;
   }
 
-  placed_dies : (ss new : List Service) (state : Option CallerState) → All Now ss
-      → Dies ss (count + 1) state new → All Next new
-  placed_dies ss new (Some caller.Idle) all d =
+  located_crashes : (ss new : List Service) (state : Option CallerState) → All Now ss
+      → Crashes ss (count + 1) state new → All Next new
+  located_crashes ss new (Some caller.Idle) all d =
       subst (All Next) (sym d) (all_later ss all)
-  placed_dies ss new (Some (caller.Calls at number)) all d =
+  located_crashes ss new (Some (caller.Calls at number)) all d =
       set_next ss new at (with_crash d.0 number (count + 1)) all
-      (placed_crash text count d.0 (all_get Now ss at d.0 all d.1) (count + 1) (omega arith) number)
+      (located_crash text count d.0 (all_get Now ss at d.0 all d.1) (count + 1) (omega arith)
+      number)
       d.2
-  placed_dies ss new _ all d = absurd d
+  located_crashes ss new _ all d = absurd d
 
-  placed_look : (s : Service) (part : Part) → Now s → HasCommandIn text (count + 1)
+  located_look : (s : Service) (part : Part) → Now s → HasCommandIn text (count + 1)
       → Next (with_look s part (count + 1))
-  placed_look s part p has =
+  located_look s part p has =
       let k = count + 1 in
       let n = length s.calls in
       let one = with_begin s (starting part) k in
-      let first : Next one = placed_begin text count s p k (omega arith) (starting part) has in
+      let first : Next one = located_begin text count s p k (omega arith) (starting part) has in
       let second : Next (with_over one n k) =
-      placed_over text k one first k (omega arith) n part None
+      located_over text k one first k (omega arith) n part None
       (get_last s.calls (starting part) (length s.calls) refl) in
-      placed_part text k (with_over one n k) second k (omega arith) (stopping n) has
+      located_part text k (with_over one n k) second k (omega arith) (stopping n) has
 
-  placed_begun : (s t : Service) (b : Begun) (current : ℕ) → Now s
+  located_begun : (s t : Service) (b : Begun) (current : ℕ) → Now s
       → HasCommandIn text (count + 1) → Begins s b (count + 1) t current → Next t
-  placed_begun s t (command c) current p has begins =
+  located_begun s t (command c) current p has begins =
       subst Next (sym begins.0)
-      (placed_begin text count s p (count + 1) (omega arith) (called s c) has)
-  placed_begun s t (weak r) current p has (inl looks) =
-      subst Next (sym looks.2) (placed_look s looks.0 p has)
-  placed_begun s t (weak r) current p has (inr lists) =
-      subst Next (sym lists.1) (placed_begin text count s p (count + 1) (omega arith) _ has)
+      (located_begin text count s p (count + 1) (omega arith) (called s c) has)
+  located_begun s t (weak r) current p has (inl looks) =
+      subst Next (sym looks.2) (located_look s looks.0 p has)
+  located_begun s t (weak r) current p has (inr lists) =
+      subst Next (sym lists.1) (located_begin text count s p (count + 1) (omega arith) _ has)
 
-  placed_step : (old new : Log) (l : Line) → IsKept old → All Now old.services
+  located_step : (old new : Log) (l : Line) → IsKept old → All Now old.services
       → GoesOn old (count + 1) l new → IsLine l
       → ((rest : List ℕ) → IsLineAt (text ++ rest) (count + 1) (line_text l))
       → (old.waits ≢ None → HasCommandIn text count) → All Next new.services
-  placed_step old new (service line) kept all g is there waits =
+  located_step old new (service line) kept all g is there waits =
       subst (λ (x : Log). All Next x.services) (sym g.2)
       (All-push Next old.services (unseen line) (all_later old.services all)
-      (placed_new text (count + 1) line))
-  placed_step old new (call number c) kept all g is there waits =
+      (located_new text (count + 1) line))
+  located_step old new (call number c) kept all g is there waits =
       subst (λ (x : Log). All Next x.services) (sym g.4) (all_later old.services all)
-  placed_step old new (reply words) kept all g is there waits =
+  located_step old new (reply words) kept all g is there waits =
       let s = g.2 in
       let k = count + 1 in
       let orderly = all_get IsOrderly old.services g.0 s kept.orderly g.5 in
@@ -343,20 +344,20 @@ module _ (text : List ℕ) (count : ℕ) where
       λ rest. aside_more (text ++ rest) count (line_text (reply words)) (inr (words, refl))
       (there rest) (waits (λ none. let e = sym g.4 ∙ none in absurd (cc)) rest) in
       let begun : HasEventLinesTo text k (with_begin s c k) =
-      placed_begin text count s (all_get Now old.services g.0 s all g.5) k (omega arith) c has in
+      located_begin text count s (all_get Now old.services g.0 s all g.5) k (omega arith) c has in
       let ended : HasEventLinesTo text k (with_alone s c g.3 k) =
-      placed_end text k (with_begin s c k) begun k (omega arith) (length s.calls) g.3 c
+      located_end text k (with_begin s c k) begun k (omega arith) (length s.calls) g.3 c
       (reply words) words (open_new s c k orderly) (get_last s.calls c _ refl)
       g.6 tt refl there in
       set_next old.services new.services g.0 _ all ended (ap (λ (x : Log). x.services) g.7)
-  placed_step old new (begin number name begun) kept all g is there waits =
+  located_step old new (begin number name begun) kept all g is there waits =
       let s = g.1 in
       let has : HasCommandIn text (count + 1) =
       λ rest. own_command (text ++ rest) (count + 1) (begin number name begun) is tt (there rest) in
       set_next old.services new.services g.0 g.5.0 all
-      (placed_begun s g.5.0 begun g.5.1 (all_get Now old.services g.0 s all g.3.there) has g.5.2)
+      (located_begun s g.5.0 begun g.5.1 (all_get Now old.services g.0 s all g.3.there) has g.5.2)
       g.5.3
-  placed_step old new (end name words) kept all g is there waits =
+  located_step old new (end name words) kept all g is there waits =
       let s = g.2 in
       let k = count + 1 in
       let orderly = all_get IsOrderly old.services g.0 s kept.orderly g.6 in
@@ -368,21 +369,21 @@ module _ (text : List ℕ) (count : ℕ) where
       omega (arith, orderly.numbered g.1 live.0) in
       let c = get_within s.calls g.1 within in
       set_next old.services new.services g.0 (with_end s g.1 g.3 k) all
-      (placed_end text count s (all_get Now old.services g.0 s all g.6) k (omega arith) g.1 g.3 c.0
+      (located_end text count s (all_get Now old.services g.0 s all g.6) k (omega arith) g.1 g.3 c.0
       (end name words) words live c.1 g.7 is refl there) g.8
-  placed_step old new (crash name) kept all g is there waits =
-      placed_dies old.services new.services (old.callers name) all g.1
-  placed_step old new (given number what) kept all g is there waits =
+  located_step old new (crash name) kept all g is there waits =
+      located_crashes old.services new.services (old.callers name) all g.1
+  located_step old new (given number what) kept all g is there waits =
       elim g.5 as (λ _. All Next new.services) [
         | inl first ↦
             set_next old.services new.services g.0 (started g.1 g.2) all
-            (placed_started g.1 g.2 (later g.1 (all_get Now old.services g.0 g.1 all g.4.there)))
+            (located_started g.1 g.2 (later g.1 (all_get Now old.services g.0 g.1 all g.4.there)))
             (ap (λ (x : Log). x.services) first.1)
         | inr anew ↦
             let t = started (unseen g.1.line) g.2 in
             subst (λ (x : Log). All Next x.services) (sym anew.1)
             (All-push Next old.services t (all_later old.services all)
-            (placed_started (unseen g.1.line) g.2 (placed_new text (count + 1) g.1.line)))
+            (located_started (unseen g.1.line) g.2 (located_new text (count + 1) g.1.line)))
       ]
 
   -- where a call alone waits for its reply, its command is above
@@ -408,7 +409,7 @@ module _ (text : List ℕ) (count : ℕ) where
 record ReadOn (text : List ℕ) (count : ℕ) (log : Log) : Type 0 where
   kept : IsKept log
   cut : FollowsOn text count
-  placed : All (HasEventLinesTo text count) log.services
+  located : All (HasEventLinesTo text count) log.services
   waits : log.waits ≢ None → HasCommandIn text count
 
 read_on : (text : List ℕ) (count : ℕ) (log : Log) → HasRead text count log → ReadOn text count log
@@ -417,7 +418,7 @@ read_on text count log (none_read l services callers waits) = record {
   cut = λ rest line k at.
       let same : suc k ≡ 0 + suc k = omega arith in
       subst (λ n. IsLineAt rest n line) same at;
-  placed = subst (All (HasEventLinesTo [] 0)) (sym services) (All-nil (HasEventLinesTo [] 0));
+  located = subst (All (HasEventLinesTo [] 0)) (sym services) (All-nil (HasEventLinesTo [] 0));
   waits = λ some. absurd (some waits);
 }
 read_on text count log (note_read before n l read first none is) =
@@ -425,10 +426,10 @@ read_on text count log (note_read before n l read first none is) =
     record {
       kept = r.kept;
       cut = follows_on before n first none r.cut;
-      placed = All-weaker (HasEventLinesTo before n) (HasEventLinesTo (before ++ (first ++ 10 ∷
+      located = All-weaker (HasEventLinesTo before n) (HasEventLinesTo (before ++ (first ++ 10 ∷
           [])) (n + 1))
-          (λ s p. placed_on before n s p (first ++ 10 ∷ []) (n + 1) (omega arith)) log.services
-          r.placed;
+          (λ s p. located_on before n s p (first ++ 10 ∷ []) (n + 1) (omega arith)) log.services
+          r.located;
       waits = λ some rest.
           let more = first ++ 10 ∷ [] in
           aside_more ((before ++ more) ++ rest) n first (inl is)
@@ -442,16 +443,16 @@ read_on text count log (line_read before n old read l is none new g) =
     record {
       kept = kept_step old log (n + 1) l r.kept g;
       cut = follows_on before n (line_text l) none r.cut;
-      placed = placed_step (before ++ more) n old log l r.kept
+      located = located_step (before ++ more) n old log l r.kept
           (All-weaker (HasEventLinesTo before n) (HasEventLinesTo (before ++ more) n)
-          (λ s p. placed_on before n s p more n (omega arith)) old.services r.placed)
+          (λ s p. located_on before n s p more n (omega arith)) old.services r.located)
           g is there (λ some. command_on before more n (r.waits some));
       waits = waits_step (before ++ more) n old log l g is there;
     }
 
-pub placed_of : (bytes : List ℕ) (services : List Service) (bad : Option (ℕ × Expected))
+pub located_of : (bytes : List ℕ) (services : List Service) (bad : Option (ℕ × Expected))
     → IsReadTo bytes services bad → All (HasEventLines bytes) services
-placed_of bytes services bad r =
+located_of bytes services bad r =
     let g = r.good in
     let on = read_on g.text r.count r.log g.read in
     subst (All (HasEventLines bytes)) r.same
@@ -464,4 +465,4 @@ placed_of bytes services bad r =
       begun = All-weaker (HasCommandIn g.text) (HasCommand bytes)
           (λ k has. subst (λ (b : List ℕ). HasCommand b k) (sym g.spelled) (has r.rest)) s.begins
           p.begun;
-    }) r.log.services on.placed)
+    }) r.log.services on.located)

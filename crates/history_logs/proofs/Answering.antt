@@ -17,7 +17,7 @@ changed_at f (x ∷ calls) zero c n is new = ap (λ (y : Judged). y ∷ calls) (
 changed_at f (x ∷ calls) (suc number) c n is new =
     ap (λ (l : List Judged). x ∷ l) (changed_at f calls number c n is new)
 
--- the number with which a weak listing began is told by the call
+-- the number with which a weak listing began is kept in the call
 pub start_at : (calls : List Judged) (number : ℕ) (c : Judged) → number < length calls
     → c ≡ get_or calls number c → start_of calls number ≡ stopped c
 start_at [] number c h is = absurd (omega arith)

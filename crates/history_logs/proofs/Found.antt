@@ -32,7 +32,7 @@ kept : (b : Bool) (p : ℕ) (ps : List ℕ) → length (cond b (p ∷ ps) ps) �
 kept true p ps = omega arith
 kept false p ps = omega arith
 
--- where none from a place on is below, no more are below than stand before it
+-- where none from an index on is below, no more are below than stand before it
 below_index : (k : ℕ) (ps : List ℕ) (index : ℕ)
     → ((i v : ℕ) → index ≤ i → slice_get ps i ≡ Some v → k ≤ v) → below k ps ≤ index
 below_index k [] index none = omega arith
@@ -64,7 +64,7 @@ below_less j k (p ∷ ps) h =
     cases rest false true e f = rw (e, f) (omega arith)
     cases rest false false e f = rw (e, f) rest
 
--- of numbers that rise, those from a place on are no less
+-- of numbers that rise, those from an index on are no less
 no_less : (ps : List ℕ) (index i at v : ℕ) → AllPairs (λ (one other : ℕ). one ≤ other) ps
     → slice_get ps index ≡ Some at → index ≤ i → slice_get ps i ≡ Some v → at ≤ v
 no_less ps index i at v rising is h there =
@@ -326,7 +326,7 @@ whole_of s calls states events v a b e x =
     (subst (λ (l : List Watched). IsWhole (WindowStep 0 calls) l s.events v) b
     (subst (λ (l : List Event). IsWhole (WindowStep 0 calls) states l v) e x))
 
--- what is told by what was found
+-- what is reported by what was found
 pub explored : (bytes : List ℕ) (s : Service) (c : Cut) (found : WindowVerdict Watched)
     (reported : Result (Window Watched) (ℕ × Verdict))
     → IsVerdict (StepOf s) (news s) s.events found
@@ -340,7 +340,7 @@ explored bytes s c found (Ok window) is whole same =
       λ never. subst (IsWhole (StepOf s) (news s) s.events) same (whole never),
     )
 
--- a place of an event is one of a line
+-- an index of an event is one of a line
 pub line_within : (s : Service) (index : ℕ) (why : Stop) → IsOrderly s
     → IsStop (StepOf s) (news s) s.events index why → index < length s.event_lines
 line_within s index why o x = omega arith

@@ -19,7 +19,7 @@ use Rattle.history_logs.specs.declared.logs.callers.CallerState.{CallerState}
 use Rattle.history_logs.specs.declared.logs.callers.CallerState.TheVariants as caller
 use Rattle.history_logs.specs.Good.{IsKept, IsOpenOn, IsOrderly, TakesLine}
 use Rattle.history_logs.specs.Logs.{calls_in}
-use Rattle.history_logs.specs.Reading.{Dies, GoesOn, HaveOneNumber, IsSane, Log, Sets}
+use Rattle.history_logs.specs.Reading.{Crashes, GoesOn, HaveOneNumber, IsSane, Log, Sets}
 use Rattle.history_logs.specs.Seen.{Begins, HasHandles, Service, called, started, unseen, with_alone, with_crash, with_end}
 use Rattle.history_logs.proofs.AtIndex.{all_get, get_push, get_same}
 use Rattle.history_logs.proofs.Callers.{other_bytes, same_bytes}
@@ -200,24 +200,24 @@ kept_idle old new name k services sets waits was =
           let bars = k.none (sym services ∙ e) name in absurd (cc);
     }
 
--- the death of a caller
-kept_dies : (old new : Log) (k : ℕ) (name : List ℕ) (state : Option CallerState) → IsKept old
-    → old.callers name ≡ state → Dies old.services k state new.services
+-- the crash of a caller
+kept_crashes : (old new : Log) (k : ℕ) (name : List ℕ) (state : Option CallerState) → IsKept old
+    → old.callers name ≡ state → Crashes old.services k state new.services
     → Sets old.callers name caller.Dead new.callers → new.waits ≡ None → IsKept new
-kept_dies old new k name (Some caller.Idle) kept is dies sets waits =
-    kept_idle old new name kept dies sets waits is
-kept_dies old new k name (Some (caller.Calls at number)) kept is dies sets waits =
-    let s = dies.0 in
+kept_crashes old new k name (Some caller.Idle) kept is crashes sets waits =
+    kept_idle old new name kept crashes sets waits is
+kept_crashes old new k name (Some (caller.Calls at number)) kept is crashes sets waits =
+    let s = crashes.0 in
     let o = kept.opened name at number is in
-    let same : o.0 ≡ s = same_Some o.0 s (sym o.1 ∙ dies.1) in
+    let same : o.0 ≡ s = same_Some o.0 s (sym o.1 ∙ crashes.1) in
     let live = subst (λ (x : Service). IsOpen x.events number) same o.2 in
-    let orderly = all_get IsOrderly old.services at s kept.orderly dies.1 in
-    kept_sets old new at s (with_crash s number k) name caller.Dead kept dies.1
-    (orderly_crash s number k orderly live) dies.2 sets waits (λ b m e. absurd (cc))
+    let orderly = all_get IsOrderly old.services at s kept.orderly crashes.1 in
+    kept_sets old new at s (with_crash s number k) name caller.Dead kept crashes.1
+    (orderly_crash s number k orderly live) crashes.2 sets waits (λ b m e. absurd (cc))
     (λ other m ne does here. open_crashed s number k m here
     (λ e. ne (kept.apart other name at m does
     (subst (λ i. old.callers name ≡ Some (caller.Calls at i)) (sym e) is))))
-kept_dies old new k name _ kept is dies sets waits = absurd dies
+kept_crashes old new k name _ kept is crashes sets waits = absurd crashes
 
 pub kept_step : (old new : Log) (k : ℕ) (l : Line) → IsKept old → GoesOn old k l new → IsKept new
 kept_step old new k (service line) kept g =
@@ -260,7 +260,7 @@ kept_step old new k (end name words) kept g =
     (λ e. ne (kept.apart other name g.0 m does
     (subst (λ i. old.callers name ≡ Some (caller.Calls g.0 i)) (sym e) g.5))))
 kept_step old new k (crash name) kept g =
-    kept_dies old new k name (old.callers name) kept refl g.1 g.2 g.3
+    kept_crashes old new k name (old.callers name) kept refl g.1 g.2 g.3
 kept_step old new k (given number what) kept g =
     let s = g.1 in
     let there = g.4.there in
@@ -305,13 +305,14 @@ moves_begins ss at s t (weak r) k current there (inr is) =
     sets ss at s t there (ap (λ (v : Service). v.line) is.1)
     (omega (arith, ap calls_of is.1, length-append s.commands (length s.calls ∷ [])))
 
-moves_dies : (ss new : List Service) (k : ℕ) (state : Option CallerState) → Dies ss k state new
+moves_crashes : (ss new : List Service) (k : ℕ) (state : Option CallerState) → Crashes ss k state
+    new
     → Moves ss new
-moves_dies ss new k (Some caller.Idle) dies = subst (Moves ss) (sym dies) (stays ss)
-moves_dies ss new k (Some (caller.Calls at number)) dies =
-    subst (Moves ss) (sym dies.2)
-    (sets ss at dies.0 (with_crash dies.0 number k) dies.1 refl (omega arith))
-moves_dies ss new k _ dies = absurd dies
+moves_crashes ss new k (Some caller.Idle) crashes = subst (Moves ss) (sym crashes) (stays ss)
+moves_crashes ss new k (Some (caller.Calls at number)) crashes =
+    subst (Moves ss) (sym crashes.2)
+    (sets ss at crashes.0 (with_crash crashes.0 number k) crashes.1 refl (omega arith))
+moves_crashes ss new k _ crashes = absurd crashes
 
 moves_step : (old new : Log) (k : ℕ) (l : Line) → GoesOn old k l new
     → Moves old.services new.services
@@ -332,7 +333,7 @@ moves_step old new k (end name words) g =
     subst (Moves old.services) (sym g.8)
     (sets old.services g.0 g.2 (with_end g.2 g.1 g.3 k) g.6 refl (omega arith))
 moves_step old new k (crash name) g =
-    moves_dies old.services new.services k (old.callers name) g.1
+    moves_crashes old.services new.services k (old.callers name) g.1
 moves_step old new k (given number what) g =
     elim g.5 as (λ _. Moves old.services new.services) [
       | inl first ↦

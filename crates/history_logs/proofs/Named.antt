@@ -17,7 +17,7 @@ use Rattle.history_logs.proofs.AtIndex.{all_get, get_within}
 abbrev number_of : Service → ℕ
 number_of s = s.line.number
 
--- no service from a place on has the number
+-- no service from an index on has the number
 abbrev pub NoneFrom : ℕ → List Service → ℕ → Type 0
 NoneFrom number ss at =
     (later : ℕ) (t : Service) → at ≤ later → slice_get ss later ≡ Some t → number_of t ≢ number
@@ -32,9 +32,9 @@ no_some : (n : ℕ) → Some n ≡ None → ⊥
 no_some n e = absurd (cc)
 
 -- one service is named
-pub one_place : (number : Option ℕ) (ss : List Service) (at bt : ℕ) (s t : Service)
+pub one_index : (number : Option ℕ) (ss : List Service) (at bt : ℕ) (s t : Service)
     → IsNamed number ss at s → IsNamed number ss bt t → at ≡ bt
-one_place number ss at bt s t p q =
+one_index number ss at bt s t p q =
     let same : number_of s ≡ number_of t =
     elim p.named as (λ _. number_of s ≡ number_of t) [
       | inl a ↦ elim q.named as (λ _. number_of s ≡ number_of t) [
@@ -52,7 +52,7 @@ one_place number ss at bt s t p q =
 pub one_named : (number : Option ℕ) (ss : List Service) (at bt : ℕ) (s t : Service)
     → IsNamed number ss at s → IsNamed number ss bt t → s ≡ t
 one_named number ss at bt s t p q =
-    same_Some s t (sym p.there ∙ (ap (slice_get ss) (one_place number ss at bt s t p q) ∙ q.there))
+    same_Some s t (sym p.there ∙ (ap (slice_get ss) (one_index number ss at bt s t p q) ∙ q.there))
 
 -- where all have one number, the last one is named
 pub last_named : (ss : List Service) → 0 < length ss → HaveOneNumber ss
@@ -133,7 +133,7 @@ module _ (d : Service) where
       × (number_of t ≡ number_of d) → services_in (d ∷ ss) ≡ services_in ss
   count_known ss k = rw (is_known ss k.0 k.1 k.2 k.3) refl
 
--- the services behind a place
+-- the services behind an index
 abbrev pub behind : List Service → ℕ → List Service
 behind xs at = take (length xs - (at + 1)) (drop (at + 1) xs)
 

@@ -185,7 +185,7 @@ module _ (s : Service) (o : IsOrderly s) (begin index : ℕ) (within : begin ≤
         ap (λ (l : List Event). l ++ drop begin (take index s.events))
         (sym (take-take begin index s.events within)) ∙ take-append-drop begin (take index s.events)
 
-    -- what is told of the calls that are left
+    -- what is reported of the calls that are left
     pub needed_lines : (kept : ℕ → Bool) (past window : List Event) (begins lines : List ℕ)
         → past ≡ take begin upto → window ≡ drop begin upto → begins ≡ s.begins
         → AreNeeded (StepOf s) (news s) past window kept

@@ -17,9 +17,9 @@ use Rattle.history_logs.specs.declared.logs.verdict.Expected.{Expected}
 use Rattle.history_logs.specs.declared.logs.verdict.Expected.TheVariants as expected
 use Rattle.history_logs.specs.Good.{HasNoNext, IsBadLine, IsKept, SaysIn, Takes, TakesLine, TakesNext, is_service}
 use Rattle.history_logs.specs.Logs.{EndsInReturn, IsBadText, IsWrong}
-use Rattle.history_logs.specs.Reading.{Dies, Does, GoesOn, IsNamed, IsNew, IsRefused, IsSane, Log, MayBegin, RefusesBegin, RefusesDeath, RefusesEnd, Says, StartsAnewAs, StartsAs}
+use Rattle.history_logs.specs.Reading.{Crashes, Does, GoesOn, IsNamed, IsNew, IsRefused, IsSane, Log, MayBegin, RefusesBegin, RefusesCrash, RefusesEnd, Says, StartsAnewAs, StartsAs}
 use Rattle.history_logs.specs.Seen.{Service, called, with_alone}
-use Rattle.history_logs.proofs.Named.{one_named, one_place}
+use Rattle.history_logs.proofs.Named.{one_named, one_index}
 
 -- what was read, where no call waits any more
 pub sane_taken : (log : Log) → IsSane log → IsSane (record log { waits = None })
@@ -82,11 +82,11 @@ ends_not : (words : List ℕ) (state : Option CallerState) (e : Expected) (at nu
 ends_not words (Some (caller.Calls b m)) e at number r bars is says = bars.1 r says
 ends_not words _ e at number r bars is says = absurd (cc)
 
-dies_not : (old new : List Service) (k : ℕ) (state : Option CallerState) (e : Expected)
-    → RefusesDeath state e → ¬ (Dies old k state new)
-dies_not old new k None e bars dies = dies
-dies_not old new k (Some caller.Dead) e bars dies = dies
-dies_not old new k _ e bars dies = bars
+crashes_not : (old new : List Service) (k : ℕ) (state : Option CallerState) (e : Expected)
+    → RefusesCrash state e → ¬ (Crashes old k state new)
+crashes_not old new k None e bars crashes = crashes
+crashes_not old new k (Some caller.Dead) e bars crashes = crashes
+crashes_not old new k _ e bars crashes = bars
 
 -- a line that is refused does not go on, and no line of its text does
 refused_not : (log : Log) (k : ℕ) (l m : Line) (new : Log) (e : Expected) → IsKept log
@@ -108,8 +108,8 @@ refused_not log k (end a v) (end b w) new e kept none bars same g =
     ends_not v (log.callers a) e g.0 g.1 g.3 bars (ap log.callers same.0 ∙ g.5)
     (subst (λ (x : List ℕ). Says x g.3) (sym same.1) g.7)
 refused_not log k (crash a) (crash b) new e kept none bars same g =
-    dies_not log.services new.services k (log.callers a) e bars
-    (subst (λ (x : List ℕ). Dies log.services k (log.callers x) new.services) (sym same) g.1)
+    crashes_not log.services new.services k (log.callers a) e bars
+    (subst (λ (x : List ℕ). Crashes log.services k (log.callers x) new.services) (sym same) g.1)
 refused_not log k (given a what) (given b other) new e kept none bars same g =
     elim bars as (λ _. ⊥) [
       | inl h ↦ h.1 g.0 g.1
@@ -118,7 +118,7 @@ refused_not log k (given a what) (given b other) new e kept none bars same g =
           let f = h.1 in
           let own = subst (λ (x : Option ℕ). IsNamed x log.services g.0 g.1) (sym same.0) g.4 in
           let is : g.1 ≡ f.1 = one_named a log.services g.0 f.0 g.1 f.1 own f.2 in
-          let at : g.0 ≡ f.0 = one_place a log.services g.0 f.0 g.1 f.1 own f.2 in
+          let at : g.0 ≡ f.0 = one_index a log.services g.0 f.0 g.1 f.1 own f.2 in
           elim g.5 as (λ _. ⊥) [
             | inl first ↦
                 f.3 g.2
@@ -160,7 +160,7 @@ service_not log k text (begin n a c) new kept none empty bars p is g =
 service_not log k text (end a w) new kept none empty bars p is g =
     empty_get log.services g.0 g.2 empty g.6
 service_not log k text (crash a) new kept none empty bars p is g =
-    subst (λ (state : Option CallerState). Dies log.services k state new.services)
+    subst (λ (state : Option CallerState). Crashes log.services k state new.services)
     (kept.none empty a) g.1
 service_not log k text (given n s) new kept none empty bars p is g =
     empty_get log.services g.0 g.1 empty g.4.there

@@ -1,4 +1,4 @@
--- What is told of a reply that is refused.
+-- What is reported of a reply that is refused.
 use Rattle.std.proofs.Common.{◌≡◌, ◌⊎◌, inl, inr, ℕ, ◌<◌, ◌≤◌, List, Some, length, get_or, slice_get, take, drop, sym, ◌∙◌, ap, subst, arith, length-append}
 use Rattle.std.specs.List.{AllZip}
 use Rattle.std.proofs.lemmas.List.{length-take-le, take-append-drop}

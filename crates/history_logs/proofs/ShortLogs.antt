@@ -19,7 +19,7 @@ use Rattle.service_descriptions.specs.declared.replay.lines.service_line.Service
 use Rattle.history_logs.specs.declared.logs.callers.CallerState.{CallerState}
 use Rattle.history_logs.specs.declared.logs.callers.CallerState.TheVariants as caller
 use Rattle.history_logs.specs.Good.{IsKept, IsOrderly}
-use Rattle.history_logs.specs.Reading.{Dies, Gives, GoesOn, HaveNumber, IsNamed, IsSane, Log, MayBegin, Sets, StartsAnewAs, StartsAs}
+use Rattle.history_logs.specs.Reading.{Crashes, Gives, GoesOn, HaveNumber, IsNamed, IsSane, Log, MayBegin, Sets, StartsAnewAs, StartsAs}
 use Rattle.history_logs.specs.Seen.{HasHandles, IsKeptCall, Service, called, started, unseen, with_alone, with_begin, with_crash, with_end}
 use Rattle.history_logs.specs.Shortened.{AreShort, IsShort, IsShortLog, Keeps, Kept, front_at}
 use Rattle.history_logs.proofs.Alone.{called_stops}
@@ -292,42 +292,43 @@ module _ (log live new : Log) (fronts : List (Option (Front Watched))) (k : ℕ)
           goes_sets at s g.2 t (with_end g.2 number g.3 k) f.1 g.6 short g.8 g.10,
         )
 
-    goes_dies : (name : List ℕ) (state : Option CallerState) → log.callers name ≡ state
-        → live.waits ≡ None → Dies live.services k state new.services
+    goes_crashes : (name : List ℕ) (state : Option CallerState) → log.callers name ≡ state
+        → live.waits ≡ None → Crashes live.services k state new.services
         → Sets live.callers name caller.Dead new.callers → new.waits ≡ None → Goes (crash name)
-    goes_dies name None does waits dies sets none = absurd dies
-    goes_dies name (Some caller.Dead) does waits dies sets none = absurd dies
-    goes_dies name (Some caller.Idle) does waits dies sets none = (
+    goes_crashes name None does waits crashes sets none = absurd crashes
+    goes_crashes name (Some caller.Dead) does waits crashes sets none = absurd crashes
+    goes_crashes name (Some caller.Idle) does waits crashes sets none = (
       record { services = log.services; callers = new.callers; waits = None },
       (
         no_waits waits,
-        subst (λ (x : Option CallerState). Dies log.services k x log.services) (sym does) refl,
+        subst (λ (x : Option CallerState). Crashes log.services k x log.services) (sym does) refl,
         sets_same name caller.Dead sets,
         refl,
       ),
       record {
-        services = subst (λ (l : List Service). AreShort log.services l fronts) (sym dies)
+        services = subst (λ (l : List Service). AreShort log.services l fronts) (sym crashes)
             h.services;
         callers = refl;
         waits = none;
       },
     )
-    goes_dies name (Some (caller.Calls at number)) does waits dies sets none =
-        let f = found_at log.services live.services fronts at dies.0 h.services dies.1 in
+    goes_crashes name (Some (caller.Calls at number)) does waits crashes sets none =
+        let f = found_at log.services live.services fronts at crashes.0 h.services crashes.1 in
         let s = f.0 in
         let t = with_crash s number k in
-        let short = short_over s dies.0 (front_at fronts at) f.2 (Crash number) k in
+        let short = short_over s crashes.0 (front_at fronts at) f.2 (Crash number) k in
         let services = slice_set log.services at t in
-        let own : Dies log.services k (Some (caller.Calls at number)) services =
+        let own : Crashes log.services k (Some (caller.Calls at number)) services =
         (s, f.1, refl) in (
           record { services = services; callers = new.callers; waits = None },
           (
             no_waits waits,
-            subst (λ (x : Option CallerState). Dies log.services k x services) (sym does) own,
+            subst (λ (x : Option CallerState). Crashes log.services k x services) (sym does) own,
             sets_same name caller.Dead sets,
             refl,
           ),
-          goes_sets at s dies.0 t (with_crash dies.0 number k) f.1 dies.1 short dies.2 none,
+          goes_sets at s crashes.0 t (with_crash crashes.0 number k) f.1 crashes.1 short crashes.2
+              none,
         )
 
     -- the service at the index that is kept so
@@ -419,8 +420,8 @@ module _ (log live new : Log) (fronts : List (Option (Front Watched))) (k : ℕ)
     goes_line (begin number name b) g = goes_begin number name b g
     goes_line (end name words) g = goes_end name words g
     goes_line (crash name) g =
-        goes_dies name (log.callers name) refl g.0
-        (subst (λ (x : Option CallerState). Dies live.services k x new.services) (does_same name)
+        goes_crashes name (log.callers name) refl g.0
+        (subst (λ (x : Option CallerState). Crashes live.services k x new.services) (does_same name)
         g.1) g.2 g.3
     goes_line (given number what) g = goes_given number what g
 

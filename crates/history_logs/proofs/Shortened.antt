@@ -319,7 +319,7 @@ module _ (s live : Service) (front : Option (Front Watched)) (h : IsShort s live
       settled_still s (with_one s e line) h.kept (with_event h.kept e line) h.upto f e is refl refl
       refl refl (omega arith) refl (λ n from at below. at)
 
-  -- a call ends, or its caller dies, and its reply is not seen
+  -- a call ends, or its caller crashes, and its reply is not seen
   abbrev pub short_over : (e : Event) (line : ℕ)
       → IsShort (with_one s e line) (with_one live e line) front
   short_over e line = record {

@@ -1,4 +1,4 @@
--- What is told of configurations.
+-- What is reported of configurations.
 use Rattle.std.proofs.Common.{◌≡◌, ℕ, ◌+◌, ◌<◌, List, [], ◌∷◌, ◌++◌, Option, Some, get_or, length, slice_get, take, refl, sym, ◌∙◌, ap, subst}
 use Rattle.std.specs.List.{AllZip}
 use Rattle.std.proofs.lemmas.List.{take_more}
@@ -28,7 +28,7 @@ zip_next {A} R xs i d ys more y all h is r new =
     (subst (λ (l : List A). AllZip R l (ys ++ y ∷ [])) (sym one)
     (zip_push R (take i xs) ys d y all r))
 
--- what is told of a configuration
+-- what is reported of a configuration
 pub reported_of : (s : Service) (call : ℕ) (x : Judged) (slots : List (Option ℕ))
     (config : Config Watched) (reported : Configuration) (begins : List ℕ) (calls : List Judged)
     → begins ≡ s.begins → calls ≡ s.calls → call < length s.calls → x ≡ get_or calls call x

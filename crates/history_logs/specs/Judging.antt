@@ -1,4 +1,4 @@
--- What is found of a service of a log, and what is told of it.
+-- What is found of a service of a log, and what is reported of it.
 use Rattle.std.specs.Prelude.{◌≡◌, ◌&&◌, ◌||◌, ℕ, ◌<◌, List, All, Bool, Contains, Option, Some, None, Result, Ok, Err, false, if◌then◌else◌, length, ltb, not, slice_get, sum_by, take, true}
 use Rattle.std.specs.List.{AllZip}
 use Rattle.std.specs.Int.{bit_at}
@@ -58,7 +58,7 @@ abbrev pub BeginBelow : List Event → ℕ → Type 0
 BeginBelow events count =
     (index call : ℕ) → StandsAt events index (Begin call) → call < count
 
--- a reply in this line is refused, and this is told of it
+-- a reply in this line is refused, and this is reported of it
 pub record IsRefusedIn (bytes : List ℕ) (s : Service) (k : ℕ) (reported : Refusal) : Type 0 where
   pub index : ℕ
   pub stops : StopsIn s k index stop.Refused
@@ -92,8 +92,8 @@ abbrev pub IsFoundOf : List ℕ → Service → Option (ℕ × Verdict) → Type
 IsFoundOf bytes s None = IsSeenRightly s
 IsFoundOf bytes s (Some found) = IsFound bytes s found.0 found.1
 
--- what is told by what was found of the service: the window that it ends in, where orders explain
--- all
+-- what is reported by what was found of the service: the window that it ends in, where orders
+-- explain all
 abbrev pub IsReportOf : List ℕ → Service → FoundOf Watched → Result (Window Watched)
     (ℕ × Verdict) → Type 0
 IsReportOf bytes s what (Ok window) = what ≡ found.Explained window

@@ -117,7 +117,7 @@ abbrev pub IsMade : List (Option ℕ) → Config Watched → ℕ → Type 0
 IsMade slots config number =
     (slot : ℕ) × HasSlot slots slot number × (bit_at config.waiting slot ≡ 0)
 
--- What is told of a configuration in which the call was refused: the lines in which those open
+-- What is reported of a configuration in which the call was refused: the lines in which those open
 -- calls begin that were made, the replies that it could have had, and who is there.
 pub record IsReported (s : Service) (call : Call) (slots : List (Option ℕ))
     (config : Config Watched) (reported : Configuration) : Type 0 where
@@ -142,7 +142,7 @@ line_begun begins (Crash call) = []
 abbrev pub lines_begun : List ℕ → List Event → List ℕ
 lines_begun begins events = dedup eqb (flat_map (line_begun begins) events)
 
--- the events of the service from one place up to another
+-- the events of the service from one index up to another
 abbrev pub events_from : Service → ℕ → ℕ → List Event
 events_from s begin index = drop begin (take (index + 1) s.events)
 
@@ -155,9 +155,9 @@ pub record AreNeededLines (s : Service) (begin index refused : ℕ) (lines : Lis
   pub is_kept : kept refused ≡ true
   pub begin_in : lines ≡ lines_begun s.begins (events_of kept (events_from s begin index))
 
--- What is told of a reply that no order explains: its line and its words; the line and the text of
--- the command of its call; the line in which the window begins, and the lines of the calls that are
--- needed; and each configuration to which what is above it leads.
+-- What is reported of a reply that no order explains: its line and its words; the line and the text
+-- of the command of its call; the line in which the window begins, and the lines of the calls that
+-- are needed; and each configuration to which what is above it leads.
 pub record IsRefusal (bytes : List ℕ) (services : List Service) (reported : Refusal) : Type 0 where
   pub s : Service
   pub index : ℕ

@@ -11,8 +11,8 @@ use Rattle.history_logs.specs.Reading.{Log}
 use Rattle.history_logs.specs.Reports.{on_errors, on_output, order_text, report_text, status_of}
 use Rattle.history_logs.specs.Seen.{Service}
 
--- An order of the calls on the service explains all that was seen of it. This is told of it: the
--- number of the service, and the lines in which the calls begin, in that order.
+-- An order of the calls on the service explains all that was seen of it. This is reported of it:
+-- the number of the service, and the lines in which the calls begin, in that order.
 pub record IsOrderOf (s : Service) (reported : Order) : Type 0 where
   pub number : reported.service ≡ s.line.number
   pub order : List ℕ

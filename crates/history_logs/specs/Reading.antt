@@ -74,12 +74,12 @@ pub record Says (words : List ℕ) (r : SeenReply) : Type 0 where
   pub is : IsSeen r
   pub text : seen_text r ≡ words
 
--- what the death of a caller that did this adds to the services
-abbrev pub Dies : List Service → ℕ → Option CallerState → List Service → Type 0
-Dies old line None new = ⊥
-Dies old line (Some caller.Dead) new = ⊥
-Dies old line (Some caller.Idle) new = new ≡ old
-Dies old line (Some (caller.Calls at number)) new =
+-- what the crash of a caller that did this adds to the services
+abbrev pub Crashes : List Service → ℕ → Option CallerState → List Service → Type 0
+Crashes old line None new = ⊥
+Crashes old line (Some caller.Dead) new = ⊥
+Crashes old line (Some caller.Idle) new = new ≡ old
+Crashes old line (Some (caller.Calls at number)) new =
     (s : Service) × (slice_get old at ≡ Some s)
     × (new ≡ slice_set old at (with_crash s number line))
 
@@ -145,7 +145,7 @@ GoesOn old k (end name words) new =
     × (new.services ≡ slice_set old.services at (with_end s number r k))
     × Sets old.callers name caller.Idle new.callers × (new.waits ≡ None)
 GoesOn old k (crash name) new =
-    (old.waits ≡ None) × Dies old.services k (old.callers name) new.services
+    (old.waits ≡ None) × Crashes old.services k (old.callers name) new.services
     × Sets old.callers name caller.Dead new.callers × (new.waits ≡ None)
 GoesOn old k (given number what) new =
     (at : ℕ) × (s : Service) × (start : dynamic.Service) × (old.waits ≡ None)
@@ -179,11 +179,11 @@ RefusesEnd words (Some caller.Dead) e = e ≡ expected.LiveCaller
 RefusesEnd words (Some (caller.Calls at number)) e =
     (e ≡ expected.Reply) × ((r : SeenReply) → ¬ (Says words r))
 
--- what is expected in place of the death of a caller that does this
-abbrev pub RefusesDeath : Option CallerState → Expected → Type 0
-RefusesDeath None e = e ≡ expected.KnownCaller
-RefusesDeath (Some caller.Dead) e = e ≡ expected.LiveCaller
-RefusesDeath _ e = ⊥
+-- what is expected in place of the crash of a caller that does this
+abbrev pub RefusesCrash : Option CallerState → Expected → Type 0
+RefusesCrash None e = e ≡ expected.KnownCaller
+RefusesCrash (Some caller.Dead) e = e ≡ expected.LiveCaller
+RefusesCrash _ e = ⊥
 
 -- on one of them, no service is so that this may be given of it
 abbrev pub NoneStarts : Log → Option ℕ → State → Type 0
@@ -192,7 +192,7 @@ NoneStarts log number what =
     × ((start : dynamic.Service) → ¬ (StartsAs s what start))
     × ((start : dynamic.Service) → ¬ (StartsAnewAs log at s what start))
 
--- The line may not come next, and this is expected in its place: a call, where it is a service with
+-- The line may not come next, and this is expected in its stead: a call, where it is a service with
 -- the number of another, or a line on none of the services; else what its caller is to do, the
 -- words of a reply, or a state that the service can have.
 abbrev pub IsRefused : Log → Line → Expected → Type 0
@@ -203,7 +203,7 @@ IsRefused log (begin number name c) e =
     ((e ≡ expected.Call) × IsNameless number log.services)
     ⊎ (HasNamed number log.services × RefusesBegin (log.callers name) e)
 IsRefused log (end name words) e = RefusesEnd words (log.callers name) e
-IsRefused log (crash name) e = RefusesDeath (log.callers name) e
+IsRefused log (crash name) e = RefusesCrash (log.callers name) e
 IsRefused log (given number what) e =
     ((e ≡ expected.Call) × IsNameless number log.services)
     ⊎ ((e ≡ expected.State) × NoneStarts log number what)

@@ -154,7 +154,7 @@ conforms_text n m =
     ++ ((for_count n (codes " call on ") (codes " calls on ") ++ decimal m)
     ++ (for_count m (codes " service") (codes " services") ++ 10 ∷ []))
 
--- a line with what is told of it
+-- a line with what is reported of it
 abbrev pub line_reported : ℕ → List ℕ → List ℕ
 line_reported line text = (codes "line " ++ decimal line) ++ text
 

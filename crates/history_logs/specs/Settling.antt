@@ -19,7 +19,7 @@ IsOverIn s events call =
     HasEnded events call
     × (start_of s.calls (call + 1) ≡ Some call → HasEnded events (call + 1))
 
--- so it is with the call that the event at this place begins, if it begins one
+-- so it is with the call that the event at this index begins, if it begins one
 abbrev pub MayFollowAt : Service → ℕ → Type 0
 MayFollowAt s at =
     (call : ℕ) → StandsAt s.events at (Begin call) → IsOverIn s s.events call

@@ -7,7 +7,7 @@ use Rattle.history_windows.specs.declared.window.Cut.TheVariants as cut
 use Rattle.history_windows.specs.declared.window.Stop.TheVariants as stop
 use Rattle.history_windows.proofs.Growing.{Passes, StopsBy, advance_same, advances_in, agrees_on, formed_more, goes_begin, goes_more, goes_window, passes_alone, passes_one, stops}
 
--- the events up to one that stands at a place, and the next one
+-- the events up to one that stands at an index, and the next one
 pub take_stands : (es : List Event) (at : ℕ) (e : Event) → StandsAt es at e
     → take (at + 1) es ≡ take at es ++ e ∷ []
 take_stands es at e stands =

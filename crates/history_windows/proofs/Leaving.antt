@@ -4,7 +4,7 @@ use Rattle.histories.specs.Histories.{begins, times}
 use Rattle.histories.proofs.Counting.{times-cons, times_none, times_other}
 
 module _ (kept : ℕ → Bool) where
-  -- what the events of some calls have at a place, all of them have, and those before are the same
+  -- what the events of some calls have at an index, all of them have, and those before are the same
   abbrev IsFrom : List Event → List Event → ℕ → Event → Type 0
   IsFrom es rest p e =
       (q : ℕ) × StandsAt es q e × (events_of kept (take q es) ≡ take p rest)

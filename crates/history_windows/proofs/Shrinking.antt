@@ -2,7 +2,7 @@
 use Rattle.history_windows.proofs.Words.{◌≡◌, ◌+◌, ◌<◌, ℕ, zero, suc, Option, List, [], ◌∷◌, ◌++◌, length, get_or, refl, sym, ◌∙◌, ap, subst, arith, append-nil, Bool, true, false, take, take_all, Result, Ok, Err, IfOk, Contains, set, replicate, nil_from_length, length-append, get_or-set_other, get_or_past, get_or-replicate, length-replicate, Event, Config, Link, HasSlot, IsFrontOf, IsFrontier, IsIdle, IsExplained, IsHistory, Window, states_of, AreIdle, AreNeeded, HasCut, IsRest, IsWellFormed, events_of, is_kept, IsCut, IsWindowOf, cases_eq, cases_lt, not, Vec, slice_get-get_or, Advance, Front, AdvancesIn, IsAdvance}
 use Rattle.histories.proofs.Cutting.{runs_nothing}
 use Rattle.histories.proofs.Events.{begins_none}
-use Rattle.histories.proofs.Places.{contains_map_of, contains_of_map}
+use Rattle.histories.proofs.Indices.{contains_map_of, contains_of_map}
 use Rattle.histories.proofs.Frontiers.{explains_none, no_calls}
 use Rattle.histories.specs.declared.front.Advance.TheVariants as advance
 use Rattle.histories.proofs.Verdicts.{agrees_same, frontier_refused, one_more}
@@ -60,7 +60,7 @@ left_out_is calls call h = cases (get_or calls call false) h
     cases true h = refl
     cases false h = absurd (cc)
 
--- what was written at a place, and then what was there before
+-- what was written at an index, and then what was there before
 set_back : (calls : List Bool) (i : ℕ) (x d : Bool)
     → set (set calls i x) i (get_or calls i d) ≡ calls
 set_back [] i x d = refl
@@ -129,7 +129,7 @@ module _ {S : Type 0} (Step : S → ℕ → S → Type 0) (olds : List S) (past 
     rest = rw all (rest_none _ _ _ _ (refused_window _ _ refl cut.1 none));
   }
 
--- the front is that of the events before a place, and one event more is tried
+-- the front is that of the events before an index, and one event more is tried
 module _ {M S : Type 0} (StepOf : M → S → ℕ → S → Type 0) (machine : M) (olds : List S)
     (es : List Event) (at : ℕ) (d : Event) (h : at < length es) (formed : IsWellFormed es)
     (old new : Front S) (f : IsFrontOf (StepOf machine) old (take at es) olds) where

@@ -33,7 +33,7 @@ AgreesOn {S} Made Step past events =
     (call : ℕ) → (IsOpen past call ⊎ (0 < begins call events))
     → (old new : S) → Made old call new ↔ Step old call new
 
--- the call that begins at this place is answered next, and both events were followed; or nothing
+-- the call that begins at this index is answered next, and both events were followed; or nothing
 -- changed
 abbrev pub IsMadeNext : {M S : Type 0} → (M → S → ℕ → S → Type 0) → M → List Event → ℕ → Front S
     → Front S → Bool → Type 0

@@ -38,7 +38,7 @@ pub record IsWindowOf {S : Type 0} (Step : S → ℕ → S → Type 0) (olds : L
   pub front : IsFrontOf Step window.front inside states
   pub some : 0 < length window.front.configs.items
 
--- Orders of what comes since a place at which no call is open lead to more configurations than are
+-- Orders of what comes since an index at which no call is open lead to more configurations than are
 -- followed.
 pub record LeadsTooFar {S : Type 0} (Step : S → ℕ → S → Type 0) (olds : List S)
     (events : List Event) : Type 0 where
@@ -49,7 +49,7 @@ pub record LeadsTooFar {S : Type 0} (Step : S → ℕ → S → Type 0) (olds : 
   pub cut : IsCut Step olds past states
   pub many : HasManyOrders Step inside states
 
--- An order explains the events before this place. Then at the place:
+-- An order explains the events before this index. Then at the index:
 -- Refused: a call was answered, and no order explains the events up to it.
 -- ManyConfigs: orders that explain the events before it, or those up to it, lead too far.
 -- ManyOpen: more than 64 calls are open.
@@ -68,7 +68,7 @@ pub record IsStop {S : Type 0} (Step : S → ℕ → S → Type 0) (olds : List 
   pub at : IsStopAt Step olds events index why
 
 -- Explained: some order explains the history; with the window that it ends in.
--- Refused, ManyConfigs, ManyOpen: an order explains the events before this place, and it is refused
+-- Refused, ManyConfigs, ManyOpen: an order explains the events before this index, and it is refused
 -- or not decided there; with the window that they end in.
 abbrev pub IsVerdict : {S : Type 0} → (S → ℕ → S → Type 0) → List S → List Event → Verdict S
     → Type 0

@@ -48,7 +48,7 @@ holds_message : (d : MessageTypeDetails) (n header : ℕ) → HaveAlignments d �
     → d.header.alignment ∣ header
     → header + sample_size d n < 2 ^ 64 → HoldsMessage d n (sample_size d n) header
 holds_message d n header given are lies fits = record {
-  place_fits = grind (arith, least_multiple-ge, least_multiple-lt);
+  offset_fits = grind (arith, least_multiple-ge, least_multiple-lt);
   own = search (parts_hold, dvd_refl);
   openers = λ o may.
       parts_hold d n header given o (rw may.compatible.header lies) (grind (arith, divides))
@@ -66,5 +66,5 @@ holds_everywhere d n given are = record {
       holds_message d n (header + i * sample_size d n) given are
       (search (dvd-add, dvd-mul_left_of_dvd, least_multiple-dvd, given.header))
       (grind (arith, mul-le-mul_right));
-  apart = λ header i j below place first second. grind (arith, mul-le-mul_right);
+  apart = λ header i j below offset first second. grind (arith, mul-le-mul_right);
 }

@@ -2,7 +2,7 @@
 use Rattle.std.specs.Prelude.{ℕ, ◌+◌, ◌*◌, ◌^◌, ◌<◌, IsTrue}
 use Rattle.std.specs.Int.{◌∣◌, is_power_of_two}
 use Rattle.iox2_config.specs.Compatible.{Compatible}
-use Rattle.iox2_config.specs.Layout.{payload_place, payload_part, parts, element}
+use Rattle.iox2_config.specs.Layout.{payload_offset, payload_part, parts, element}
 use Rattle.iox2_config.specs.Parts.{Part, IsAligned, Within, Apart, Holds}
 use Rattle.iox2_config.specs.declared.types.message_details.MessageTypeDetails.{MessageTypeDetails}
 
@@ -18,7 +18,7 @@ pub record MayOpen (opener service : MessageTypeDetails) : Type 0 where
 -- payload's address has 64 bits, the parts are aligned for the service and for every opener, and so
 -- is each element where its size allows that
 pub record HoldsMessage (d : MessageTypeDetails) (n size header : ℕ) : Type 0 where
-  pub place_fits : payload_place d header < 2 ^ 64
+  pub offset_fits : payload_offset d header < 2 ^ 64
   pub own : Holds header size (parts d d header n)
   pub openers : (o : MessageTypeDetails) → MayOpen o d → Holds header size (parts d o header n)
   pub elements : (o : MessageTypeDetails) → MayOpen o d → o.payload.alignment ∣ o.payload.size

@@ -6,18 +6,18 @@ use Rattle.iox2_config.specs.declared.types.message_details.MessageTypeDetails.{
 use Rattle.iox2_config.specs.declared.types.places.Places.{Places}
 
 -- the user header lies behind the header, at the first offset that suits it
-abbrev pub user_header_place : MessageTypeDetails → ℕ → ℕ
-user_header_place d header = least_multiple (header + d.header.size) d.user_header.alignment
+abbrev pub user_header_offset : MessageTypeDetails → ℕ → ℕ
+user_header_offset d header = least_multiple (header + d.header.size) d.user_header.alignment
 
 -- the payload lies behind the user header, at the first offset that suits it
-abbrev pub payload_place : MessageTypeDetails → ℕ → ℕ
-payload_place d header =
-    least_multiple (user_header_place d header + d.user_header.size) d.payload.alignment
+abbrev pub payload_offset : MessageTypeDetails → ℕ → ℕ
+payload_offset d header =
+    least_multiple (user_header_offset d header + d.user_header.size) d.payload.alignment
 
 -- the offsets of both
 abbrev pub places_in : MessageTypeDetails → ℕ → Places
 places_in d header =
-    record { user_header = user_header_place d header; payload = payload_place d header }
+    record { user_header = user_header_offset d header; payload = payload_offset d header }
 
 -- the size of the layout of a message of n elements: enough for the largest padding between its
 -- parts
@@ -36,7 +36,7 @@ pub record HaveAlignments (d : MessageTypeDetails) : Type 0 where
 -- a message with its header at this offset has an offset for its payload
 pub record HasPlaces (d : MessageTypeDetails) (header : ℕ) : Type 0 where
   pub given : HaveAlignments d
-  pub fits : payload_place d header < 2 ^ 64
+  pub fits : payload_offset d header < 2 ^ 64
 
 -- the header of a service's message, with the alignment that `reader` has for it
 abbrev pub header_part : MessageTypeDetails → MessageTypeDetails → ℕ → Part
@@ -50,16 +50,16 @@ header_part service reader header =
 -- its user header
 abbrev pub user_header_part : MessageTypeDetails → MessageTypeDetails → ℕ → Part
 user_header_part service reader header = record {
-  start = user_header_place service header;
-  end = user_header_place service header + service.user_header.size;
+  start = user_header_offset service header;
+  end = user_header_offset service header + service.user_header.size;
   alignment = reader.user_header.alignment;
 }
 
 -- its payload of n elements
 abbrev pub payload_part : MessageTypeDetails → MessageTypeDetails → ℕ → ℕ → Part
 payload_part service reader header n = record {
-  start = payload_place service header;
-  end = payload_place service header + service.payload.size * n;
+  start = payload_offset service header;
+  end = payload_offset service header + service.payload.size * n;
   alignment = reader.payload.alignment;
 }
 
@@ -72,7 +72,7 @@ parts service reader header n =
 -- element i of the payload
 abbrev pub element : MessageTypeDetails → MessageTypeDetails → ℕ → ℕ → Part
 element service reader header i = record {
-  start = payload_place service header + i * service.payload.size;
-  end = payload_place service header + (i + 1) * service.payload.size;
+  start = payload_offset service header + i * service.payload.size;
+  end = payload_offset service header + (i + 1) * service.payload.size;
   alignment = reader.payload.alignment;
 }

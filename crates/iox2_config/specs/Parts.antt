@@ -15,7 +15,7 @@ IsAligned part = part.alignment ∣ part.start
 
 -- the byte is one of the part's
 abbrev pub Covers : Part → ℕ → Type 0
-Covers part place = (part.start ≤ place) × (place < part.end)
+Covers part offset = (part.start ≤ offset) × (offset < part.end)
 
 -- the inner part does not go past the outer one
 abbrev pub Within : Part → Part → Type 0
@@ -23,7 +23,7 @@ Within outer inner = (outer.start ≤ inner.start) × (inner.end ≤ outer.end)
 
 -- no byte is in both parts
 abbrev pub Apart : Part → Part → Type 0
-Apart one other = (place : ℕ) → Covers one place → Covers other place → ⊥
+Apart one other = (offset : ℕ) → Covers one offset → Covers other offset → ⊥
 
 -- no two of the parts share a byte
 abbrev pub AreApart : List Part → Type 0

@@ -5,7 +5,7 @@ use Rattle.std.specs.Str.{chars}
 use Rattle.strsim.specs.Edits.{cost_at, next_row, rows}
 use Rattle.iox2_config_file.specs.Unknown.{edit_distance}
 
--- a cell of the row after n elements is no less than the steps by which its place and n differ
+-- a cell of the row after n elements is no less than the steps by which its index and n differ
 abbrev IsFar : ℕ → (ℕ → ℕ) → Type 0
 IsFar n row = (j : ℕ) → (j ≤ row j + n) × (n ≤ row j + j)
 

@@ -63,7 +63,7 @@ abbrev pub IsSettingsOf : Config → Members → Config → Type 0
 IsSettingsOf defaults file config =
     (s : Section) → settings_in s config ≡ read_section s file (settings_in s defaults)
 
--- a fault with its place
+-- a fault with its position
 abbrev pub Located : Type 0
 Located = Section × List ℕ × Fault
 

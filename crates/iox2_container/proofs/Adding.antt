@@ -5,13 +5,13 @@ use Rattle.iox2_container.proofs.CellEntries.{gains_write, slots_from, below_fro
 use Rattle.iox2_container.proofs.Gaining.{length-InsertsOne}
 use Rattle.iox2_container.proofs.Keeping.{All-gain, kept_add}
 
--- no more entries than places
+-- no more entries than slots
 pub entries_fit : {T N : Type 0} (cells : List (Cell T N))
     → length (entries_from 0 (map shown cells)) ≤ length cells
 entries_fit cells = omega (arith, room_from 0 (map shown cells), length-map cells shown)
 
--- what shows that a place is there for an entry
-pub ruleset places_of_add = (entries_fit, slice_get_within, length-map)
+-- what shows that a slot is there for an entry
+pub ruleset slots_of_add = (entries_fit, slice_get_within, length-map)
 
 -- no entry stands in a free slot
 free_everywhere : {T : Type 0} (cells : List (Option (Occupant T))) (slot : ℕ)

@@ -6,11 +6,11 @@ use Rattle.std.proofs.lemmas.List.Sums.{AllPass-from_list_all, list_all-from_All
 use Rattle.iox2_container.specs.declared.container.comparison.calls.RegistryReply.TheVariants as Reply
 
 -- the test of each item in turn decides it, where the lists are equally long
-pub tells_equally_many : {T : Type 0} (eq : T → T → Bool) (ones others : List T) (all : Bool)
+pub counts_equally_many : {T : Type 0} (eq : T → T → Bool) (ones others : List T) (all : Bool)
     → length ones ≡ length others
     → all ≡ list_all (λ x. eqb (count_by (eq x) ones) (count_by (eq x) others)) ones → IsTrue all
     ↔ EquallyMany eq ones others
-tells_equally_many eq ones others all as_long e = (
+counts_equally_many eq ones others all as_long e = (
   λ yes. record {
     as_long = as_long;
     each = λ k d below. eqb-true _ _

@@ -9,15 +9,15 @@ pub use Rattle.iox2_texts.proofs.Callable.{CanVisit-by, CanVisit-from_always, Ca
 -- what each state takes, and what each call leaves it in, gives it for any items
 module _ {F A R : Type 0} (takes : F → A → Type 0) (calls : F → A → R → F → Type 0)
     (I : F → List A → Type 0)
-    (asks : (f : F) (x : A) (xs : List A) → I f (x ∷ xs) → takes f x)
+    (may_call : (f : F) (x : A) (xs : List A) → I f (x ∷ xs) → takes f x)
     (keeps : (f : F) (x : A) (xs : List A) (r : R) (h : F) → I f (x ∷ xs) → calls f x r h
     → I h xs) where
   may_ask_by : (f : F) (items : List A) → I f items → MayAsk takes calls f items
   may_ask_by f [] i = tt
-  may_ask_by f (x ∷ xs) i = (asks f x xs i, λ r h c. may_ask_by h xs (keeps f x xs r h i c))
+  may_ask_by f (x ∷ xs) i = (may_call f x xs i, λ r h c. may_ask_by h xs (keeps f x xs r h i c))
 
   pub CanBeAsked-by : (f : F) (items : List A) → I f items → CanBeAsked takes calls f items
-  CanBeAsked-by f items i = record { asks = may_ask_by f items i }
+  CanBeAsked-by f items i = record { may_call = may_ask_by f items i }
 
 -- what holds at first, and what each call keeps, holds in the end
 pub Asked-keeps : {F A R : Type 0} (calls : F → A → R → F → Type 0)
@@ -69,30 +69,30 @@ CanBeAsked-from_total {takes = takes} {calls = calls} {f = f} {items = items} h 
     CanBeAsked-by takes calls (λ _ _. Unit {0}) (λ g x xs i. h g x)
     (λ g x xs r k i c. tt) f items tt
 
--- a callback that asks another one about each item, seen in another way
+-- a callback that calls another one about each item, seen in another way
 module _ {F G A B R S : Type 0} (takes : F → A → Type 0) (calls : F → A → R → F → Type 0)
     (takes' : G → B → Type 0) (others : G → B → S → G → Type 0) (k : F → G) (u : A → B)
-    (asks : (f : F) (x : A) → takes' (k f) (u x) → takes f x)
+    (may_call : (f : F) (x : A) → takes' (k f) (u x) → takes f x)
     (steps : (f : F) (x : A) (r : R) (h : F) → calls f x r h → (s : S)
     × others (k f) (u x) s (k h)) where
   pub CanBeAsked-lent : (f : F) (items : List A) → CanBeAsked takes' others (k f) (map u items)
       → CanBeAsked takes calls f items
   CanBeAsked-lent f items m =
       CanBeAsked-by takes calls (λ f xs. MayAsk takes' others (k f) (map u xs))
-      (λ f x xs m. asks f x m.0)
-      (λ f x xs r h m c. let s = steps f x r h c in m.1 s.0 (k h) s.1) f items m.asks
+      (λ f x xs m. may_call f x m.0)
+      (λ f x xs r h m c. let s = steps f x r h c in m.1 s.0 (k h) s.1) f items m.may_call
 
 module _ {F G A B : Type 0} (takes : F → A → Type 0)
     (calls : F → A → CallbackProgression → F → Type 0) (takes' : G → B → Type 0)
     (others : G → B → CallbackProgression → G → Type 0) (k : F → G) (u : A → B)
-    (asks : (f : F) (x : A) → takes' (k f) (u x) → takes f x)
+    (may_call : (f : F) (x : A) → takes' (k f) (u x) → takes f x)
     (steps : (f : F) (x : A) (h : F) → calls f x Continue h
     → others (k f) (u x) Continue (k h)) where
   pub CanVisit-lent : (f : F) (items : List A) → CanVisit takes' others (k f) (map u items)
       → CanVisit takes calls f items
   CanVisit-lent f items m =
       CanVisit-by takes calls (λ f xs. MayVisit takes' others (k f) (map u xs))
-      (λ f x xs m. asks f x m.0) (λ f x xs h m c. m.1 (k h) (steps f x h c)) f items m.visits
+      (λ f x xs m. may_call f x m.0) (λ f x xs h m c. m.1 (k h) (steps f x h c)) f items m.visits
 
 -- asked about the first items by such a callback, it may be asked about the others
 module _ {F A B R S : Type 0} (takes : F → B → Type 0) (calls : F → B → S → F → Type 0)
@@ -102,15 +102,15 @@ module _ {F A B R S : Type 0} (takes : F → B → Type 0) (calls : F → B → 
       → CanBeAsked takes calls f (map u xs ++ ys) → Asked asked f xs answers g
       → CanBeAsked takes calls g ys
   CanBeAsked-after f xs ys answers g m a = record {
-    asks = Asked-keeps asked (λ f xs _. MayAsk takes calls f (map u xs ++ ys))
-        (λ f x xs r rs h m c. let s = steps f x r h c in m.1 s.0 h s.1) f xs answers g m.asks a;
+    may_call = Asked-keeps asked (λ f xs _. MayAsk takes calls f (map u xs ++ ys))
+        (λ f x xs r rs h m c. let s = steps f x r h c in m.1 s.0 h s.1) f xs answers g m.may_call a;
   }
 
 pub CanBeAsked-first : {F A R : Type 0} (takes : F → A → Type 0) (calls : F → A → R → F → Type 0)
     (f : F) (xs ys : List A) → CanBeAsked takes calls f (xs ++ ys) → CanBeAsked takes calls f xs
 CanBeAsked-first takes calls f xs ys m =
     CanBeAsked-by takes calls (λ f xs. MayAsk takes calls f (xs ++ ys)) (λ f x xs m. m.0)
-    (λ f x xs r h m c. m.1 r h c) f xs m.asks
+    (λ f x xs r h m c. m.1 r h c) f xs m.may_call
 
 -- what a caller's proofs need whose callback may always be called: to be named by `using` on a
 -- crate, so that its calls need no answer

@@ -93,7 +93,7 @@ pub nothing_stands : {T : Type 0} (low n : ℕ) → entries_from {T = T} low (re
 nothing_stands low zero = refl
 nothing_stands low (suc n) = nothing_stands (low + 1) n
 
--- where no entry stands from a place on, all stand before it
+-- where no entry stands from a slot on, all stand before it
 pub all_before : {T : Type 0} (low end : ℕ) (cells : List (Option (Occupant T)))
     → NoneFrom cells end → entries_from low (take end cells) ≡ entries_from low cells
 all_before low zero [] free = refl

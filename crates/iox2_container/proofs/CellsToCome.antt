@@ -52,7 +52,7 @@ candidate_past : {T : Type 0} (node : T → ℕ) (id : ℕ) (cells : List (Optio
 candidate_past node id cells i None is e = grind (arith, drop_one, add-one)
 candidate_past node id cells i (Some o) is e = grind (arith, drop_one, add-one)
 
--- a sweep that has come to a place: what it did so far, and whom it may still ask
+-- a sweep that has come to a slot: what it did so far, and whom it may still ask
 pub record HasSwept {F T : Type 0} (takes : F → T → Type 0) (calls : F → T → Bool → F → Type 0)
     (is_dead : T → Bool) (f : F) (cs : List (Option (Occupant T))) (i : ℕ) (g : F)
     (m : List (Option (Occupant T))) (gone : ℕ) : Type 0 where
@@ -62,7 +62,7 @@ pub record HasSwept {F T : Type 0} (takes : F → T → Type 0) (calls : F → T
   pub len : length m ≡ length cs
   pub few : gone ≤ i
 
--- places where no entry of the node stands are passed over
+-- slots where no entry of the node stands are passed over
 pub sweep_past : {F T : Type 0} (takes : F → T → Type 0) (calls : F → T → Bool → F → Type 0)
     (node : T → ℕ) (id : ℕ) (f g : F) (cs m : List (Option (Occupant T))) (i j gone : ℕ) → i ≤ j
     → AreOthers node id m i j → HasSwept takes calls (is_of node id) f cs i g m gone
@@ -77,7 +77,7 @@ sweep_past takes calls node id f g cs m i j gone l others =
       few = omega (arith, w.few);
     })
 
--- the next entry of the node, after places that are passed over
+-- the next entry of the node, after slots that are passed over
 module _ {F T N : Type 0} (takes : F → T → Type 0) (calls : F → T → Bool → F → Type 0)
     (node : T → ℕ) (id : ℕ) (f g : F) (cs : List (Option (Occupant T))) (a : List (Cell T N))
     (i end gone : ℕ) (found : Found T) (next : IsNextOf node id (map shown a) i end found)
@@ -89,13 +89,13 @@ module _ {F T N : Type 0} (takes : F → T → Type 0) (calls : F → T → Bool
   stands : slice_get cs found.slot ≡ Some (Some (occupant next.here.1.0 found.details))
   stands = sym (so_far.later found.slot (omega arith)) ∙ next.here.1.1
 
-  asks : MayAsk takes calls g
+  may_call : MayAsk takes calls g
       (found.details ∷ candidates_from (is_of node id) (found.slot + 1) cs)
-  asks = grind (arith, candidate_here, stands, so_far)
+  may_call = grind (arith, candidate_here, stands, so_far)
 
   -- the callback may be asked about it
   pub takes_next : takes g found.details
-  takes_next = asks.0
+  takes_next = may_call.0
 
   -- it is swept
   pub sweep_next : (b n : List (Cell T N)) (h : F) (gone' : ℕ) (goes : Bool) → b ≡ a
@@ -108,7 +108,7 @@ module _ {F T N : Type 0} (takes : F → T → Type 0) (calls : F → T → Bool
       record { slot = found.slot; ticket = next.here.1.0; details = found.details } in
       let left = rw b_is at n_is in
       record {
-        callable = asks.1 goes h called;
+        callable = may_call.1 goes h called;
         swept = rw (add-one found.slot, left, gone_is)
             (found_cell calls node id f g cs (map shown a) found.slot gone so_far.swept h goes x
             refl stands next.here.1.1 next.here.0 called);

@@ -53,7 +53,7 @@ module _ {F A B N : Type 0} (calls : F → A → CallbackProgression → F → T
 
   -- it may be called while there is room
   module _ (takes : F → A → Type 0)
-      (asks : (f : F) (x : A) → keeps f → (IsTrue (p x) → len f < room f) → takes f x) where
+      (may_call : (f : F) (x : A) → keeps f → (IsTrue (p x) → len f < room f) → takes f x) where
     room_left : (f g : F) (b : Bool) (x : A) (xs : List A)
         → len f + length (if b then x ∷ filter p xs else filter p xs) ≤ room f
         → len g ≡ (if b then len f + 1 else len f) → room g ≡ room f
@@ -71,7 +71,7 @@ module _ {F A B N : Type 0} (calls : F → A → CallbackProgression → F → T
         × (len f + length (filter p items) ≤ room f) → CanVisit takes calls f items
     CanVisit-collecting =
         CanVisit-by takes calls (λ f xs. keeps f × (len f + length (filter p xs) ≤ room f))
-        (λ f x xs k. asks f x k.0 (room_for f (p x) x xs k.1))
+        (λ f x xs k. may_call f x k.0 (room_for f (p x) x xs k.1))
         (λ f x xs h k c.
         (let s = step f x Continue h k.0 c in (s.5, room_left f h (p x) x xs k.1 s.3 s.4)))
 

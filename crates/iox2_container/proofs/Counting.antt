@@ -1,6 +1,6 @@
 -- How many entries a test holds of.
 use Rattle.iox2_container.proofs.Prelude.{[], ◌++◌, ◌+◌, ◌<◌, ◌∙◌, ◌∷◌, ◌≡◌, ◌≤◌, ◌⊎◌, All, All-cons, All-nil, Bool, IsSome, List, MatchBool, MatchOption, None, Option, Some, ℕ, add-one, ap, arith, false, if◌then◌else◌, inl, inr, leb_tells, length, lt-ltb, nat_lt, refl, same_Some, slice_get, suc, sym, take, true}
-use Rattle.iox2_container.specs.Prelude.{AreOthers, Entry, Found, InsertsOne, IsLastOf, IsNextOf, IsTakenAt, NoneFrom, Occupant, PlaceIsOf, candidates, cell_is_of, entries_from, is_of, staying}
+use Rattle.iox2_container.specs.Prelude.{AreOthers, Entry, Found, InsertsOne, IsLastOf, IsNextOf, IsTakenAt, NoneFrom, Occupant, SlotIsOf, candidates, cell_is_of, entries_from, is_of, staying}
 use Rattle.iox2_container.proofs.AskedInTurn.{entries_split, taken_free, taken_more}
 use Rattle.iox2_container.proofs.CellEntries.{all_before}
 use Rattle.iox2_container.proofs.Sweeping.{over_others}
@@ -34,7 +34,7 @@ pub few_more : (n m slot : ℕ) (b : Bool) → m ≡ n + one_if b → n ≤ slot
 few_more n m slot true e h = omega arith
 few_more n m slot false e h = omega arith
 
--- the places of cells, by whether an entry of the node stands there
+-- the slots of cells, by whether an entry of the node stands there
 module _ {T : Type 0} (node : T → ℕ) (id : ℕ) (cells : List (Option (Occupant T))) where
   counted_cell : (i : ℕ) (cell : Option (Occupant T)) → slice_get cells i ≡ Some cell
       → counted (is_of node id) (entries_from 0 (take (suc i) cells))
@@ -57,8 +57,8 @@ module _ {T : Type 0} (node : T → ℕ) (id : ℕ) (cells : List (Option (Occup
       → m ≡ counted (is_of node id) (entries_from 0 (take (i + 1) cells))
   counted_more i n m cell b h e em en = grind (arith, add-one, counted_cell)
 
-  -- some entry is the node's, where one stands in a place
-  pub some_counted : (i : ℕ) → PlaceIsOf node id cells i true
+  -- some entry is the node's, where one stands in a slot
+  pub some_counted : (i : ℕ) → SlotIsOf node id cells i true
       → true ≡ nat_lt 0 (counted (is_of node id) (entries_from 0 cells))
   some_counted i p =
       let s = entries_split 0 (suc i) cells in
@@ -69,7 +69,7 @@ module _ {T : Type 0} (node : T → ℕ) (id : ℕ) (cells : List (Option (Occup
       sym (lt-ltb 0 (counted (is_of node id) (entries_from 0 cells))
       (omega (arith, more, one, all)))
 
-  -- none is, where none stands in any place
+  -- none is, where none stands in any slot
   none_counted : (n : ℕ) → AreOthers node id cells 0 n
       → counted (is_of node id) (entries_from 0 (take n cells)) ≡ 0
   none_counted n others =
@@ -78,42 +78,42 @@ module _ {T : Type 0} (node : T → ℕ) (id : ℕ) (cells : List (Option (Occup
       (λ k h o e. rw (add-one k) (omega (arith, counted_cell k o.0 o.1, ap one_if (sym o.2), e)))
       refl
 
-  -- other places, and more of them
+  -- other slots, and more of them
   pub others_join : (from i j to : ℕ) → AreOthers node id cells from i
       → AreOthers node id cells j to → j ≤ i → AreOthers node id cells from to
   others_join from i j to before after le k l h =
-      elim (leb_tells i k) as (λ _. PlaceIsOf node id cells k false) [
+      elim (leb_tells i k) as (λ _. SlotIsOf node id cells k false) [
         | inl later ↦ after k (omega (arith, later.1)) h
         | inr less ↦ before k l less.1
       ]
 
-  -- one other place
-  pub other_at : (i to : ℕ) → PlaceIsOf node id cells i false → to ≡ i + 1
+  -- one other slot
+  pub other_at : (i to : ℕ) → SlotIsOf node id cells i false → to ≡ i + 1
       → AreOthers node id cells i to
   other_at i to is e k l h = let at : k ≡ i = omega arith in rw at is
 
-  -- one place more
+  -- one slot more
   pub others_more : (from i to : ℕ) → AreOthers node id cells from i
-      → PlaceIsOf node id cells i false → to ≡ i + 1 → AreOthers node id cells from to
+      → SlotIsOf node id cells i false → to ≡ i + 1 → AreOthers node id cells from to
   others_more from i to others is e =
       others_join from i i to others (other_at i to is e) (omega arith)
 
-  -- looks at places in turn find nothing
-  module _ (at : ℕ) (first : PlaceIsOf node id cells at false)
-      (second : PlaceIsOf node id cells (at + 1) false) where
+  -- looks at slots in turn find nothing
+  module _ (at : ℕ) (first : SlotIsOf node id cells at false)
+      (second : SlotIsOf node id cells (at + 1) false) where
     pub others_two : AreOthers node id cells at (at + 2)
     others_two = others_more at (at + 1) (at + 2) (other_at at (at + 1) first refl) second
         (omega arith)
 
-    pub others_three : PlaceIsOf node id cells (at + 2) false → AreOthers node id cells at (at + 3)
+    pub others_three : SlotIsOf node id cells (at + 2) false → AreOthers node id cells at (at + 3)
     others_three third = others_more at (at + 2) (at + 3) others_two third (omega arith)
 
-    pub others_four : PlaceIsOf node id cells (at + 2) false
-        → PlaceIsOf node id cells (at + 3) false → AreOthers node id cells at (at + 4)
+    pub others_four : SlotIsOf node id cells (at + 2) false
+        → SlotIsOf node id cells (at + 3) false → AreOthers node id cells at (at + 4)
     others_four third fourth =
         others_more at (at + 3) (at + 4) (others_three third) fourth (omega arith)
 
-  -- what was found from a place on, after other places: before the end, or nothing up to it
+  -- what was found from a slot on, after other slots: before the end, or nothing up to it
   pub found_after : (from at end to : ℕ) (o : Option (Found T)) → from ≤ at → end ≤ to
       → IsSome o ⊎ (end ≡ to) → AreOthers node id cells from at
       → MatchOption o (AreOthers node id cells at end) (IsNextOf node id cells at end)
@@ -129,29 +129,29 @@ module _ {T : Type 0} (node : T → ℕ) (id : ℕ) (cells : List (Option (Occup
     here = next.here;
   }
 
-  -- a search says whether the node has an entry, where the places before it have none
-  pub tells_last : (at from end old new : ℕ) (has : Bool) → NoneFrom cells end
+  -- a search says whether the node has an entry, where the slots before it have none
+  pub finds_last : (at from end old new : ℕ) (has : Bool) → NoneFrom cells end
       → AreOthers node id cells 0 at → from ≤ at
       → MatchBool has (IsLastOf node id cells from end old new) (AreOthers node id cells from end)
       → has ≡ nat_lt 0 (counted (is_of node id) (entries_from 0 cells))
-  tells_last at from end old new true free others l last = some_counted last.slot last.here
-  tells_last at from end old new false free others l after =
+  finds_last at from end old new true free others l last = some_counted last.slot last.here
+  finds_last at from end old new false free others l after =
       rw (← all_before 0 end cells free)
       (rw (none_counted end (others_join 0 at from end others after l)) refl)
 
   -- where the node has an entry, an entry stands
-  stands_there : (slot : ℕ) → PlaceIsOf node id cells slot true → IsTakenAt cells slot
+  stands_there : (slot : ℕ) → SlotIsOf node id cells slot true → IsTakenAt cells slot
   stands_there slot (None, at, is) = (let e : true ≡ false = is in cc)
   stands_there slot (Some o, at, is) = (o, at)
 
   -- not both has the node an entry there and not
-  not_both : (slot : ℕ) → PlaceIsOf node id cells slot true → PlaceIsOf node id cells slot false
+  not_both : (slot : ℕ) → SlotIsOf node id cells slot true → SlotIsOf node id cells slot false
       → ⊥
   not_both slot has others = grind (arith, same_Some)
 
-  -- a search that begins at an entry of the node looks at no other place
+  -- a search that begins at an entry of the node looks at no other slot
   module _ (end middle slot : ℕ) (free : NoneFrom cells end)
-      (first : slot < end → middle ≡ slot + 1) (has : PlaceIsOf node id cells slot true) where
+      (first : slot < end → middle ≡ slot + 1) (has : SlotIsOf node id cells slot true) where
     begins_there : middle ≡ slot + 1
     begins_there =
         elim (leb_tells end slot) as (λ _. middle ≡ slot + 1) [

@@ -170,7 +170,7 @@ module _ {T : Type 0} (a b a' b' : RegistryState T) (l : SameContents a b) (v : 
         (rw (ea, eb) (within_after_filter keep a.entries b.entries l.there))
         (rw (ea, eb) (within_after_filter keep b.entries a.entries l.back))
 
--- the handles in two lists of replies, place by place
+-- the handles in two lists of replies, slot by slot
 abbrev AllAgree : {T : Type 0} → List (RegistryReply T) → List (RegistryReply T) → Type 0
 AllAgree xs ys = AllZip (λ x y. TicketsAgree (given_by x) (given_by y)) xs ys
 

@@ -19,8 +19,8 @@ use Rattle.iox2_container.specs.contracts.container.counted_map.RegistryHeader a
 use Rattle.iox2_container.specs.contracts.container.slot_map.SlotMap as SlotMap
 use Rattle.iox2_container.specs.contracts.container.slot_map.SlotMap.TheInside as SlotMapInside
 use Rattle.iox2_container.specs.contracts.container.counted_map.CountedMap.TheInside as Inside
-use Rattle.iox2_container.specs.contracts.container.slots.Places as Places
-use Rattle.iox2_container.specs.contracts.container.slots.Places.TheInside as PlacesInside
+use Rattle.iox2_container.specs.contracts.container.slots.EntrySlots as EntrySlots
+use Rattle.iox2_container.specs.contracts.container.slots.EntrySlots.TheInside as EntrySlotsInside
 use Rattle.iox2_container.specs.contracts.container.slots.Slots as Slots
 use Rattle.iox2_container.specs.contracts.container.touches.Touches as Touches
 use Rattle.iox2_container.specs.declared.container.free.SlotAllocator.{Ghosts as SlotAllocatorGhosts}
@@ -42,12 +42,12 @@ Cell-send T N t n =
     recorded_send (Enum (enum.shape (Cell.the_type T N))) _ _ ((Cell.the_type T N).to_one)
     (enum_send (enum.shape (Cell.the_type T N)) ((n, tt), ((search sendable, (t, tt)), tt)))
 
--- places
+-- slots
 module _ (T N : RattleType) where
-  Places-send : IsSend T → IsSend N → IsSend (Places.the_row T N)
-  Places-send t n =
-      view_send (PlacesInside.the_row T N) _ _ _ _
-      (declared_send (PlacesInside.the_type T N) (Slots-send _ (Cell-send T N t n), tt))
+  EntrySlots-send : IsSend T → IsSend N → IsSend (EntrySlots.the_row T N)
+  EntrySlots-send t n =
+      view_send (EntrySlotsInside.the_row T N) _ _ _ _
+      (declared_send (EntrySlotsInside.the_type T N) (Slots-send _ (Cell-send T N t n), tt))
 
 -- any slot map
 module _ (T S N : RattleType) (slots : SlotAllocatorGhosts S.Denot T.Denot N.Denot)
@@ -56,7 +56,7 @@ module _ (T S N : RattleType) (slots : SlotAllocatorGhosts S.Denot T.Denot N.Den
   inside_send t s n =
       declared_send (Inside.the_type T S N slots debug) (
         RegistryHeader-send,
-        (Places-send T N t n, (as_row_send (row_field S) s, (search sendable, tt))),
+        (EntrySlots-send T N t n, (as_row_send (row_field S) s, (search sendable, tt))),
       )
 
   pub SlotMap-send : IsSend T → IsSend S → IsSend N → IsSend (SlotMap.the_row T S N slots debug)

@@ -1,6 +1,6 @@
 -- What a sweep leaves.
 use Rattle.iox2_container.proofs.Prelude.{[], ◌++◌, ◌+◌, ◌<◌, ◌==◌, ◌∙◌, ◌∷◌, ◌≡◌, ◌≤◌, All, All-filter, All-head, All-tail, All-weaker, Bool, IsTrue, List, None, Option, Some, ℕ, add-one, ap, append-nil, arith, eq-eqb, false, filter-append, if◌then◌else◌, inl, inr, leb_tells, length, length-append, length-set, length-take, map, map-append, ne_eqb, not, refl, slice_get, slice_get_within, slice_set, subst, suc, sym, take, true, zero}
-use Rattle.iox2_container.specs.Prelude.{AreOthers, Entry, Occupant, PlaceIsOf, Swept, candidates, cell_is_of, entries_from, is_leaving, is_of, occupant, staying}
+use Rattle.iox2_container.specs.Prelude.{AreOthers, Entry, Occupant, SlotIsOf, Swept, candidates, cell_is_of, entries_from, is_leaving, is_of, occupant, staying}
 use Rattle.iox2_container.proofs.AskedInTurn.{Asked-push, details_of, taken_more, taken_free}
 use Rattle.iox2_container.proofs.CellEntries.{below_from}
 use Rattle.iox2_container.proofs.ListEdits.{get_set_other}
@@ -32,10 +32,10 @@ module _ {T : Type 0} (is_dead : T → Bool) (marked : ℕ → Bool) (slot : ℕ
         staying_before es (All-tail (λ (v : Entry T). v.slot < slot) e es h),
       ) refl
 
-one_place : {X : Type 0} (x : X) (goes : Bool)
+one_slot : {X : Type 0} (x : X) (goes : Bool)
     → length (if goes then [] else x ∷ []) + (if goes then 1 else 0) ≡ 1
-one_place x true = refl
-one_place x false = refl
+one_slot x true = refl
+one_slot x false = refl
 
 unless : {X : Type 0} (x : X) (goes : Bool)
     → (if not goes then x ∷ [] else []) ≡ (if goes then [] else x ∷ [])
@@ -94,7 +94,7 @@ module _ {F T : Type 0} (calls : F → T → Bool → F → Type 0) (is_dead : T
             w.gone_is,
             length-append new (if goes then [] else x ∷ []),
             length-append old (x ∷ []),
-            one_place x goes,
+            one_slot x goes,
           );
         }
 
@@ -145,11 +145,11 @@ module _ {F T : Type 0} (calls : F → T → Bool → F → Type 0) (node : T �
       (swept_one calls (is_of node id) f g (entries_from 0 (take i cs)) (entries_from 0 (take i m))
       gone x w h goes (rw at (below_taken i cs)) e called)
 
--- what holds at a place, and goes on over each place where no entry of the node stands, holds at
--- the end of such places
+-- what holds at a slot, and goes on over each slot where no entry of the node stands, holds at
+-- the end of such slots
 pub over_others : {T : Type 0} (node : T → ℕ) (id : ℕ) (cells : List (Option (Occupant T)))
     (P : ℕ → Type 0) (i j : ℕ) → i ≤ j → AreOthers node id cells i j
-    → ((k : ℕ) → i ≤ k → PlaceIsOf node id cells k false → P k → P (k + 1)) → P i → P j
+    → ((k : ℕ) → i ≤ k → SlotIsOf node id cells k false → P k → P (k + 1)) → P i → P j
 over_others node id cells P i zero l others step p =
     let e : i ≡ zero = omega arith in subst P e p
 over_others node id cells P i (suc j) l others step p =

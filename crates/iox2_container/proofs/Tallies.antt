@@ -6,24 +6,24 @@ use Rattle.iox2_container.proofs.Callable.{Asked-keeps, CanBeAsked-by, CanVisit-
 -- a callback that counts one more at each call, and may be called while the count is below a bound
 module _ {F A R : Type 0} (takes : F → A → Type 0) (calls : F → A → R → F → Type 0) (count : F → ℕ)
     (top : ℕ)
-    (asks : (f : F) (x : A) → count f + 1 < top → takes f x)
+    (may_call : (f : F) (x : A) → count f + 1 < top → takes f x)
     (counts : (f : F) (x : A) (r : R) (h : F) → calls f x r h → count h ≡ count f + 1) where
   pub CanBeAsked-counting : (f : F) (items : List A) → count f + length items < top
       → CanBeAsked takes calls f items
   CanBeAsked-counting =
       CanBeAsked-by takes calls (λ f xs. count f + length xs < top)
-      (λ f x xs i. asks f x (omega (arith, i)))
+      (λ f x xs i. may_call f x (omega (arith, i)))
       (λ f x xs r h i c. omega (arith, i, counts f x r h c))
 
 module _ {F A : Type 0} (takes : F → A → Type 0) (calls : F → A → CallbackProgression → F → Type 0)
     (count : F → ℕ) (top : ℕ)
-    (asks : (f : F) (x : A) → count f + 1 < top → takes f x)
+    (may_call : (f : F) (x : A) → count f + 1 < top → takes f x)
     (counts : (f : F) (x : A) (h : F) → calls f x Continue h → count h ≡ count f + 1) where
   pub CanVisit-counting : (f : F) (items : List A) → count f + length items < top
       → CanVisit takes calls f items
   CanVisit-counting =
       CanVisit-by takes calls (λ f xs. count f + length xs < top)
-      (λ f x xs i. asks f x (omega (arith, i)))
+      (λ f x xs i. may_call f x (omega (arith, i)))
       (λ f x xs h i c. omega (arith, i, counts f x h c))
 
 -- what it has counted in the end

@@ -14,4 +14,4 @@ MayAsk {F} {A} {R} takes calls f (item ∷ items) =
 -- so that a proof finds the calls in it
 pub record CanBeAsked {F A R : Type 0} (takes : F → A → Type 0) (calls : F → A → R → F → Type 0)
     (f : F) (items : List A) : Type 0 where
-  pub asks : MayAsk takes calls f items
+  pub may_call : MayAsk takes calls f items

@@ -51,7 +51,7 @@ reply_of_remove (Ok state) = Reply.State state
 reply_of_remove (Err e) = Reply.NotOwned
 
 -- a step was taken, and the reply is its result
-pub record Tells {T R : Type 0} (Step : R → Type 0) (reported : R → RegistryReply T)
+pub record Reports {T R : Type 0} (Step : R → Type 0) (reported : R → RegistryReply T)
     (reply : RegistryReply T) : Type 0 where
   pub result : R
   pub step : Step result
@@ -62,7 +62,7 @@ abbrev pub RemoveGiven : {T : Type 0} → ContainerState T → Option Handle →
     → RegistryReply T → ContainerState T → Type 0
 RemoveGiven old None mode reply new = (reply ≡ Reply.NoHandle) × (new ≡ old)
 RemoveGiven old (Some handle) mode reply new =
-    Tells (λ result. Removes old handle mode result new) reply_of_remove reply
+    Reports (λ result. Removes old handle mode result new) reply_of_remove reply
 
 -- what a registry may reply to a call, after it gave the
 -- earlier replies, and how often it touches its slots
@@ -70,14 +70,14 @@ abbrev pub CallStep : {T : Type 0} → (T → ℕ) → (T → ℕ)
     → ContainerState T → List (RegistryReply T) → RegistryCall T → RegistryReply T
     → ContainerState T → Type 0
 CallStep node number old earlier (Call.Add details) reply new =
-    Tells (λ result. Adds old details result new) reply_of_add reply
+    Reports (λ result. Adds old details result new) reply_of_add reply
 CallStep node number old earlier (Call.Remove k mode) reply new =
     RemoveGiven old (handle_given earlier k) mode reply new
 CallStep node number old earlier (Call.Recover dead keys mode) reply new =
-    Tells (λ state. RecoversBut (is_of node dead) number keys.items old mode state new)
+    Reports (λ state. RecoversBut (is_of node dead) number keys.items old mode state new)
     (λ state. Reply.State state) reply
 CallStep {T} node number old earlier Call.List reply new =
-    Tells (λ (entries : Vec T). (entries.items ≡ listed old.registry) × (new ≡ old))
+    Reports (λ (entries : Vec T). (entries.items ≡ listed old.registry) × (new ≡ old))
     (λ entries. Reply.Entries entries) reply
 CallStep node number old earlier Call.Len reply new =
     (reply ≡ Reply.Count (length old.registry.entries)) × (new ≡ old)

@@ -3,7 +3,7 @@ use Rattle.std.specs.Prelude.{◌≡◌, ◌≢◌, ℕ, ◌+◌, ◌≤◌, ◌
 use Rattle.iox2_container.specs.declared.container.cell.Cell.{Cell}
 use Rattle.iox2_container.specs.declared.container.cell.Cell.TheVariants.{Taken, Free}
 use Rattle.iox2_container.specs.declared.container.free.FreeList.{FreeList}
-use Rattle.iox2_container.specs.Places.{entries_from}
+use Rattle.iox2_container.specs.SlotEntries.{entries_from}
 use Rattle.iox2_container.specs.Cells.{shown}
 
 -- a cell that names the next free slot, where it is free

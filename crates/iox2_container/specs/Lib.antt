@@ -13,9 +13,9 @@ pub mod ServiceNumbers
 -- What contracts see of slots, which others may use by themselves
 pub mod Cells
 -- Inner facts, which no other crate needs: slots, passes over them, the header, and the free list
-pub mod Places
+pub mod SlotEntries
 pub mod Passes
-pub mod HeaderAndPlaces
+pub mod HeaderAndSlots
 pub mod FreeList
 -- All of them together, for proofs
 pub mod Prelude

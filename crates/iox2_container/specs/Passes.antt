@@ -25,14 +25,14 @@ cell_is_of node id None = false
 cell_is_of node id (Some o) = is_of node id o.details
 
 -- whether the entry of this slot is one of the node's
-abbrev pub PlaceIsOf : {T : Type 0} → (T → ℕ) → ℕ → List (Option (Occupant T)) → ℕ → Bool → Type 0
-PlaceIsOf {T} node id cells slot is = (cell : Option (Occupant T))
+abbrev pub SlotIsOf : {T : Type 0} → (T → ℕ) → ℕ → List (Option (Occupant T)) → ℕ → Bool → Type 0
+SlotIsOf {T} node id cells slot is = (cell : Option (Occupant T))
     × (slice_get cells slot ≡ Some cell) × (is ≡ cell_is_of node id cell)
 
 -- no entry of the node is in these slots
 abbrev pub AreOthers : {T : Type 0} → (T → ℕ) → ℕ → List (Option (Occupant T)) → ℕ → ℕ → Type 0
 AreOthers node id cells from to = (slot : ℕ) → from ≤ slot → slot < to
-    → PlaceIsOf node id cells slot false
+    → SlotIsOf node id cells slot false
 
 -- details of the node stand in a cell
 abbrev pub CellHas : {T : Type 0} → (T → ℕ) → ℕ → Option (Occupant T) → T → Type 0
@@ -60,7 +60,7 @@ pub record IsLastOf {T : Type 0} (node : T → ℕ) (id : ℕ) (cells : List (Op
   pub order : from ≤ slot
   pub before : slot < to
   pub others : AreOthers node id cells (slot + 1) to
-  pub here : PlaceIsOf node id cells slot true
+  pub here : SlotIsOf node id cells slot true
   pub looks : new + slot ≡ old + to
 
 -- how many slots a search from `from` on looked at: those up

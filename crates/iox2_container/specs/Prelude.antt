@@ -7,12 +7,12 @@ pub use Rattle.iox2_container.specs.Changes.{Adds, Changes, RecoversBy, Removes}
 pub use Rattle.iox2_container.specs.ContainerState.{ContainerState, container, fresh}
 pub use Rattle.iox2_container.specs.FreeList.{IsFreeAt, IsFreeList, LeadsThrough, Linked, PutsFirst, TakesFirst, TakesLastFreed}
 pub use Rattle.iox2_container.specs.Handle.{Handle}
-pub use Rattle.iox2_container.specs.HeaderAndPlaces.{AreRegistry, IsNewestEnd, registry_of}
+pub use Rattle.iox2_container.specs.HeaderAndSlots.{AreRegistry, IsNewestEnd, registry_of}
 pub use Rattle.iox2_container.specs.Histories.{Change, ChangeStep, History, IsNew, IsRefused, Remains, TakesOut, handle_given_by, handles_given}
 pub use Rattle.iox2_container.specs.Histories.Change.{Adding, Recovering, Removing}
 pub use Rattle.iox2_container.specs.Mapped.{container_as, entry_as, registry_as}
-pub use Rattle.iox2_container.specs.Passes.{AreOthers, AskedOfCell, IsLastOf, IsNextOf, PlaceIsOf, Swept, TakesCell, cell_is_of}
-pub use Rattle.iox2_container.specs.Places.{Finds, IsTakenAt, NoneFrom, entries_from}
+pub use Rattle.iox2_container.specs.Passes.{AreOthers, AskedOfCell, IsLastOf, IsNextOf, SlotIsOf, Swept, TakesCell, cell_is_of}
+pub use Rattle.iox2_container.specs.SlotEntries.{Finds, IsTakenAt, NoneFrom, entries_from}
 pub use Rattle.iox2_container.specs.State.{Entry, IsRegistry, RegistryState, handle_of}
 pub use Rattle.iox2_container.specs.Steps.{AddStep, Asked, Enters, HasEntry, HasRoom, InsertsOne, IsFull, IsUnknownHandle, Leaves, RecoverStep, Recovers, RemoveStep, Visit, asked_about, candidates, entries_of, is_leaving, is_of, leaving, listed, lock_after, marks_of, release_state, staying}
 pub use Rattle.iox2_container.specs.declared.container.comparison.calls.RegistryCall.{RegistryCall}

@@ -1,6 +1,6 @@
 //! What holds of a container over every list of changes, from a new one on, and how `==` and
 //! `clone` see the values that it takes and gives.
-ghost use Rattle.std.specs.Prelude.{◌≡◌, ◌↔◌, ◌≢◌, Bool, IsTrue, IsOkAnd, List, AllPairs, Any, fold};
+ghost use Rattle.std.specs.Prelude.{◌≡◌, ◌↔◌, ◌≢◌, Bool, IsTrue, IsOkAnd, List, AllPairs, Any};
 ghost use Rattle.std.specs.Fn.{CalledAt};
 ghost use Rattle.iox2_container.specs.Handle.{Handle};
 ghost use Rattle.iox2_container.specs.State.{RegistryState};

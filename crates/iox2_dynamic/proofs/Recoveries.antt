@@ -34,11 +34,11 @@ module _ {F G : Type 0} (calls : F → UniquePortId → PortCleanupAction → F 
       → I f → RecoversPorts calls dead old f new h → RecoversPorts others dead old (k f) new (k h)
       × I h
   RecoversPorts-through dead old f new h i r =
-      let asks : F → PortDetails → Bool → F → Type 0 =
+      let called : F → PortDetails → Bool → F → Type 0 =
       λ i d goes j. AskedToGo calls i (port_of d) goes j in
-      let asks' : G → PortDetails → Bool → G → Type 0 =
+      let called' : G → PortDetails → Bool → G → Type 0 =
       λ i d goes j. AskedToGo others i (port_of d) goes j in
-      let t = RecoversBy-through asks asks' k I
+      let t = RecoversBy-through called called' k I
       (λ s d goes j u e. let q = step s (port_of d) e.0 j u e.1 in ((e.0, q.0, e.2), q.1))
       (is_of node_of dead) old f Default r.0 new h i r.1 in
       ((r.0, t.0), t.1)

@@ -1,5 +1,5 @@
 //! What holds of every service, and how details, settings and results are compared and copied.
-ghost use Rattle.std.specs.Prelude.{◌≡◌, ◌↔◌, ◌<◌, ℕ, Bool, IsTrue, List, IsOk, IsOkAnd, Result, length, not};
+ghost use Rattle.std.specs.Prelude.{◌≡◌, ◌↔◌, ◌<◌, ℕ, Bool, IsTrue, IsOk, IsOkAnd, Result, not};
 ghost use Rattle.std.specs.Prelude.{count_by};
 ghost use Rattle.iox2_container.specs.declared.container.release.ReleaseMode.{ReleaseMode};
 ghost use Rattle.iox2_container.specs.declared.container.release.ReleaseState.{ReleaseState};

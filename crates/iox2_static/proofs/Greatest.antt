@@ -7,7 +7,7 @@ use Rattle.std.proofs.lemmas.List.{length-append}
 use Rattle.std.proofs.lemmas.List.Sums.{sum_by-cons}
 use Rattle.std.proofs.lemmas.Map.Made.{length-le_from_is_member, is_member-Decides}
 use Rattle.std.proofs.lemmas.Bool.Decides.{Decides-eqb}
-use Rattle.iox2_static.specs.Chunks.{IsHolding, IsGreatest, TellsGreatest}
+use Rattle.iox2_static.specs.Chunks.{IsHolding, IsGreatest, ReportsGreatest}
 
 -- the numbers from k on, n of them
 numbers : ℕ → ℕ → List ℕ
@@ -57,7 +57,7 @@ concat-numbered k (limit ∷ limits) =
     ∙ numbers-append k limit (sum limits)
     ∙ ap (λ n. numbers k n) (sym (sum_by-cons (λ x. x) limit limits))
 
--- a holding has no more places than the limits add up to
+-- a holding has no more chunks than the limits add up to
 length-concat : (limits : List ℕ) (holding : List (List ℕ)) → IsHolding limits holding
     → length (concat holding) ≤ sum limits
 length-concat [] [] h = omega arith
@@ -104,6 +104,6 @@ greatest_is_sum limits =
 
 -- an answer that is the sum of the limits, or none where that passes 64 bits
 pub tells : (limits : List ℕ) (answer : Option ℕ)
-    → MatchOption answer (2 ^ 64 ≤ sum limits) (λ c. c ≡ sum limits) → TellsGreatest limits answer
+    → MatchOption answer (2 ^ 64 ≤ sum limits) (λ c. c ≡ sum limits) → ReportsGreatest limits answer
 tells limits None past = (sum limits, greatest_is_sum limits, past)
 tells limits (Some c) same = subst (λ n. IsGreatest limits n) (sym same) (greatest_is_sum limits)

@@ -19,6 +19,6 @@ IsGreatest limits c =
     × ((holding : List (List ℕ)) (d : ℕ) → IsHolding limits holding → Uses holding d → d ≤ c)
 
 -- the greatest number of chunks in use, or none where that number does not fit 64 bits
-abbrev pub TellsGreatest : List ℕ → Option ℕ → Type 0
-TellsGreatest limits answer =
+abbrev pub ReportsGreatest : List ℕ → Option ℕ → Type 0
+ReportsGreatest limits answer =
     MatchOption answer ((c : ℕ) × IsGreatest limits c × (2 ^ 64 ≤ c)) (λ c. IsGreatest limits c)

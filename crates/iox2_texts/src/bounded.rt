@@ -2,7 +2,7 @@
 //! least multiples.
 //!
 //! A text holds bytes from 1 to 127 alone: ASCII without the zero byte.
-ghost use Rattle.std.specs.Prelude.{◌≡◌, ◌↔◌, ◌+◌, ◌<◌, ◌^◌, ◌≤◌, ◌++◌, [], Some, length, IsTrue};
+ghost use Rattle.std.specs.Prelude.{◌≡◌, ◌↔◌, ◌+◌, ◌<◌, ◌≤◌, ◌++◌, [], Some, length, IsTrue};
 ghost use Rattle.iox2_texts.specs.Text.{IsText, IsTextUpTo, MakesText, AppendsText};
 
 mod alignment;

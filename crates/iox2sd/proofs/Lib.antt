@@ -3,6 +3,6 @@ pub mod Heap
 pub mod Steps
 pub mod Roles
 pub mod Listings
-pub mod Dying
+pub mod Removing
 pub mod Keeping
 pub mod Lending

@@ -7,7 +7,7 @@ pub use Rattle.iox2_dynamic.specs.Service.{Service}
 pub use Rattle.iox2_texts.specs.Attribute.{Visits}
 pub use Rattle.iox2_texts.specs.declared.bounded.callback_progression.CallbackProgression.{CallbackProgression}
 pub use Rattle.iox2_texts.specs.declared.bounded.callback_progression.CallbackProgression.TheVariants.{Continue, Stop}
-pub use Rattle.iox2sd.specs.Deaths.{Keeps, Went, AreSorted, is_at_most, is_kept, order_at}
+pub use Rattle.iox2sd.specs.DeadNodes.{Keeps, Went, AreSorted, is_at_most, is_kept, order_at}
 pub use Rattle.iox2sd.specs.declared.values.PortId.{PortId}
 pub use Rattle.iox2sd.specs.Listings.{ListsAll, NeedsMore, PortsOf, Puts, PutsAll, nodes_in, ports_in, ports_of_kind}
 pub use Rattle.iox2sd.specs.Ports.{c_port}

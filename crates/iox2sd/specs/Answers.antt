@@ -1,8 +1,8 @@
 -- What exports return beside a status of their own.
 use Rattle.std.specs.Prelude.{ℕ, Result, Ok, Err}
 use Rattle.iox2sd.specs.Ports.{no_handle, no_port}
-use Rattle.iox2sd.specs.Prelude.{Death, Open, Locked, Refused, HandleAnswer, IdAnswer, NumberAnswer, Roles, Handle, Port, Counts, id_of, code, Id, Status}
-use Rattle.iox2sd.specs.declared.values.DeathAnswer.{DeathAnswer}
+use Rattle.iox2sd.specs.Prelude.{NodeRemoval, Open, Locked, Refused, HandleAnswer, IdAnswer, NumberAnswer, Roles, Handle, Port, Counts, id_of, code, Id, Status}
+use Rattle.iox2sd.specs.declared.values.DeadNodeRemoval.{DeadNodeRemoval}
 use Rattle.iox2sd.specs.declared.values.PortAnswer.{PortAnswer}
 use Rattle.iox2sd.specs.declared.values.RolesAnswer.{RolesAnswer}
 use Rattle.iox2sd_common.specs.declared.status.Status.TheVariants as status
@@ -34,11 +34,11 @@ port_answer (Ok port) = record { status = code status.Done; port = port }
 port_answer (Err s) = record { status = code s; port = no_port }
 
 -- a status, and how many ports of each kind went
-abbrev pub told_death : Status → Counts → DeathAnswer
-told_death s gone = record { status = code s; first = gone.first; second = gone.second }
+abbrev pub removal_with : Status → Counts → DeadNodeRemoval
+removal_with s gone = record { status = code s; first = gone.first; second = gone.second }
 
 -- what became of a dead node, as C sees it
-abbrev pub death_answer : Death → DeathAnswer
-death_answer (Open gone) = told_death status.Done gone
-death_answer (Locked gone) = told_death status.DoneLocked gone
-death_answer (Refused s) = told_death s (record { first = 0; second = 0 })
+abbrev pub removal_answer : NodeRemoval → DeadNodeRemoval
+removal_answer (Open gone) = removal_with status.Done gone
+removal_answer (Locked gone) = removal_with status.DoneLocked gone
+removal_answer (Refused s) = removal_with s (record { first = 0; second = 0 })

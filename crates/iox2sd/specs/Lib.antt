@@ -5,7 +5,7 @@ pub mod Answers
 pub mod Objects
 pub mod Services
 pub mod Changes
-pub mod Deaths
+pub mod DeadNodes
 pub mod Queries
 pub mod Listings
 -- Inner facts: the names that these files share, and what a slot owns.

@@ -12,8 +12,8 @@ pub use Rattle.iox2_ids.specs.PortId.{port_value}
 pub use Rattle.iox2sd.specs.declared.service.listings.Listed.{Listed}
 pub use Rattle.iox2sd.specs.declared.service.listings.Listed.TheVariants.{All, TooShort}
 pub use Rattle.iox2sd.specs.declared.service.roles.Counts.{Counts}
-pub use Rattle.iox2sd.specs.declared.values.Death.{Death}
-pub use Rattle.iox2sd.specs.declared.values.Death.TheVariants.{Locked, Open, Refused}
+pub use Rattle.iox2sd.specs.declared.values.NodeRemoval.{NodeRemoval}
+pub use Rattle.iox2sd.specs.declared.values.NodeRemoval.TheVariants.{Locked, Open, Refused}
 pub use Rattle.iox2sd.specs.declared.values.Handle.{Handle}
 pub use Rattle.iox2sd.specs.declared.values.HandleAnswer.{HandleAnswer}
 pub use Rattle.iox2sd.specs.declared.values.IdAnswer.{IdAnswer}

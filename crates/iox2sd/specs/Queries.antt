@@ -7,7 +7,7 @@ use Rattle.iox2sd.specs.Ports.{role_number, ReadsRole, ReadsHandle, c_port}
 use Rattle.iox2sd_common.specs.declared.status.Status.TheVariants as status
 use Rattle.iox2_container.specs.Handle.{Handle as Named}
 use Rattle.iox2sd.specs.Answers.{id_answer}
-use Rattle.iox2sd_common.specs.Answers.{Told}
+use Rattle.iox2sd_common.specs.Answers.{Returns}
 
 -- a question that is never refused: the answer is this of the service
 abbrev pub Gives : {A : Type 0} → (Held → A) → Held → Result A Status → Type 0
@@ -64,8 +64,8 @@ abbrev pub is_before : Id → Id → Bool
 is_before id other = nat_lt (number_of id) (number_of other)
 
 -- the id whose text this is
-abbrev pub TellsId : List ℕ → IdAnswer → Type 0
-TellsId text answer = Told id_answer (ReadsText text) answer
+abbrev pub ReportsId : List ℕ → IdAnswer → Type 0
+ReportsId text answer = Returns id_answer (ReadsText text) answer
 
 -- the node of a handle
 abbrev pub FindsNode : Handle → Held → Result Id Status → Type 0

@@ -10,7 +10,7 @@ use Rattle.iox2sd.specs.declared.service.making.Capacities.{Capacities}
 use Rattle.iox2sd_common.specs.declared.status.Status.TheVariants as status
 use Rattle.iox2_container.specs.ServiceNumbers.{ReturnsNumber}
 use Rattle.iox2sd.specs.Answers.{number_answer}
-use Rattle.iox2sd_common.specs.Answers.{Told}
+use Rattle.iox2sd_common.specs.Answers.{Returns}
 use Rattle.iox2sd.specs.declared.service_numbers.ServiceNumbers.{ServiceNumbers}
 
 -- how many ports of the two kinds of a pattern there may be
@@ -38,7 +38,7 @@ abbrev pub MakesAt : ℕ → ℕ → Capacities → ℕ → List Service → ℕ
 MakesAt pattern number c tickets [] answer new = (answer ≡ code status.Null) × (new ≡ [])
 MakesAt pattern number c tickets (object ∷ others) answer new =
     (left : Service) × (new ≡ left ∷ others) × IsSoundObject left
-    × Told code (λ s. Makes pattern number c tickets (held object) s (held left)) answer
+    × Returns code (λ s. Makes pattern number c tickets (held object) s (held left)) answer
 
 -- freeing what is held, and telling whether something was
 abbrev pub Frees : Option Held → ℕ → Option Held → Type 0

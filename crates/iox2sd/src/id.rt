@@ -3,7 +3,7 @@ ghost use Rattle.std.specs.Prelude.{◌≡◌};
 ghost use Rattle.iox2_ids.specs.Packing.{hexadecimal, owner_of};
 ghost use Rattle.iox2sd_common.specs.Answers.{Written};
 ghost use Rattle.iox2sd_common.specs.Ids.{number_of};
-ghost use Rattle.iox2sd.specs.Queries.{is_node, is_before, TellsId};
+ghost use Rattle.iox2sd.specs.Queries.{is_node, is_before, ReportsId};
 
 use crate::values::IdAnswer;
 use iox2_ids::identifiers::Hexadecimal;
@@ -55,7 +55,7 @@ pub extern "C" fn iox2sd_id_text_at(id: Id, out: &mut [u8]) -> TextAnswer
 /// lead.
 #[unsafe(no_mangle)]
 pub extern "C" fn iox2sd_id_from_text_at(text: &[u8]) -> IdAnswer
-    ensures { TellsId text.now result }
+    ensures { ReportsId text.now result }
 {
     IdAnswer::of(Id::from_text(text))
 }

@@ -6,7 +6,7 @@
 #![tactic(auto)]
 
 ghost use Rattle.std.specs.Prelude.{◌≡◌};
-ghost use Rattle.iox2sd.specs.About.{the_abi, TellsStatus};
+ghost use Rattle.iox2sd.specs.About.{the_abi, ReportsStatus};
 
 pub mod id;
 pub mod service;
@@ -27,7 +27,7 @@ pub extern "C" fn iox2sd_abi() -> u32
 /// Writes what a status says. Refused is a number that is not that of a status.
 #[unsafe(no_mangle)]
 pub extern "C" fn iox2sd_status_text_at(number: u32, out: &mut [u8]) -> TextAnswer
-    ensures { TellsStatus number out.old result out.new }
+    ensures { ReportsStatus number out.old result out.new }
 {
     match status_of(number) {
         Some(status) => write(status.text().as_bytes(), out),

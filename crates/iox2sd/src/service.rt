@@ -22,7 +22,7 @@ macro_rules! lent_or_return {
 }
 
 pub mod changes;
-pub mod death;
+pub mod dead_node;
 mod kept;
 pub mod listings;
 pub mod making;

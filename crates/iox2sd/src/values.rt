@@ -2,7 +2,7 @@
 //! found.
 ghost use Rattle.std.specs.Prelude.{◌≡◌, None};
 ghost use Rattle.iox2sd.specs.Answers.{handle_answer, number_answer, roles_answer, id_answer};
-ghost use Rattle.iox2sd.specs.Answers.{port_answer, told_death, death_answer};
+ghost use Rattle.iox2sd.specs.Answers.{port_answer, removal_with, removal_answer};
 ghost use Rattle.iox2sd.specs.Ports.{ReadsRole, c_handle, no_handle, ReadsHandle};
 ghost use Rattle.iox2sd.specs.Ports.{ReadsSegment, ReadsPort, blank, c_port};
 
@@ -409,7 +409,7 @@ impl PortAnswer {
 /// How many ports went with a dead node.
 #[repr(C)]
 #[derive(Clone, Copy)]
-pub struct DeathAnswer {
+pub struct DeadNodeRemoval {
     /// The number of a [`Status`].
     pub status: u32,
     /// How many publishers, listeners, servers or readers went.
@@ -419,7 +419,7 @@ pub struct DeathAnswer {
 }
 
 /// What became of a dead node.
-pub(crate) enum Death {
+pub(crate) enum NodeRemoval {
     /// The service stays open; so many ports went.
     Open(Counts),
     /// The service is locked for good; so many ports went.
@@ -428,12 +428,12 @@ pub(crate) enum Death {
     Refused(Status),
 }
 
-impl DeathAnswer {
+impl DeadNodeRemoval {
     /// The answer of this status with these numbers.
-    fn new(status: Status, gone: Counts) -> DeathAnswer
-        ensures { result ≡ told_death status gone }
+    fn new(status: Status, gone: Counts) -> DeadNodeRemoval
+        ensures { result ≡ removal_with status gone }
     {
-        DeathAnswer {
+        DeadNodeRemoval {
             status: status.code(),
             first: gone.first,
             second: gone.second,
@@ -441,13 +441,13 @@ impl DeathAnswer {
     }
 
     /// The answer with it.
-    pub(crate) fn of(death: Death) -> DeathAnswer
-        ensures { result ≡ death_answer death }
+    pub(crate) fn of(removal: NodeRemoval) -> DeadNodeRemoval
+        ensures { result ≡ removal_answer removal }
     {
-        match death {
-            Death::Open(gone) => DeathAnswer::new(Status::Done, gone),
-            Death::Locked(gone) => DeathAnswer::new(Status::DoneLocked, gone),
-            Death::Refused(status) => DeathAnswer {
+        match removal {
+            NodeRemoval::Open(gone) => DeadNodeRemoval::new(Status::Done, gone),
+            NodeRemoval::Locked(gone) => DeadNodeRemoval::new(Status::DoneLocked, gone),
+            NodeRemoval::Refused(status) => DeadNodeRemoval {
                 status: status.code(),
                 first: 0,
                 second: 0,

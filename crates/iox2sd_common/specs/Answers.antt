@@ -31,8 +31,8 @@ abbrev pub text_answer : Status → ℕ → TextAnswer
 text_answer s n = record { status = code s; cause = 0; length = n }
 
 -- the answer tells what is so
-abbrev pub Told : {M R : Type 0} → (M → R) → (M → Type 0) → R → Type 0
-Told {M} tell IsSo answer = (made : M) × IsSo made × (answer ≡ tell made)
+abbrev pub Returns : {M R : Type 0} → (M → R) → (M → Type 0) → R → Type 0
+Returns {M} form IsSo answer = (made : M) × IsSo made × (answer ≡ form made)
 
 -- what is said of the struct that the caller gave, or this answer where it gave NULL
 abbrev pub OfGiven : {S R : Type 0} → R → (S → R → Type 0) → List S → R → Type 0
@@ -65,6 +65,6 @@ Written text old answer new =
     × (answer ≡ text_answer (fit_status fits) (length text))
 
 -- the text was written, or there is none for this cause and the buffer is as it was
-abbrev pub TellsText : Result (List ℕ) Status → List ℕ → TextAnswer → List ℕ → Type 0
-TellsText (Ok text) old answer new = Written text old answer new
-TellsText (Err cause) old answer new = (answer ≡ text_answer cause 0) × (new ≡ old)
+abbrev pub ReportsText : Result (List ℕ) Status → List ℕ → TextAnswer → List ℕ → Type 0
+ReportsText (Ok text) old answer new = Written text old answer new
+ReportsText (Err cause) old answer new = (answer ≡ text_answer cause 0) × (new ≡ old)

@@ -22,7 +22,7 @@ use Rattle.iox2sd_common.specs.declared.status.Status.TheVariants as status
 use Rattle.iox2sd_config.specs.declared.fault.PlainFault.{PlainFault}
 use Rattle.toml_positions.specs.declared.position.Position.{Position}
 use Rattle.std.specs.List.Sorted.{IsPermutation, IsSortedByKey, IsStableByKey}
-use Rattle.config_report.specs.Findings.{place_cmp}
+use Rattle.config_report.specs.Findings.{sort_key_cmp}
 
 -- the number of a table of the file
 abbrev pub section_number : Section → ℕ
@@ -139,8 +139,8 @@ worded s words = record {
 }
 
 -- a status in its own words, and nothing of a key
-abbrev pub no_place : Status → Known
-no_place s = worded s (status_text s)
+abbrev pub no_position : Status → Known
+no_position s = worded s (status_text s)
 
 -- the line and the column of a position, 0 where there is none
 abbrev pub line_of : Option Position → ℕ
@@ -187,7 +187,7 @@ abbrev pub c_unread : Unread → Known
 c_unread (NotUtf8 finding) = c_note status.NotUtf8 0 0 0 (finding_view finding)
 c_unread (TooDeep finding) = c_note status.TooDeep 0 0 0 (finding_view finding)
 c_unread (NotToml finding) = c_note status.NotToml 0 0 0 (finding_view finding)
-c_unread (NoMemory e) = no_place status.NoMemory
+c_unread (NoMemory e) = no_position status.NoMemory
 
 -- the same by the status alone
 abbrev pub unread_status : Unread → Status
@@ -197,11 +197,11 @@ unread_status (NotToml finding) = status.NotToml
 unread_status (NoMemory e) = status.NoMemory
 
 -- where something with this line and this column stands among others: what has none comes last
-abbrev pub place_at : ℕ → ℕ → ℕ × ℕ
-place_at line column = if line == 0 then (2 ^ 64 - 1, 2 ^ 64 - 1) else (line, column)
+abbrev pub sort_key_at : ℕ → ℕ → ℕ × ℕ
+sort_key_at line column = if line == 0 then (2 ^ 64 - 1, 2 ^ 64 - 1) else (line, column)
 
 -- the same things, in the order of the file; those of one position in the order that they had
 abbrev pub IsInOrder : {A : Type 0} → (A → ℕ × ℕ) → List A → List A → Type 0
 IsInOrder place found listed =
-    IsPermutation found listed × IsSortedByKey place place_cmp listed
-    × IsStableByKey place place_cmp found listed
+    IsPermutation found listed × IsSortedByKey place sort_key_cmp listed
+    × IsStableByKey place sort_key_cmp found listed

@@ -13,21 +13,21 @@ use Rattle.iox2sd_common.specs.declared.answers.CountAnswer.{CountAnswer}
 use Rattle.iox2sd_common.specs.declared.status.Status.{Status}
 use Rattle.iox2sd_common.specs.declared.status.Status.TheVariants as status
 use Rattle.iox2sd_config.specs.Configs.{c_config}
-use Rattle.iox2sd_config.specs.Faults.{Known, known_of, no_place, worded, c_fault, c_unread, unread_status, place_at, IsInOrder}
+use Rattle.iox2sd_config.specs.Faults.{Known, known_of, no_position, worded, c_fault, c_unread, unread_status, sort_key_at, IsInOrder}
 use Rattle.iox2sd_config.specs.declared.config.PlainConfig.{PlainConfig}
 use Rattle.iox2sd_config.specs.declared.fault.PlainFault.{PlainFault}
 use Rattle.iox2sd_config.specs.declared.read.ConfigAnswer.{ConfigAnswer}
 
 -- where a fault stands among others
-abbrev pub fault_place : PlainFault → ℕ × ℕ
-fault_place f = place_at f.line f.column
+abbrev pub fault_sort_key : PlainFault → ℕ × ℕ
+fault_sort_key f = sort_key_at f.line f.column
 
 -- these are some faults of a file as plain values, in the order of the file
 abbrev pub ListsFaults : List ℕ → List SettingFault → List PlainFault → Type 0
 ListsFaults bytes faults listed =
     (plain : List PlainFault)
     × (map known_of plain ≡ map (c_fault bytes) (map fault_view faults))
-    × IsInOrder fault_place plain listed
+    × IsInOrder fault_sort_key plain listed
 
 -- what an answer says
 pub record KnownAnswer : Type 0 where
@@ -51,19 +51,19 @@ abbrev pub Keeps : Known → PlainConfig → KnownAnswer → PlainConfig → Typ
 Keeps known old answer new = (answer ≡ refused_answer known) × (new ≡ old)
 
 -- the first of some faults of a file, in its order, or that there was no memory to find it
-abbrev pub TellsFirst : List ℕ → List SettingFault → Known → Type 0
-TellsFirst bytes faults known =
+abbrev pub ReportsFirst : List ℕ → List SettingFault → Known → Type 0
+ReportsFirst bytes faults known =
     ((first : PlainFault) × (more : List PlainFault) × ListsFaults bytes faults (first ∷ more)
     × (known ≡ known_of first))
-    ⊎ (known ≡ no_place status.NoMemory)
+    ⊎ (known ≡ no_position status.NoMemory)
 
--- where a file has settings, they are those of this struct; else its first fault is told
+-- where a file has settings, they are those of this struct; else its first fault is returned
 abbrev pub Settles : List ℕ → FileContents → Option Config → PlainConfig → KnownAnswer
     → PlainConfig → Type 0
 Settles bytes contents (Some config) old answer new =
     (new ≡ c_config config) × (answer ≡ read_answer (length contents.unknown.items))
 Settles bytes contents None old answer new =
-    (known : Known) × TellsFirst bytes contents.faults.items known × Keeps known old answer new
+    (known : Known) × ReportsFirst bytes contents.faults.items known × Keeps known old answer new
 
 -- the settings of the file are those of this struct, or it is as it was
 abbrev pub ReadsInto : List ℕ → PlainConfig → KnownAnswer → PlainConfig → Type 0
@@ -74,7 +74,7 @@ ReadsInto bytes old answer new =
 
 -- the same of the first struct, where there is one
 abbrev pub Answers : List ℕ → List PlainConfig → KnownAnswer → List PlainConfig → Type 0
-Answers bytes [] answer new = (answer ≡ refused_answer (no_place status.Null)) × (new ≡ [])
+Answers bytes [] answer new = (answer ≡ refused_answer (no_position status.Null)) × (new ≡ [])
 Answers bytes (old ∷ rest) answer after =
     (new : PlainConfig) × ReadsInto bytes old answer new × (after ≡ new ∷ rest)
 

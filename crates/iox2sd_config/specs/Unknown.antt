@@ -13,7 +13,7 @@ use Rattle.iox2_config_file.specs.declared.unknown.UnknownKey.{UnknownKey}
 use Rattle.iox2sd_common.specs.Status.{code}
 use Rattle.iox2sd_common.specs.declared.status.Status.{Status}
 use Rattle.iox2sd_common.specs.declared.status.Status.TheVariants as status
-use Rattle.iox2sd_config.specs.Faults.{section_number, key_path, key_of, cut_key, cut_reason, line_of, column_of, unread_status, place_at, IsInOrder}
+use Rattle.iox2sd_config.specs.Faults.{section_number, key_path, key_of, cut_key, cut_reason, line_of, column_of, unread_status, sort_key_at, IsInOrder}
 use Rattle.iox2sd_config.specs.declared.unknown.NamedKey.{NamedKey}
 use Rattle.iox2sd_config.specs.declared.unknown.PlainUnknown.{PlainUnknown}
 use Rattle.iox2sd_config.specs.declared.unknown.UnknownAnswer.{UnknownAnswer}
@@ -64,15 +64,15 @@ c_unknown bytes key = c_key_at (unknown_position bytes key) key
 abbrev pub named_view : NamedKey → PlainUnknown × List ℕ
 named_view k = (k.plain, string_bytes k.path)
 
-abbrev pub named_place : NamedKey → ℕ × ℕ
-named_place k = place_at k.plain.line k.plain.column
+abbrev pub named_sort_key : NamedKey → ℕ × ℕ
+named_sort_key k = sort_key_at k.plain.line k.plain.column
 
 -- these are some unknown keys of a file, in the order of the file
 abbrev pub ListsKeys : List ℕ → List UnknownKey → List NamedKey → Type 0
 ListsKeys bytes keys listed =
     (found : List NamedKey)
     × (map named_view found ≡ map (c_unknown bytes) (map unknown_view keys))
-    × IsInOrder named_place found listed
+    × IsInOrder named_sort_key found listed
 
 -- their plain values, and their paths, one after the other
 abbrev pub plain_of : List NamedKey → List PlainUnknown

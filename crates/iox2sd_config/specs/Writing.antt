@@ -234,31 +234,31 @@ unfit_answer (unfit.Field f) =
     record (written_answer (field_status f) 0) { field = field_number f }
 
 -- the text was written, or the answer tells why there is none and the buffer is as it was
-abbrev pub TellsWritten : Result (String Global) ConfigWriteError → List ℕ → WriteAnswer → List ℕ
+abbrev pub ReportsWritten : Result (String Global) ConfigWriteError → List ℕ → WriteAnswer → List ℕ
     → Type 0
-TellsWritten (Ok text) old answer new =
+ReportsWritten (Ok text) old answer new =
     (fits : Bool) × Writes (string_bytes text) old fits new
     × (answer ≡ written_answer (fit_status fits) (length (string_bytes text)))
-TellsWritten (Err (OutOfRange misfit)) old answer new =
+ReportsWritten (Err (OutOfRange misfit)) old answer new =
     (answer ≡ keyed_answer status.NoTomlInteger (key_path misfit.section misfit.key.now))
     × (new ≡ old)
-TellsWritten (Err NoMemory) old answer new =
+ReportsWritten (Err NoMemory) old answer new =
     (answer ≡ written_answer status.NoMemory 0) × (new ≡ old)
 
 -- the text of settings was written, of which these settings are read, or there is none
-abbrev pub TellsText : Config → List ℕ → WriteAnswer → List ℕ → Type 0
-TellsText config old answer new =
+abbrev pub ReportsText : Config → List ℕ → WriteAnswer → List ℕ → Type 0
+ReportsText config old answer new =
     (written : Result (String Global) ConfigWriteError) × WritesFile config written
     × IfOk written (λ text. ReadsBack config (string_bytes text))
-    × TellsWritten written old answer new
+    × ReportsWritten written old answer new
 
 -- the same of settings, where they are valid
-abbrev pub TellsConfig : Result Config Unfit → List ℕ → WriteAnswer → List ℕ → Type 0
-TellsConfig (Ok config) old answer new = TellsText config old answer new
-TellsConfig (Err u) old answer new = (answer ≡ unfit_answer u) × (new ≡ old)
+abbrev pub ReportsConfig : Result Config Unfit → List ℕ → WriteAnswer → List ℕ → Type 0
+ReportsConfig (Ok config) old answer new = ReportsText config old answer new
+ReportsConfig (Err u) old answer new = (answer ≡ unfit_answer u) × (new ≡ old)
 
 -- of the first struct, where there is one
 abbrev pub WritesConfig : List PlainConfig → List ℕ → WriteAnswer → List ℕ → Type 0
 WritesConfig [] old answer new = (answer ≡ written_answer status.Null 0) × (new ≡ old)
 WritesConfig (given ∷ others) old answer new =
-    (read : Result Config Unfit) × ReadsConfig given read × TellsConfig read old answer new
+    (read : Result Config Unfit) × ReadsConfig given read × ReportsConfig read old answer new

@@ -5,9 +5,9 @@ ghost use Rattle.iox2_config_file.specs.Read.{fault_view};
 ghost use Rattle.iox2sd_common.specs.Answers.{zero_padded};
 ghost use Rattle.iox2sd_config.specs.Faults.{section_number, type_number, kind_number};
 ghost use Rattle.iox2sd_config.specs.Faults.{fault_status, found_number, wanted_number, key_path};
-ghost use Rattle.iox2sd_config.specs.Faults.{key_of, known_of, no_place, worded, line_of};
+ghost use Rattle.iox2sd_config.specs.Faults.{key_of, known_of, no_position, worded, line_of};
 ghost use Rattle.iox2sd_config.specs.Faults.{column_of, c_note, c_at, c_unread, unread_status};
-ghost use Rattle.iox2sd_config.specs.Faults.{place_at};
+ghost use Rattle.iox2sd_config.specs.Faults.{sort_key_at};
 
 use config_report::{Finding, Subject, Unread};
 use iox2_config_file::{Fault, Kind, NameFault, Section, SettingFault, TomlType};
@@ -158,7 +158,7 @@ pub(crate) fn key_path(alloc: Global, section: Section, key: &str) -> Result<Str
 impl PlainFault {
     /// What a status says, and nothing of a key.
     pub(crate) fn of(status: Status) -> PlainFault
-        ensures { known_of result ≡ no_place status }
+        ensures { known_of result ≡ no_position status }
     {
         PlainFault::with_reason(status, status.text())
     }
@@ -275,8 +275,8 @@ pub(crate) fn unread_status(unread: &Unread) -> Status
 }
 
 /// Where something with this line and this column stands among others: what has none comes last.
-pub(crate) fn place_at(line: usize, column: usize) -> (usize, usize)
-    ensures { result ≡ place_at line column }
+pub(crate) fn sort_key_at(line: usize, column: usize) -> (usize, usize)
+    ensures { result ≡ sort_key_at line column }
 {
     if line == 0 {
         (usize::MAX, usize::MAX)

@@ -6,12 +6,12 @@ ghost use Rattle.iox2_config_file.specs.Answers.{ReadsAll};
 ghost use Rattle.iox2_config_file.specs.Read.{fault_view};
 ghost use Rattle.iox2sd_config.specs.Faults.{known_of, c_fault};
 ghost use Rattle.iox2sd_config.specs.Files.{Answers, ListsFaults, PutsFaults, PutsListed};
-ghost use Rattle.iox2sd_config.specs.Files.{ReadsInto, ReportsFile, Settles, TellsFirst};
-ghost use Rattle.iox2sd_config.specs.Files.{fault_place, known_answer, read_answer, refused_answer};
+ghost use Rattle.iox2sd_config.specs.Files.{ReadsInto, ReportsFile, Settles, ReportsFirst};
+ghost use Rattle.iox2sd_config.specs.Files.{fault_sort_key, known_answer, read_answer, refused_answer};
 ghost use Rattle.toml.specs.Parse.{parse_document};
 
 use crate::config::{PlainConfig, config_of};
-use crate::fault::{PlainFault, place_at, plain_fault, plain_unread, unread_status};
+use crate::fault::{PlainFault, plain_fault, plain_unread, sort_key_at, unread_status};
 use config_report::{key_positions, parse_file, position_at};
 use iox2_config_file::{FileContents, SettingFault};
 use iox2sd_common::answers::{CountAnswer, count, put};
@@ -58,9 +58,9 @@ impl ConfigAnswer {
 
 /// Where a fault stands among others.
 fn place(fault: &PlainFault) -> (usize, usize)
-    ensures { result ≡ fault_place fault.now }
+    ensures { result ≡ fault_sort_key fault.now }
 {
-    place_at(fault.line, fault.column)
+    sort_key_at(fault.line, fault.column)
 }
 
 /// Some faults as plain values, each at its position.
@@ -102,7 +102,7 @@ fn listed_faults(
 fn first_fault(alloc: Global, text: &str, faults: &[SettingFault]) -> PlainFault
     requires parsed { IsSome (parse_document text.now) }
     requires some { 0 < length faults.now }
-    ensures { TellsFirst text.now faults.now (known_of result) }
+    ensures { ReportsFirst text.now faults.now (known_of result) }
 {
     match listed_faults(alloc, text, faults) {
         Ok(listed) => first_of(listed.as_slice()),

@@ -4,13 +4,13 @@ ghost use Rattle.std.specs.Prelude.{string_bytes};
 ghost use Rattle.config_report.specs.Notes.{finding_view, unknown_position};
 ghost use Rattle.iox2_config_file.specs.Unknown.{proposal_view, unknown_view};
 ghost use Rattle.iox2sd_config.specs.Unknown.{likeness_number, meant_number, meant_path};
-ghost use Rattle.iox2sd_config.specs.Unknown.{named_place, named_view, paths_of, plain_of, c_key};
+ghost use Rattle.iox2sd_config.specs.Unknown.{named_sort_key, named_view, paths_of, plain_of, c_key};
 ghost use Rattle.iox2sd_config.specs.Unknown.{c_key_at, c_unknown, unknown_answer, ListsKeys};
 ghost use Rattle.iox2sd_config.specs.Unknown.{ListsUnknown, PutsKeys, PutsUnknown};
 ghost use Rattle.toml.specs.Parse.{parse_document};
 
 use crate::fault::{
-    column_of, cut, key_of, key_path, line_of, place_at, section_number, unread_status,
+    column_of, cut, key_of, key_path, line_of, section_number, sort_key_at, unread_status,
 };
 use config_report::{Finding, Subject, key_positions, parse_file, position_at};
 use iox2_config_file::{Likeness, Proposal, UnknownKey};
@@ -148,9 +148,9 @@ fn named_key(
 
 /// Where an unknown key stands among others.
 fn place(key: &NamedKey) -> (usize, usize)
-    ensures { result ≡ named_place key.now }
+    ensures { result ≡ named_sort_key key.now }
 {
-    place_at(key.plain.line, key.plain.column)
+    sort_key_at(key.plain.line, key.plain.column)
 }
 
 /// Some unknown keys, each at its position.

@@ -3,7 +3,7 @@ ghost use Rattle.std.specs.Prelude.{◌≡◌, IfOk, IfErr};
 ghost use Rattle.iox2sd_config.specs.Writing.{IsPath, IsFileName, bytes_of, HasPaths, HasNames};
 ghost use Rattle.iox2sd_config.specs.Writing.{HasServiceNames, HasNodeNames, service_of, node_of};
 ghost use Rattle.iox2sd_config.specs.Writing.{system_of, ReadsSystem, ReadsDefaults, ReadsConfig};
-ghost use Rattle.iox2sd_config.specs.Writing.{written_answer, unfit_answer, TellsText};
+ghost use Rattle.iox2sd_config.specs.Writing.{written_answer, unfit_answer, ReportsText};
 ghost use Rattle.iox2sd_config.specs.Writing.{bad_status, bad_view, bad_path, bad_name, IsFirstBad};
 ghost use Rattle.iox2sd_config.specs.Writing.{paths_of, service_names_of, node_names_of};
 ghost use Rattle.iox2sd_config.specs.Writing.{IsFirstBadName};
@@ -350,7 +350,7 @@ fn read_given(given: &PlainConfig) -> Result<Config, Unfit>
 
 /// Writes the text of settings to the front of the buffer, where it fits.
 fn write_text(alloc: alloc::Global, config: &Config, out: &mut [u8]) -> WriteAnswer
-    ensures { TellsText config.now out.old result out.new }
+    ensures { ReportsText config.now out.old result out.new }
 {
     match write_config(alloc, config) {
         Ok(text) => {

@@ -1,9 +1,7 @@
 //! Whole logs.
 ghost use Rattle.std.specs.Prelude.{◌≡◌};
-ghost use Rattle.iox2sd_lines.specs.Verdicts.{Answers, memory_answer, conforming_calls, reported_line};
-ghost use Rattle.iox2sd_lines.specs.Verdicts.{expected_status, verdict_answer, verdict_status};
-ghost use Rattle.iox2sd_common.specs.Answers.{Writes};
-ghost use Rattle.history_logs.specs.Reports.{report_text};
+ghost use Rattle.iox2sd_lines.specs.Verdicts.{Answers, conforming_calls, reported_line};
+ghost use Rattle.iox2sd_lines.specs.Verdicts.{expected_status, verdict_status};
 
 use history_logs::logs::{Expected, Verdict, report_log};
 use iox2sd_common::answers::put;

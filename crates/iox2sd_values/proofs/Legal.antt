@@ -30,10 +30,10 @@ leb-Decides a b =
 legal-Decides : (b : ℕ) → Decides (is_legal b) (IsTextByte b)
 legal-Decides b = Decides-and (leb 1 b) (leb b 127) (leb-Decides 1 b) (leb-Decides b 127)
 
--- a loop over all bytes tells whether they are a text
-pub tells_text : (legal : Bool) (bytes : List ℕ) (i : ℕ) → length bytes ≤ i
+-- a loop over all bytes reports whether they are a text
+pub reports_text : (legal : Bool) (bytes : List ℕ) (i : ℕ) → length bytes ≤ i
     → legal ≡ list_all is_legal (take i bytes) → IsTrue legal ↔ IsText bytes
-tells_text legal bytes i past is =
+reports_text legal bytes i past is =
     let all : legal ≡ list_all is_legal bytes = is ∙ ap (list_all is_legal) (take_all i bytes past)
     in (
       λ holds k d inside.

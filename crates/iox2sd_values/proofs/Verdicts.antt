@@ -1,4 +1,4 @@
--- The answer on what a set lacks, told of its listing.
+-- The answer on what a set lacks, said of its listing.
 use Rattle.std.proofs.Common.{◌≡◌, ◌∙◌, ℕ, ◌<◌, Option, None, Some, List, [], ◌∷◌, map, length, get_or, refl, sym, ap, subst, arith}
 use Rattle.std.specs.Prelude.{◌↔◌, Any, Contains, IsPermutation, Ok, Err}
 use Rattle.std.proofs.Math.ListN.{get_or-map}
@@ -13,7 +13,7 @@ use Rattle.iox2_texts.proofs.VerifyLemmas.{Contains-Any, Misses-map, Misses-same
 use Rattle.iox2sd_common.specs.Answers.{place_answer}
 use Rattle.iox2sd_common.specs.declared.answers.PlaceAnswer.{PlaceAnswer}
 use Rattle.iox2sd_common.specs.declared.status.Status.TheVariants as status
-use Rattle.iox2sd_values.specs.Attributes.{Judges, TellsOf, pair_of, text_of}
+use Rattle.iox2sd_values.specs.Attributes.{Judges, ReportsOf, pair_of, text_of}
 use Rattle.iox2sd_values.specs.declared.attributes.Attribute.{Attribute}
 use Rattle.iox2sd_values.specs.declared.attributes.Key.{Key}
 use Rattle.iox2sd_values.proofs.Values.{the_set}
@@ -101,15 +101,15 @@ module _ (set required wanted : List Attribute) (keys : List Key) (listing : Lis
       Misses-map text_of (ContainsKey listing) keys r
       (Misses-same _ _ keys r (λ k. in_listing (λ p. p.key ≡ text_of k)) misses)
 
-  abbrev Tells : PlaceAnswer → Type 0
-  Tells answer = TellsOf listing (map pair_of wanted) required keys answer
+  abbrev Reports : PlaceAnswer → Type 0
+  Reports answer = ReportsOf listing (map pair_of wanted) required keys answer
 
   -- the least pair that the set lacks
-  pub tells_pair : (i at : ℕ) (d : Attribute) (answer : PlaceAnswer) → i < length wanted
+  pub reports_pair : (i at : ℕ) (d : Attribute) (answer : PlaceAnswer) → i < length wanted
       → Misses (λ w. Any (λ a. pair_of a ≡ pair_of w) set) wanted (Some i)
       → IsFirst (λ a. pair_of a ≡ pair_of (get_or wanted i d)) required at
-      → answer ≡ place_answer status.MissingPair at → Tells answer
-  tells_pair i at d answer inside misses first is =
+      → answer ≡ place_answer status.MissingPair at → Reports answer
+  reports_pair i at d answer inside misses first is =
       let item = get_or wanted i d in (
         Err (IncompatibleAttribute (item.key.now, item.value.now)),
         least_missing (map pair_of wanted) listing i (pair_of item) comes.1
@@ -118,11 +118,11 @@ module _ (set required wanted : List Attribute) (keys : List Key) (listing : Lis
       )
 
   -- the first key that no pair of the set has
-  pub tells_key : (i : ℕ) (answer : PlaceAnswer)
+  pub reports_key : (i : ℕ) (answer : PlaceAnswer)
       → Misses (λ w. Any (λ a. pair_of a ≡ pair_of w) set) wanted None
       → Misses (λ k. Any (λ a. a.key.now ≡ text_of k) set) keys (Some i)
-      → answer ≡ place_answer status.MissingKey i → Tells answer
-  tells_key i answer has misses is =
+      → answer ≡ place_answer status.MissingKey i → Reports answer
+  reports_key i answer has misses is =
       let (k, got, lacks, before) = misses in
       let here : get_or (map text_of keys) i (text_of k) ≡ text_of k =
       get_or-map text_of keys i k ∙ ap text_of (get_or_from_slice_get keys i k k got) in
@@ -145,18 +145,18 @@ module _ (set required wanted : List Attribute) (keys : List Key) (listing : Lis
       )
 
   -- the set has all of it
-  pub tells_done : (answer : PlaceAnswer)
+  pub reports_done : (answer : PlaceAnswer)
       → Misses (λ w. Any (λ a. pair_of a ≡ pair_of w) set) wanted None
       → Misses (λ k. Any (λ a. a.key.now ≡ text_of k) set) keys None
-      → answer ≡ place_answer status.Done 0 → Tells answer
-  tells_done answer has all is = (Ok tt, (pairs_missed None has, keys_missed None all), is)
+      → answer ≡ place_answer status.Done 0 → Reports answer
+  reports_done answer has all is = (Ok tt, (pairs_missed None has, keys_missed None all), is)
 
--- what is told of a listing of the required pairs is told of the one that they make
+-- what is said of a listing of the required pairs is said of the one that they make
 pub judged : (set required wanted : List Attribute) (keys : List Key) (answer : PlaceAnswer)
     → IsListing (map pair_of required) (map pair_of wanted)
     → ((listing : List Pair) → IsListing (map pair_of set) listing
-    → TellsOf listing (map pair_of wanted) required keys answer)
+    → ReportsOf listing (map pair_of wanted) required keys answer)
     → Judges set required keys answer
-judged set required wanted keys answer comes tells listing listed other given =
-    subst (λ (ws : List Pair). TellsOf listing ws required keys answer)
-    (the_set (map pair_of required) (map pair_of wanted) other comes given) (tells listing listed)
+judged set required wanted keys answer comes reports listing listed other given =
+    subst (λ (ws : List Pair). ReportsOf listing ws required keys answer)
+    (the_set (map pair_of required) (map pair_of wanted) other comes given) (reports listing listed)

@@ -8,7 +8,7 @@ use Rattle.iox2_texts.specs.Verify.{IsFirst}
 use Rattle.iox2_texts.specs.VerifyErrors.{Verifies}
 use Rattle.iox2_texts.specs.declared.attribute.verifier.AttributeVerificationError.{AttributeVerificationError}
 use Rattle.iox2_texts.specs.declared.attribute.verifier.AttributeVerificationError.TheVariants.{NonExistingKey, IncompatibleAttribute}
-use Rattle.iox2sd_common.specs.Answers.{count_answer, place_answer, Reading, TellsText, Told}
+use Rattle.iox2sd_common.specs.Answers.{count_answer, place_answer, Reading, ReportsText, Returns}
 use Rattle.iox2sd_common.specs.declared.status.Status.TheVariants as status
 use Rattle.iox2sd_values.specs.declared.attributes.Fault.{Fault}
 use Rattle.iox2sd_values.specs.declared.attributes.Fault.TheVariants as fault
@@ -40,7 +40,7 @@ abbrev pub ChecksPairs : List Attribute → Result (Unit {0}) (Fault × ℕ) →
 ChecksPairs pairs (Ok _) = All IsLegal pairs × (length pairs ≤ 16)
 ChecksPairs pairs (Err (fault, at)) = (at ≤ 16) × FailsAt IsLegal (HasFault fault at) pairs at
 
--- the status that tells the fault of a pair of a set, and of a required pair
+-- the status that reports the fault of a pair of a set, and of a required pair
 abbrev pub set_fault : Fault → Status
 set_fault fault.Key = status.BadKey
 set_fault fault.Value = status.BadValue
@@ -56,9 +56,9 @@ abbrev pub set_answer : Result (Unit {0}) (Fault × ℕ) → PlaceAnswer
 set_answer (Ok _) = place_answer status.Done 0
 set_answer (Err (fault, at)) = place_answer (set_fault fault) at
 
--- the answer tells whether the pairs are a set
-abbrev pub TellsSet : List Attribute → PlaceAnswer → Type 0
-TellsSet pairs answer = Told set_answer (ChecksPairs pairs) answer
+-- the answer reports whether the pairs are a set
+abbrev pub ReportsSet : List Attribute → PlaceAnswer → Type 0
+ReportsSet pairs answer = Returns set_answer (ChecksPairs pairs) answer
 
 -- the caller's pairs after sorting: the same in rising order, or as they were where they are no set
 abbrev pub Sorts : Result (Unit {0}) (Fault × ℕ) → List Attribute → List Attribute → Type 0
@@ -66,10 +66,10 @@ Sorts (Ok _) old new = IsPermutation old new
     × IsSorted (λ a b. pair_cmp (pair_of a) (pair_of b)) new
 Sorts (Err wrong) old new = new ≡ old
 
--- the same, with the answer that tells whether they are a set
+-- the same, with the answer that reports whether they are a set
 abbrev pub SortsSet : List Attribute → PlaceAnswer → List Attribute → Type 0
 SortsSet old answer new =
-    Told set_answer (λ checked. ChecksPairs old checked × Sorts checked old new) answer
+    Returns set_answer (λ checked. ChecksPairs old checked × Sorts checked old new) answer
 
 -- this holds of the set that the layer makes of the pairs, which make one (`MakesOneSet`)
 abbrev pub OfSet : List Attribute → (List Pair → Type 0) → Type 0
@@ -83,11 +83,13 @@ CountsValues pairs key answer =
     OfSet pairs (λ set. answer ≡ count_answer status.Done (length (values_of set asked)))))
 
 -- the value at the index of those that the key has in the set is written, if there is one
-abbrev pub TellsValue : List Attribute → List ℕ → ℕ → List ℕ → TextAnswer → List ℕ → Type 0
-TellsValue pairs key index old answer new =
-    Reading (ChecksPairs pairs) (λ wrong. TellsText (Err (set_fault wrong.0)) old answer new) (λ _.
-    Reading (MakesName 64 key) (λ _. TellsText (Err status.BadAskedKey) old answer new) (λ asked.
-    OfSet pairs (λ set. TellsText (ok_or (slice_get (values_of set asked) index) status.NoSuchValue)
+abbrev pub ReportsValue : List Attribute → List ℕ → ℕ → List ℕ → TextAnswer → List ℕ → Type 0
+ReportsValue pairs key index old answer new =
+    Reading (ChecksPairs pairs) (λ wrong. ReportsText (Err (set_fault wrong.0)) old answer new) (λ
+    _.
+    Reading (MakesName 64 key) (λ _. ReportsText (Err status.BadAskedKey) old answer new) (λ asked.
+    OfSet pairs (λ set. ReportsText (ok_or (slice_get (values_of set asked) index)
+    status.NoSuchValue)
     old answer new)))
 
 -- the key is legal
@@ -108,26 +110,26 @@ ChecksKeys pairs keys (Err (s, at)) =
     (pairs + at ≤ 16) × FailsAt HasText (HasKeyFault s (pairs + at)) keys at
 
 -- the answer on a verdict: of what the set lacks, the first place in the caller's array
-abbrev pub TellsVerdict : Result (Unit {0}) AttributeVerificationError → List Attribute → List Key
+abbrev pub ReportsVerdict : Result (Unit {0}) AttributeVerificationError → List Attribute → List Key
     → PlaceAnswer → Type 0
-TellsVerdict (Ok _) required keys answer = answer ≡ place_answer status.Done 0
-TellsVerdict (Err (IncompatibleAttribute fault)) required keys answer =
+ReportsVerdict (Ok _) required keys answer = answer ≡ place_answer status.Done 0
+ReportsVerdict (Err (IncompatibleAttribute fault)) required keys answer =
     (i : ℕ) × IsFirst (λ a. pair_of a ≡ record { key = fault.0; value = fault.1 }) required i
     × (answer ≡ place_answer status.MissingPair i)
-TellsVerdict (Err (NonExistingKey key)) required keys answer =
+ReportsVerdict (Err (NonExistingKey key)) required keys answer =
     (i : ℕ) × IsFirst (λ k. text_of k ≡ key) keys i × (answer ≡ place_answer status.MissingKey i)
 
--- the answer tells the layer's verdict on a set, of which these pairs and keys are required
-abbrev pub TellsOf : List Pair → List Pair → List Attribute → List Key → PlaceAnswer → Type 0
-TellsOf set wanted required keys answer =
+-- the answer reports the layer's verdict on a set, of which these pairs and keys are required
+abbrev pub ReportsOf : List Pair → List Pair → List Attribute → List Key → PlaceAnswer → Type 0
+ReportsOf set wanted required keys answer =
     (verdict : Result (Unit {0}) AttributeVerificationError)
     × Verifies (record { pairs = wanted; keys = map text_of keys }) set verdict
-    × TellsVerdict verdict required keys answer
+    × ReportsVerdict verdict required keys answer
 
 -- the same of the sets that the pairs make
 abbrev pub Judges : List Attribute → List Attribute → List Key → PlaceAnswer → Type 0
 Judges pairs required keys answer =
-    OfSet pairs (λ set. OfSet required (λ wanted. TellsOf set wanted required keys answer))
+    OfSet pairs (λ set. OfSet required (λ wanted. ReportsOf set wanted required keys answer))
 
 -- whether the pairs are a set that has what the other pairs and the keys require: the pairs are
 -- looked at first, then those that are required, and then the keys

@@ -2,28 +2,26 @@
 use Rattle.std.specs.Prelude.{◌≡◌, ℕ, ◌==◌, Bool, false, true, List, Option, Some, None, MatchBool, slice_get}
 use Rattle.iox2sd_values.specs.Prelude.{Attribute, CountAnswer, FieldAnswer, Key, MakesName, PlaceAnswer, Status, TextAnswer, code}
 use Rattle.iox2sd_common.specs.declared.status.Status.TheVariants as status
-use Rattle.iox2sd_values.specs.Attributes.{TellsSet}
+use Rattle.iox2sd_values.specs.Attributes.{ReportsSet}
 use Rattle.iox2sd_values.specs.Texts.{ChecksName, ChecksText, MakesFileName, MakesPath}
 use Rattle.iox2sd_values.specs.declared.texts.Alphabet.TheVariants as alphabet
 
 -- the answers are these but for their causes
 abbrev pub TextBut : (TextAnswer → Type 0) → TextAnswer → Type 0
-TextBut Tells answer =
-    (reported : TextAnswer) × Tells reported × (answer ≡ record reported { cause = answer.cause })
+TextBut Reports answer =
+    (bare : TextAnswer) × Reports bare × (answer ≡ record bare { cause = answer.cause })
 
 abbrev pub PlaceBut : (PlaceAnswer → Type 0) → PlaceAnswer → Type 0
-PlaceBut Tells answer =
-    (reported : PlaceAnswer) × Tells reported × (answer ≡ record reported {
-      cause = answer.cause;
-    })
+PlaceBut Reports answer =
+    (bare : PlaceAnswer) × Reports bare × (answer ≡ record bare { cause = answer.cause })
 
 abbrev pub CountBut : (CountAnswer → Type 0) → CountAnswer → Type 0
-CountBut Tells answer =
-    (reported : CountAnswer) × Tells reported × (answer ≡ record reported { cause = answer.cause })
+CountBut Reports answer =
+    (bare : CountAnswer) × Reports bare × (answer ≡ record bare { cause = answer.cause })
 
 abbrev pub FieldBut : (FieldAnswer → Type 0) → FieldAnswer → Type 0
-FieldBut Tells answer =
-    (reported : FieldAnswer) × Tells reported × (answer ≡ record reported { cause = answer.cause })
+FieldBut Reports answer =
+    (bare : FieldAnswer) × Reports bare × (answer ≡ record bare { cause = answer.cause })
 
 -- the cause is the status that the check of the text answers
 abbrev pub IsCause : (PlaceAnswer → Type 0) → ℕ → Type 0
@@ -89,7 +87,7 @@ SetCause pairs at given cause =
 -- the same where the answer has no place: of the pair that the check of the pairs reports
 abbrev pub FirstCause : (Option Attribute → ℕ → Type 0) → List Attribute → ℕ → Type 0
 FirstCause Is pairs cause =
-    (first : PlaceAnswer) × PlaceBut (TellsSet pairs) first × Is (slice_get pairs first.at) cause
+    (first : PlaceAnswer) × PlaceBut (ReportsSet pairs) first × Is (slice_get pairs first.at) cause
 
 -- why a key is not searched for in pairs
 abbrev pub AskedCause : List Attribute → List ℕ → ℕ → ℕ → Type 0

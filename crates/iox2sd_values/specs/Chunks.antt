@@ -4,8 +4,8 @@ use Rattle.iox2_static.specs.declared.static_config.publish_subscribe.StaticConf
 use Rattle.iox2_static.specs.declared.static_config.request_response.StaticConfig.{StaticConfig as RequestResponse}
 use Rattle.iox2sd_values.specs.Prelude.{CountAnswer}
 use Rattle.iox2_config.specs.DefaultTypes.{default_details}
-use Rattle.iox2_static.specs.Chunks.{TellsGreatest}
-use Rattle.iox2sd_common.specs.Answers.{count_answer, Told}
+use Rattle.iox2_static.specs.Chunks.{ReportsGreatest}
+use Rattle.iox2sd_common.specs.Answers.{count_answer, Returns}
 use Rattle.iox2sd_common.specs.declared.status.Status.TheVariants as status
 
 -- the answer for a number of chunks, or for one that is too large
@@ -13,11 +13,11 @@ abbrev pub counted : Option ℕ → CountAnswer
 counted (Some count) = count_answer status.Done count
 counted None = count_answer status.TooLarge 0
 
--- the greatest number of chunks in use is told, or that it is too large
+-- the greatest number of chunks in use is returned, or that it is too large
 abbrev pub Counts : List ℕ → CountAnswer → Type 0
-Counts limits answer = Told counted (TellsGreatest limits) answer
+Counts limits answer = Returns counted (ReportsGreatest limits) answer
 
--- a publish-subscribe service with these limits for subscribers, and nothing else told
+-- a publish-subscribe service with these limits for subscribers, and nothing else given
 abbrev pub publish_subscribe : ℕ → ℕ → ℕ → ℕ → PublishSubscribe
 publish_subscribe subscribers buffer borrowed history = record {
   max_subscribers = subscribers;
@@ -30,7 +30,7 @@ publish_subscribe subscribers buffer borrowed history = record {
   message_type_details = default_details;
 }
 
--- a request-response service with these limits, and nothing else told
+-- a request-response service with these limits, and nothing else given
 abbrev pub request_response : ℕ → ℕ → ℕ → ℕ → ℕ → RequestResponse
 request_response servers clients requests buffer borrowed = record {
   enable_safe_overflow_for_requests = false;

@@ -1,7 +1,7 @@
 -- What a caller says of the parts of a message, where they lie, and which openers may use them.
 use Rattle.std.specs.Prelude.{◌≡◌, ℕ, List, [], Option, Some, None, Result, Ok, Err, IsTrue, IsUtf8, ◌^◌, ◌<◌, ◌≤◌}
 use Rattle.std.specs.Int.{is_power_of_two}
-use Rattle.iox2sd_common.specs.Answers.{OfGiven, Reading, Told}
+use Rattle.iox2sd_common.specs.Answers.{OfGiven, Reading, Returns}
 use Rattle.iox2sd_common.specs.Status.{OfNumber}
 use Rattle.iox2sd_values.specs.Prelude.{Status, code, end_code}
 use Rattle.iox2_config.specs.TypeDetails.{detail, message, MakesDetail}
@@ -18,7 +18,7 @@ use Rattle.iox2sd_values.specs.declared.details.Which.{Which}
 use Rattle.iox2sd_values.specs.declared.details.Which.TheVariants as which
 use Rattle.iox2sd_common.specs.declared.status.Status.TheVariants as status
 use Rattle.iox2_config.specs.Blocks.{HoldsEverywhere}
-use Rattle.iox2_config.specs.Layout.{sample_size, payload_place, places_in}
+use Rattle.iox2_config.specs.Layout.{sample_size, payload_offset, places_in}
 use Rattle.iox2_config.specs.SampleLayoutParts.{SampleLayoutParts}
 use Rattle.iox2_config.specs.declared.types.places.Places.{Places}
 use Rattle.iox2sd_values.specs.declared.layout.LayoutAnswer.{LayoutAnswer}
@@ -70,7 +70,7 @@ ReadsPart part (Err _) = ⊥
 -- whether the type of a part is valid, where there is a part
 abbrev pub ChecksPart : List Part → ℕ → Type 0
 ChecksPart parts answer =
-    OfGiven (code status.Null) (λ part. Told end_code (ReadsPart part)) parts answer
+    OfGiven (code status.Null) (λ part. Returns end_code (ReadsPart part)) parts answer
 
 -- the parts before the one that is wrong are types
 abbrev pub FailsIn : Details → Which → Status → Type 0
@@ -136,9 +136,10 @@ LaysOut d n (Err status.TooLarge) = HavePowers d × (2 ^ 63 ≤ sample_size (sha
 LaysOut d n (Err _) = ⊥
 
 -- the answer with the room, where there are details
-abbrev pub TellsLayout : List Details → ℕ → LayoutAnswer → Type 0
-TellsLayout details n answer =
-    OfGiven (layout_answer (Err status.Null)) (λ d. Told layout_answer (LaysOut d n)) details answer
+abbrev pub ReportsLayout : List Details → ℕ → LayoutAnswer → Type 0
+ReportsLayout details n answer =
+    OfGiven (layout_answer (Err status.Null)) (λ d. Returns layout_answer (LaysOut d n)) details
+    answer
 
 -- the answer with these places, or with the cause for which there are none
 abbrev pub places_answer : Result Places Status → PlacesAnswer
@@ -149,16 +150,16 @@ places_answer (Err cause) = record { status = code cause; user_header = 0; paylo
 -- the places behind a header at this place, or why there are none
 abbrev pub PlacesOf : Details → ℕ → Result Places Status → Type 0
 PlacesOf d header (Ok places) =
-    HavePowers d × (payload_place (shapes d) header < 2 ^ 64)
+    HavePowers d × (payload_offset (shapes d) header < 2 ^ 64)
     × (places ≡ places_in (shapes d) header)
 PlacesOf d header (Err status.BadAlignment) = ¬ (HavePowers d)
-PlacesOf d header (Err status.TooLarge) = HavePowers d × (2 ^ 64 ≤ payload_place (shapes d) header)
+PlacesOf d header (Err status.TooLarge) = HavePowers d × (2 ^ 64 ≤ payload_offset (shapes d) header)
 PlacesOf d header (Err _) = ⊥
 
 -- the answer with the places, where there are details
-abbrev pub TellsPlaces : List Details → ℕ → PlacesAnswer → Type 0
-TellsPlaces details header answer =
-    OfGiven (places_answer (Err status.Null)) (λ d. Told places_answer (PlacesOf d header))
+abbrev pub ReportsPlaces : List Details → ℕ → PlacesAnswer → Type 0
+ReportsPlaces details header answer =
+    OfGiven (places_answer (Err status.Null)) (λ d. Returns places_answer (PlacesOf d header))
     details answer
 
 -- the number of a part
@@ -202,7 +203,7 @@ compared (Some first) = part_answer (fault_of first) 0
 
 -- the answer on details of an opener and of a service
 abbrev pub Compares : MessageTypeDetails → MessageTypeDetails → PartAnswer → Type 0
-Compares opener service answer = Told compared (FindsIncompatibility opener service) answer
+Compares opener service answer = Returns compared (FindsIncompatibility opener service) answer
 
 -- the answer on both details: those of the opener are looked at first
 abbrev pub ComparesDetails : Details → Details → PartAnswer → Type 0
@@ -212,7 +213,7 @@ ComparesDetails o s answer =
     Compares opener service answer))
 
 -- the answer where both are given
-abbrev pub TellsCompatible : List Details → List Details → PartAnswer → Type 0
-TellsCompatible openers services answer =
+abbrev pub ReportsCompatible : List Details → List Details → PartAnswer → Type 0
+ReportsCompatible openers services answer =
     OfGiven (null_answer 0) (λ o. OfGiven (null_answer 1) (ComparesDetails o) services) openers
     answer

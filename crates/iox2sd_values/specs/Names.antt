@@ -4,10 +4,10 @@ use lib.Chars.{codes}
 use Rattle.iox2sd_values.specs.Prelude.{IllegalText, MakesHash, MakesPublicName, MakesServiceName, PatternKind, ReadsPattern, Status, TextAnswer, hash_input, sha1_text}
 use Rattle.iox2_texts.specs.declared.service_name.ServiceNameError.{ServiceNameError}
 use Rattle.iox2_texts.specs.declared.service_name.ServiceNameError.TheVariants as error
-use Rattle.iox2sd_common.specs.Answers.{Reading, TellsText}
+use Rattle.iox2sd_common.specs.Answers.{Reading, ReportsText}
 use Rattle.iox2sd_common.specs.declared.status.Status.TheVariants as status
 
--- what making a name of bytes answers: what is no UTF-8 is told first
+-- what making a name of bytes answers: what is no UTF-8 is reported first
 abbrev pub ReadsBy : (List ℕ → Result (List ℕ) ServiceNameError → Type 0) → List ℕ
     → Result (List ℕ) Status → Type 0
 ReadsBy Makes bytes (Ok name) = IsUtf8 bytes × Makes bytes (Ok name)
@@ -35,10 +35,10 @@ Prefixes bytes (Err status.IllegalByte) =
     IsUtf8 bytes × MakesServiceName (codes "iox2://" ++ bytes) (Err error.InvalidContent)
 Prefixes bytes (Err _) = ⊥
 
--- the name is written, or the answer tells why there is none
-abbrev pub TellsPrefixed : List ℕ → List ℕ → TextAnswer → List ℕ → Type 0
-TellsPrefixed bytes old answer new =
-    (made : Result (List ℕ) Status) × Prefixes bytes made × TellsText made old answer new
+-- the name is written, or the answer reports why there is none
+abbrev pub ReportsPrefixed : List ℕ → List ℕ → TextAnswer → List ℕ → Type 0
+ReportsPrefixed bytes old answer new =
+    (made : Result (List ℕ) Status) × Prefixes bytes made × ReportsText made old answer new
 
 -- what making the hash text of a pattern and a name answers, by SHA-1, which refuses no input
 abbrev pub MakesText : PatternKind → List ℕ → Result (List ℕ) Status → Type 0
@@ -56,8 +56,8 @@ Hashes internal pattern bytes made =
     Reading (ReadsAnyName internal bytes) (λ cause. made ≡ Err cause) (λ name.
     MakesText kind name made))
 
--- the hash text is written, or the answer tells why there is none
-abbrev pub TellsHash : Bool → ℕ → List ℕ → List ℕ → TextAnswer → List ℕ → Type 0
-TellsHash internal pattern bytes old answer new =
+-- the hash text is written, or the answer reports why there is none
+abbrev pub ReportsHash : Bool → ℕ → List ℕ → List ℕ → TextAnswer → List ℕ → Type 0
+ReportsHash internal pattern bytes old answer new =
     (made : Result (List ℕ) Status) × Hashes internal pattern bytes made
-    × TellsText made old answer new
+    × ReportsText made old answer new

@@ -4,7 +4,7 @@ use Rattle.std.specs.Prelude.{◌≡◌, ℕ, List, [], ◌∷◌, Result, Ok, E
 use Rattle.std.specs.Option.{ok_or}
 use lib.Chars.{codes}
 use Rattle.iox2sd_values.specs.Prelude.{MakesJoined, SemanticStringError, Status, TextAnswer, default_node, default_service}
-use Rattle.iox2sd_common.specs.Answers.{TellsText}
+use Rattle.iox2sd_common.specs.Answers.{ReportsText}
 use Rattle.iox2sd_values.specs.Texts.{MakesPath}
 use Rattle.iox2sd_common.specs.declared.status.Status.TheVariants as status
 
@@ -26,11 +26,11 @@ Joins Makes path entry (Err _) = ⊥
 abbrev pub IsLegal : List ℕ → Result (List ℕ) SemanticStringError → Type 0
 IsLegal entry read = read ≡ Ok entry
 
--- the joined path is written, or the answer tells why there is none
-abbrev pub TellsJoined : (List ℕ → Result (List ℕ) SemanticStringError → Type 0) → List ℕ → List ℕ
+-- the joined path is written, or the answer reports why there is none
+abbrev pub ReportsJoined : (List ℕ → Result (List ℕ) SemanticStringError → Type 0) → List ℕ → List ℕ
     → List ℕ → TextAnswer → List ℕ → Type 0
-TellsJoined Makes path entry old answer new =
-    (made : Result (List ℕ) Status) × Joins Makes path entry made × TellsText made old answer new
+ReportsJoined Makes path entry old answer new =
+    (made : Result (List ℕ) Status) × Joins Makes path entry made × ReportsText made old answer new
 
 -- the texts of the configuration by their numbers, from 0 on
 abbrev pub named : List (List ℕ)
@@ -58,6 +58,6 @@ named =
     ∷ []
 
 -- the text of the number is written, where there is one
-abbrev pub TellsNamed : ℕ → List ℕ → TextAnswer → List ℕ → Type 0
-TellsNamed number old answer new =
-    TellsText (ok_or (slice_get named number) status.UnknownText) old answer new
+abbrev pub ReportsNamed : ℕ → List ℕ → TextAnswer → List ℕ → Type 0
+ReportsNamed number old answer new =
+    ReportsText (ok_or (slice_get named number) status.UnknownText) old answer new

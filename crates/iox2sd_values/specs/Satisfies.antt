@@ -1,4 +1,5 @@
--- Whether a service meets what an opener requires, told by the first setting that it does not meet.
+-- Whether a service meets what an opener requires, reported by the first setting that it does not
+-- meet.
 use Rattle.std.specs.Prelude.{◌≡◌, ℕ, List, Option, Some, None, Result}
 use Rattle.iox2sd_values.specs.Prelude.{BlackboardConfig, EventConfig, EventSettings, Field, FieldAnswer, PublishSubscribeConfig, ReadsEvent, RequestResponseConfig, code, event_of, field_answer, no_field}
 use Rattle.iox2_static.specs.Requirements.{first_unmet}

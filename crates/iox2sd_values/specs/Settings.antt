@@ -1,7 +1,7 @@
 -- Settings as plain values: those of a system where nothing else is said, whether those that a
 -- caller filled are valid, and how many nodes and ports a service with them can have at a time.
 use Rattle.std.specs.Prelude.{◌≡◌, List, Result, Ok, Err}
-use Rattle.iox2sd_common.specs.Answers.{OfGiven, Told}
+use Rattle.iox2sd_common.specs.Answers.{OfGiven, Returns}
 use Rattle.iox2sd_values.specs.Prelude.{BlackboardSettings, EventSettings, Field, FieldAnswer, IsDefaultGlobal, PublishSubscribeSettings, RequestResponseSettings, blackboard_of, field_answer, no_field}
 use Rattle.iox2sd_common.specs.Settings.{c_global}
 use Rattle.iox2sd_common.specs.declared.status.Status.TheVariants as status
@@ -12,18 +12,18 @@ use Rattle.iox2sd_values.specs.declared.capacities.PublishSubscribeCapacities.{P
 use Rattle.iox2sd_values.specs.declared.capacities.RequestResponseCapacities.{RequestResponseCapacities}
 
 -- the settings that a system has by default
-abbrev pub TellsGlobalDefaults : GlobalSettings → Type 0
-TellsGlobalDefaults answer = Told c_global IsDefaultGlobal answer
+abbrev pub ReportsGlobalDefaults : GlobalSettings → Type 0
+ReportsGlobalDefaults answer = Returns c_global IsDefaultGlobal answer
 
 -- the answer on what the reading gave
 abbrev pub checked : {A : Type 0} → Result A Field → FieldAnswer
 checked (Ok made) = no_field status.Done
 checked (Err f) = field_answer f
 
--- the answer tells what reading the settings gives, where there are some
+-- the answer reports what reading the settings gives, where there are some
 abbrev pub ChecksBy : {S A : Type 0} → (S → Result A Field → Type 0) → List S → FieldAnswer → Type 0
 ChecksBy Reads settings answer =
-    OfGiven (no_field status.Null) (λ s. Told checked (Reads s)) settings answer
+    OfGiven (no_field status.Null) (λ s. Returns checked (Reads s)) settings answer
 
 -- the capacities by some settings, or these where there are none
 abbrev pub CapacitiesBy : {S C : Type 0} → (S → C) → C → List S → C → Type 0

@@ -35,7 +35,7 @@ abbrev pub content_answer : Option ℕ → PlaceAnswer
 content_answer (Some i) = place_answer status.IllegalByte i
 content_answer None = place_answer status.NoFileName 0
 
--- the answer tells why the text is refused, and where the first wrong byte or the first byte too
+-- the answer reports why the text is refused, and where the first wrong byte or the first byte too
 -- many is
 abbrev pub Refused : SemanticStringError → List ℕ → Alphabet → ℕ → PlaceAnswer → Type 0
 Refused ExceedsMaximumLength bytes a most answer = answer ≡ place_answer status.TooLong most
@@ -45,16 +45,16 @@ Refused InvalidContent bytes a most answer =
     × (answer ≡ content_answer found))
 
 -- the answer on what the making gave
-abbrev pub TellsText : Result (List ℕ) SemanticStringError → List ℕ → Alphabet → ℕ → PlaceAnswer
+abbrev pub ReportsText : Result (List ℕ) SemanticStringError → List ℕ → Alphabet → ℕ → PlaceAnswer
     → Type 0
-TellsText (Ok text) bytes a most answer = answer ≡ place_answer status.Done 0
-TellsText (Err error) bytes a most answer = Refused error bytes a most answer
+ReportsText (Ok text) bytes a most answer = answer ≡ place_answer status.Done 0
+ReportsText (Err error) bytes a most answer = Refused error bytes a most answer
 
--- the answer tells what making a text of the bytes gives
+-- the answer reports what making a text of the bytes gives
 abbrev pub ChecksText : (Result (List ℕ) SemanticStringError → Type 0) → Alphabet → ℕ → List ℕ
     → PlaceAnswer → Type 0
 ChecksText Makes a most bytes answer =
-    (made : Result (List ℕ) SemanticStringError) × Makes made × TellsText made bytes a most answer
+    (made : Result (List ℕ) SemanticStringError) × Makes made × ReportsText made bytes a most answer
 
 -- the same for the name that a user gives to a service: the prefix is looked at first
 abbrev pub ChecksName : List ℕ → PlaceAnswer → Type 0

@@ -2,13 +2,13 @@
 ghost use Rattle.std.specs.Prelude.{◌≡◌, ◌≤◌, [], map, take, length, slice_get};
 ghost use Rattle.std.specs.Option.{ok_or, option_copied};
 ghost use Rattle.iox2_texts.specs.Attribute.{IsListing, values_of};
-ghost use Rattle.iox2sd_values.specs.Attributes.{TellsSet, SortsSet, CountsValues, TellsValue};
+ghost use Rattle.iox2sd_values.specs.Attributes.{ReportsSet, SortsSet, CountsValues, ReportsValue};
 ghost use Rattle.iox2sd_values.specs.Attributes.{pair_of, text_of, set_fault, required_fault};
 ghost use Rattle.iox2sd_values.specs.Attributes.{ChecksPairs, ChecksKeys, OfSet};
 ghost use Rattle.iox2sd_values.specs.Attributes.{Judges, VerifiesSet};
 ghost use Rattle.iox2sd_values.specs.Causes.{PlaceBut, CountBut, TextBut, SetCause, AskedCause};
 ghost use Rattle.iox2sd_values.specs.Causes.{RequiredCause};
-ghost use Rattle.iox2sd_common.specs.Answers.{TellsText};
+ghost use Rattle.iox2sd_common.specs.Answers.{ReportsText};
 ghost use Rattle.iox2sd_common.specs.declared.status.Status.TheVariants as status;
 
 use super::causes::{asked_cause, required_cause, set_cause};
@@ -97,7 +97,7 @@ fn check_pairs(pairs: &[Attribute<'_>]) -> Result<(), (Fault, usize)>
 
 /// Whether the pairs are a set, or the first that is wrong.
 fn tell_set(pairs: &[Attribute<'_>]) -> PlaceAnswer
-    ensures { TellsSet pairs.now result }
+    ensures { ReportsSet pairs.now result }
 {
     match check_pairs(pairs) {
         Ok(()) => position(Status::Done, 0),
@@ -112,7 +112,7 @@ fn tell_set(pairs: &[Attribute<'_>]) -> PlaceAnswer
 /// `BadKey`, for a right key and a wrong value `BadValue`, for the seventeenth `TooMany`.
 #[unsafe(no_mangle)]
 pub extern "C" fn iox2sd_attributes_check_at(pairs: &[Attribute<'_>]) -> PlaceAnswer
-    ensures tells { PlaceBut (TellsSet pairs.now) result }
+    ensures reports { PlaceBut (ReportsSet pairs.now) result }
     ensures cause { SetCause pairs.now result.at result.status result.cause }
 {
     let reported = tell_set(pairs);
@@ -140,7 +140,7 @@ fn sort_set(pairs: &mut [Attribute<'_>]) -> PlaceAnswer
 /// Refused as by `iox2sd_attributes_check`, and then the array stays as it was.
 #[unsafe(no_mangle)]
 pub extern "C" fn iox2sd_attributes_sort_at(pairs: &mut [Attribute<'_>]) -> PlaceAnswer
-    ensures tells { PlaceBut (λ reported. SortsSet pairs.old reported pairs.new) result }
+    ensures reports { PlaceBut (λ answer. SortsSet pairs.old answer pairs.new) result }
     ensures cause { SetCause pairs.new result.at result.status result.cause }
 {
     let reported = sort_set(pairs);
@@ -194,7 +194,7 @@ fn sorted<'a>(pairs: &[Attribute<'a>]) -> [Attribute<'a>; MAX_ATTRIBUTES]
 /// least.
 fn write_value(pairs: &[Attribute<'_>], key: &[u8], index: usize, out: &mut [u8]) -> TextAnswer
     requires { length pairs.now ≤ 16 }
-    ensures { OfSet pairs.now (λ set. TellsText
+    ensures { OfSet pairs.now (λ set. ReportsText
         (ok_or (slice_get (values_of set key.now) index) status.NoSuchValue)
         out.old result out.new) }
 {
@@ -228,7 +228,7 @@ pub extern "C" fn iox2sd_attributes_number_of_key_values_at(
     pairs: &[Attribute<'_>],
     key: &[u8],
 ) -> CountAnswer
-    ensures tells { CountBut (CountsValues pairs.now key.now) result }
+    ensures reports { CountBut (CountsValues pairs.now key.now) result }
     ensures cause { AskedCause pairs.now key.now result.status result.cause }
 {
     let reported = count_of(pairs, key);
@@ -240,7 +240,7 @@ pub extern "C" fn iox2sd_attributes_number_of_key_values_at(
 
 /// Writes the value of the key at the index, or reports why there is none.
 fn write_of(pairs: &[Attribute<'_>], key: &[u8], index: usize, out: &mut [u8]) -> TextAnswer
-    ensures { TellsValue pairs.now key.now index out.old result out.new }
+    ensures { ReportsValue pairs.now key.now index out.old result out.new }
 {
     match check_pairs(pairs) {
         Ok(()) => match AttributeKey::new(key) {
@@ -263,7 +263,7 @@ pub extern "C" fn iox2sd_attributes_key_value_at(
     index: usize,
     out: &mut [u8],
 ) -> TextAnswer
-    ensures tells { TextBut (λ reported. TellsValue pairs.now key.now index out.old reported
+    ensures reports { TextBut (λ answer. ReportsValue pairs.now key.now index out.old answer
         out.new)
         result }
     ensures cause { AskedCause pairs.now key.now result.status result.cause }
@@ -360,7 +360,7 @@ pub extern "C" fn iox2sd_attributes_verify_at(
     required: &[Attribute<'_>],
     keys: &[Key<'_>],
 ) -> PlaceAnswer
-    ensures tells { PlaceBut (VerifiesSet pairs.now required.now keys.now) result }
+    ensures reports { PlaceBut (VerifiesSet pairs.now required.now keys.now) result }
     ensures cause { RequiredCause pairs.now required.now keys.now result.at
         result.status result.cause }
 {

@@ -1,5 +1,5 @@
 //! Why a text is refused, where the status says which one it is.
-ghost use Rattle.std.specs.Prelude.{◌≡◌, slice_get};
+ghost use Rattle.std.specs.Prelude.{slice_get};
 ghost use Rattle.iox2sd_values.specs.Causes.{NameCause, JoinCause, ChecksPath, ChecksFileName};
 ghost use Rattle.iox2sd_values.specs.Causes.{RootCause, KeyCause, ValueCause, TextCause, SetCause};
 ghost use Rattle.iox2sd_values.specs.Causes.{AskedCause, RequiredCause};

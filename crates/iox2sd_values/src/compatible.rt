@@ -1,7 +1,7 @@
 //! Which openers may use the messages of a service.
 ghost use Rattle.std.specs.Prelude.{◌≡◌};
 ghost use Rattle.iox2sd_values.specs.Messages.{part_number, part_answer, other, unsuited, fault_of};
-ghost use Rattle.iox2sd_values.specs.Messages.{null_answer, Compares, ComparesDetails, TellsCompatible};
+ghost use Rattle.iox2sd_values.specs.Messages.{null_answer, Compares, ComparesDetails, ReportsCompatible};
 
 use super::details::{Details, Fault, Which, read_details};
 use iox2_config::types::{Difference, Incompatibility, MessageTypeDetails};
@@ -128,7 +128,7 @@ pub extern "C" fn iox2sd_message_is_compatible_to_at(
     service: &[Details<'_>],
     opener: &[Details<'_>],
 ) -> PartAnswer
-    ensures { TellsCompatible opener.now service.now result }
+    ensures { ReportsCompatible opener.now service.now result }
 {
     let [opener, ..] = opener else {
         return null(0);

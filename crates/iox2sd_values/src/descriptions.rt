@@ -287,8 +287,8 @@ fn describe_as(
     id: Id,
     out: &mut [ServiceDescription],
 ) -> FieldAnswer
-    ensures tells { FieldBut (λ reported. FillsOf pattern.now internal name.now id
-        out.old reported out.new) result }
+    ensures reports { FieldBut (λ answer. FillsOf pattern.now internal name.now id
+        out.old answer out.new) result }
     ensures cause { NameCause internal name.now result.status result.cause }
 {
     let reported = fill(describe(any_service_name(name, internal), pattern, id), out);
@@ -324,8 +324,8 @@ pub extern "C" fn iox2sd_describe_publish_subscribe_at(
     id: Id,
     out: &mut [ServiceDescription],
 ) -> FieldAnswer
-    ensures tells { FieldBut (λ reported. FillsNamed MakesPublishSubscribe settings.now internal
-        name.now id out.old reported out.new) result }
+    ensures reports { FieldBut (λ answer. FillsNamed MakesPublishSubscribe settings.now internal
+        name.now id out.old answer out.new) result }
     ensures cause { NameCause internal name.now result.status result.cause }
 {
     let [settings, ..] = settings else {
@@ -358,8 +358,8 @@ pub extern "C" fn iox2sd_describe_event_at(
     id: Id,
     out: &mut [ServiceDescription],
 ) -> FieldAnswer
-    ensures tells { FieldBut (λ reported. FillsNamed MakesEvent settings.now internal name.now
-        id out.old reported out.new) result }
+    ensures reports { FieldBut (λ answer. FillsNamed MakesEvent settings.now internal name.now
+        id out.old answer out.new) result }
     ensures cause { NameCause internal name.now result.status result.cause }
 {
     let [settings, ..] = settings else {
@@ -386,9 +386,9 @@ pub extern "C" fn iox2sd_describe_request_response_at(
     id: Id,
     out: &mut [ServiceDescription],
 ) -> FieldAnswer
-    ensures tells { FieldBut (λ reported. FillsNamed MakesRequestResponse settings.now internal
+    ensures reports { FieldBut (λ answer. FillsNamed MakesRequestResponse settings.now internal
         name.now
-        id out.old reported out.new) result }
+        id out.old answer out.new) result }
     ensures cause { NameCause internal name.now result.status result.cause }
 {
     let [settings, ..] = settings else {
@@ -415,8 +415,8 @@ pub extern "C" fn iox2sd_describe_blackboard_at(
     id: Id,
     out: &mut [ServiceDescription],
 ) -> FieldAnswer
-    ensures tells { FieldBut (λ reported. FillsNamed MakesBlackboard settings.now internal name.now
-        id out.old reported out.new) result }
+    ensures reports { FieldBut (λ answer. FillsNamed MakesBlackboard settings.now internal name.now
+        id out.old answer out.new) result }
     ensures cause { NameCause internal name.now result.status result.cause }
 {
     let [settings, ..] = settings else {

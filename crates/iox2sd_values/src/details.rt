@@ -1,5 +1,4 @@
 //! What a caller says of the parts of a message.
-ghost use Rattle.std.specs.Prelude.{◌≡◌};
 ghost use Rattle.iox2sd_values.specs.Messages.{ReadsVariant, ReadsPart, ReadsDetails, ShapesPart};
 ghost use Rattle.iox2sd_values.specs.Messages.{ShapesDetails, ChecksPart};
 

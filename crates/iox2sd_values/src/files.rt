@@ -2,7 +2,7 @@
 ghost use Rattle.std.specs.Prelude.{◌≡◌};
 ghost use Rattle.iox2_config.specs.Defaults.{default_service, default_node};
 ghost use Rattle.iox2sd_values.specs.Causes.{TextBut, RootCause};
-ghost use Rattle.iox2sd_values.specs.Paths.{IsLegal, Joins, TellsJoined, TellsNamed};
+ghost use Rattle.iox2sd_values.specs.Paths.{IsLegal, Joins, ReportsJoined, ReportsNamed};
 
 use super::causes::root_cause;
 use super::paths::tell_path;
@@ -15,7 +15,7 @@ use iox2sd_common::status::Status;
 fn write_named(which: u32, service: &Service, node: &Node, out: &mut [u8]) -> TextAnswer
     requires service { service.now ≡ default_service }
     requires node { node.now ≡ default_node }
-    ensures { TellsNamed which out.old result out.new }
+    ensures { ReportsNamed which out.old result out.new }
 {
     match which {
         0 => write(b"/tmp/iceoryx2/", out),
@@ -47,7 +47,7 @@ fn write_named(which: u32, service: &Service, node: &Node, out: &mut [u8]) -> Te
 /// Refused is a number that is not that of a text (`UnknownText`).
 #[unsafe(no_mangle)]
 pub extern "C" fn iox2sd_default_text_at(which: u32, out: &mut [u8]) -> TextAnswer
-    ensures { TellsNamed which out.old result out.new }
+    ensures { ReportsNamed which out.old result out.new }
 {
     write_named(which, &Service::default(), &Node::default(), out)
 }
@@ -65,7 +65,7 @@ fn below(root: &[u8], directory: &Path) -> Result<Path, Status>
 
 /// Writes a directory below a root path, or says why there is none and for what cause.
 fn write_below(root: &[u8], directory: &Path, out: &mut [u8]) -> TextAnswer
-    ensures tells { TextBut (λ reported. TellsJoined IsLegal root.now directory.now out.old reported
+    ensures reports { TextBut (λ answer. ReportsJoined IsLegal root.now directory.now out.old answer
         out.new) result }
     ensures cause { RootCause root.now result.status result.cause }
 {
@@ -81,8 +81,8 @@ fn write_below(root: &[u8], directory: &Path, out: &mut [u8]) -> TextAnswer
 /// Refused are, in this order, a wrong root path (`BadPath`), and more than 255 bytes (`TooLong`).
 #[unsafe(no_mangle)]
 pub extern "C" fn iox2sd_service_dir_at(root: &[u8], out: &mut [u8]) -> TextAnswer
-    ensures tells { TextBut (λ reported. TellsJoined IsLegal root.now default_service.directory
-        out.old reported out.new) result }
+    ensures reports { TextBut (λ answer. ReportsJoined IsLegal root.now default_service.directory
+        out.old answer out.new) result }
     ensures cause { RootCause root.now result.status result.cause }
 {
     write_below(root, &Service::default().directory, out)
@@ -91,8 +91,8 @@ pub extern "C" fn iox2sd_service_dir_at(root: &[u8], out: &mut [u8]) -> TextAnsw
 /// Writes the directory of nodes below a root path. Refused as that of services is.
 #[unsafe(no_mangle)]
 pub extern "C" fn iox2sd_node_dir_at(root: &[u8], out: &mut [u8]) -> TextAnswer
-    ensures tells { TextBut (λ reported. TellsJoined IsLegal root.now default_node.directory
-        out.old reported out.new) result }
+    ensures reports { TextBut (λ answer. ReportsJoined IsLegal root.now default_node.directory
+        out.old answer out.new) result }
     ensures cause { RootCause root.now result.status result.cause }
 {
     write_below(root, &Node::default().directory, out)

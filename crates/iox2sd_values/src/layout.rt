@@ -1,7 +1,7 @@
 //! Where the parts of a message lie, and its layout.
 ghost use Rattle.std.specs.Prelude.{◌≡◌};
-ghost use Rattle.iox2sd_values.specs.Messages.{LaysOut, layout_answer, TellsLayout};
-ghost use Rattle.iox2sd_values.specs.Messages.{PlacesOf, places_answer, TellsPlaces};
+ghost use Rattle.iox2sd_values.specs.Messages.{LaysOut, layout_answer, ReportsLayout};
+ghost use Rattle.iox2sd_values.specs.Messages.{PlacesOf, places_answer, ReportsPlaces};
 
 use super::details::{Details, shape_details};
 use iox2_config::types::{Places, SampleLayout};
@@ -91,7 +91,7 @@ pub extern "C" fn iox2sd_message_sample_layout_at(
     details: &[Details<'_>],
     elements: usize,
 ) -> LayoutAnswer
-    ensures { TellsLayout details.now elements result }
+    ensures { ReportsLayout details.now elements result }
 {
     match details {
         [] => layout_answer(Err(Status::Null)),
@@ -106,7 +106,7 @@ pub extern "C" fn iox2sd_message_sample_layout_at(
 /// a payload whose offset would pass 2^64 - 1 (`TooLarge`).
 #[unsafe(no_mangle)]
 pub extern "C" fn iox2sd_message_places_at(details: &[Details<'_>], header: usize) -> PlacesAnswer
-    ensures { TellsPlaces details.now header result }
+    ensures { ReportsPlaces details.now header result }
 {
     match details {
         [] => places_answer(Err(Status::Null)),

@@ -1,8 +1,8 @@
 //! The names of services, and their hash texts.
 ghost use Rattle.std.specs.Prelude.{◌≡◌, nat_eq, false, true};
 ghost use Rattle.std.specs.List.{starts_with};
-ghost use Rattle.iox2sd_values.specs.Names.{ReadsAnyName, Prefixes, TellsPrefixed, MakesText, Hashes};
-ghost use Rattle.iox2sd_values.specs.Names.{TellsHash};
+ghost use Rattle.iox2sd_values.specs.Names.{ReadsAnyName, Prefixes, ReportsPrefixed, MakesText, Hashes};
+ghost use Rattle.iox2sd_values.specs.Names.{ReportsHash};
 ghost use Rattle.iox2sd_values.specs.Causes.{TextBut, NameCause};
 ghost use lib.Chars.{codes};
 
@@ -61,7 +61,7 @@ pub extern "C" fn iox2sd_has_iox2_prefix_at(text: &[u8]) -> bool
 /// (`TooLong`), and a byte that is not from 1 to 127 (`IllegalByte`).
 #[unsafe(no_mangle)]
 pub extern "C" fn iox2sd_internal_service_name_at(text: &[u8], out: &mut [u8]) -> TextAnswer
-    ensures { TellsPrefixed text.now out.old result out.new }
+    ensures { ReportsPrefixed text.now out.old result out.new }
 {
     match prefixed_name(text) {
         Ok(name) => write(name.as_str().as_bytes(), out),
@@ -92,7 +92,7 @@ fn hash_of(pattern: u64, name: &[u8], internal: bool) -> Result<ServiceHash, Sta
 
 /// Writes the hash text, or says why there is none.
 fn tell_hash(pattern: u64, name: &[u8], internal: bool, out: &mut [u8]) -> TextAnswer
-    ensures { TellsHash internal pattern name.now out.old result out.new }
+    ensures { ReportsHash internal pattern name.now out.old result out.new }
 {
     match hash_of(pattern, name, internal) {
         Ok(hash) => write(hash.as_str().as_bytes(), out),
@@ -102,7 +102,7 @@ fn tell_hash(pattern: u64, name: &[u8], internal: bool, out: &mut [u8]) -> TextA
 
 /// Writes the hash text, or says why there is none and for what cause.
 fn write_hash(pattern: u64, name: &[u8], internal: bool, out: &mut [u8]) -> TextAnswer
-    ensures tells { TextBut (λ reported. TellsHash internal pattern name.now out.old reported
+    ensures reports { TextBut (λ answer. ReportsHash internal pattern name.now out.old answer
         out.new) result }
     ensures cause { NameCause internal name.now result.status result.cause }
 {
@@ -120,7 +120,7 @@ fn write_hash(pattern: u64, name: &[u8], internal: bool, out: &mut [u8]) -> Text
 /// a hash text that cannot be the name of a file (`IllegalHash`).
 #[unsafe(no_mangle)]
 pub extern "C" fn iox2sd_hash_text_at(pattern: u64, name: &[u8], out: &mut [u8]) -> TextAnswer
-    ensures tells { TextBut (λ reported. TellsHash false pattern name.now out.old reported out.new)
+    ensures reports { TextBut (λ answer. ReportsHash false pattern name.now out.old answer out.new)
         result }
     ensures cause { NameCause false name.now result.status result.cause }
 {
@@ -134,7 +134,7 @@ pub extern "C" fn iox2sd_internal_hash_text_at(
     name: &[u8],
     out: &mut [u8],
 ) -> TextAnswer
-    ensures tells { TextBut (λ reported. TellsHash true pattern name.now out.old reported out.new)
+    ensures reports { TextBut (λ answer. ReportsHash true pattern name.now out.old answer out.new)
         result }
     ensures cause { NameCause true name.now result.status result.cause }
 {

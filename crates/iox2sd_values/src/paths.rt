@@ -1,7 +1,7 @@
 //! Paths that are joined.
-ghost use Rattle.iox2sd_common.specs.Answers.{TellsText};
+ghost use Rattle.iox2sd_common.specs.Answers.{ReportsText};
 ghost use Rattle.iox2sd_values.specs.Causes.{TextBut, JoinCause, ChecksPath, ChecksFileName};
-ghost use Rattle.iox2sd_values.specs.Paths.{Joins, TellsJoined};
+ghost use Rattle.iox2sd_values.specs.Paths.{Joins, ReportsJoined};
 ghost use Rattle.iox2sd_values.specs.Texts.{MakesPath, MakesFileName};
 
 use super::causes::{entry_cause, file_cause};
@@ -37,7 +37,7 @@ pub(super) fn tell_path<C: Content>(
     path: Result<SemanticString<C, 255>, Status>,
     out: &mut [u8],
 ) -> TextAnswer
-    ensures { TellsText path out.old result out.new }
+    ensures { ReportsText path out.old result out.new }
 {
     match path {
         Ok(path) => write(path.as_bytes(), out),
@@ -56,7 +56,7 @@ pub extern "C" fn iox2sd_path_add_path_entry_at(
     entry: &[u8],
     out: &mut [u8],
 ) -> TextAnswer
-    ensures tells { TextBut (λ reported. TellsJoined MakesPath path.now entry.now out.old reported
+    ensures reports { TextBut (λ answer. ReportsJoined MakesPath path.now entry.now out.old answer
         out.new) result }
     ensures cause { JoinCause (ChecksPath entry.now) path.now result.status result.cause }
 {
@@ -78,8 +78,8 @@ pub extern "C" fn iox2sd_file_path_from_path_and_file_at(
     file: &[u8],
     out: &mut [u8],
 ) -> TextAnswer
-    ensures tells { TextBut (λ reported. TellsJoined MakesFileName path.now file.now out.old
-        reported out.new) result }
+    ensures reports { TextBut (λ answer. ReportsJoined MakesFileName path.now file.now out.old
+        answer out.new) result }
     ensures cause { JoinCause (ChecksFileName file.now) path.now result.status result.cause }
 {
     let reported = tell_path(join_file(path, file), out);

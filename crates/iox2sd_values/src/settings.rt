@@ -7,7 +7,7 @@ ghost use Rattle.iox2sd_common.specs.Settings.{c_publish_subscribe, c_event};
 ghost use Rattle.iox2sd_common.specs.Settings.{c_request_response, c_blackboard};
 ghost use Rattle.iox2sd_common.specs.ReadSettings.{ReadsPublishSubscribe, ReadsEvent, ReadsGlobal};
 ghost use Rattle.iox2sd_common.specs.ReadSettings.{ReadsRequestResponse};
-ghost use Rattle.iox2sd_values.specs.Settings.{TellsGlobalDefaults, checked, ChecksBy};
+ghost use Rattle.iox2sd_values.specs.Settings.{ReportsGlobalDefaults, checked, ChecksBy};
 
 use iox2_config::config::{Blackboard, Event, Node, PublishSubscribe, RequestResonse, Service};
 use iox2sd_common::read_settings::{
@@ -26,7 +26,7 @@ use std::time::Duration;
 /// stack.
 #[unsafe(no_mangle)]
 pub extern "C" fn iox2sd_global_defaults() -> GlobalSettings
-    ensures { TellsGlobalDefaults result }
+    ensures { ReportsGlobalDefaults result }
 {
     global_with(
         Duration::from_millis(500),

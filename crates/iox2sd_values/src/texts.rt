@@ -1,6 +1,6 @@
 //! Whether texts are names, keys, values and paths; where they are not, which byte is wrong and
 //! why.
-ghost use Rattle.std.specs.Prelude.{◌≡◌, ◌↔◌, IsTrue};
+ghost use Rattle.std.specs.Prelude.{◌↔◌, IsTrue};
 ghost use Rattle.iox2_texts.specs.Name.{IsName, MakesName};
 ghost use Rattle.iox2_texts.specs.Text.{IsText};
 ghost use Rattle.iox2_texts.specs.Verify.{Misses};

@@ -2,5 +2,5 @@ pub mod Written
 pub mod Fronts
 pub mod Words
 pub mod Lists
-pub mod Places
+pub mod Indices
 pub mod Outcomes

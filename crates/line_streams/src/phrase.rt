@@ -1,5 +1,5 @@
 //! Phrases: kinds of text that can begin the bytes of a line. The first is a decimal number.
-ghost use Rattle.std.specs.Prelude.{◌≡◌, ◌≢◌, ◌==◌, ◌-◌, ◌<◌, ◌≤◌, ◌∷◌, ◌++◌, ℕ, List};
+ghost use Rattle.std.specs.Prelude.{◌≡◌, ◌≢◌, ◌==◌, ◌-◌, ◌<◌, ◌≤◌, ◌++◌, ℕ, List};
 ghost use Rattle.std.specs.Prelude.{IfNone, IfOk, IfSome, MatchOption, get_or, length, map};
 ghost use Rattle.std.specs.List.{before_first, position};
 ghost use Rattle.std.specs.Option.{option_map};
@@ -252,7 +252,8 @@ pub fn after_word<'a>(bytes: &'a [u8], word: &[u8]) -> Option<&'a [u8]>
 }
 
 /// The first index of this byte.
-#[tactic(auto, using(crate::proofs::Places::found_first))]
+#[inline(always)]
+#[tactic(auto, using(crate::proofs::Indices::found_first))]
 fn index_of(bytes: &[u8], byte: u8) -> Option<usize>
     ensures { result ≡ position (λ b. b == byte) bytes.now }
 {

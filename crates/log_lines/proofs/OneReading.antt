@@ -19,7 +19,7 @@ use Rattle.log_lines.specs.Lines.Line.{service, call, reply, begin, end, crash, 
 use Rattle.log_lines.specs.States.{state_text}
 use Rattle.log_lines.proofs.Names.{first_letter}
 use Rattle.log_lines.proofs.Parts.{given_no_begin, given_no_command}
-use Rattle.log_lines.proofs.Splits.{Tells, begin_comes, comes_same, crash_comes, end_comes, kind, kind_begin, kind_call, number_comes, kind_given, of_line, of_text, one_kind}
+use Rattle.log_lines.proofs.Splits.{HasKind, begin_comes, comes_same, crash_comes, end_comes, kind, kind_begin, kind_call, number_comes, kind_given, of_line, of_text, one_kind}
 use Rattle.log_lines.proofs.States.{same_state}
 
 -- the numbers before two texts that are the same are, and so is what follows them
@@ -113,7 +113,7 @@ pub one_way : LinesAreReadOneWay
 one_way a b p q e =
     same_kind a b p q e
     (one_kind (line_text a) (kind a) (kind b) (of_line a p)
-    (subst (λ (t : List ℕ). Tells t (kind b)) (sym e) (of_line b q)))
+    (subst (λ (t : List ℕ). HasKind t (kind b)) (sym e) (of_line b q)))
 
 -- after a number only a call follows, alone or begun, or what is given
 pub numbered_none : (line rest : List ℕ) (n : ℕ) → n < 2 ^ 64 → line ≡ number_text n ++ rest

@@ -15,7 +15,7 @@ use Rattle.log_lines.specs.Commands.NamedCommand.{numbered, deregister, release}
 use Rattle.log_lines.specs.Lines.{HasNone, Comes, IsCaller, IsLine, Line, begin_text, given_text, line_text, mark, number_text}
 use Rattle.log_lines.specs.States.{HasState, State, state_text}
 use Rattle.log_lines.specs.Lines.Line.{service, call, reply, begin, end, crash, given}
-use Rattle.log_lines.proofs.Splits.{Tells, begin_comes, class, class_end, class_number, class_plain, comes_same, crash_comes, end_comes, kind, kind_begin, kind_call, kind_given, line_kind, of_given, of_text, one_kind}
+use Rattle.log_lines.proofs.Splits.{HasKind, begin_comes, class, class_end, class_number, class_plain, comes_same, crash_comes, end_comes, kind, kind_begin, kind_call, kind_given, line_kind, of_given, of_text, one_kind}
 
 -- no role begins the text
 abbrev NoRole : List ℕ → Type 0
@@ -142,19 +142,21 @@ module _ (text front back : List ℕ) (c : Comes text front back) where
       → ((b : Begun) → IsCaller front → HasBegun b → rest ≢ begun_text b) → HasNone text
   begun_none rest is none = record {
     alone = λ d p e.
-        let k = one_kind text 3 1 tells (subst (λ (t : List ℕ). Tells t 1) (sym e) (of_text d p)) in
+        let k = one_kind text 3 1 is_begin (subst (λ (t : List ℕ). HasKind t 1) (sym e) (of_text d
+        p)) in
         absurd (omega arith);
     begun = λ caller b p q e.
         let same = begin_same caller b p e in
         none b (subst IsCaller (sym same.0) p) q
         (append_cancel_left (codes "> ") rest (begun_text b) (sym is ∙ same.1));
     given = λ s p e.
-        let k = one_kind text 3 5 tells (subst (λ (t : List ℕ). Tells t 5) (sym e) (of_given s)) in
+        let k = one_kind text 3 5 is_begin (subst (λ (t : List ℕ). HasKind t 5) (sym e) (of_given
+        s)) in
         absurd (omega arith);
   }
     where
-      tells : Tells text 3
-      tells = record {
+      is_begin : HasKind text 3
+      is_begin = record {
         front = front;
         back = back;
         comes = c;
@@ -257,7 +259,7 @@ given_no_command text rest is d p e =
       back = codes " " ++ rest;
       comes = record { whole = is; letters = refl; ends = λ h. absurd (cc) };
       is = refl;
-    }) (subst (λ (t : List ℕ). Tells t 1) (sym e) (of_text d p)) in
+    }) (subst (λ (t : List ℕ). HasKind t 1) (sym e) (of_text d p)) in
     absurd (omega arith)
 
 pub given_no_begin : (text rest : List ℕ) → text ≡ codes "state " ++ rest → (caller : List ℕ)

@@ -56,48 +56,49 @@ class_plain after first second a b c =
     rw (ne_eqb after 60 a, ne_eqb after 33 b, ne_eqb after 58 c)
     (pick_plain (after == 62) (after == 61) (first == 115) (second == 116))
 
--- the text begins so, and tells this line
-pub record Tells (text : List ℕ) (kind : ℕ) : Type 0 where
+-- the text begins so, and this is its kind
+pub record HasKind (text : List ℕ) (kind : ℕ) : Type 0 where
   pub front : List ℕ
   pub back : List ℕ
   pub comes : Comes text front back
   pub is : class front back ≡ kind
 
--- a text tells what its front is
-told : {text : List ℕ} (front back : List ℕ) → Comes text front back → Tells text (class front back)
-told front back comes = record { front = front; back = back; comes = comes; is = refl }
+-- a text has the kind of its front
+is_of : {text : List ℕ} (front back : List ℕ) → Comes text front back
+    → HasKind text (class front back)
+is_of front back comes = record { front = front; back = back; comes = comes; is = refl }
 
-pub one_kind : (text : List ℕ) (k m : ℕ) → Tells text k → Tells text m → k ≡ m
+pub one_kind : (text : List ℕ) (k m : ℕ) → HasKind text k → HasKind text m → k ≡ m
 one_kind text k m p q =
     let same = comes_same text p.front p.back q.front q.back p.comes q.comes in
     sym p.is ∙ (ap (λ (f : List ℕ). class f p.back) same.0 ∙ ap (class q.front) same.1) ∙ q.is
 
-of_command : (c : Command) → HasLine c → Tells (line_of c) 1
+of_command : (c : Command) → HasLine c → HasKind (line_of c) 1
 of_command (command.Register id) p =
-    told (codes "register") _ (record { whole = refl; letters = refl; ends = λ e. absurd (cc) })
+    is_of (codes "register") _ (record { whole = refl; letters = refl; ends = λ e. absurd (cc) })
 of_command (command.Deregister k) p =
-    told (codes "deregister") _ (record { whole = refl; letters = refl; ends = λ e. absurd (cc) })
+    is_of (codes "deregister") _ (record { whole = refl; letters = refl; ends = λ e. absurd (cc) })
 of_command command.Nodes p =
-    told (codes "nodes") [] (record { whole = refl; letters = refl; ends = λ e. absurd (cc) })
+    is_of (codes "nodes") [] (record { whole = refl; letters = refl; ends = λ e. absurd (cc) })
 of_command (command.Add d) p =
-    told (codes "add") _ (record { whole = refl; letters = refl; ends = λ e. absurd (cc) })
+    is_of (codes "add") _ (record { whole = refl; letters = refl; ends = λ e. absurd (cc) })
 of_command (command.Release k) p =
-    told (codes "release") _ (record { whole = refl; letters = refl; ends = λ e. absurd (cc) })
+    is_of (codes "release") _ (record { whole = refl; letters = refl; ends = λ e. absurd (cc) })
 of_command (command.List r) p =
-    told (codes "list") _ (record { whole = refl; letters = refl; ends = λ e. absurd (cc) })
+    is_of (codes "list") _ (record { whole = refl; letters = refl; ends = λ e. absurd (cc) })
 of_command (command.Count r) p =
-    told (codes "count") _ (record { whole = refl; letters = refl; ends = λ e. absurd (cc) })
+    is_of (codes "count") _ (record { whole = refl; letters = refl; ends = λ e. absurd (cc) })
 of_command (command.Dead id (ByPort kept)) p =
-    told (codes "dead") _ (record { whole = refl; letters = refl; ends = λ e. absurd (cc) })
+    is_of (codes "dead") _ (record { whole = refl; letters = refl; ends = λ e. absurd (cc) })
 of_command _ p = absurd p
 
--- a command tells that it is one
-pub of_text : (c : NamedCommand) → HasText c → Tells (command_text c) 1
+-- a command has the kind of one
+pub of_text : (c : NamedCommand) → HasText c → HasKind (command_text c) 1
 of_text (numbered c) p = of_command c p
 of_text (deregister slot ticket) p =
-    told (codes "deregister") _ (record { whole = refl; letters = refl; ends = λ e. absurd (cc) })
+    is_of (codes "deregister") _ (record { whole = refl; letters = refl; ends = λ e. absurd (cc) })
 of_text (release r slot ticket) p =
-    told (codes "release") _ (record { whole = refl; letters = refl; ends = λ e. absurd (cc) })
+    is_of (codes "release") _ (record { whole = refl; letters = refl; ends = λ e. absurd (cc) })
 
 -- a number, a colon and a space
 pub number_comes : (n : ℕ) (rest : List ℕ) → n < 2 ^ 64
@@ -124,10 +125,10 @@ pub crash_comes : (caller : List ℕ) → IsCaller caller
 crash_comes caller p =
     record { whole = refl; letters = p.letters; ends = λ e. absurd (cc) }
 
--- what is given tells that it is
-pub of_given : (s : State) → Tells (given_text s) 5
+-- what is given has the kind of it
+pub of_given : (s : State) → HasKind (given_text s) 5
 of_given s =
-    told (codes "state") (codes " " ++ state_text s)
+    is_of (codes "state") (codes " " ++ state_text s)
     (record { whole = refl; letters = refl; ends = λ e. absurd (cc) })
 
 -- which line it is
@@ -143,23 +144,24 @@ kind (crash caller) = 7
 kind (given None s) = 5
 kind (given (Some n) s) = 2
 
-pub of_line : (l : Line) → IsLine l → Tells (line_text l) (kind l)
+pub of_line : (l : Line) → IsLine l → HasKind (line_text l) (kind l)
 of_line (service l) p =
-    told (codes "service") _ (record { whole = refl; letters = refl; ends = λ e. absurd (cc) })
+    is_of (codes "service") _ (record { whole = refl; letters = refl; ends = λ e. absurd (cc) })
 of_line (call None c) p = of_text c p.1
 of_line (call (Some n) c) p =
-    told (decimal n) (58 ∷ 32 ∷ command_text c) (number_comes n (command_text c) p.0)
+    is_of (decimal n) (58 ∷ 32 ∷ command_text c) (number_comes n (command_text c) p.0)
 of_line (reply words) p =
-    told [] (codes "= " ++ words) (record { whole = refl; letters = refl; ends = λ e. absurd (cc) })
+    is_of [] (codes "= " ++ words)
+    (record { whole = refl; letters = refl; ends = λ e. absurd (cc) })
 of_line (begin None caller c) p =
-    told caller (codes "> " ++ begun_text c) (begin_comes caller c p.1)
+    is_of caller (codes "> " ++ begun_text c) (begin_comes caller c p.1)
 of_line (begin (Some n) caller c) p =
-    told (decimal n) (58 ∷ 32 ∷ begin_text caller c) (number_comes n (begin_text caller c) p.0)
-of_line (end caller words) p = told caller (codes "< " ++ words) (end_comes caller words p)
-of_line (crash caller) p = told caller (codes "!") (crash_comes caller p)
+    is_of (decimal n) (58 ∷ 32 ∷ begin_text caller c) (number_comes n (begin_text caller c) p.0)
+of_line (end caller words) p = is_of caller (codes "< " ++ words) (end_comes caller words p)
+of_line (crash caller) p = is_of caller (codes "!") (crash_comes caller p)
 of_line (given None s) p = of_given s
 of_line (given (Some n) s) p =
-    told (decimal n) (58 ∷ 32 ∷ given_text s) (number_comes n (given_text s) p.0)
+    is_of (decimal n) (58 ∷ 32 ∷ given_text s) (number_comes n (given_text s) p.0)
 
 pub kind_given : (n : Option ℕ) (s : State) → (2 ≤ kind (given n s)) × (kind (given n s) ≤ 5)
 kind_given None s = (omega arith, omega arith)
@@ -174,10 +176,10 @@ pub kind_begin : (n : Option ℕ) (caller : List ℕ) (c : Begun)
 kind_begin None caller c = (omega arith, omega arith)
 kind_begin (Some n) caller c = (omega arith, omega arith)
 
--- a line tells its kind
+-- a line has its kind
 pub line_kind : (text front back : List ℕ) → Comes text front back → (l : Line) → IsLine l
     → text ≡ line_text l → kind l ≡ class front back
 line_kind text front back c l p e =
     one_kind text (kind l) (class front back)
-    (subst (λ (t : List ℕ). Tells t (kind l)) (sym e) (of_line l p))
+    (subst (λ (t : List ℕ). HasKind t (kind l)) (sym e) (of_line l p))
     (record { front = front; back = back; comes = c; is = refl })

@@ -40,7 +40,7 @@ numbers_same a b c d x y p q r s u v e =
 space_ends : (x : List ℕ) → EndsNumber (codes " " ++ x)
 space_ends x digit = omega arith
 
--- a command that adds an entry is told by its line
+-- a command that adds an entry is known by its line
 pub same_added : (c d : Command) → AddsEntry c → SameCommand c d → c ≡ d
 same_added (command.Register id) d p same = same
 same_added (command.Add details) d p same = same

@@ -48,7 +48,7 @@ AreWords text name back words =
     (IsCaller name × (back ≡ codes "> " ++ words)) ⊎ ((¬ (IsMarked back)) × (words ≡ text))
 
 -- The form of a text, which begins with these letters and digits and goes on so: the end of a call,
--- the death of a caller, a line with a number, the begin of a call where none stands behind a name,
+-- the crash of a caller, a line with a number, the begin of a call where none stands behind a name,
 -- or else that of its first word.
 abbrev pub HasFormBy : (text name back : List ℕ) → LogForm → Type 0
 HasFormBy text name back f =

@@ -1,5 +1,5 @@
 //! Lines of a log, and the names of callers and the numbers of services in them.
-ghost use Rattle.std.specs.Prelude.{◌≡◌, ◌≢◌, ◌<◌, ◌≤◌, ◌^◌, ◌++◌, ℕ, List, Option};
+ghost use Rattle.std.specs.Prelude.{◌≡◌, ◌≢◌, ◌<◌, ◌^◌, ◌++◌, ℕ, List, Option};
 ghost use Rattle.std.specs.Prelude.{IfNone, IfOk, IfSome, IsTrue, codes};
 ghost use Rattle.std.specs.Option.{option_map};
 ghost use Rattle.line_streams.specs.Spelling.{Reads};

@@ -3,7 +3,7 @@ use Rattle.service_conformance.proofs.Prelude.{AllByRecursion, List, None, Optio
 use Rattle.service_conformance.proofs.Names.{Answered, Call, CallStep, Command, First, Gives, Handle, IsBare, IsBounded, IsBoundedRegistry, IsExplained, IsRegistry, IsService, Judged, JudgedStep, KeepsHandles, Leads, MayGive, PortDetails, RegistryState, Reply, Run, Second, Serves, ServesDeregister, ServesRelease, Service, ServiceStep, Side, State, Watched, WindowStep, added_role, answered, at_first, call, call_of, calls_alone, calls_of, cons_same, handle_for, handle_in, handle_named, judged_of, named, ports_at, quiet, quiet_state, role_at, role_of, text_of, unwatched}
 use Rattle.histories.specs.Laws.{in_order}
 use Rattle.histories.proofs.Alone.{calls_alone_are_runs}
-use Rattle.histories.proofs.Places.{only}
+use Rattle.histories.proofs.Indices.{only}
 use Rattle.iox2_container.proofs.Growing.{Grows}
 use Rattle.service_descriptions.specs.declared.replay.machine.command.Command.TheVariants as command
 use Rattle.service_descriptions.specs.declared.replay.machine.reply.Reply.TheVariants as reply
@@ -335,8 +335,8 @@ calls_length : (reported : List Answered) (handles : List (Option Handle))
 calls_length [] handles = refl
 calls_length (a ∷ reported) handles = ap suc (calls_length reported (handles ++ a.given ∷ []))
 
-same_places : (calls : List Judged) (n : ℕ) → slice_get calls n ≡ slice_get calls (0 + n)
-same_places calls n = (let e : n ≡ 0 + n = omega arith in ap (slice_get calls) e)
+same_indices : (calls : List Judged) (n : ℕ) → slice_get calls n ≡ slice_get calls (0 + n)
+same_indices calls n = (let e : n ≡ 0 + n = omega arith in ap (slice_get calls) e)
 
 pub alone : (old : State) (reported : List Answered) → IsBare old
     → AllByRecursion (λ a. Gives old.service.nodes.registry.service a.command a.words a.given)
@@ -359,13 +359,13 @@ alone old reported bare gives =
           let leads = ((calls_alone_are_runs Step (length reported) from new explained.1).0
           explained.4).1 in
           there reported old bare gives new.service
-          (leads_there all calls 0 (same_places all) old.service new
+          (leads_there all calls 0 (same_indices all) old.service new
           (subst (λ l. Leads Step start l new) order
           (subst (λ s. Leads Step s (in_order (length reported)) new) is leads))),
       λ run.
           let found = back reported old bare gives run.0 run.1 run.2.0 run.2.1 in
           let leads = subst (λ l. Leads Step start l (unwatched found.0)) (sym order)
-          (leads_back all calls 0 (same_places all) old.service found.0 found.1) in (
+          (leads_back all calls 0 (same_indices all) old.service found.0 found.1) in (
             start,
             in_order (length reported),
             unwatched found.0,

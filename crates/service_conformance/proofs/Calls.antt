@@ -1,6 +1,6 @@
 -- What calls that were seen do.
 use Rattle.service_conformance.proofs.Prelude.{All-push, All-weaker, AllocError, Contains, Contains-append_left, Contains-push, IfOk, List, None, Option, Result, Some, Vec, [], ap, arith, false, inl, inr, refl, subst, sym, true, ℕ, ◌++◌, ◌+◌, ◌<◌, ◌∙◌, ◌∷◌, ◌≡◌, ◌⊎◌, cases_lt, IfOk-weaker, All-cons, All-nil}
-use Rattle.service_conformance.proofs.Names.{AreAll, ArePossible, ArePossibleWords, AreRepliesOf, ByPort, Call, CallStep, CanServe, ChangesNothing, Command, GivesBelow, Handle, IsCovered, IsIdleCall, IsSameReply, IsService, LeadsOn, LeadsTo, LineReply, MayGiveIn, Part, Possible, PossibleReplies, Reply, SeenReply, Serves, ServesCall, ServesDead, ServesDeregister, ServesRelease, Service, Tells, changes_nothing, handle_in, is_removal, named, quiet, reply_in, seen_text, text_of}
+use Rattle.service_conformance.proofs.Names.{AreAll, ArePossible, ArePossibleWords, AreRepliesOf, ByPort, Call, CallStep, CanServe, ChangesNothing, Command, GivesBelow, Handle, IsCovered, IsIdleCall, IsSameReply, IsService, LeadsOn, LeadsTo, LineReply, MayGiveIn, Part, Possible, PossibleReplies, Reply, SeenReply, Serves, ServesCall, ServesDead, ServesDeregister, ServesRelease, Service, ReadsReply, changes_nothing, handle_in, is_removal, named, quiet, reply_in, seen_text, text_of}
 use Rattle.service_descriptions.specs.declared.replay.machine.command.Command.TheVariants as command
 use Rattle.service_descriptions.specs.declared.replay.machine.reply.Reply.TheVariants as reply
 use Rattle.service_conformance.specs.declared.conformance.possible.Part.TheVariants as part
@@ -56,16 +56,16 @@ module _ (call : Call) (s : Service) where
   module _ (is : IsService s) (rest : quiet s ≡ s) (covered : IsCovered call.command) where
     module _ (p : Possible) (words : List ℕ) (has : call.words ≡ Some words)
         (all : ArePossible s (ServesCall call s) p) where
-      pub seen_one : (r : Reply) (next : Service) → Tells s p words (Some r)
+      pub seen_one : (r : Reply) (next : Service) → ReadsReply s p words (Some r)
           → LeadsTo (ServesCall call s) r next → AreAll (CallStep call s) (next ∷ [])
-      seen_one r next tells leads =
+      seen_one r next reads leads =
           all_of_one (CallStep call s) next
-          (is, rest, (r, rw has tells.1, leads_on r next (all.can r tells.0) leads))
+          (is, rest, (r, rw has reads.1, leads_on r next (all.can r reads.0) leads))
           (λ other step.
           let q = step.2.0 in
           let on = step.2.2 in
           one_next covered r q next other
-          (tells.2 q (all.only q on.0 on.1 on.2) (rw has at step.2.1)) leads on)
+          (reads.2 q (all.only q on.0 on.1 on.2) (rw has at step.2.1)) leads on)
 
     pub any_one : call.words ≡ None → (one : LineReply) (next : Service)
         → ArePossible s (ServesCall call s) (possible.One one)
@@ -175,17 +175,17 @@ module _ (call : Call) (covered : IsCovered call.command) (seen : SeenReply)
       sym on.3 ∙ same_state old on.0 step.2.0 step.1 (rw has at step.2.1) on.1
 
   pub idle : (s : Service) (p : Possible) (r : Reply) → IsService s → quiet s ≡ s
-      → ArePossible s (ServesCall call s) p → Tells s p (seen_text seen) (Some r)
+      → ArePossible s (ServesCall call s) p → ReadsReply s p (seen_text seen) (Some r)
       → IsIdleCall call s
-  idle s p r is rest all tells =
-      let can = all.can r tells.0 in (
+  idle s p r is rest all reads =
+      let can = all.can r reads.0 in (
         (
           is,
           rest,
           (
             r,
-            rw has tells.1,
-            (can.0, can.1, can.2, same_state s can.0 r rest tells.1 can.1),
+            rw has reads.1,
+            (can.0, can.1, can.2, same_state s can.0 r rest reads.1 can.1),
           ),
         ),
         changes_none,

@@ -209,7 +209,7 @@ space_first : (ids : List ℕ) → EndsWord (flat_map id_word ids)
 space_first [] = refl
 space_first (id ∷ ids) = refl
 
--- lists with one text have the same ids at each place that was read
+-- lists with one text have the same ids at each index that was read
 pub differ_at : (xs ys : List ℕ) (i : ℕ) → i < length xs → i < length ys → take i xs ≡ take i ys
     → IsIdNumber (get_or xs i 0) → IsIdNumber (get_or ys i 0) → get_or xs i 0 ≢ get_or ys i 0
     → flat_map id_word xs ≢ flat_map id_word ys
@@ -288,9 +288,9 @@ module _ {A : Type 0} (id : A → ℕ) where
           (λ l m. end (rw (length-map xs id) at l) m) e,
     )
 
--- whether a text tells that something changed
-abbrev tells_change : List ℕ → Bool
-tells_change text =
+-- whether a text says that something changed
+abbrev says_change : List ℕ → Bool
+says_change text =
     cond (get_or text 0 0 == 104) true
     (cond (get_or text 0 0 == 110) (get_or text 3 0 == 111)
     (cond (get_or text 0 0 == 114) (get_or text 4 0 == 97) false))
@@ -299,12 +299,12 @@ abbrev is_change : Reply → Bool
 is_change (reply.Handle h) = true
 is_change r = is_removal r
 
-of_change : (r : Reply) → tells_change (text_of r) ≡ is_change r
+of_change : (r : Reply) → says_change (text_of r) ≡ is_change r
 of_change (reply.Compatible true) = refl
 of_change (reply.Compatible false) = refl
 of_change _ = refl
 
-of_seen : (s : SeenReply) → changes_nothing s ≡ true → tells_change (seen_text s) ≡ false
+of_seen : (s : SeenReply) → changes_nothing s ≡ true → says_change (seen_text s) ≡ false
 of_seen (seen.Handle slot ticket) e = absurd (let z : false ≡ true = e in cc)
 of_seen (seen.Word word.HasOwners) e = absurd (let z : false ≡ true = e in cc)
 of_seen (seen.Word word.NoMoreOwners) e = absurd (let z : false ≡ true = e in cc)
@@ -321,4 +321,4 @@ no_change _ e = (refl, e)
 pub reported_nothing : (r : Reply) (s : SeenReply) → changes_nothing s ≡ true
     → text_of r ≡ seen_text s → (handle_in r ≡ None) × (is_removal r ≡ false)
 reported_nothing r s nothing e =
-    no_change r (sym (of_change r) ∙ (ap tells_change e ∙ of_seen s nothing))
+    no_change r (sym (of_change r) ∙ (ap says_change e ∙ of_seen s nothing))

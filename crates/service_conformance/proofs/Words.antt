@@ -1,6 +1,6 @@
 -- What words tell.
 use Rattle.service_conformance.proofs.Prelude.{All-map, List, None, Option, Some, Vec, [], ap, append-nil, append_assoc, append_cancel_left, arith, codes, decimal, decimal_injective, map, refl, subst, sym, ℕ, ◌++◌, ◌+◌, ◌<◌, ◌^◌, ◌∙◌, ◌∷◌, ◌≡◌, ◌≢◌, get_or-map, length-map}
-use Rattle.service_conformance.proofs.Names.{AllowsWords, ArePossible, ArePossibleWords, ByPort, Bytes, Command, EndsNumber, Entry, Handle, IsCovered, IsNextHandle, IsNextIn, IsSameReply, MayGive, MayGiveIn, NextHandle, Part, PortDetails, RegistryState, Reply, Request, Serves, ServesDeregister, ServesRelease, Service, Spelling, TellsHandle, after, cons_same, handle_words, line_end, named, number_one, request_command, sequence, text_of}
+use Rattle.service_conformance.proofs.Names.{AllowsWords, ArePossible, ArePossibleWords, ByPort, Bytes, Command, EndsNumber, Entry, Handle, IsCovered, IsNextHandle, IsNextIn, IsSameReply, MayGive, MayGiveIn, NextHandle, Part, PortDetails, RegistryState, Reply, Request, Serves, ServesDeregister, ServesRelease, Service, Spelling, ReadsReplyHandle, after, cons_same, handle_words, line_end, named, number_one, request_command, sequence, text_of}
 use Rattle.std.proofs.Common.{All}
 use Rattle.service_descriptions.specs.declared.replay.machine.command.Command.TheVariants as command
 use Rattle.service_descriptions.specs.declared.replay.machine.reply.Reply.TheVariants as reply
@@ -93,16 +93,16 @@ module _ {T : Type 0} (r : RegistryState T) (words : List ℕ) (fits : r.capacit
 
     -- the slot is not free
     pub none_free : ((h : Handle) → h.slot ≡ slot → ¬ (MayGive r h))
-        → TellsHandle (MayGive r) words None
+        → ReadsReplyHandle (MayGive r) words None
     none_free never h may e = never h (parts_reported h may e).0 may
 
     -- the ticket is not the next one
     pub none_next : (next : Handle) → MayGive r next → next.ticket ≢ ticket
-        → TellsHandle (MayGive r) words None
+        → ReadsReplyHandle (MayGive r) words None
     none_next next may never h so e = never (may.ticket ∙ sym so.ticket ∙ (parts_reported h so e).1)
 
     pub one_next : (next : Handle) → next.slot ≡ slot → MayGive r next → next.ticket ≡ ticket
-        → TellsHandle (MayGive r) words (Some next)
+        → ReadsReplyHandle (MayGive r) words (Some next)
     one_next next is may same =
         let text : text_of (reply.Handle next) ≡ words =
         ap (λ k. handle_words k next.ticket) is ∙ ap (handle_words slot) same ∙ reported in (

@@ -102,8 +102,8 @@ ids_lacking [] start = ([], [])
 ids_lacking (l ∷ looks) start =
     if l.number == start then (l.unseen, l.lasting) else ids_lacking looks start
 
--- this is told of the replies that it may have: of a call they are listed; of a weak listing that
--- stops, the ids that its reply must not have, and those that it has to have
+-- this is returned of the replies that it may have: of a call they are listed; of a weak listing
+-- that stops, the ids that its reply must not have, and those that it has to have
 abbrev pub AreJudgedReplies : Watched → Judged → PossibleReplies → Type 0
 AreJudgedReplies w (call c) p = AreRepliesOf w.service c p
 AreJudgedReplies w (starts p reply) reported = Unit {0}

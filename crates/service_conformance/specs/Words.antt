@@ -16,18 +16,18 @@ abbrev pub handle_words : ℕ → ℕ → List ℕ
 handle_words slot ticket = codes "handle " ++ decimal slot ++ codes " " ++ decimal ticket
 
 -- of the handles that may be given, the one with these words; none where none has them
-abbrev pub TellsHandle : (Handle → Type 0) → List ℕ → Option Handle → Type 0
-TellsHandle May words (Some h) =
+abbrev pub ReadsReplyHandle : (Handle → Type 0) → List ℕ → Option Handle → Type 0
+ReadsReplyHandle May words (Some h) =
     May h × (text_of (reply.Handle h) ≡ words)
     × ((other : Handle) → May other → text_of (reply.Handle other) ≡ words → h ≡ other)
-TellsHandle May words None = (h : Handle) → May h → text_of (reply.Handle h) ≢ words
+ReadsReplyHandle May words None = (h : Handle) → May h → text_of (reply.Handle h) ≢ words
 
 -- of the possible replies, the one with these words; none where none has them
-abbrev pub Tells : Service → Possible → List ℕ → Option Reply → Type 0
-Tells s p words (Some r) =
+abbrev pub ReadsReply : Service → Possible → List ℕ → Option Reply → Type 0
+ReadsReply s p words (Some r) =
     Allows s p r × (text_of r ≡ words)
     × ((other : Reply) → Allows s p other → text_of other ≡ words → IsSameReply r other)
-Tells s p words None = (r : Reply) → Allows s p r → text_of r ≢ words
+ReadsReply s p words None = (r : Reply) → Allows s p r → text_of r ≢ words
 
 -- these are the handles that the next add may give
 pub record IsNextHandle {T : Type 0} (r : RegistryState T) (next : NextHandle) : Type 0 where

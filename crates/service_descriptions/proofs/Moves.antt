@@ -237,18 +237,20 @@ cleans_up old dead cleanup answer new (left, step) =
     (grows_recover (is_of node_of dead) second.1.step.marked old.ports.second.registry Default
     second.0 new.ports.second.registry second.1.step.recovers) tt
 
-dies : (old : Service) (dead : ℕ) (cleanup : Cleanup) (r : Reply) (new : Service)
+removes_dead : (old : Service) (dead : ℕ) (cleanup : Cleanup) (r : Reply) (new : Service)
     → ServesDead old dead cleanup r new → Moves old new (handle_in r)
-dies old dead cleanup reply.HasOwners new s = cleans_up old dead cleanup nodes.HasOwners new s
-dies old dead cleanup reply.NoMoreOwners new s = cleans_up old dead cleanup nodes.NoMoreOwners new s
-dies old dead cleanup _ new s = absurd s
+removes_dead old dead cleanup reply.HasOwners new s = cleans_up old dead cleanup nodes.HasOwners new
+    s
+removes_dead old dead cleanup reply.NoMoreOwners new s = cleans_up old dead cleanup
+    nodes.NoMoreOwners new s
+removes_dead old dead cleanup _ new s = absurd s
 
--- nothing changes, and no handle is told
-tells : (old new : Service) (Reported : Reply → Type 0) (r : Reply)
+-- nothing changes, and no handle is returned
+replies_only : (old new : Service) (Reported : Reply → Type 0) (r : Reply)
     → ((h : Handle) → Reported (reply.Handle h) → ⊥) → Reported r × (new ≡ old)
     → Moves old new (handle_in r)
-tells old new Reported (reply.Handle h) never s = absurd (never h s.0)
-tells old new Reported _ never s = still old new s.1
+replies_only old new Reported (reply.Handle h) never s = absurd (never h s.0)
+replies_only old new Reported _ never s = still old new s.1
 
 no_handle_of_part : (answered : MessageTypeDetails → Reply → Type 0) (h : Handle)
     (found : Option MessageTypeDetails)
@@ -277,22 +279,24 @@ pub moves : (old : Service) (about : Option Description) (handles : List (Option
 moves old about handles (command.Register id) r new i s = registers old id r new i s
 moves old about handles (command.Deregister k) r new i s =
     deregisters old (named handles k) r new s
-moves old about handles command.Nodes r new i s = tells old new (ServesNodes old) r (λ h t. t) s
+moves old about handles command.Nodes r new i s = replies_only old new (ServesNodes old) r (λ h t.
+    t) s
 moves old about handles (command.Add details) r new i s = attaches old details r new i s
 moves old about handles (command.Release k) r new i s = releases old (named handles k) r new s
 moves old about handles (command.List role) r new i s =
-    tells old new (ServesList old role) r (λ h t. t) s
+    replies_only old new (ServesList old role) r (λ h t. t) s
 moves old about handles (command.Count role) r new i s =
-    tells old new (ServesCount old role) r (λ h t. t) s
-moves old about handles (command.Dead dead cleanup) r new i s = dies old dead cleanup r new s
+    replies_only old new (ServesCount old role) r (λ h t. t) s
+moves old about handles (command.Dead dead cleanup) r new i s = removes_dead old dead cleanup r new
+    s
 moves old about handles (command.Verify required) r new i s =
-    tells old new (ServesVerify required about) r (no_verdict required about) s
+    replies_only old new (ServesVerify required about) r (no_verdict required about) s
 moves old about handles (command.Layout part n) r new i s =
-    tells old new (ServesMessages (ServesLayout n) about part) r
+    replies_only old new (ServesMessages (ServesLayout n) about part) r
     (no_handle (ServesLayout n) about part (λ d h t. t)) s
 moves old about handles (command.Places part header) r new i s =
-    tells old new (ServesMessages (ServesPlaces header) about part) r
+    replies_only old new (ServesMessages (ServesPlaces header) about part) r
     (no_handle (ServesPlaces header) about part (λ d h t. t)) s
 moves old about handles (command.Compatible part opener) r new i s =
-    tells old new (ServesMessages (ServesCompatible opener) about part) r
+    replies_only old new (ServesMessages (ServesCompatible opener) about part) r
     (no_handle (ServesCompatible opener) about part (λ d h t. t)) s

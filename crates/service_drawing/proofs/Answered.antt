@@ -7,7 +7,7 @@ use Rattle.std.specs.declared.vec.IntoIter.{IntoIter}
 use Rattle.std.specs.Result.{IsErr, IsErrAnd, MatchResult}
 use Rattle.iox2_config.specs.declared.config.Config.{Config}
 use Rattle.service_drawing.specs.Descriptions.{StopsReading, IsOver, IsReason}
-use Rattle.service_drawing.specs.Streams.{IsRequestOf, IsRead, status_of, output_text, error_text, TellsBadLine, Draws, Answers, Reported}
+use Rattle.service_drawing.specs.Streams.{IsRequestOf, IsRead, status_of, output_text, error_text, ReportsBadLine, Draws, Answers, Reported}
 use Rattle.service_drawing.specs.declared.streams.Asked.{Asked}
 use Rattle.service_drawing.specs.declared.fault.Fault.{Fault}
 use Rattle.service_drawing.specs.declared.fault.Fault.TheVariants.{BadLine}
@@ -45,12 +45,12 @@ pub answers_for : (given : Option (List ℕ)) (asked : Result Asked Fault) (fiel
     → Answers given (Ok expected) end → Answers given asked end
 answers_for given asked field expected end e f h = grind arith
 
--- the line that is told is that where reading stopped
+-- the line that is reported is that where reading stopped
 pub draws_no_more : (base : Config) (warnings rest bytes : List ℕ) (expected : Expected)
     (fault : Fault) → IsOver base warnings rest bytes
     → StopsReading base expected.rest.now rest
     × IsReason base expected.reason expected.rest.now rest
-    → TellsBadLine bytes expected fault → Draws bytes (Err fault)
+    → ReportsBadLine bytes expected fault → Draws bytes (Err fault)
 draws_no_more base warnings rest bytes expected (BadLine line cause prefix form) over s h =
     grind (arith, one_reason)
 draws_no_more base warnings rest bytes expected _ over s h = absurd h

@@ -5,7 +5,7 @@ use Rattle.iox2_texts.specs.Name.{IsName, MakesName}
 use Rattle.iox2_texts.specs.declared.bounded.SemanticStringError.{SemanticStringError}
 use Rattle.line_streams.specs.OneWay.{before_one}
 use Rattle.line_streams.specs.Spelling.{HasNo}
-use Rattle.line_streams.proofs.Places.{has_one}
+use Rattle.line_streams.proofs.Indices.{has_one}
 use Rattle.service_drawing.specs.Lines.{IsKey, IsPair, pair_text, IsLine, GivesPair, AreAttributes, HasAttributes, StopsAt, Requirement, OfPair, OfKey, GivesRequirement, RequiresToo, number_required, RequiresMore, RequiresNoMore, pair_of, key_of, AreRequired, HasRequirements}
 use Rattle.std.proofs.lemmas.List.Sorted.{IsPermutation-cons, IsPermutation-to_front, IsPermutation-trans, length_permutation}
 use Rattle.iox2_texts.specs.Attribute.{IsListing}

@@ -66,7 +66,7 @@ none_of_both : (ps qs : List (List ℕ)) (bytes : List ℕ) → NoneOf (ps ++ qs
 none_of_both [] qs bytes n = grind arith
 none_of_both (p ∷ ps) qs bytes n = grind (arith, none_of_both ps qs bytes n.1)
 
--- the bytes may stand in the place of the rest: they begin with the same line, or in no way that
+-- the bytes may stand instead of the rest: they begin with the same line, or in no way that
 -- would go on with what stands before
 abbrev pub MayFollow : List (List ℕ) → List ℕ → List ℕ → Type 0
 MayFollow ends rest other = HasSameLine rest other ⊎ NoneOf ends other
@@ -365,7 +365,7 @@ lines_rest begin Spells (x ∷ xs) (y ∷ ys) r s bytes h p k q =
     let mids = (line_one _ _ k.0 h.0 bytes k.2 h.2).1 in
     lines_rest begin Spells xs ys r s h.0 h.4 p (rw mids at k.4) q
 
--- the lines up to a place, as they would stand before other bytes too
+-- the lines up to an offset, as they would stand before other bytes too
 pub up_lines : {A : Type 0} (begin : List ℕ) (Spells : A → List ℕ → Type 0) (xs : List A)
     (at bytes : List ℕ) → UpTo begin Spells xs at bytes
     → (texts : List (List ℕ)) × AreLines texts at bytes

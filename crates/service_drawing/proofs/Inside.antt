@@ -3,13 +3,13 @@ use Rattle.std.proofs.Common.{◌≡◌, ℕ, zero, suc, ◌+◌, ◌*◌, ◌^�
 use Rattle.std.proofs.Math.Nat.{mul-le-mul_right}
 use Rattle.std.proofs.lemmas.Nat.Gcd.{dvd-zero}
 use Rattle.iox2_config.specs.Blocks.{HoldsEverywhere}
-use Rattle.iox2_config.specs.Layout.{user_header_place, payload_place}
+use Rattle.iox2_config.specs.Layout.{user_header_offset, payload_offset}
 use Rattle.iox2_config.specs.declared.types.message_details.MessageTypeDetails.{MessageTypeDetails}
 
--- the parts of a message at the place 0 end within its room
+-- the parts of a message at the offset 0 end within its size
 pub ends_inside : (d : MessageTypeDetails) (n size : ℕ) → HoldsEverywhere d n size → size < 2 ^ 63
-    → (user_header_place d 0 + d.user_header.size ≤ size)
-    × (payload_place d 0 + d.payload.size * n ≤ size)
+    → (user_header_offset d 0 + d.user_header.size ≤ size)
+    × (payload_offset d 0 + d.payload.size * n ≤ size)
 ends_inside d n size h limit = grind (arith, dvd-zero)
 
 -- an element ends where the payload does, or before

@@ -225,7 +225,7 @@ not_set names defaults values given reason at bytes text r bad sets other made n
               b.1 next.one (gives_at names defaults values next.one text same next.spelled)
         ]
 
--- settings of this pattern in the place of others
+-- settings of this pattern instead of others
 taken : (k : PatternKind) (base d : Defaults)
     → (setting_values k (restored k d base) ≡ setting_values k d)
     × (restored k base (restored k d base) ≡ base)
@@ -277,7 +277,7 @@ up_within : {A : Type 0} (begin : List ℕ) (Spells : A → List ℕ → Type 0)
     (at bytes : List ℕ) → UpTo begin Spells xs at bytes → length at ≤ length bytes
 up_within begin Spells xs at bytes u = grind (arith, up_lines, texts_within)
 
--- the lines up to one place give the same keys
+-- the lines up to one offset give the same keys
 same_keys : {A K : Type 0} (begin : List ℕ) (Spells : A → List ℕ → Type 0) (key : A → K)
     → ((x y : A) (t : List ℕ) → Spells x t → Spells y t → key x ≡ key y) → (xs ys : List A)
     (at bytes : List ℕ) → UpTo begin Spells xs at bytes → UpTo begin Spells ys at bytes
@@ -294,7 +294,7 @@ same_keys begin Spells key same (x ∷ xs) (y ∷ ys) at bytes u v =
     let more = same_keys begin Spells key same xs ys at u.0 u.4 (rw mids at v.4) in
     cc
 
--- behind all lines of a kind there is no place for one more
+-- behind all lines of a kind none more may follow
 no_further : {A : Type 0} (begin : List ℕ) (Spells : A → List ℕ → Type 0) (xs ys : List A)
     (left rest text tail bytes : List ℕ) → UpTo begin Spells xs rest bytes → HasNoLine begin rest
     → length left ≤ length rest → UpTo begin Spells ys left bytes

@@ -1,12 +1,12 @@
 -- Where the parts of one message lie, and how many of them the ports send.
 use Rattle.std.specs.Prelude.{ℕ, ◌<◌, ◌≤◌, ◌≡◌, ◌+◌, ◌*◌, ◌^◌, List, [], ◌∷◌, codes, Option, Some, None, ◌++◌, cond, nat_eq}
-use Rattle.iox2_config.specs.Layout.{user_header_place, payload_place, sample_size}
+use Rattle.iox2_config.specs.Layout.{user_header_offset, payload_offset, sample_size}
 use Rattle.iox2_config.specs.declared.types.message_details.MessageTypeDetails.{MessageTypeDetails}
 use Rattle.service_drawing.specs.declared.layout.MessageLayout.{MessageLayout}
 use Rattle.service_drawing.specs.declared.layout.Part.{Part}
 use Rattle.service_drawing.specs.declared.layout.Part.TheVariants as part
 use Rattle.iox2_config.specs.declared.config.defaults.Defaults.{Defaults}
-use Rattle.iox2_static.specs.Chunks.{TellsGreatest}
+use Rattle.iox2_static.specs.Chunks.{ReportsGreatest}
 use Rattle.config_report.specs.Text.{sample_limits_of, request_limits_of, response_limits_of}
 use Rattle.service_drawing.specs.declared.description.Exchange.{Exchange}
 use Rattle.service_drawing.specs.declared.description.Exchange.TheVariants.{PublishSubscribe, Event, RequestResponse, Blackboard}
@@ -16,15 +16,15 @@ use Rattle.std.specs.Fmt.{decimal}
 use Rattle.service_drawing.specs.declared.sentences.Counted.{Counted}
 use Rattle.std.specs.declared.ops.Range.{Range}
 
--- this many bytes from this place on
+-- this many bytes from this offset on
 abbrev pub span : ℕ → ℕ → Range ℕ
 span start size = record { start = start; end = start + size }
 
--- the layout of a message of n elements whose header lies at the place 0
+-- the layout of a message of n elements whose header lies at the offset 0
 pub record IsLayoutOf (l : MessageLayout) (d : MessageTypeDetails) (n : ℕ) : Type 0 where
   pub header : l.header ≡ span 0 d.header.size
-  pub user_header : l.user_header ≡ span (user_header_place d 0) d.user_header.size
-  pub payload : l.payload ≡ span (payload_place d 0) (d.payload.size * n)
+  pub user_header : l.user_header ≡ span (user_header_offset d 0) d.user_header.size
+  pub payload : l.payload ≡ span (payload_offset d 0) (d.payload.size * n)
   pub element : l.element ≡ d.payload.size
   pub elements : l.elements ≡ n
   pub size : l.size ≡ sample_size d n
@@ -65,7 +65,7 @@ pub record IsSegmentOf (s : Segment) (title port : List ℕ) (message : Message)
   pub called : s.title.now ≡ title
   pub sender : s.port.now ≡ port
   pub sent : s.message.now ≡ message
-  pub chunks : TellsGreatest limits s.chunks
+  pub chunks : ReportsGreatest limits s.chunks
   pub ports : s.ports ≡ most
 
 -- the messages that ports of this kind of exchange send

@@ -98,12 +98,12 @@ fault_text NoMemory = codes "no memory" ++ 10 ∷ []
 
 -- the fault of the line with which what is left
 -- begins: its number, the cause, and what was expected
-abbrev pub TellsBadLine : List ℕ → Expected → Fault → Type 0
-TellsBadLine bytes expected (BadLine line cause prefix form) =
+abbrev pub ReportsBadLine : List ℕ → Expected → Fault → Type 0
+ReportsBadLine bytes expected (BadLine line cause prefix form) =
     ((read : List ℕ) → bytes ≡ read ++ expected.rest.now → line ≡ count_by (λ b. b == 10) read + 1)
     × IsCause expected.rest.now expected.reason cause
     × (prefix.now ≡ expected.prefix.now) × (form.now ≡ expected.form.now)
-TellsBadLine bytes expected other = ⊥
+ReportsBadLine bytes expected other = ⊥
 
 -- the line of this number is bad for this cause: behind the block in front, if there is one, it is
 -- the first that no description has there, and its cause follows from the reason why none has it

@@ -3,7 +3,7 @@ ghost use Rattle.std.specs.Prelude.{◌≡◌, [], ℕ, List, ◌+◌, ◌++◌,
 ghost use Rattle.std.specs.Io.KnownBytes.{Appends};
 ghost use Rattle.line_streams.specs.Streams.{WriteFails};
 ghost use Rattle.service_drawing.specs.Streams.{expected_text, cause_text, bad_line_text, fault_text};
-ghost use Rattle.service_drawing.specs.Streams.{TellsBadLine, fault_status};
+ghost use Rattle.service_drawing.specs.Streams.{ReportsBadLine, fault_status};
 ghost use Rattle.service_drawing.specs.declared.reading.cause.Cause.TheVariants.{ForeignByte};
 
 use crate::reading::Expected;
@@ -45,7 +45,7 @@ fn line_number(bytes: &[u8], rest: &[u8]) -> usize
 
 /// The fault of a line where another was expected.
 pub(crate) fn bad_line(bytes: &[u8], expected: Expected<'_>) -> Fault
-    ensures { TellsBadLine bytes.now expected.entry result }
+    ensures { ReportsBadLine bytes.now expected.entry result }
 {
     Fault::BadLine {
         line: line_number(bytes, expected.rest),

@@ -1,7 +1,6 @@
 //! The settings of a service, by their own names.
-ghost use Rattle.std.specs.Prelude.{◌≡◌, ◌<◌, ◌^◌, ℕ, Bool, Option, IfSome, MatchOption, Some};
+ghost use Rattle.std.specs.Prelude.{◌≡◌, ◌<◌, Option, IfSome, MatchOption, Some};
 ghost use Rattle.std.specs.Prelude.{IsTrue, false, slice_get, slice_set};
-ghost use Rattle.std.specs.Duration.{as_nanos};
 ghost use Rattle.std.specs.declared.time.Duration.{Duration};
 ghost use Rattle.iox2_config.specs.declared.config.choices.AllocationStrategy.{AllocationStrategy};
 ghost use Rattle.iox2_config.specs.declared.config.choices.BackpressureStrategy.{BackpressureStrategy};

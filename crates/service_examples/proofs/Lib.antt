@@ -1,4 +1,4 @@
 pub mod Segments
 pub mod Others
-pub mod Deaths
+pub mod DeadNodes
 pub mod Listing

@@ -40,7 +40,7 @@ module _ {F A : Type 0} (calls : F → A → CallbackProgression → F → Type 
 
   -- it may be called while there is room
   module _ (takes : F → A → Type 0)
-      (asks : (f : F) (x : A) → (list_of f).len < (list_of f).cap → takes f x) where
+      (called : (f : F) (x : A) → (list_of f).len < (list_of f).cap → takes f x) where
     pub room_to_append : (f : F) (items : List A)
         → (list_of f).len + length (map member items) ≤ (list_of f).cap
         → CanVisit takes calls f items
@@ -48,7 +48,7 @@ module _ {F A : Type 0} (calls : F → A → CallbackProgression → F → Type 
         CanVisit-collecting calls name (λ _. Unit {0}) (λ q. (list_of q).items)
         (λ q. (list_of q).len) (λ q. (list_of q).cap) (λ _. true) member
         (λ q x r v k e. (let s = step q x r v e in (s.0, s.1, s.2.0, s.2.1, s.2.2, tt)))
-        takes (λ q x k i. asks q x (i refl)) f items
+        takes (λ q x k i. called q x (i refl)) f items
         (tt, omega (arith, fits, ap length (passes_all items), length-map items member))
 
 -- and for the ports of a role

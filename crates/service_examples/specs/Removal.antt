@@ -1,4 +1,4 @@
--- What stays of a service when nodes die.
+-- What stays of a service when dead nodes are removed.
 use Rattle.std.specs.Prelude.{◌≡◌, ℕ, ◌||◌, Bool, true, false, List, [], ◌∷◌, filter}
 use Rattle.iox2_container.specs.Calls.{is_outside}
 use Rattle.iox2_container.specs.State.{Entry, RegistryState}

@@ -1,5 +1,5 @@
 //! Files, by their names, what is found in them, and which settings of two of them differ.
-ghost use Rattle.std.specs.Prelude.{◌≡◌, ℕ, List, Result, IfOk, ⊤, ◌++◌, ◌∷◌, [], OnOk, Ok, Err};
+ghost use Rattle.std.specs.Prelude.{◌≡◌, ℕ, List, Result, IfOk, ⊤, ◌++◌, OnOk, Ok, Err};
 ghost use Rattle.std.specs.Prelude.{map, Some};
 ghost use Rattle.config_report.specs.Findings.{IsToml};
 ghost use Rattle.config_report.specs.Text.{Adds, SettingsGive};

@@ -1,6 +1,6 @@
 //! Lines and columns, and those where paths of keys are written: the expressions of a text are gone
 //! over, headers, and pairs of a key and a value, of which only the end is looked for.
-ghost use Rattle.std.specs.Prelude.{◌≡◌, ℕ, ◌<◌, ◌≤◌, ◌∷◌, ◌++◌, [], take, length, map, slice_index_or};
+ghost use Rattle.std.specs.Prelude.{◌≡◌, ℕ, ◌<◌, ◌≤◌, ◌++◌, [], take, length, map, slice_index_or};
 ghost use Rattle.std.specs.Prelude.{None, Some, IfOk, IfSome, OnOk, IsSome, option_map, true};
 ghost use Rattle.toml_parser.specs.Lexical.{first, left_bracket};
 ghost use Rattle.toml_parser.specs.Reading.{key_view, path_view as keys_view};

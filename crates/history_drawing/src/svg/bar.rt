@@ -4,8 +4,8 @@ ghost use Rattle.history_drawing.specs.Svg.{bar_text, circle_text, class_text, d
 ghost use Rattle.history_drawing.specs.Svg.{frame_text, group_text, is_refused, outline_text, point_text};
 ghost use Rattle.history_drawing.specs.Svg.{title_text, words_of, words_text};
 
+use super::coordinates::{begin_of, end_of, point_of, top};
 use super::frame::write_element;
-use super::place::{begin_of, end_of, point_of, top};
 use crate::timeline::{Bar, BarEnd, Point};
 use std::alloc::AllocError;
 
@@ -32,7 +32,7 @@ fn words_of<'a>(end: &BarEnd<'a>) -> &'a [u8]
 {
     match end {
         BarEnd::Answered(_, words) => words,
-        BarEnd::Died(_) => b"died",
+        BarEnd::Crashed(_) => b"died",
         BarEnd::Open => b"open",
     }
 }
@@ -71,7 +71,7 @@ fn write_end(out: &mut String, to: usize, y: usize, end: &BarEnd<'_>) -> Result<
 {
     match end {
         BarEnd::Answered(_, _) => { writeln!(out, "<path class=\"end\" d=\"M{to} {y}v44\"/>") }
-        BarEnd::Died(_) => writeln!(
+        BarEnd::Crashed(_) => writeln!(
             out,
             "<path class=\"cross\" d=\"M{to} {y}m-8 14l16 16m0 -16l-16 16\"/>"
         ),

@@ -4,7 +4,7 @@ ghost use Rattle.history_drawing.specs.Svg.{heading_text, label, mark_text, mark
 ghost use Rattle.history_drawing.specs.Svg.{more_text, name_text, note_text, open_text};
 ghost use Rattle.history_drawing.specs.Svg.{element_text, escaped, escaped_byte};
 
-use super::place::{left, own_end};
+use super::coordinates::{left, own_end};
 use crate::timeline::Bar;
 use std::alloc::AllocError;
 

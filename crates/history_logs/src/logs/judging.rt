@@ -1,5 +1,5 @@
 //! Judging what was seen of a service.
-ghost use Rattle.std.specs.Prelude.{◌≡◌, ◌+◌, ◌<◌, ◌≤◌, ◌↔◌, ℕ, zero, suc, IfOk, IsTrue, List, [], ◌∷◌, OnOk};
+ghost use Rattle.std.specs.Prelude.{◌≡◌, ◌+◌, ◌<◌, ◌≤◌, ◌↔◌, ℕ, zero, suc, IfOk, IsTrue, List, OnOk};
 ghost use Rattle.std.specs.Prelude.{All, Some, length, slice_get, take};
 ghost use Rattle.std.specs.Int.{bit_at};
 ghost use Rattle.std.specs.List.{AllZip};
@@ -238,7 +238,7 @@ fn refused(
     window: &Window<WatchedService>,
 ) -> Result<Refusal, AllocError>
     requires orderly { IsOrderly service.now }
-    requires placed { HasEventLines log.now service.now }
+    requires located { HasEventLines log.now service.now }
     requires stops { IsStop (StepOf service.now) (news service.now) service.now.events index
         stop.Refused }
     requires window { IsWindowOf (StepOf service.now) (news service.now)
@@ -275,7 +275,7 @@ fn reported_of(
     found: Found<WatchedService>,
 ) -> Result<Result<Window<WatchedService>, (usize, Verdict)>, AllocError>
     requires orderly { IsOrderly service.now }
-    requires placed { HasEventLines log.now service.now }
+    requires located { HasEventLines log.now service.now }
     requires found { IsVerdict (StepOf service.now) (news service.now) service.now.events found }
     ensures { IfOk result (IsReportOf log.now service.now found) }
 {
@@ -305,7 +305,7 @@ pub(super) fn explore(
     cut: Cut,
 ) -> Result<Result<Window<WatchedService>, (usize, Verdict)>, AllocError>
     requires orderly { IsOrderly service.now }
-    requires placed { HasEventLines log.now service.now }
+    requires located { HasEventLines log.now service.now }
     ensures { IfOk result (Explores log.now service.now cut) }
 {
     let machine = Calls {
@@ -326,7 +326,7 @@ fn judge_service(
     service: &LogService,
 ) -> Result<Option<(usize, Verdict)>, AllocError>
     requires orderly { IsOrderly service.now }
-    requires placed { HasEventLines log.now service.now }
+    requires located { HasEventLines log.now service.now }
     ensures { IfOk result (IsFoundOf log.now service.now) }
 {
     match explore(alloc, log, service, Cut::WhereQuiet)? {
@@ -382,7 +382,7 @@ pub(super) fn judge_services(
     services: &[LogService],
 ) -> Result<Option<Verdict>, AllocError>
     requires orderly { All IsOrderly services.now }
-    requires placed { All (HasEventLines log.now) services.now }
+    requires located { All (HasEventLines log.now) services.now }
     ensures { IfOk result (AreJudged log.now services.now) }
 {
     let mut first: Option<(usize, Verdict)> = None;

@@ -1,9 +1,9 @@
 //! The order in which calls took effect.
-ghost use Rattle.std.specs.Prelude.{◌≡◌, ◌<◌, ◌++◌, ◌∷◌, [], All, IfErr, IfOk, IfSome, IfNone, List, OnOk, Some, length};
+ghost use Rattle.std.specs.Prelude.{◌≡◌, ◌<◌, ◌++◌, ◌∷◌, [], All, IfErr, IfOk, IfNone, Some, length};
 ghost use Rattle.std.specs.List.{AllZip};
 ghost use Rattle.histories.specs.Frontier.{IsFrontOf};
 ghost use Rattle.history_logs.specs.Good.{IsOrderly};
-ghost use Rattle.history_logs.specs.Judging.{AreJudged, AreOrdered, IsFound, IsFoundOf};
+ghost use Rattle.history_logs.specs.Judging.{AreJudged, AreOrdered, IsFoundOf};
 ghost use Rattle.history_logs.specs.Logs.{BeginsAt, StepOf, news};
 ghost use Rattle.history_logs.specs.Orders.{IsOrderOf};
 ghost use Rattle.history_logs.specs.EventLines.{HasEventLines};
@@ -56,7 +56,7 @@ fn order_service(
     orders: &mut Vec<Order>,
 ) -> Result<Option<(usize, Verdict)>, AllocError>
     requires orderly { IsOrderly service.now }
-    requires placed { HasEventLines log.now service.now }
+    requires located { HasEventLines log.now service.now }
     ensures found { IfOk result (IsFoundOf log.now service.now) }
     ensures order { IfOk result (λ found. IfNone found ((order : Order)
         × IsOrderOf service.now order
@@ -80,7 +80,7 @@ pub(super) fn order_services(
     services: &[LogService],
 ) -> Result<Result<Vec<Order>, Verdict>, AllocError>
     requires orderly { All IsOrderly services.now }
-    requires placed { All (HasEventLines log.now) services.now }
+    requires located { All (HasEventLines log.now) services.now }
     ensures orders { IfOk result (λ found. IfOk found
         (λ orders. AreOrdered services.now orders.items)) }
     ensures found { IfOk result (λ found. IfErr found

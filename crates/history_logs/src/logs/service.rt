@@ -1,5 +1,5 @@
 //! What was seen of a service.
-ghost use Rattle.std.specs.Prelude.{◌≡◌, ◌↔◌, ◌+◌, ◌++◌, ◌<◌, ◌≤◌, ℕ, IsTrue, drop, replicate, OnOk, IfOk, Some, None, get_or, length};
+ghost use Rattle.std.specs.Prelude.{◌≡◌, ◌↔◌, ◌+◌, ◌++◌, ◌<◌, ◌≤◌, ℕ, IsTrue, drop, replicate, OnOk, IfOk, Some, None, length};
 ghost use Rattle.log_lines.specs.Commands.{begun_in, named};
 ghost use Rattle.log_lines.specs.Commands.Begun.{weak};
 ghost use Rattle.log_lines.specs.States.{state_seen};

@@ -1,5 +1,5 @@
 //! Logs that come from a stream.
-ghost use Rattle.std.specs.Prelude.{◌≡◌, ◌<◌, IfOk, IfSome, OnOk, true};
+ghost use Rattle.std.specs.Prelude.{◌<◌, IfOk, IfSome, OnOk, true};
 ghost use Rattle.std.specs.Io.KnownBytes.{IsAtEnd};
 ghost use Rattle.line_streams.specs.Streams.{IsFlushed};
 ghost use Rattle.history_logs.specs.Logs.{Judged};

@@ -3,7 +3,7 @@ ghost use Rattle.std.specs.Prelude.{◌≡◌, ◌^◌, ◌<◌, ◌≤◌, ◌�
 ghost use Rattle.std.specs.Int.{is_power_of_two};
 ghost use Rattle.iox2_texts.specs.Multiple.{least_multiple};
 ghost use Rattle.iox2_config.specs.Blocks.{HoldsEverywhere};
-ghost use Rattle.iox2_config.specs.Layout.{user_header_place, payload_place, sample_size, HaveAlignments};
+ghost use Rattle.iox2_config.specs.Layout.{user_header_offset, payload_offset, sample_size, HaveAlignments};
 ghost use Rattle.iox2_config.specs.Layout.{HasPlaces, places_in};
 
 use super::message_details::MessageTypeDetails;
@@ -57,7 +57,7 @@ impl MessageTypeDetails {
     #[tactic(auto, using(iox2_texts::proofs::Multiple::multiples))]
     pub fn user_header_ptr_from_header(&self, header: usize) -> usize
         requires { HasPlaces self.now header }
-        ensures { result ≡ user_header_place self.now header }
+        ensures { result ≡ user_header_offset self.now header }
     {
         align(header + self.header.size(), self.user_header.alignment())
     }
@@ -67,7 +67,7 @@ impl MessageTypeDetails {
     #[tactic(auto, using(iox2_texts::proofs::Multiple::multiples))]
     pub fn payload_ptr_from_header(&self, header: usize) -> usize
         requires { HasPlaces self.now header }
-        ensures { result ≡ payload_place self.now header }
+        ensures { result ≡ payload_offset self.now header }
     {
         align(
             self.user_header_ptr_from_header(header) + self.user_header.size(),

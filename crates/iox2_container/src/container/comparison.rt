@@ -1,7 +1,7 @@
 //! One list of calls on two registries.
 ghost use Rattle.std.specs.Prelude.{◌≡◌, ◌<◌, [], IsTrue, IfOk, OnErr, OnOk, length};
 ghost use Rattle.iox2_container.specs.State.{IsRegistry};
-ghost use Rattle.iox2_container.specs.Steps.{is_of, listed};
+ghost use Rattle.iox2_container.specs.Steps.{is_of};
 ghost use Rattle.iox2_container.specs.Histories.{IsNew};
 ghost use Rattle.iox2_container.specs.Calls.{Answered, CallStep, Made, RecoversBut, SameKind};
 ghost use Rattle.iox2_container.specs.Calls.{handle_given};

@@ -14,7 +14,7 @@ use super::passes::{sweep, take_out};
 use super::refusal::{ContainerAddFailure, ContainerRemoveError};
 use super::release::{ReleaseMode, ReleaseState};
 use super::role::Role;
-use super::slots::Places;
+use super::slots::EntrySlots;
 use iox2_ids::identifiers::UniqueNodeId;
 use std::alloc::{AllocError, Global};
 use std::marker::Model;
@@ -60,11 +60,11 @@ impl RegistryHeader {
 }
 
 /// A container as its changes see it: whatever they do with a slot is a touch, since the calls of
-/// [`Places`] are. No query is in reach of them.
+/// [`EntrySlots`] are. No query is in reach of them.
 #[derive(Debug, Drop)]
 pub struct CountedMap<T: Copy, S: SlotAllocator<T>> {
     pub(super) header: RegistryHeader,
-    pub(super) places: Places<T, S::Next>,
+    pub(super) slots: EntrySlots<T, S::Next>,
     pub(super) free: S,
     // Behind the slot of the entry that came last, whose node is likely to be asked for next.
     pub(super) newest_end: usize,
@@ -74,18 +74,18 @@ impl<T: Copy, S: SlotAllocator<T>> Model for CountedMap<T, S> {
     ghost use Rattle.std.specs.Prelude.{map};
     ghost use Rattle.iox2_container.specs.Cells.{shown};
     ghost use Rattle.iox2_container.specs.ContainerState.{ContainerState};
-    ghost use Rattle.iox2_container.specs.HeaderAndPlaces.{registry_of, AreRegistry, IsNewestEnd};
+    ghost use Rattle.iox2_container.specs.HeaderAndSlots.{registry_of, AreRegistry, IsNewestEnd};
 
     ghost Value = { ContainerState T };
 
     ghost view = { λ m. record {
-      registry = registry_of m.header (map shown m.places.cells);
-      touches = m.places.touches;
+      registry = registry_of m.header (map shown m.slots.cells);
+      touches = m.slots.touches;
     } };
 
     ghost invariant = { λ m.
-        AreRegistry m.header (map shown m.places.cells) × S.fits m.free m.places.cells
-        × IsNewestEnd (registry_of m.header (map shown m.places.cells)) m.newest_end };
+        AreRegistry m.header (map shown m.slots.cells) × S.fits m.free m.slots.cells
+        × IsNewestEnd (registry_of m.header (map shown m.slots.cells)) m.newest_end };
 }
 
 impl<T: Copy, S: SlotAllocator<T>> CountedMap<T, S> {
@@ -101,7 +101,7 @@ impl<T: Copy, S: SlotAllocator<T>> CountedMap<T, S> {
         ensures { IfOk result (λ m. m ≡ fresh service role capacity tickets) }
     {
         let (free, next) = S::all_free();
-        let places = Places::new(alloc, capacity, next)?;
+        let slots = EntrySlots::new(alloc, capacity, next)?;
         Ok(CountedMap {
             header: RegistryHeader {
                 service,
@@ -111,7 +111,7 @@ impl<T: Copy, S: SlotAllocator<T>> CountedMap<T, S> {
                 locked: false,
                 used: 0,
             },
-            places,
+            slots,
             free,
             newest_end: 0,
         })
@@ -120,7 +120,7 @@ impl<T: Copy, S: SlotAllocator<T>> CountedMap<T, S> {
 
 impl<T: Attached + Copy, S: SlotAllocator<T>> CountedMap<T, S> {
     /// Adds an entry, as [`Registry::add`](super::registry::Registry::add) says.
-    #[tactic(auto, using(crate::proofs::Adding::places_of_add))]
+    #[tactic(auto, using(crate::proofs::Adding::slots_of_add))]
     pub(super) fn add(&mut self, details: T) -> Result<ContainerHandle, ContainerAddFailure>
         ensures known { IsRegistry self.old.registry }
         ensures adds { Adds self.old details result self.new }
@@ -130,13 +130,13 @@ impl<T: Attached + Copy, S: SlotAllocator<T>> CountedMap<T, S> {
         if self.header.locked {
             return Err(ContainerAddFailure::IsLocked);
         }
-        if self.header.used >= self.header.budget || self.header.count == self.places.len() {
+        if self.header.used >= self.header.budget || self.header.count == self.slots.len() {
             return Err(ContainerAddFailure::OutOfSpace);
         }
         let ticket = self.header.used;
         self.header.used = ticket + 1;
         self.header.count += 1;
-        let slot = self.free.put(&mut self.places, ticket, details);
+        let slot = self.free.put(&mut self.slots, ticket, details);
         self.newest_end = slot + 1;
         Ok(ContainerHandle::from_parts(self.header.service, self.header.role, slot, ticket))
     }
@@ -152,10 +152,10 @@ impl<T: Attached + Copy, S: SlotAllocator<T>> CountedMap<T, S> {
         ensures few { self.new.touches ≤ self.old.touches + 2 }
     {
         let refused = Err(ContainerRemoveError::ContainerHandleNotOwnedByContainer);
-        if !self.header.may_have(handle, self.places.len()) {
+        if !self.header.may_have(handle, self.slots.len()) {
             return refused;
         }
-        match take_out(&mut self.places, &mut self.free, handle) {
+        match take_out(&mut self.slots, &mut self.free, handle) {
             Some(_) => Ok(self.header.leave(1, mode)),
             None => refused,
         }
@@ -179,7 +179,7 @@ impl<T: Attached + Copy, S: SlotAllocator<T>> CountedMap<T, S> {
         if self.header.count == 0 {
             return ReleaseState::of(self.header.locked);
         }
-        let gone = sweep(&mut self.places, &mut self.free, dead, f);
+        let gone = sweep(&mut self.slots, &mut self.free, dead, f);
         self.header.leave(gone, mode)
     }
 }

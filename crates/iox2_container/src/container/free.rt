@@ -5,11 +5,11 @@ ghost use Rattle.std.specs.Prelude.{length, map, replicate, slice_get, slice_set
 ghost use Rattle.iox2_container.specs.declared.container.cell.Cell.{Cell};
 ghost use Rattle.iox2_container.specs.declared.container.cell.Cell.TheVariants.{Free};
 ghost use Rattle.iox2_container.specs.Cells.{occupant, shown};
-ghost use Rattle.iox2_container.specs.Places.{IsTakenAt, NoneFrom, entries_from};
+ghost use Rattle.iox2_container.specs.SlotEntries.{IsTakenAt, NoneFrom, entries_from};
 ghost use Rattle.iox2_container.specs.FreeList.{AreFreed, IsFreeList, PutsFirst};
 
 use super::cell::Cell;
-use super::slots::Places;
+use super::slots::EntrySlots;
 use std::fmt::Debug;
 
 /// Finds free slots, by what it keeps and what the slots keep.
@@ -28,44 +28,44 @@ pub trait SlotAllocator<T: Copy>: Drop {
         ensures { (n : ℕ) → fits result.0 (replicate n (Free result.1)) };
 
     /// A slot from which on none is taken, so that a pass may end there.
-    fn end(&self, places: &Places<T, Self::Next>) -> usize
-        requires { fits self.now places.now.cells }
-        ensures within { result ≤ length places.now.cells }
-        ensures free { NoneFrom (map shown places.now.cells) result };
+    fn end(&self, slots: &EntrySlots<T, Self::Next>) -> usize
+        requires { fits self.now slots.now.cells }
+        ensures within { result ≤ length slots.now.cells }
+        ensures free { NoneFrom (map shown slots.now.cells) result };
 
     /// Puts an entry into a free slot of its choice.
-    fn put(&mut self, places: &mut Places<T, Self::Next>, ticket: u64, details: T) -> usize
-        requires fits { fits self.old places.old.cells }
-        requires room { length (entries_from 0 (map shown places.old.cells))
-            < length places.old.cells }
-        ensures fits { fits self.new places.new.cells }
-        ensures free { slice_get (map shown places.old.cells) result ≡ Some None }
-        ensures cells { map shown places.new.cells ≡
-            slice_set (map shown places.old.cells) result (Some (occupant ticket details)) }
-        ensures touched { places.new.touches ≤ places.old.touches + 2 * length places.old.cells }
-        ensures few { places.new.touches ≤
-            places.old.touches + most_for_put (length places.old.cells) }
-        ensures counted { places.old.touches ≤ places.new.touches };
+    fn put(&mut self, slots: &mut EntrySlots<T, Self::Next>, ticket: u64, details: T) -> usize
+        requires fits { fits self.old slots.old.cells }
+        requires room { length (entries_from 0 (map shown slots.old.cells))
+            < length slots.old.cells }
+        ensures fits { fits self.new slots.new.cells }
+        ensures free { slice_get (map shown slots.old.cells) result ≡ Some None }
+        ensures cells { map shown slots.new.cells ≡
+            slice_set (map shown slots.old.cells) result (Some (occupant ticket details)) }
+        ensures touched { slots.new.touches ≤ slots.old.touches + 2 * length slots.old.cells }
+        ensures few { slots.new.touches ≤
+            slots.old.touches + most_for_put (length slots.old.cells) }
+        ensures counted { slots.old.touches ≤ slots.new.touches };
 
     /// Takes the entry out of a slot.
-    fn clear(&mut self, places: &mut Places<T, Self::Next>, slot: usize)
-        requires fits { fits self.old places.old.cells }
-        requires taken { IsTakenAt (map shown places.old.cells) slot }
-        ensures fits { fits self.new places.new.cells }
-        ensures cells { map shown places.new.cells ≡
-            slice_set (map shown places.old.cells) slot None }
-        ensures touched { places.new.touches ≡ places.old.touches + 1 };
+    fn clear(&mut self, slots: &mut EntrySlots<T, Self::Next>, slot: usize)
+        requires fits { fits self.old slots.old.cells }
+        requires taken { IsTakenAt (map shown slots.old.cells) slot }
+        ensures fits { fits self.new slots.new.cells }
+        ensures cells { map shown slots.new.cells ≡
+            slice_set (map shown slots.old.cells) slot None }
+        ensures touched { slots.new.touches ≡ slots.old.touches + 1 };
 }
 
 /// Slots of which a free one has the index of the one that was freed before it.
-type LinkedPlaces<T> = Places<T, Option<usize>>;
+type LinkedSlots<T> = EntrySlots<T, Option<usize>>;
 
 /// Where the free slots are.
 #[derive(Debug, Drop)]
 pub struct FreeList {
-    // The place that was freed last, of those that are free again.
+    // The slot that was freed last, of those that are free again.
     head: Option<usize>,
-    // The first place that was never used.
+    // The first slot that was never used.
     fresh: usize,
 }
 
@@ -89,30 +89,30 @@ impl<T: Copy> SlotAllocator<T> for FreeList {
         (list, None)
     }
 
-    fn end(&self, _: &LinkedPlaces<T>) -> usize {
+    fn end(&self, _: &LinkedSlots<T>) -> usize {
         self.fresh
     }
 
     /// Puts an entry into the slot that was freed last, or else into the first that was never used.
-    fn put(&mut self, places: &mut LinkedPlaces<T>, ticket: u64, details: T) -> usize
-        requires fits { IsFreeList self.old places.old.cells }
-        requires room { length (entries_from 0 (map shown places.old.cells))
-            < length places.old.cells }
-        ensures fits { IsFreeList self.new places.new.cells }
-        ensures free { slice_get (map shown places.old.cells) result ≡ Some None }
-        ensures cells { map shown places.new.cells ≡
-            slice_set (map shown places.old.cells) result (Some (occupant ticket details)) }
-        ensures last_freed { PutsFirst self.old places.old.cells
-            result self.new places.new.cells }
-        ensures touched { places.new.touches ≤ places.old.touches + 2 * length places.old.cells }
-        ensures few { places.new.touches ≤ places.old.touches + 2 }
-        ensures counted { places.old.touches ≤ places.new.touches }
+    fn put(&mut self, slots: &mut LinkedSlots<T>, ticket: u64, details: T) -> usize
+        requires fits { IsFreeList self.old slots.old.cells }
+        requires room { length (entries_from 0 (map shown slots.old.cells))
+            < length slots.old.cells }
+        ensures fits { IsFreeList self.new slots.new.cells }
+        ensures free { slice_get (map shown slots.old.cells) result ≡ Some None }
+        ensures cells { map shown slots.new.cells ≡
+            slice_set (map shown slots.old.cells) result (Some (occupant ticket details)) }
+        ensures last_freed { PutsFirst self.old slots.old.cells
+            result self.new slots.new.cells }
+        ensures touched { slots.new.touches ≤ slots.old.touches + 2 * length slots.old.cells }
+        ensures few { slots.new.touches ≤ slots.old.touches + 2 }
+        ensures counted { slots.old.touches ≤ slots.new.touches }
     {
-        // For the proof: the number of places fits a `usize`.
-        let _fits = places.len();
+        // For the proof: the number of slots fits a `usize`.
+        let _fits = slots.len();
         let slot = match self.head {
             Some(freed) => {
-                let Cell::Free(next) = places.read(freed) else {
+                let Cell::Free(next) = slots.read(freed) else {
                     unreachable!()
                 };
                 self.head = next;
@@ -124,24 +124,24 @@ impl<T: Copy> SlotAllocator<T> for FreeList {
                 slot
             }
         };
-        places.write(slot, Cell::Taken { ticket, details });
+        slots.write(slot, Cell::Taken { ticket, details });
         slot
     }
 
     /// Takes the entry out of a slot, which is then the next to be used.
     #[tactic(auto, using(crate::proofs::ShownCells::writes))]
-    fn clear(&mut self, places: &mut LinkedPlaces<T>, slot: usize)
-        requires fits { IsFreeList self.old places.old.cells }
-        requires taken { IsTakenAt (map shown places.old.cells) slot }
-        ensures fits { IsFreeList self.new places.new.cells }
-        ensures cells { map shown places.new.cells ≡
-            slice_set (map shown places.old.cells) slot None }
-        ensures freed { (freed : List ℕ) → AreFreed self.old places.old.cells freed
-            → AreFreed self.new places.new.cells (slot ∷ freed) }
+    fn clear(&mut self, slots: &mut LinkedSlots<T>, slot: usize)
+        requires fits { IsFreeList self.old slots.old.cells }
+        requires taken { IsTakenAt (map shown slots.old.cells) slot }
+        ensures fits { IsFreeList self.new slots.new.cells }
+        ensures cells { map shown slots.new.cells ≡
+            slice_set (map shown slots.old.cells) slot None }
+        ensures freed { (freed : List ℕ) → AreFreed self.old slots.old.cells freed
+            → AreFreed self.new slots.new.cells (slot ∷ freed) }
         ensures fresh { self.new.fresh ≡ self.old.fresh }
-        ensures touched { places.new.touches ≡ places.old.touches + 1 }
+        ensures touched { slots.new.touches ≡ slots.old.touches + 1 }
     {
-        places.write(slot, Cell::Free(self.head));
+        slots.write(slot, Cell::Free(self.head));
         self.head = Some(slot);
     }
 }
@@ -161,30 +161,30 @@ impl<T: Copy> SlotAllocator<T> for LowestFree {
         (LowestFree, ())
     }
 
-    fn end(&self, places: &Places<T, ()>) -> usize {
-        places.len()
+    fn end(&self, slots: &EntrySlots<T, ()>) -> usize {
+        slots.len()
     }
 
     /// Puts an entry into the lowest free slot.
     #[tactic(auto, using(crate::proofs::ShownCells::writes))]
-    fn put(&mut self, places: &mut Places<T, ()>, ticket: u64, details: T) -> usize
+    fn put(&mut self, slots: &mut EntrySlots<T, ()>, ticket: u64, details: T) -> usize
         requires fits { Unit {0} }
-        requires room { length (entries_from 0 (map shown places.old.cells))
-            < length places.old.cells }
+        requires room { length (entries_from 0 (map shown slots.old.cells))
+            < length slots.old.cells }
         ensures fits { Unit {0} }
-        ensures free { slice_get (map shown places.old.cells) result ≡ Some None }
+        ensures free { slice_get (map shown slots.old.cells) result ≡ Some None }
         ensures lowest { (k : ℕ) → k < result
-            → slice_get (map shown places.old.cells) k ≢ Some None }
-        ensures cells { map shown places.new.cells ≡
-            slice_set (map shown places.old.cells) result (Some (occupant ticket details)) }
-        ensures touched { places.new.touches ≤ places.old.touches + 2 * length places.old.cells }
-        ensures few { places.new.touches ≤
-            places.old.touches + (length places.old.cells + 1) }
-        ensures counted { places.old.touches ≤ places.new.touches }
+            → slice_get (map shown slots.old.cells) k ≢ Some None }
+        ensures cells { map shown slots.new.cells ≡
+            slice_set (map shown slots.old.cells) result (Some (occupant ticket details)) }
+        ensures touched { slots.new.touches ≤ slots.old.touches + 2 * length slots.old.cells }
+        ensures few { slots.new.touches ≤
+            slots.old.touches + (length slots.old.cells + 1) }
+        ensures counted { slots.old.touches ≤ slots.new.touches }
     {
-        for slot in 0..places.len() {
-            if places.look(slot).is_none() {
-                places.write(slot, Cell::Taken { ticket, details });
+        for slot in 0..slots.len() {
+            if slots.look(slot).is_none() {
+                slots.write(slot, Cell::Taken { ticket, details });
                 return slot;
             }
         }
@@ -192,7 +192,7 @@ impl<T: Copy> SlotAllocator<T> for LowestFree {
     }
 
     #[tactic(auto, using(crate::proofs::ShownCells::writes))]
-    fn clear(&mut self, places: &mut Places<T, ()>, slot: usize) {
-        places.write(slot, Cell::Free(()));
+    fn clear(&mut self, slots: &mut EntrySlots<T, ()>, slot: usize) {
+        slots.write(slot, Cell::Free(()));
     }
 }

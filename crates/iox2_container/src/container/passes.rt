@@ -3,7 +3,7 @@ ghost use Rattle.std.specs.Prelude.{◌≡◌, ◌+◌, ◌≤◌, ◌<◌, IfNo
 ghost use Rattle.std.specs.Prelude.{MatchOption, length, map, slice_set, if◌then◌else◌};
 ghost use Rattle.std.specs.Fn.{CalledAt, TakesAt};
 ghost use Rattle.iox2_container.specs.Cells.{shown};
-ghost use Rattle.iox2_container.specs.Places.{Finds, IsTakenAt, entries_from};
+ghost use Rattle.iox2_container.specs.SlotEntries.{Finds, IsTakenAt, entries_from};
 ghost use Rattle.iox2_container.specs.Callbacks.{CanBeAsked};
 ghost use Rattle.iox2_container.specs.Passes.{AreOthers, IsNextOf, Swept, looked_at};
 ghost use Rattle.iox2_container.specs.Steps.{candidates, is_of};
@@ -12,7 +12,7 @@ use super::attached::Attached;
 use super::cell::with_ticket;
 use super::free::SlotAllocator;
 use super::handle::ContainerHandle;
-use super::slots::Places;
+use super::slots::EntrySlots;
 use iox2_ids::identifiers::UniqueNodeId;
 
 /// Calls the callback once.
@@ -32,21 +32,21 @@ struct Found<T: Copy> {
 
 /// The same as [`next_of`], one slot after another.
 fn next_by_one<T: Attached + Copy, N: Copy>(
-    places: &mut Places<T, N>,
+    slots: &mut EntrySlots<T, N>,
     start: usize,
     end: usize,
     node: &UniqueNodeId,
 ) -> Option<Found<T>>
     requires order { start ≤ end }
-    requires within { end ≤ length places.old.cells }
-    ensures cells { places.new.cells ≡ places.old.cells }
-    ensures touches { places.new.touches ≡ places.old.touches + looked_at start end result }
+    requires within { end ≤ length slots.old.cells }
+    ensures cells { slots.new.cells ≡ slots.old.cells }
+    ensures touches { slots.new.touches ≡ slots.old.touches + looked_at start end result }
     ensures found { MatchOption result
-        (AreOthers T.node node.now (map shown places.old.cells) start end)
-        (IsNextOf T.node node.now (map shown places.old.cells) start end) }
+        (AreOthers T.node node.now (map shown slots.old.cells) start end)
+        (IsNextOf T.node node.now (map shown slots.old.cells) start end) }
 {
     for slot in start..end {
-        if let Some(details) = places.look_for(slot, node) {
+        if let Some(details) = slots.look_for(slot, node) {
             return Some(Found { slot, details });
         }
     }
@@ -57,43 +57,43 @@ fn next_by_one<T: Attached + Copy, N: Copy>(
 /// is found is written where the caller says, so that nothing is written where nothing is found.
 #[inline(always)]
 fn next_of_four<T: Attached + Copy, N: Copy>(
-    places: &mut Places<T, N>,
+    slots: &mut EntrySlots<T, N>,
     slot: usize,
     node: &UniqueNodeId,
     found: &mut Option<Found<T>>,
 ) -> bool
-    requires within { slot + 4 ≤ length places.old.cells }
+    requires within { slot + 4 ≤ length slots.old.cells }
     requires nothing { found.old ≡ None }
-    ensures cells { places.new.cells ≡ places.old.cells }
-    ensures touches { places.new.touches
-        ≡ places.old.touches + looked_at slot (slot + 4) found.new }
+    ensures cells { slots.new.cells ≡ slots.old.cells }
+    ensures touches { slots.new.touches
+        ≡ slots.old.touches + looked_at slot (slot + 4) found.new }
     ensures some { IsTrue result → IsSome found.new }
     ensures none { result ≡ false → found.new ≡ None }
     ensures found { MatchOption found.new
-        (AreOthers T.node node.now (map shown places.old.cells) slot (slot + 4))
-        (IsNextOf T.node node.now (map shown places.old.cells) slot (slot + 4)) }
+        (AreOthers T.node node.now (map shown slots.old.cells) slot (slot + 4))
+        (IsNextOf T.node node.now (map shown slots.old.cells) slot (slot + 4)) }
 {
     // For the proof: the number of slots fits a `usize`.
-    let _fits = places.len();
-    if let Some(details) = places.look_for(slot, node) {
+    let _fits = slots.len();
+    if let Some(details) = slots.look_for(slot, node) {
         *found = Some(Found { slot, details });
         return true;
     }
-    if let Some(details) = places.look_for(slot + 1, node) {
+    if let Some(details) = slots.look_for(slot + 1, node) {
         *found = Some(Found {
             slot: slot + 1,
             details,
         });
         return true;
     }
-    if let Some(details) = places.look_for(slot + 2, node) {
+    if let Some(details) = slots.look_for(slot + 2, node) {
         *found = Some(Found {
             slot: slot + 2,
             details,
         });
         return true;
     }
-    if let Some(details) = places.look_for(slot + 3, node) {
+    if let Some(details) = slots.look_for(slot + 3, node) {
         *found = Some(Found {
             slot: slot + 3,
             details,
@@ -106,53 +106,53 @@ fn next_of_four<T: Attached + Copy, N: Copy>(
 /// The first entry of the node from one slot on and before the end. It reads each slot up to that
 /// of the entry once, or each slot before the end, and no other. Eight are read in one turn.
 fn next_of<T: Attached + Copy, N: Copy>(
-    places: &mut Places<T, N>,
+    slots: &mut EntrySlots<T, N>,
     start: usize,
     end: usize,
     node: &UniqueNodeId,
 ) -> Option<Found<T>>
     requires order { start ≤ end }
-    requires within { end ≤ length places.old.cells }
-    ensures cells { places.new.cells ≡ places.old.cells }
-    ensures touches { places.new.touches ≡ places.old.touches + looked_at start end result }
+    requires within { end ≤ length slots.old.cells }
+    ensures cells { slots.new.cells ≡ slots.old.cells }
+    ensures touches { slots.new.touches ≡ slots.old.touches + looked_at start end result }
     ensures found { MatchOption result
-        (AreOthers T.node node.now (map shown places.old.cells) start end)
-        (IsNextOf T.node node.now (map shown places.old.cells) start end) }
+        (AreOthers T.node node.now (map shown slots.old.cells) start end)
+        (IsNextOf T.node node.now (map shown slots.old.cells) start end) }
 {
     let mut found = None;
     let mut slot = start;
     while end - slot >= 8 {
-        if next_of_four(places, slot, node, &mut found) {
+        if next_of_four(slots, slot, node, &mut found) {
             return found;
         }
-        if next_of_four(places, slot + 4, node, &mut found) {
+        if next_of_four(slots, slot + 4, node, &mut found) {
             return found;
         }
         slot += 8;
     }
-    next_by_one(places, slot, end, node)
+    next_by_one(slots, slot, end, node)
 }
 
 /// Clears the slot of an entry that was found, if the callback says so.
 fn sweep_found<T: Attached + Copy, S: SlotAllocator<T>, F: FnMut(&T) -> bool>(
-    places: &mut Places<T, S::Next>,
+    slots: &mut EntrySlots<T, S::Next>,
     free: &mut S,
     found: Found<T>,
     f: &mut F,
 ) -> bool
-    requires fits { S.fits free.old places.old.cells }
-    requires taken { IsTakenAt (map shown places.old.cells) found.slot }
+    requires fits { S.fits free.old slots.old.cells }
+    requires taken { IsTakenAt (map shown slots.old.cells) found.slot }
     requires callable { TakesAt F.FnMut f.old found.details }
-    ensures fits { S.fits free.new places.new.cells }
+    ensures fits { S.fits free.new slots.new.cells }
     ensures asked { CalledAt F.FnMut f.old found.details result f.new }
     ensures gone { IsTrue result →
-        map shown places.new.cells ≡ slice_set (map shown places.old.cells) found.slot None }
-    ensures kept { result ≡ false → map shown places.new.cells ≡ map shown places.old.cells }
-    ensures touches { places.new.touches ≡ places.old.touches + (if result then 1 else 0) }
+        map shown slots.new.cells ≡ slice_set (map shown slots.old.cells) found.slot None }
+    ensures kept { result ≡ false → map shown slots.new.cells ≡ map shown slots.old.cells }
+    ensures touches { slots.new.touches ≡ slots.old.touches + (if result then 1 else 0) }
 {
     let goes = ask(found.details, f);
     if goes {
-        free.clear(places, found.slot);
+        free.clear(slots, found.slot);
     }
     goes
 }
@@ -160,29 +160,29 @@ fn sweep_found<T: Attached + Copy, S: SlotAllocator<T>, F: FnMut(&T) -> bool>(
 /// Clears the slots of the dead node's entries for which the callback says so, and counts them. It
 /// reads each slot at most once, and writes those that it clears.
 pub(super) fn sweep<T: Attached + Copy, S: SlotAllocator<T>, F: FnMut(&T) -> bool>(
-    places: &mut Places<T, S::Next>,
+    slots: &mut EntrySlots<T, S::Next>,
     free: &mut S,
     dead: &UniqueNodeId,
     f: &mut F,
 ) -> usize
-    requires fits { S.fits free.old places.old.cells }
+    requires fits { S.fits free.old slots.old.cells }
     requires callable { CanBeAsked (TakesAt F.FnMut) (CalledAt F.FnMut) f.old
         (map (λ e. e.details)
         (candidates (is_of T.node dead.now)
-        (entries_from 0 (map shown places.old.cells)))) }
-    ensures fits { S.fits free.new places.new.cells }
+        (entries_from 0 (map shown slots.old.cells)))) }
+    ensures fits { S.fits free.new slots.new.cells }
     ensures swept { Swept (CalledAt F.FnMut) (is_of T.node dead.now)
-        f.old (entries_from 0 (map shown places.old.cells))
-        f.new (entries_from 0 (map shown places.new.cells)) result }
-    ensures len { length (map shown places.new.cells) ≡ length (map shown places.old.cells) }
-    ensures touched { places.new.touches ≤ places.old.touches + length places.old.cells + result }
-    ensures counted { places.old.touches ≤ places.new.touches }
+        f.old (entries_from 0 (map shown slots.old.cells))
+        f.new (entries_from 0 (map shown slots.new.cells)) result }
+    ensures len { length (map shown slots.new.cells) ≡ length (map shown slots.old.cells) }
+    ensures touched { slots.new.touches ≤ slots.old.touches + length slots.old.cells + result }
+    ensures counted { slots.old.touches ≤ slots.new.touches }
 {
-    let end = free.end(places);
+    let end = free.end(slots);
     let mut gone = 0;
     let mut start = 0;
-    while let Some(found) = next_of(places, start, end, dead) {
-        if sweep_found(places, free, found, f) {
+    while let Some(found) = next_of(slots, start, end, dead) {
+        if sweep_found(slots, free, found, f) {
             gone += 1;
         }
         start = found.slot + 1;
@@ -192,24 +192,24 @@ pub(super) fn sweep<T: Attached + Copy, S: SlotAllocator<T>, F: FnMut(&T) -> boo
 
 /// Takes the entry out of the handle's slot, if it has its ticket.
 pub(super) fn take_out<T: Copy, S: SlotAllocator<T>>(
-    places: &mut Places<T, S::Next>,
+    slots: &mut EntrySlots<T, S::Next>,
     free: &mut S,
     handle: ContainerHandle,
 ) -> Option<T>
-    requires slot { handle.slot < length places.old.cells }
-    requires fits { S.fits free.old places.old.cells }
-    ensures fits { S.fits free.new places.new.cells }
-    ensures found { Finds (map shown places.old.cells) handle result }
+    requires slot { handle.slot < length slots.old.cells }
+    requires fits { S.fits free.old slots.old.cells }
+    ensures fits { S.fits free.new slots.new.cells }
+    ensures found { Finds (map shown slots.old.cells) handle result }
     ensures gone { IfSome result (λ _.
-        map shown places.new.cells ≡ slice_set (map shown places.old.cells) handle.slot None) }
-    ensures kept { IfNone result (map shown places.new.cells ≡ map shown places.old.cells) }
-    ensures touched { places.new.touches ≤ places.old.touches + 2 }
-    ensures counted { places.old.touches ≤ places.new.touches }
+        map shown slots.new.cells ≡ slice_set (map shown slots.old.cells) handle.slot None) }
+    ensures kept { IfNone result (map shown slots.new.cells ≡ map shown slots.old.cells) }
+    ensures touched { slots.new.touches ≤ slots.old.touches + 2 }
+    ensures counted { slots.old.touches ≤ slots.new.touches }
 {
     let slot = handle.slot();
-    match with_ticket(places.look(slot), handle.ticket()) {
+    match with_ticket(slots.look(slot), handle.ticket()) {
         Some(details) => {
-            free.clear(places, slot);
+            free.clear(slots, slot);
             Some(details)
         }
         None => None,

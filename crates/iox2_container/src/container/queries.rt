@@ -3,9 +3,9 @@ ghost use Rattle.std.specs.Prelude.{◌≡◌, ◌+◌, ◌≤◌, ◌<◌, ℕ,
 ghost use Rattle.std.specs.Bool.{MatchBool};
 ghost use Rattle.std.specs.Fn.{CalledAt, TakesAt};
 ghost use Rattle.iox2_container.specs.Cells.{shown};
-ghost use Rattle.iox2_container.specs.Places.{Finds, NoneFrom, details_in, entries_from};
+ghost use Rattle.iox2_container.specs.SlotEntries.{Finds, NoneFrom, details_in, entries_from};
 ghost use Rattle.iox2_container.specs.Callbacks.{CanVisit};
-ghost use Rattle.iox2_container.specs.Passes.{AreOthers, AskedOfCell, IsLastOf, PlaceIsOf};
+ghost use Rattle.iox2_container.specs.Passes.{AreOthers, AskedOfCell, IsLastOf, SlotIsOf};
 ghost use Rattle.iox2_container.specs.Passes.{TakesCell};
 ghost use Rattle.iox2_container.specs.Steps.{Visit, candidates, is_of};
 
@@ -14,7 +14,7 @@ use super::cell::{Occupant, with_ticket};
 use super::handle::ContainerHandle;
 use super::passes::ask;
 use super::slot_map::Looks;
-use super::slots::Places;
+use super::slots::EntrySlots;
 use iox2_ids::identifiers::UniqueNodeId;
 use iox2_texts::bounded::CallbackProgression;
 
@@ -35,20 +35,20 @@ fn show<T: Copy, F: FnMut(&T) -> CallbackProgression>(
 /// Calls the callback with each entry in turn, until it stops. No slot from the end on has an
 /// entry. It looks at each slot at most once.
 pub(super) fn visit<T: Copy, N: Copy, F: FnMut(&T) -> CallbackProgression>(
-    places: &Places<T, N>,
+    slots: &EntrySlots<T, N>,
     end: usize,
     f: &mut F,
     looks: &mut Looks,
 )
-    requires within { end ≤ length places.now.cells }
-    requires free { NoneFrom (map shown places.now.cells) end }
+    requires within { end ≤ length slots.now.cells }
+    requires free { NoneFrom (map shown slots.now.cells) end }
     requires callable { CanVisit (TakesAt F.FnMut) (CalledAt F.FnMut) f.old
-        (details_in (map shown places.now.cells)) }
-    ensures visit { Visit (CalledAt F.FnMut) f.old (details_in (map shown places.now.cells)) f.new }
-    ensures looks { looks.new.touches.count ≤ looks.old.touches.count + length places.now.cells }
+        (details_in (map shown slots.now.cells)) }
+    ensures visit { Visit (CalledAt F.FnMut) f.old (details_in (map shown slots.now.cells)) f.new }
+    ensures looks { looks.new.touches.count ≤ looks.old.touches.count + length slots.now.cells }
 {
     for slot in 0..end {
-        if let CallbackProgression::Stop = show(places.peek_at(slot, looks), f) {
+        if let CallbackProgression::Stop = show(slots.peek_at(slot, looks), f) {
             return;
         }
     }
@@ -56,38 +56,38 @@ pub(super) fn visit<T: Copy, N: Copy, F: FnMut(&T) -> CallbackProgression>(
 
 /// The details in the handle's slot, if they have its ticket. It looks at that slot alone, once.
 pub(super) fn find<T: Copy, N: Copy>(
-    places: &Places<T, N>,
+    slots: &EntrySlots<T, N>,
     handle: ContainerHandle,
     looks: &mut Looks,
 ) -> Option<T>
-    requires { handle.slot < length places.now.cells }
-    ensures found { Finds (map shown places.now.cells) handle result }
+    requires { handle.slot < length slots.now.cells }
+    ensures found { Finds (map shown slots.now.cells) handle result }
     ensures looks { looks.new.touches.count ≡ looks.old.touches.count + 1 }
 {
-    with_ticket(places.peek_at(handle.slot(), looks), handle.ticket())
+    with_ticket(slots.peek_at(handle.slot(), looks), handle.ticket())
 }
 
 /// Whether some slot from one on and before the end has an entry of the node. It looks at them from
 /// the last one down to the first that has, each once, and at no other.
 fn has_between<T: Attached + Copy, N: Copy>(
-    places: &Places<T, N>,
+    slots: &EntrySlots<T, N>,
     start: usize,
     end: usize,
     node: &UniqueNodeId,
     looks: &mut Looks,
 ) -> bool
     requires order { start ≤ end }
-    requires within { end ≤ length places.now.cells }
+    requires within { end ≤ length slots.now.cells }
     ensures looks { looks.new.touches.count + start ≤ looks.old.touches.count + end }
     ensures has { MatchBool result
-        (IsLastOf T.node node.now (map shown places.now.cells) start end
+        (IsLastOf T.node node.now (map shown slots.now.cells) start end
         looks.old.touches.count looks.new.touches.count)
-        (AreOthers T.node node.now (map shown places.now.cells) start end) }
+        (AreOthers T.node node.now (map shown slots.now.cells) start end) }
 {
     let mut slot = end;
     while slot > start {
         slot -= 1;
-        if places.has_at(slot, node, looks) {
+        if slots.has_at(slot, node, looks) {
             return true;
         }
     }
@@ -99,43 +99,43 @@ fn has_between<T: Attached + Copy, N: Copy>(
 /// before `newest_end` has an entry of the node, it looks at no other.
 #[inline(always)]
 pub(super) fn has_entry<T: Attached + Copy, N: Copy>(
-    places: &Places<T, N>,
+    slots: &EntrySlots<T, N>,
     newest_end: usize,
     end: usize,
     node: &UniqueNodeId,
     looks: &mut Looks,
 ) -> bool
-    requires within { end ≤ length places.now.cells }
-    requires free { NoneFrom (map shown places.now.cells) end }
+    requires within { end ≤ length slots.now.cells }
+    requires free { NoneFrom (map shown slots.now.cells) end }
     ensures has { result ≡ nat_lt 0
         (length (candidates (is_of T.node node.now)
-        (entries_from 0 (map shown places.now.cells)))) }
-    ensures looks { looks.new.touches.count ≤ looks.old.touches.count + length places.now.cells }
+        (entries_from 0 (map shown slots.now.cells)))) }
+    ensures looks { looks.new.touches.count ≤ looks.old.touches.count + length slots.now.cells }
     ensures newest { (slot : ℕ) → newest_end ≡ slot + 1
-        → PlaceIsOf T.node node.now (map shown places.now.cells) slot true
+        → SlotIsOf T.node node.now (map shown slots.now.cells) slot true
         → looks.new.touches.count ≡ looks.old.touches.count + 1 }
 {
     let middle = newest_end.min(end);
-    has_between(places, 0, middle, node, looks) || has_between(places, middle, end, node, looks)
+    has_between(slots, 0, middle, node, looks) || has_between(slots, middle, end, node, looks)
 }
 
 /// How many entries are those of the node. No slot from the end on has an entry. It looks at each
 /// slot at most once.
 pub(super) fn count_of<T: Attached + Copy, N: Copy>(
-    places: &Places<T, N>,
+    slots: &EntrySlots<T, N>,
     end: usize,
     node: &UniqueNodeId,
     looks: &mut Looks,
 ) -> usize
-    requires within { end ≤ length places.now.cells }
-    requires free { NoneFrom (map shown places.now.cells) end }
-    ensures looks { looks.new.touches.count ≤ looks.old.touches.count + length places.now.cells }
+    requires within { end ≤ length slots.now.cells }
+    requires free { NoneFrom (map shown slots.now.cells) end }
+    ensures looks { looks.new.touches.count ≤ looks.old.touches.count + length slots.now.cells }
     ensures count { result ≡
-        length (candidates (is_of T.node node.now) (entries_from 0 (map shown places.now.cells))) }
+        length (candidates (is_of T.node node.now) (entries_from 0 (map shown slots.now.cells))) }
 {
     let mut count = 0;
     for slot in 0..end {
-        if places.has_at(slot, node, looks) {
+        if slots.has_at(slot, node, looks) {
             count += 1;
         }
     }

@@ -127,33 +127,33 @@ impl<T: Attached + Copy, S: SlotAllocator<T>> Registry<T> for SlotMap<T, S> {
 
     fn for_each<F: FnMut(&T) -> CallbackProgression>(&self, f: &mut F) {
         if self.map.header.count > 0 {
-            let end = self.map.free.end(&self.map.places);
-            visit(&self.map.places, end, f, &mut Looks::none());
+            let end = self.map.free.end(&self.map.slots);
+            visit(&self.map.slots, end, f, &mut Looks::none());
         }
     }
 
     fn get(&self, handle: ContainerHandle) -> Option<T> {
-        if !self.map.header.may_have(handle, self.map.places.len()) {
+        if !self.map.header.may_have(handle, self.map.slots.len()) {
             return None;
         }
-        find(&self.map.places, handle, &mut Looks::none())
+        find(&self.map.slots, handle, &mut Looks::none())
     }
 
     fn entries_of(&self, node: &UniqueNodeId) -> usize {
         if self.map.header.count == 0 {
             return 0;
         }
-        let end = self.map.free.end(&self.map.places);
-        count_of(&self.map.places, end, node, &mut Looks::none())
+        let end = self.map.free.end(&self.map.slots);
+        count_of(&self.map.slots, end, node, &mut Looks::none())
     }
 
     fn has_entry_of(&self, node: &UniqueNodeId) -> bool {
         if self.map.header.count == 0 {
             return false;
         }
-        let end = self.map.free.end(&self.map.places);
+        let end = self.map.free.end(&self.map.slots);
         has_entry(
-            &self.map.places,
+            &self.map.slots,
             self.map.newest_end,
             end,
             node,
@@ -168,7 +168,7 @@ impl<T: Attached + Copy, S: SlotAllocator<T>> Registry<T> for SlotMap<T, S> {
     fn has_room(&self) -> bool {
         !self.map.header.locked
             && self.map.header.used < self.map.header.budget
-            && self.map.header.count < self.map.places.len()
+            && self.map.header.count < self.map.slots.len()
     }
 
     fn service(&self) -> u64 {
@@ -176,7 +176,7 @@ impl<T: Attached + Copy, S: SlotAllocator<T>> Registry<T> for SlotMap<T, S> {
     }
 
     fn capacity(&self) -> usize {
-        self.map.places.len()
+        self.map.slots.len()
     }
 
     fn is_locked(&self) -> bool {

@@ -4,7 +4,7 @@ ghost use Rattle.std.specs.Prelude.{◌≡◌, ◌+◌, ◌<◌, Some, IfOk, Mat
 ghost use Rattle.std.specs.Prelude.{false, length, map, replicate, slice_get, slice_set};
 ghost use Rattle.iox2_container.specs.declared.container.cell.Cell.TheVariants.{Free};
 ghost use Rattle.iox2_container.specs.Cells.{shown};
-ghost use Rattle.iox2_container.specs.Passes.{IsAt, PlaceIsOf};
+ghost use Rattle.iox2_container.specs.Passes.{IsAt, SlotIsOf};
 
 use super::attached::Attached;
 use super::cell::{Cell, Occupant};
@@ -104,7 +104,7 @@ impl<T: Attached + Copy, N: Copy> Slots<Cell<T, N>> {
         ensures room { self.new.room ≡ self.old.room }
         ensures touches { self.new.touches ≡ self.old.touches + 1 }
         ensures found { MatchOption result
-            (PlaceIsOf T.node node.now (map shown self.old.cells) slot false)
+            (SlotIsOf T.node node.now (map shown self.old.cells) slot false)
             (IsAt T.node node.now (map shown self.old.cells) slot) }
     {
         self.touches = self.touches.one_more();
@@ -115,11 +115,11 @@ impl<T: Attached + Copy, N: Copy> Slots<Cell<T, N>> {
 /// Slots with entries, each with its ticket. A free slot keeps an `N`. Each call but `len` is a
 /// touch, or, where it takes [`Looks`], a look.
 #[derive(Debug, Drop)]
-pub struct Places<T: Copy, N: Copy> {
+pub struct EntrySlots<T: Copy, N: Copy> {
     slots: Slots<Cell<T, N>>,
 }
 
-impl<T: Copy, N: Copy> Model for Places<T, N> {
+impl<T: Copy, N: Copy> Model for EntrySlots<T, N> {
     ghost use Rattle.iox2_container.specs.declared.container.cell.Cell.{Cell};
     ghost use Rattle.iox2_container.specs.Cells.{Cells};
 
@@ -128,7 +128,7 @@ impl<T: Copy, N: Copy> Model for Places<T, N> {
     ghost view = { λ p. p.slots };
 }
 
-impl<T: Copy, N: Copy> Places<T, N> {
+impl<T: Copy, N: Copy> EntrySlots<T, N> {
     /// So many free slots, each of which keeps this. Refused where there is no memory for them.
     pub(crate) fn new(alloc: Global, capacity: usize, next: N) -> Result<Self, AllocError>
         ensures cells { IfOk result (λ p. p.cells ≡ replicate capacity (Free next)) }
@@ -136,7 +136,7 @@ impl<T: Copy, N: Copy> Places<T, N> {
         ensures touches { IfOk result (λ p. p.touches ≡ 0) }
     {
         let slots = Slots::new(alloc, capacity, Cell::Free(next))?;
-        Ok(Places { slots })
+        Ok(EntrySlots { slots })
     }
 
     /// How many slots there are.
@@ -186,7 +186,7 @@ impl<T: Copy, N: Copy> Places<T, N> {
     }
 }
 
-impl<T: Attached + Copy, N: Copy> Places<T, N> {
+impl<T: Attached + Copy, N: Copy> EntrySlots<T, N> {
     /// The details in a slot, if they are the node's. This is a touch.
     #[inline(always)]
     pub(crate) fn look_for(&mut self, slot: usize, node: &UniqueNodeId) -> Option<T>
@@ -194,7 +194,7 @@ impl<T: Attached + Copy, N: Copy> Places<T, N> {
         ensures cells { self.new.cells ≡ self.old.cells }
         ensures touches { self.new.touches ≡ self.old.touches + 1 }
         ensures found { MatchOption result
-            (PlaceIsOf T.node node.now (map shown self.old.cells) slot false)
+            (SlotIsOf T.node node.now (map shown self.old.cells) slot false)
             (IsAt T.node node.now (map shown self.old.cells) slot) }
     {
         self.slots.look_for(slot, node)
@@ -204,7 +204,7 @@ impl<T: Attached + Copy, N: Copy> Places<T, N> {
     #[inline(always)]
     pub(crate) fn has_at(&self, slot: usize, node: &UniqueNodeId, looks: &mut Looks) -> bool
         requires { slot < length self.now.cells }
-        ensures has { PlaceIsOf T.node node.now (map shown self.now.cells) slot result }
+        ensures has { SlotIsOf T.node node.now (map shown self.now.cells) slot result }
         ensures looks { looks.new.touches.count ≡ looks.old.touches.count + 1 }
     {
         looks.count();

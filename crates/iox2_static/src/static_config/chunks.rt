@@ -1,6 +1,6 @@
 //! The number of chunks that a data segment needs.
 ghost use Rattle.std.specs.Prelude.{◌≡◌, ◌+◌, ◌*◌, ℕ, List, sum};
-ghost use Rattle.iox2_static.specs.Chunks.{TellsGreatest};
+ghost use Rattle.iox2_static.specs.Chunks.{ReportsGreatest};
 
 /// The greatest number of chunks in use at once, where the limits of all that hold chunks add up to
 /// `holders * for_each + others`.
@@ -10,7 +10,7 @@ ghost use Rattle.iox2_static.specs.Chunks.{TellsGreatest};
 #[tactic(auto, using(crate::proofs::Greatest::tells))]
 pub(super) fn amount_of_chunks(holders: u128, for_each: u128, others: u128) -> Option<usize>
     ensures { (limits : List ℕ) → sum limits ≡ holders * for_each + others
-        → TellsGreatest limits result }
+        → ReportsGreatest limits result }
 {
     let total = holders.checked_mul(for_each)?.checked_add(others)?;
     usize::try_from(total).ok()

@@ -30,7 +30,7 @@ pub struct StaticConfig {
 impl StaticConfig {
     ghost use Rattle.iox2_static.specs.Requirements.{first_unmet, AreMet};
     ghost use Rattle.iox2_static.specs.Satisfies.{publish_subscribe_requirements};
-    ghost use Rattle.iox2_static.specs.Chunks.{TellsGreatest};
+    ghost use Rattle.iox2_static.specs.Chunks.{ReportsGreatest};
     ghost use Rattle.iox2_static.specs.PublishSubscribe.{publish_subscribe_of, sample_limits};
 
     /// The publish-subscribe defaults of a configuration, with the default type details.
@@ -63,7 +63,7 @@ impl StaticConfig {
         &self,
         publisher_max_loaned_samples: usize,
     ) -> Option<usize>
-        ensures { TellsGreatest (sample_limits self.now publisher_max_loaned_samples) result }
+        ensures { ReportsGreatest (sample_limits self.now publisher_max_loaned_samples) result }
     {
         let for_each = self.subscriber_max_buffer_size as u128
             + self.subscriber_max_borrowed_samples as u128;

@@ -38,7 +38,7 @@ pub struct StaticConfig {
 impl StaticConfig {
     ghost use Rattle.iox2_static.specs.Requirements.{first_unmet, AreMet};
     ghost use Rattle.iox2_static.specs.Satisfies.{request_response_requirements};
-    ghost use Rattle.iox2_static.specs.Chunks.{TellsGreatest};
+    ghost use Rattle.iox2_static.specs.Chunks.{ReportsGreatest};
     ghost use Rattle.iox2_static.specs.RequestResponse.{request_response_of, client_limits};
     ghost use Rattle.iox2_static.specs.RequestResponse.{server_limits};
 
@@ -79,7 +79,7 @@ impl StaticConfig {
         &self,
         client_max_loaned_requests: usize,
     ) -> Option<usize>
-        ensures { TellsGreatest (client_limits self.now client_max_loaned_requests) result }
+        ensures { ReportsGreatest (client_limits self.now client_max_loaned_requests) result }
     {
         let for_each = 2 * self.max_active_requests_per_client as u128;
         amount_of_chunks(
@@ -96,7 +96,7 @@ impl StaticConfig {
         &self,
         max_loaned_responses_per_request: usize,
     ) -> Option<usize>
-        ensures { TellsGreatest (server_limits self.now max_loaned_responses_per_request) result }
+        ensures { ReportsGreatest (server_limits self.now max_loaned_responses_per_request) result }
     {
         let requests = self.max_clients as u128 * self.max_active_requests_per_client as u128;
         let for_each = self.max_response_buffer_size as u128

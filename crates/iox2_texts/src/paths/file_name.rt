@@ -1,5 +1,4 @@
 //! The names of files.
-ghost use Rattle.std.specs.Prelude.{IsTrue};
 
 use super::MAX_PATH_LENGTH;
 use crate::bounded::{Content, SemanticString};

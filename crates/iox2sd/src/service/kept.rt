@@ -1,6 +1,6 @@
 //! The ports that stay.
 ghost use Rattle.std.specs.Prelude.{◌≡◌, ◌↔◌, All, IsTrue};
-ghost use Rattle.iox2sd.specs.Deaths.{IsPort, is_kept, order_at, is_at_most, AreSorted};
+ghost use Rattle.iox2sd.specs.DeadNodes.{IsPort, is_kept, order_at, is_at_most, AreSorted};
 
 use crate::values::PortId;
 use std::cmp::Ordering;
@@ -16,7 +16,7 @@ pub(super) struct Kept<'a> {
 
 impl<'a> Model for Kept<'a> {
     ghost use Rattle.std.specs.Prelude.{List, IsTrue};
-    ghost use Rattle.iox2sd.specs.Deaths.{AreSorted};
+    ghost use Rattle.iox2sd.specs.DeadNodes.{AreSorted};
     ghost use Rattle.iox2sd.specs.declared.values.PortId.{PortId};
 
     ghost Value = { List PortId };

@@ -1,5 +1,5 @@
 //! Making and freeing services.
-ghost use Rattle.std.specs.Prelude.{◌≡◌, All};
+ghost use Rattle.std.specs.Prelude.{All};
 ghost use Rattle.iox2sd.specs.Objects.{IsSoundObject, held};
 ghost use Rattle.iox2sd.specs.Services.{MakesAt, FreesAt, Makes};
 

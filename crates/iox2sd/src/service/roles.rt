@@ -2,7 +2,7 @@
 ghost use Rattle.std.specs.Prelude.{◌≡◌, Some};
 ghost use Rattle.iox2_dynamic.specs.Ports.{CountsIn};
 ghost use Rattle.iox2_dynamic.specs.Service.{HasRole, first_role, second_role};
-ghost use Rattle.iox2sd.specs.Deaths.{counted};
+ghost use Rattle.iox2sd.specs.DeadNodes.{counted};
 
 use iox2_container::container::Role;
 use iox2_dynamic::dynamic_config::{DynamicConfig, PortRoles};

@@ -14,7 +14,7 @@ ghost use Rattle.service_conformance.specs.Entries.{MayGive, Refuses, StandsAt};
 ghost use Rattle.service_conformance.specs.Given.{Becomes, IsBefore, IsUnused, MayStand, StandsLast};
 ghost use Rattle.service_conformance.specs.Given.{UsedSo, slot_entry};
 ghost use Rattle.service_conformance.specs.Hashes.{entries_hash};
-ghost use Rattle.service_conformance.specs.Words.{IsNextHandle, TellsHandle, handle_words};
+ghost use Rattle.service_conformance.specs.Words.{IsNextHandle, ReadsReplyHandle, handle_words};
 
 use super::possible::NextHandle;
 use super::same::{Same, are_same};
@@ -185,7 +185,7 @@ impl<T: Copy> RegistryCheck<T> {
     /// The handle of this slot and this ticket that the next add may give, or `None` where it may
     /// not.
     pub(super) fn handle_at(&self, slot: usize, ticket: u64) -> Option<ContainerHandle>
-        ensures { TellsHandle (MayGive self.now) (handle_words slot ticket) result }
+        ensures { ReadsReplyHandle (MayGive self.now) (handle_words slot ticket) result }
     {
         // For the proof: slots and tickets are numbers of 64 bits.
         let (_capacity, _used) = (self.capacity, self.used);

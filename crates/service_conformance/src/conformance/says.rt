@@ -1,10 +1,10 @@
 //! Whether a reply says what was seen.
-ghost use Rattle.std.specs.Prelude.{◌≡◌, ◌↔◌, ◌<◌, ◌^◌, ℕ, All, IsTrue, List, map};
+ghost use Rattle.std.specs.Prelude.{◌≡◌, ◌↔◌, ◌<◌, ℕ, IsTrue, List, map};
 ghost use Rattle.std.specs.List.{flat_map};
 ghost use Rattle.iox2_dynamic.specs.Details.{port_of};
 ghost use Rattle.iox2_ids.specs.PortId.{port_value};
 ghost use Rattle.service_conformance.specs.Possible.{reply_in};
-ghost use Rattle.service_conformance.specs.Seen.{IsIdNumber, IsSeen, count_words, list_words, seen_text, word_of, word_text};
+ghost use Rattle.service_conformance.specs.Seen.{count_words, list_words, seen_text, word_text};
 ghost use Rattle.service_conformance.specs.Words.{handle_words};
 ghost use Rattle.service_descriptions.specs.Replies.{id_word, text_of};
 

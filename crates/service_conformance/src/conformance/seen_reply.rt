@@ -1,7 +1,7 @@
 //! Replies that were seen, by what their words say.
-ghost use Rattle.std.specs.Prelude.{◌≡◌, ◌≢◌, ◌<◌, ◌^◌, ◌↔◌, ℕ, List, All, IfNone, IfOk, IfSome, IsTrue, true};
+ghost use Rattle.std.specs.Prelude.{◌≡◌, ◌≢◌, ◌<◌, ◌^◌, ℕ, List, All, IfNone, IfOk, IfSome, IsTrue, true};
 ghost use Rattle.service_conformance.specs.Seen.{IsIdNumber, IsSeen, IsToLine, changes_nothing, count_words};
-ghost use Rattle.service_conformance.specs.Seen.{list_words, seen_text, word_of, word_text};
+ghost use Rattle.service_conformance.specs.Seen.{list_words, seen_text, word_text};
 ghost use Rattle.service_conformance.specs.Words.{handle_words};
 ghost use Rattle.service_descriptions.specs.declared.replay.machine.reply.Reply.{Reply as OneReply};
 ghost use Rattle.service_descriptions.specs.Replies.{text_of};

@@ -1,6 +1,6 @@
 //! Entries by rising slot.
 ghost use Rattle.std.specs.Prelude.{◌≡◌, ◌≢◌, ◌<◌, ◌≤◌, All, AllPairs, IfNone, IfSome, OnOk, OnErr};
-ghost use Rattle.std.specs.Prelude.{◌↔◌, IfOk, IsTrue, length, map, take, drop};
+ghost use Rattle.std.specs.Prelude.{◌↔◌, IfOk, IsTrue, length, map};
 ghost use Rattle.std.specs.List.{insert};
 ghost use Rattle.iox2_container.specs.Steps.{is_of};
 ghost use Rattle.iox2_dynamic.specs.Details.{node_of};

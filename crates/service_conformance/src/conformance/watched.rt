@@ -1,7 +1,7 @@
 //! Services at which weak listings look.
 ghost use Rattle.std.specs.Prelude.{◌≡◌, ◌↔◌, ◌++◌, ◌∷◌, [], IfOk, IsTrue, OnErr, OnOk};
 ghost use Rattle.histories.specs.Frontier.{IsMade};
-ghost use Rattle.service_conformance.specs.Looks.{IsWatched, LacksNothing, ids_in, look_of, looks_after};
+ghost use Rattle.service_conformance.specs.Looks.{IsWatched, LacksNothing, look_of, looks_after};
 ghost use Rattle.service_conformance.specs.Looks.{unwatched, watched};
 ghost use Rattle.service_conformance.specs.Judged.{CallLeaves, ids_lacking};
 

@@ -110,7 +110,7 @@ impl<'a> Expected<'a> {
 
     /// A line of another form, which begins with this prefix.
     pub(super) fn prefixed(rest: &'a [u8], prefix: &'static str, form: &'static str) -> Self
-        ensures place { result.rest.now ≡ rest.now }
+        ensures rest { result.rest.now ≡ rest.now }
         ensures reason { result.reason ≡ OtherForm }
     {
         Expected {

@@ -82,7 +82,7 @@ pub(super) fn service_before(bytes: &[u8]) -> Result<(Service, &[u8]), Expected<
         (λ expected. (kind : PatternKind) (name rest : List ℕ)
         → ¬ HasService kind name rest bytes.now) }
     ensures hash { IfOk result (λ found. IsHashed found.0) }
-    ensures place { IfErr result (λ expected. expected.rest.now ≡ bytes.now) }
+    ensures rest { IfErr result (λ expected. expected.rest.now ≡ bytes.now) }
     ensures reason { IfErr result (λ expected. IsServiceReason expected.reason bytes.now) }
 {
     let expected = Expected::prefixed(

@@ -93,7 +93,7 @@ fn set(
 
 /// What was expected instead of a line that sets nothing.
 fn expected(kind: PatternKind, bytes: &[u8], reason: Reason) -> Expected<'_>
-    ensures place { result.rest.now ≡ bytes.now }
+    ensures rest { result.rest.now ≡ bytes.now }
     ensures reason { result.reason ≡ reason }
 {
     let (prefix, form) = match reason {

@@ -29,7 +29,7 @@ const LETTER: usize = 70;
 const MARGIN: usize = 40;
 
 /// How far to the right the byte at this offset is drawn.
-fn place(offset: usize, size: usize) -> usize
+fn x_of(offset: usize, size: usize) -> usize
     requires { offset ≤ size }
     ensures value { result ≡ LEFT + offset * WIDTH / max size 1 }
     ensures bound { result ≤ LEFT + WIDTH }
@@ -78,8 +78,8 @@ fn write_rectangle(
     if span.end <= span.start {
         return Ok(());
     }
-    let left = place(span.start, size);
-    let width = place(span.end, size).saturating_sub(left);
+    let left = x_of(span.start, size);
+    let width = x_of(span.end, size).saturating_sub(left);
     writeln!(
         out,
         "<rect x=\"{left}\" y=\"0\" width=\"{width}\" height=\"460\" class=\"part {color}\"/>"
@@ -119,8 +119,8 @@ fn write_label(
     if span.end <= span.start {
         return Ok(());
     }
-    let left = place(span.start, size);
-    let right = place(span.end, size);
+    let left = x_of(span.start, size);
+    let right = x_of(span.end, size);
     let room = right.saturating_sub(left);
     let x = (left + right) / 2;
     let width = number_width(elements) + LETTER;
@@ -158,7 +158,7 @@ fn write_mark(
 {
     let half = number_width(offset) / 2 + MARGIN;
     let last = LEFT + WIDTH - number_width(size);
-    let x = place(offset, size);
+    let x = x_of(offset, size);
     if x < free.saturating_add(half) || last < x + half {
         return Ok(free);
     }

@@ -1,5 +1,5 @@
 use Rattle.std.proofs.Common.{None, arith}
-use Rattle.config_report.proofs.Lines.{one_placed}
+use Rattle.config_report.proofs.Lines.{one_positioned}
 use Rattle.config_report.specs.Notes.{finding_view, topic_note, topic_position, subject_view}
 use Rattle.config_report.proofs.check.add_findings.Goals as goal
 
@@ -7,7 +7,7 @@ pub loop-subject-preserved : goal.loop-subject-preserved
 loop-subject-preserved c = (
   omega (arith, c.loop-subject.invariant.0),
   λ bytes same.
-      one_placed subject_view (topic_position bytes) topic_note finding_view c.args.subjects.now
+      one_positioned subject_view (topic_position bytes) topic_note finding_view c.args.subjects.now
       c.args.positions.now c.loop-subject.subject-index c.loop-subject.i c.subject-item.result
       c.position_at-position.result None c.loop-subject.list.items c.push.new.self.items
       c.in_ok-finding.field-0 _ c.loop-subject-test.true c.loop-subject.invariant.0

@@ -4,7 +4,7 @@ use Rattle.std.proofs.lemmas.List.Sorted.{answers_always}
 use Rattle.iox2_config_file.specs.Read.{fault_view}
 use Rattle.iox2_config_file.specs.Unknown.{unknown_view}
 use Rattle.config_report.specs.Contradictions.{contradiction_view, contradictions_in}
-use Rattle.config_report.specs.Findings.{finding_place, topics_of}
+use Rattle.config_report.specs.Findings.{finding_sort_key, topics_of}
 use Rattle.config_report.specs.Notes.{fault, unknown, topic_position, subject_view}
 use Rattle.config_report.proofs.check.list_of.Goals as goal
 
@@ -35,9 +35,9 @@ returns c = λ some.
       grind arith,
       record {
         same = c.in_ok-sort_by_key.ensures.permutation;
-        ordered = c.in_ok-sort_by_key.ensures.sorted finding_place
+        ordered = c.in_ok-sort_by_key.ensures.sorted finding_sort_key
             (answers_always _ _ _ (λ f a r q k. search rules));
-        stable = c.in_ok-sort_by_key.ensures.stable finding_place
+        stable = c.in_ok-sort_by_key.ensures.stable finding_sort_key
             (answers_always _ _ _ (λ f a r q k. search rules));
       },
     )

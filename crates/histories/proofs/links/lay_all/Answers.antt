@@ -1,5 +1,5 @@
 use Rattle.histories.proofs.Words.{◌<◌, arith, get_or, length, get_or_default}
-use Rattle.histories.proofs.Places.{grows_none, grows_then, laid_before, laid_grows, done_as, done_more, done_none}
+use Rattle.histories.proofs.Indices.{grows_none, grows_then, laid_before, laid_grows, done_as, done_more, done_none}
 use Rattle.histories.proofs.links.lay_all.Goals as goal
 
 pub loop-config-init : goal.loop-config-init

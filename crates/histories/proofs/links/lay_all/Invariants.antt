@@ -1,5 +1,5 @@
 use Rattle.histories.proofs.Words.{Grows, IsLaid}
-use Rattle.histories.proofs.Places.{AreDone}
+use Rattle.histories.proofs.Indices.{AreDone}
 use Rattle.histories.proofs.links.lay_all.Given as goal
 
 abbrev pub invariant-loop-config : goal.invariant-loop-config

@@ -1,6 +1,6 @@
 use Rattle.std.proofs.lemmas.Grind.{common_steps}
 use Rattle.histories.proofs.Words.{arith, length-append}
-use Rattle.histories.proofs.Places.{laid_out_more}
+use Rattle.histories.proofs.Indices.{laid_out_more}
 use Rattle.histories.proofs.links.lay_calls.Goals as goal
 
 pub loop-call-preserved : goal.loop-call-preserved

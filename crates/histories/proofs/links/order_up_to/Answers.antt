@@ -1,5 +1,5 @@
 use Rattle.histories.proofs.Words.{◌≡◌, ◌<◌, ◌+◌, ◌-◌, ◌++◌, ◌∙◌, List, ℕ, ap, append-nil, arith, length, reverse, sym, get_or_default, read}
-use Rattle.histories.proofs.Places.{read_bounded, read_more, read_zero}
+use Rattle.histories.proofs.Indices.{read_bounded, read_more, read_zero}
 use Rattle.histories.proofs.links.order_up_to.Goals as goal
 
 pub loop-left-init : goal.loop-left-init

@@ -1,5 +1,5 @@
 use Rattle.histories.proofs.Words.{rules, ◌≡◌, [], List, length, map, refl, subst, sym, Config, IsFrontier, AreEach, IsUnlinked}
-use Rattle.histories.proofs.Places.{put_back}
+use Rattle.histories.proofs.Indices.{put_back}
 use Rattle.histories.proofs.step.begin_anew.Goals as goal
 use Rattle.histories.proofs.Cutting.{fresh_anew, quiet_empty, split_anew}
 

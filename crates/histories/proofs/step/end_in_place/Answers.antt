@@ -1,5 +1,5 @@
 use Rattle.histories.proofs.Words.{List, inr, subst, AllPairs, Config, IsSame, AreLaidIn, IsClosed}
-use Rattle.histories.proofs.Places.{put_back}
+use Rattle.histories.proofs.Indices.{put_back}
 use Rattle.histories.proofs.step.end_in_place.Goals as goal
 
 pub returns : goal.returns

@@ -1,6 +1,6 @@
 use Rattle.std.proofs.Common.{◌≡◌, ℕ, List, Result, IfOk, subst}
 use Rattle.std.specs.declared.alloc.AllocError.{AllocError}
-use Rattle.history_drawing.proofs.Placed.{window_in}
+use Rattle.history_drawing.proofs.Located.{window_in}
 use Rattle.history_drawing.specs.Drawings.{DrawsAll, DrawsWindow, IsUndrawn}
 use Rattle.history_drawing.specs.declared.drawing.Drawing.{Drawing}
 use Rattle.history_drawing.proofs.drawing.draw.Goals as goal

@@ -2,7 +2,7 @@ use Rattle.std.proofs.Common.{List, arith, inl, inr, subst, sym}
 use Rattle.std.specs.Prelude.{All}
 use Rattle.std.proofs.lemmas.List.Elements.{All-nil}
 use Rattle.std.proofs.lemmas.Result.{IfOk-weaker}
-use Rattle.history_drawing.proofs.Placed.{drawable}
+use Rattle.history_drawing.proofs.Located.{drawable}
 use Rattle.history_drawing.specs.Timelines.{IsPoint}
 use Rattle.history_drawing.specs.declared.timeline.Point.{Point}
 use Rattle.history_drawing.proofs.drawing.draw_refused.Goals as goal

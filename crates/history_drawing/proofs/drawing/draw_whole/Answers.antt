@@ -2,7 +2,7 @@ use Rattle.std.proofs.Common.{ℕ, List, None, inl, inr, length, refl, subst, sy
 use Rattle.std.specs.Prelude.{◌<◌, AllPairs}
 use Rattle.std.specs.Borrow.{Bor}
 use Rattle.std.proofs.lemmas.Result.{IfOk-weaker}
-use Rattle.history_drawing.proofs.Placed.{drawable}
+use Rattle.history_drawing.proofs.Located.{drawable}
 use Rattle.history_drawing.proofs.Rising.{in_bars}
 use Rattle.history_drawing.specs.Drawings.{AreLines, IsWhole}
 use Rattle.history_drawing.specs.declared.timeline.Bar.{Bar}

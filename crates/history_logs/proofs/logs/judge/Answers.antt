@@ -1,13 +1,13 @@
 use Rattle.std.proofs.Common.{subst, sym, arith}
 use Rattle.history_logs.specs.Logs.{Judged}
 use Rattle.history_logs.proofs.Judgements.{few_calls, judged_end, judged_found}
-use Rattle.history_logs.proofs.Answered.{placed_of}
+use Rattle.history_logs.proofs.Answered.{located_of}
 use Rattle.history_logs.proofs.logs.judge.Goals as goal
 
 pub judge_services-requires : goal.judge_services-requires
 judge_services-requires c = record {
   orderly = c.requires.orderly;
-  placed = placed_of _ _ _ c.requires;
+  located = located_of _ _ _ c.requires;
 }
 
 pub end_verdict-requires : goal.end_verdict-requires

@@ -2,7 +2,7 @@ use Rattle.std.proofs.Common.{None, arith, subst, sym}
 use Rattle.history_logs.specs.Good.{IsReadTo}
 use Rattle.history_logs.specs.Logs.{Judged}
 use Rattle.history_logs.specs.Orders.{HasOrders}
-use Rattle.history_logs.proofs.Answered.{placed_of}
+use Rattle.history_logs.proofs.Answered.{located_of}
 use Rattle.history_logs.proofs.Judgements.{few_calls, judged_bad, judged_end, judged_found}
 use Rattle.history_logs.proofs.Ordered.{no_orders, ordered_right, orders_end}
 use Rattle.history_logs.proofs.logs.order_read.Goals as goal
@@ -10,7 +10,7 @@ use Rattle.history_logs.proofs.logs.order_read.Goals as goal
 pub order_services-requires : goal.order_services-requires
 order_services-requires c = record {
   orderly = c.requires.orderly;
-  placed = placed_of _ _ _ c.requires;
+  located = located_of _ _ _ c.requires;
 }
 
 pub end_verdict-requires : goal.end_verdict-requires

@@ -3,7 +3,7 @@ use Rattle.std.specs.Prelude.{map}
 use Rattle.std.proofs.lemmas.List.Sorted.{answers_always}
 use Rattle.config_report.specs.Notes.{fault_position}
 use Rattle.iox2_config_file.specs.Read.{fault_view}
-use Rattle.iox2sd_config.specs.Files.{fault_place}
+use Rattle.iox2sd_config.specs.Files.{fault_sort_key}
 use Rattle.iox2sd_config.proofs.read.listed_faults.Goals as goal
 
 pub returns : goal.returns
@@ -17,7 +17,7 @@ returns c =
       c.in_ok-plain.ensures text at,
       (
         sorted.permutation,
-        sorted.sorted fault_place (answers_always _ _ _ (λ f a r q k. search rules)),
-        sorted.stable fault_place (answers_always _ _ _ (λ f a r q k. search rules)),
+        sorted.sorted fault_sort_key (answers_always _ _ _ (λ f a r q k. search rules)),
+        sorted.stable fault_sort_key (answers_always _ _ _ (λ f a r q k. search rules)),
       ),
     )

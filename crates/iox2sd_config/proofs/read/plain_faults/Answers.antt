@@ -1,5 +1,5 @@
 use Rattle.std.proofs.Common.{None, arith}
-use Rattle.config_report.proofs.Lines.{item_is, one_placed}
+use Rattle.config_report.proofs.Lines.{item_is, one_positioned}
 use Rattle.config_report.specs.Notes.{fault_position}
 use Rattle.iox2_config_file.specs.Read.{fault_view}
 use Rattle.iox2sd_config.specs.Faults.{known_of, c_at}
@@ -9,7 +9,7 @@ pub loop-fault-preserved : goal.loop-fault-preserved
 loop-fault-preserved c = (
   omega (arith, c.loop-fault.invariant.0),
   λ bytes same.
-      one_placed fault_view (fault_position bytes) c_at known_of c.args.faults.now
+      one_positioned fault_view (fault_position bytes) c_at known_of c.args.faults.now
       c.args.positions.now c.loop-fault.fault-index c.loop-fault.i _
       c.position_at-position.result None c.loop-fault.plain.items c.push.new.self.items
       c.in_ok-plain_fault.field-0 _ c.loop-fault-test.true c.loop-fault.invariant.0

@@ -3,7 +3,7 @@ use Rattle.std.specs.Prelude.{map}
 use Rattle.std.proofs.lemmas.List.Sorted.{answers_always}
 use Rattle.config_report.specs.Notes.{unknown_position}
 use Rattle.iox2_config_file.specs.Unknown.{unknown_view}
-use Rattle.iox2sd_config.specs.Unknown.{named_place}
+use Rattle.iox2sd_config.specs.Unknown.{named_sort_key}
 use Rattle.iox2sd_config.proofs.unknown.listed_keys.Goals as goal
 
 pub returns : goal.returns
@@ -17,7 +17,7 @@ returns c =
       c.in_ok-named.ensures text at,
       (
         sorted.permutation,
-        sorted.sorted named_place (answers_always _ _ _ (λ f a r q k. search rules)),
-        sorted.stable named_place (answers_always _ _ _ (λ f a r q k. search rules)),
+        sorted.sorted named_sort_key (answers_always _ _ _ (λ f a r q k. search rules)),
+        sorted.stable named_sort_key (answers_always _ _ _ (λ f a r q k. search rules)),
       ),
     )

@@ -1,7 +1,7 @@
 use Rattle.std.proofs.Common.{refl, ap, subst, ◌∙◌, slice_get}
 use Rattle.std.specs.Option.{ok_or}
 use Rattle.iox2_texts.specs.Attribute.{values_of}
-use Rattle.iox2sd_common.specs.Answers.{TellsText}
+use Rattle.iox2sd_common.specs.Answers.{ReportsText}
 use Rattle.iox2sd_common.specs.declared.status.Status.TheVariants as status
 use Rattle.iox2sd_values.proofs.Values.{the_set}
 use Rattle.iox2sd_values.proofs.attributes.write_value.Goals as goal
@@ -10,7 +10,7 @@ pub returns-in-Some : goal.returns-in-Some
 returns-in-Some c set listed =
     let same = the_set _ _ _ c.sorted-copies.ensures listed in
     subst
-    (λ o. TellsText (ok_or o status.NoSuchValue) c.args.out.now c.write.result c.write.new.out)
+    (λ o. ReportsText (ok_or o status.NoSuchValue) c.args.out.now c.write.result c.write.new.out)
     (c.in-Some.ensures ∙ ap (λ s. slice_get (values_of s c.args.key.now) c.args.index) same)
     c.write.ensures
 
@@ -18,6 +18,6 @@ pub returns-in-None : goal.returns-in-None
 returns-in-None c set listed =
     let same = the_set _ _ _ c.sorted-copies.ensures listed in
     subst
-    (λ o. TellsText (ok_or o status.NoSuchValue) c.args.out.now c.no_text.result c.args.out.now)
+    (λ o. ReportsText (ok_or o status.NoSuchValue) c.args.out.now c.no_text.result c.args.out.now)
     (c.in-None.ensures ∙ ap (λ s. slice_get (values_of s c.args.key.now) c.args.index) same)
     (c.no_text.ensures, refl)

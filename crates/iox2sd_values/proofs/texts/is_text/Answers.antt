@@ -1,7 +1,7 @@
 use Rattle.std.proofs.Common.{◌∙◌, ap, sym, get_or}
 use Rattle.std.specs.Prelude.{◌&&◌}
 use Rattle.std.proofs.lemmas.List.Folds.{list_all_more}
-use Rattle.iox2sd_values.proofs.Legal.{is_legal, tells_text}
+use Rattle.iox2sd_values.proofs.Legal.{is_legal, reports_text}
 use Rattle.iox2sd_values.proofs.texts.is_text.Goals as goal
 
 pub loop-byte-preserved : goal.loop-byte-preserved
@@ -12,5 +12,5 @@ loop-byte-preserved c =
 
 pub returns : goal.returns
 returns c =
-    tells_text c.loop-byte.legal c.args.bytes.now c.loop-byte.byte-index c.loop-byte-test.false
+    reports_text c.loop-byte.legal c.args.bytes.now c.loop-byte.byte-index c.loop-byte-test.false
     c.loop-byte.invariant

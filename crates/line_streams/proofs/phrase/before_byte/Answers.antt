@@ -1,6 +1,6 @@
 use Rattle.std.proofs.Common.{sym, subst}
 use Rattle.line_streams.specs.Spelling.{HasNo}
-use Rattle.line_streams.proofs.Places.{front_is, all_before, has_none, parts_at, has_one}
+use Rattle.line_streams.proofs.Indices.{front_is, all_before, has_none, parts_at, has_one}
 use Rattle.line_streams.proofs.phrase.before_byte.Goals as goal
 
 pub returns-in-Some-clause-read : goal.returns-in-Some-clause-read

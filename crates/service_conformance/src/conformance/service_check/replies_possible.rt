@@ -9,7 +9,7 @@ ghost use Rattle.service_conformance.specs.Possible.{ArePossible, MayGiveIn, rep
 ghost use Rattle.service_conformance.specs.Quiet.{Reports, quiet};
 ghost use Rattle.service_conformance.specs.Requests.{ServesRequest};
 ghost use Rattle.service_conformance.specs.Seen.{seen_text};
-ghost use Rattle.service_conformance.specs.Words.{ArePossibleWords, IsNextIn, Tells, TellsHandle, handle_words};
+ghost use Rattle.service_conformance.specs.Words.{ArePossibleWords, IsNextIn, ReadsReply, ReadsReplyHandle, handle_words};
 ghost use Rattle.service_descriptions.specs.Cleanups.{ServesDead};
 ghost use Rattle.service_descriptions.specs.Listings.{ServesCount, ServesList, ServesNodes};
 ghost use Rattle.service_descriptions.specs.Steps.{ServesAdd, ServesDeregister, ServesRegister, ServesRelease};
@@ -195,7 +195,7 @@ impl ServiceCheck {
 
     /// The handle of this slot and this ticket that the registry of the part may give next.
     fn handle_at(&self, part: Part, slot: usize, ticket: u64) -> Option<ContainerHandle>
-        ensures { TellsHandle (MayGiveIn self.now part) (handle_words slot ticket) result }
+        ensures { ReadsReplyHandle (MayGiveIn self.now part) (handle_words slot ticket) result }
     {
         match part {
             Part::Nodes => self.nodes.handle_at(slot, ticket),
@@ -211,7 +211,7 @@ impl ServiceCheck {
         possible: Possible,
         seen: &SeenReply,
     ) -> Option<LineReply>
-        ensures { Tells self.now possible (seen_text seen.now)
+        ensures { ReadsReply self.now possible (seen_text seen.now)
             (option_map reply_in result) }
     {
         match possible {

@@ -48,6 +48,6 @@ returns-then-not-is_empty c =
       (_, c.in_ok-exchange.ensures, (_, c.in_ok-attributes.ensures, c.in_ok-required.ensures)),
       c.if-not-is_empty.ensures,
     ) in
-    rw c.prefixed.ensures.place
+    rw c.prefixed.ensures.rest
     (stops_behind_settings _ _ _ _ c.settings_before.new.config _ _ _ _ c.prefixed.ensures.reason
     c.in_ok-service.ensures.spelled c.in_ok-rest.ensures left)

@@ -1,11 +1,11 @@
 use Rattle.std.proofs.Common.{◌≡◌, ◌∙◌, ap, refl, subst, sym, take, ◌+◌, ◌++◌, [], ◌∷◌}
 use Rattle.std.proofs.lemmas.List.{take_more}
 use Rattle.service_examples.specs.Removal.{OnlyOthersStay}
-use Rattle.service_examples.proofs.Deaths.{nobody_dies, more_die}
+use Rattle.service_examples.proofs.DeadNodes.{none_removed, more_removed}
 use Rattle.service_examples.proofs.monitor.remove_dead_nodes.Goals as goal
 
 pub loop-id-init : goal.loop-id-init
-loop-id-init c = record { removed = nobody_dies c.args.service.now; reported = refl }
+loop-id-init c = record { removed = none_removed c.args.service.now; reported = refl }
 
 pub loop-id-preserved : goal.loop-id-preserved
 loop-id-preserved c =
@@ -19,7 +19,7 @@ loop-id-preserved c =
       removed =
           subst (λ ids. OnlyOthersStay ids c.args.service.now c.remove_dead_node.new.service)
           (sym more)
-          (more_die (take i dead)
+          (more_removed (take i dead)
           (now ∷ []) c.args.service.now c.loop-id.service c.remove_dead_node.new.service
           c.loop-id.invariant.removed c.remove_dead_node.ensures.removed);
       reported = c.remove_dead_node.ensures.reported;

@@ -1,6 +1,6 @@
 use Rattle.std.proofs.Common.{rules, ap, ◌≡◌, ◌+◌, ◌<◌, ◌^◌, List, Option, None, arith, length, refl, subst, sum_by, sym}
 use Rattle.histories.specs.declared.front.Front.{Front}
-use Rattle.histories.proofs.Places.{put_back}
+use Rattle.histories.proofs.Indices.{put_back}
 use Rattle.service_conformance.specs.Looks.{Watched}
 use Rattle.history_logs.specs.Fields.{callers_of, log_of, waits_in}
 use Rattle.history_logs.specs.Judging.{end_verdict}

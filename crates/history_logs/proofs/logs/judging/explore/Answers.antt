@@ -20,7 +20,7 @@ reported_of-requires c =
     c.deref.ensures.value ∙ c.in_ok-states.ensures in
     record {
       orderly = c.requires.orderly;
-      placed = c.requires.placed;
+      located = c.requires.located;
       found = verdict_of s _ _ _
           _ c.calls.ensures states c.events.ensures c.in_ok-found.ensures.verdict;
     }

@@ -10,15 +10,15 @@ pub judge_service-requires-clause-orderly : goal.judge_service-requires-clause-o
 judge_service-requires-clause-orderly c =
     item_of IsOrderly _ _ _ c.requires.orderly c.loop-service-test.true c.service-item.is
 
-pub judge_service-requires-clause-placed : goal.judge_service-requires-clause-placed
-judge_service-requires-clause-placed c =
+pub judge_service-requires-clause-located : goal.judge_service-requires-clause-located
+judge_service-requires-clause-located c =
     item_of (HasEventLines c.args.log.now) _ _
-    _ c.requires.placed c.loop-service-test.true c.service-item.is
+    _ c.requires.located c.loop-service-test.true c.service-item.is
 
 pub loop-service-preserved : goal.loop-service-preserved
 loop-service-preserved c =
     first_next _ _ _ _ _ _ _ c.requires.orderly
-    c.requires.placed c.loop-service-test.true c.service-item.is c.loop-service.invariant
+    c.requires.located c.loop-service-test.true c.service-item.is c.loop-service.invariant
     c.in_ok-judge_service.ensures c.earlier-first.ensures
 
 pub returns-in-Some : goal.returns-in-Some

@@ -8,7 +8,7 @@ use Rattle.history_logs.proofs.logs.judging.refused.Goals as goal
 pub begin_of-begin-requires : goal.begin_of-begin-requires
 begin_of-begin-requires c =
     begun_within c.args.service.now c.requires.orderly _ c.args.window.now c.requires.stops.within
-    c.requires.window _ c.requires.placed _ _ c.call_ended-number.ensures c.line_at-line.ensures
+    c.requires.window _ c.requires.located _ _ c.call_ended-number.ensures c.line_at-line.ensures
 
 pub lines_needed-requires-clause-within : goal.lines_needed-requires-clause-within
 lines_needed-requires-clause-within c =
@@ -28,7 +28,7 @@ configurations-requires-clause-below c =
 pub configurations-requires-clause-within : goal.configurations-requires-clause-within
 configurations-requires-clause-within c =
     call_within c.args.service.now c.requires.orderly _ c.args.window.now c.requires.stops.within
-    c.requires.window _ c.requires.placed _ _ c.call_ended-number.ensures c.line_at-line.ensures
+    c.requires.window _ c.requires.located _ _ c.call_ended-number.ensures c.line_at-line.ensures
 
 pub line_at-requires : goal.line_at-requires
 line_at-requires c =
@@ -40,7 +40,7 @@ returns c =
     let s = c.args.service.now in
     let w = c.args.window.now in
     refused_in s c.requires.orderly _ w c.requires.stops.within c.requires.window _
-    c.requires.placed _ _ c.call_ended-number.ensures c.line_at-line.ensures _
+    c.requires.located _ _ c.call_ended-number.ensures c.line_at-line.ensures _
     c.begin_of-begin.ensures _ refl c.in_ok-words.ensures
     (λ k text is.
     let found = c.command_of-call.ensures k text is in

@@ -8,7 +8,7 @@ refused-requires c =
     let found = rw c.in-Refused.is at c.requires.found in
     record {
       orderly = c.requires.orderly;
-      placed = c.requires.placed;
+      located = c.requires.located;
       stops = found.0;
       window = found.1;
     }

@@ -11,15 +11,15 @@ pub order_service-requires-clause-orderly : goal.order_service-requires-clause-o
 order_service-requires-clause-orderly c =
     item_of IsOrderly _ _ _ c.requires.orderly c.loop-service-test.true c.service-item.is
 
-pub order_service-requires-clause-placed : goal.order_service-requires-clause-placed
-order_service-requires-clause-placed c =
+pub order_service-requires-clause-located : goal.order_service-requires-clause-located
+order_service-requires-clause-located c =
     item_of (HasEventLines c.args.log.now) _ _
-    _ c.requires.placed c.loop-service-test.true c.service-item.is
+    _ c.requires.located c.loop-service-test.true c.service-item.is
 
 pub loop-service-preserved : goal.loop-service-preserved
 loop-service-preserved c =
     orders_next _ _ _ _ _ _ _ _ _ c.requires.orderly
-    c.requires.placed c.loop-service-test.true c.service-item.is c.loop-service.invariant
+    c.requires.located c.loop-service-test.true c.service-item.is c.loop-service.invariant
     c.in_ok-order_service.ensures.found c.in_ok-order_service.ensures.order c.earlier-first.ensures
 
 pub returns-in-Some-clause-found : goal.returns-in-Some-clause-found

@@ -7,7 +7,7 @@ pub loop-slot-preserved : goal.loop-slot-preserved
 loop-slot-preserved g c = record {
   cells = c.look_for.ensures.cells ∙ c.loop-slot.invariant.cells;
   touches = omega (arith, c.look_for.ensures.touches, c.loop-slot.invariant.touches);
-  others = others_more g.T.Attached.node c.args.node.now (map shown c.args.places.now.cells)
+  others = others_more g.T.Attached.node c.args.node.now (map shown c.args.slots.now.cells)
       c.args.start c.loop-slot.slot _ c.loop-slot.invariant.others
       (rw c.loop-slot.invariant.cells at c.in_default.ensures.found) refl;
 }

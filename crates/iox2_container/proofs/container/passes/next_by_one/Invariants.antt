@@ -4,7 +4,7 @@ use Rattle.iox2_container.proofs.container.passes.next_by_one.Given as goal
 
 abbrev pub invariant-loop-slot : goal.invariant-loop-slot
 invariant-loop-slot g l = record {
-  cells : l.places.cells ≡ l.fn.places.cells;
-  touches : l.places.touches + l.start ≡ l.fn.places.touches + l.slot;
-  others : AreOthers g.T.Attached.node l.node (map shown l.fn.places.cells) l.start l.slot;
+  cells : l.slots.cells ≡ l.fn.slots.cells;
+  touches : l.slots.touches + l.start ≡ l.fn.slots.touches + l.slot;
+  others : AreOthers g.T.Attached.node l.node (map shown l.fn.slots.cells) l.start l.slot;
 }

@@ -11,7 +11,7 @@ returns-then-next_of_four-2-clause-found g c =
     let node = g.T.Attached.node in
     let id = c.args.node.now in
     let at = c.loop-slot.slot in
-    let cells = map shown c.args.places.now.cells in
+    let cells = map shown c.args.slots.now.cells in
     let kept = c.next_of_four.ensures.cells ∙ c.loop-slot.invariant.cells in
     let four : AreOthers node id cells c.args.start (at + 4) =
     others_join node id cells c.args.start at at (at + 4) c.loop-slot.invariant.others
@@ -28,7 +28,7 @@ loop-slot-preserved g c =
     let node = g.T.Attached.node in
     let id = c.args.node.now in
     let at = c.loop-slot.slot in
-    let cells = map shown c.args.places.now.cells in
+    let cells = map shown c.args.slots.now.cells in
     let kept = c.next_of_four.ensures.cells ∙ c.loop-slot.invariant.cells in
     let none = c.next_of_four.ensures.none c.if-next_of_four.false in
     let none_again = c.next_of_four-in-loop-slot.ensures.none c.if-next_of_four-2.false in
@@ -53,7 +53,7 @@ loop-slot-preserved g c =
 
 pub returns-clause-found : goal.returns-clause-found
 returns-clause-found g c =
-    found_after g.T.Attached.node c.args.node.now (map shown c.args.places.now.cells)
+    found_after g.T.Attached.node c.args.node.now (map shown c.args.slots.now.cells)
     c.args.start c.loop-slot.slot c.args.end c.args.end c.next_by_one.result
     c.loop-slot.invariant.order (omega arith) (inr refl) c.loop-slot.invariant.others
     (rw c.loop-slot.invariant.cells at c.next_by_one.ensures.found)

@@ -7,9 +7,9 @@ invariant-loop-slot g l = record {
   order : l.start ≤ l.slot;
   within : l.slot ≤ l.end;
   nothing : l.found ≡ None;
-  cells : l.places.cells ≡ l.fn.places.cells;
-  touches : l.places.touches + l.start ≡ l.fn.places.touches + l.slot;
-  others : AreOthers g.T.Attached.node l.node (map shown l.fn.places.cells) l.start l.slot;
+  cells : l.slots.cells ≡ l.fn.slots.cells;
+  touches : l.slots.touches + l.start ≡ l.fn.slots.touches + l.slot;
+  others : AreOthers g.T.Attached.node l.node (map shown l.fn.slots.cells) l.start l.slot;
 }
 
 abbrev pub decreases-loop-slot : goal.decreases-loop-slot

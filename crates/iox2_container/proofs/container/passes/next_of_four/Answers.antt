@@ -7,7 +7,7 @@ pub returns-in-Some-look_for-2-clause-found : goal.returns-in-Some-look_for-2-cl
 returns-in-Some-look_for-2-clause-found g c = record {
   order = omega arith;
   before = omega arith;
-  others = others_two g.T.Attached.node c.args.node.now (map shown c.args.places.now.cells)
+  others = others_two g.T.Attached.node c.args.node.now (map shown c.args.slots.now.cells)
       c.args.slot c.in_default.ensures.found
       (rw c.look_for.ensures.cells at c.in_default-look_for.ensures.found);
   here = rw (c.look_for-2.ensures.cells, c.look_for.ensures.cells) at
@@ -18,7 +18,7 @@ pub returns-in-Some-look_for-3-clause-found : goal.returns-in-Some-look_for-3-cl
 returns-in-Some-look_for-3-clause-found g c = record {
   order = omega arith;
   before = omega arith;
-  others = others_three g.T.Attached.node c.args.node.now (map shown c.args.places.now.cells)
+  others = others_three g.T.Attached.node c.args.node.now (map shown c.args.slots.now.cells)
       c.args.slot c.in_default.ensures.found
       (rw c.look_for.ensures.cells at c.in_default-look_for.ensures.found)
       (rw (c.look_for-2.ensures.cells, c.look_for.ensures.cells) at
@@ -30,7 +30,7 @@ returns-in-Some-look_for-3-clause-found g c = record {
 pub returns-clause-found : goal.returns-clause-found
 returns-clause-found g c =
     rw c.requires.nothing
-    (others_four g.T.Attached.node c.args.node.now (map shown c.args.places.now.cells)
+    (others_four g.T.Attached.node c.args.node.now (map shown c.args.slots.now.cells)
     c.args.slot c.in_default.ensures.found
     (rw c.look_for.ensures.cells at c.in_default-look_for.ensures.found)
     (rw (c.look_for-2.ensures.cells, c.look_for.ensures.cells) at

@@ -10,7 +10,7 @@ loop-found-init g c = record {
   within = omega arith;
   fits = c.requires.fits;
   so_far = record {
-    callable = c.requires.callable.asks;
+    callable = c.requires.callable.may_call;
     swept = record { marked = λ _. false; asked = refl; left_is = refl; gone_is = refl };
     later = λ k l. refl;
     len = refl;
@@ -27,7 +27,7 @@ sweep_found-requires-clause-taken g c =
 pub sweep_found-requires-clause-callable : goal.sweep_found-requires-clause-callable
 sweep_found-requires-clause-callable g c =
     takes_next (TakesAt g.F.FnMut) (CalledAt g.F.FnMut) g.T.Attached.node c.args.dead.now
-    c.args.f.now c.loop-found.f (map shown c.args.places.now.cells) c.loop-found.places.cells
+    c.args.f.now c.loop-found.f (map shown c.args.slots.now.cells) c.loop-found.slots.cells
     c.loop-found.start c.end-end.result c.loop-found.gone c.in-Some.found c.in-Some.ensures.found
     c.loop-found.invariant.so_far
 
@@ -44,13 +44,13 @@ loop-found-preserved g c =
       within = omega (arith, c.in-Some.ensures.found.before);
       fits = c.sweep_found.ensures.fits;
       so_far = sweep_next (TakesAt g.F.FnMut) (CalledAt g.F.FnMut) g.T.Attached.node
-          c.args.dead.now c.args.f.now c.loop-found.f (map shown c.args.places.now.cells)
-          c.loop-found.places.cells c.loop-found.start c.end-end.result c.loop-found.gone found
-          c.in-Some.ensures.found c.loop-found.invariant.so_far c.next_of.new.places.cells
-          c.sweep_found.new.places.cells c.sweep_found.new.f c.if-sweep_found.gone goes
+          c.args.dead.now c.args.f.now c.loop-found.f (map shown c.args.slots.now.cells)
+          c.loop-found.slots.cells c.loop-found.start c.end-end.result c.loop-found.gone found
+          c.in-Some.ensures.found c.loop-found.invariant.so_far c.next_of.new.slots.cells
+          c.sweep_found.new.slots.cells c.sweep_found.new.f c.if-sweep_found.gone goes
           c.next_of.ensures.cells c.sweep_found.ensures.asked
-          (cells_swept (map shown c.next_of.new.places.cells)
-          (map shown c.sweep_found.new.places.cells) found.slot goes c.sweep_found.ensures.gone
+          (cells_swept (map shown c.next_of.new.slots.cells)
+          (map shown c.sweep_found.new.slots.cells) found.slot goes c.sweep_found.ensures.gone
           c.sweep_found.ensures.kept) gone_is;
       touches = omega (
         arith,
@@ -64,8 +64,8 @@ loop-found-preserved g c =
 
 pub returns-clause-swept : goal.returns-clause-swept
 returns-clause-swept g c =
-    let cells = map shown c.args.places.now.cells in
-    let left = map shown c.loop-found.places.cells in
+    let cells = map shown c.args.slots.now.cells in
+    let left = map shown c.loop-found.slots.cells in
     rw c.next_of.ensures.cells
     (sweep_ends (TakesAt g.F.FnMut) (CalledAt g.F.FnMut)
     (is_of g.T.Attached.node c.args.dead.now) c.args.f.now c.loop-found.f cells left

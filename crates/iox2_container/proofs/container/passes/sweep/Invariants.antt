@@ -6,10 +6,10 @@ use Rattle.iox2_container.proofs.container.passes.sweep.Given as goal
 abbrev pub invariant-loop-found : goal.invariant-loop-found
 invariant-loop-found g l = record {
   within : l.start ≤ l.end;
-  fits : g.S.SlotAllocator.fits l.free l.places.cells;
+  fits : g.S.SlotAllocator.fits l.free l.slots.cells;
   so_far : HasSwept (TakesAt g.F.FnMut) (CalledAt g.F.FnMut) (is_of g.T.Attached.node l.dead)
-      l.fn.f (map shown l.fn.places.cells) l.start l.f (map shown l.places.cells) l.gone;
-  touches : l.places.touches ≡ l.fn.places.touches + l.start + l.gone;
+      l.fn.f (map shown l.fn.slots.cells) l.start l.f (map shown l.slots.cells) l.gone;
+  touches : l.slots.touches ≡ l.fn.slots.touches + l.start + l.gone;
 }
 
 abbrev pub decreases-loop-found : goal.decreases-loop-found

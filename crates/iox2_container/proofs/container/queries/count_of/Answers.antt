@@ -7,7 +7,7 @@ use Rattle.iox2_container.proofs.container.queries.count_of.Goals.{then-has_at, 
 
 pub returns-clause-count : goal.returns-clause-count
 returns-clause-count g c =
-    rw (all_before 0 c.loop-slot.slot (map shown c.args.places.now.cells)
+    rw (all_before 0 c.loop-slot.slot (map shown c.args.slots.now.cells)
     (λ slot later. c.requires.free slot (omega arith))) at c.loop-slot.invariant.count
 
 pub loop-slot-preserved : goal.loop-slot-preserved
@@ -19,7 +19,7 @@ loop-slot-preserved g c =
     ] in
     let has = c.has_at.ensures.has in
     record {
-      count = counted_more g.T.Attached.node c.args.node.now (map shown c.args.places.now.cells)
+      count = counted_more g.T.Attached.node c.args.node.now (map shown c.args.slots.now.cells)
           c.loop-slot.slot c.loop-slot.count c.if-has_at.count has.0 c.has_at.result has.1 has.2
           by_is c.loop-slot.invariant.count;
       few = few_more c.loop-slot.count c.if-has_at.count c.loop-slot.slot c.has_at.result

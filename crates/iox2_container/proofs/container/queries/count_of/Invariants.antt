@@ -6,7 +6,7 @@ abbrev pub invariant-loop-slot : goal.invariant-loop-slot
 invariant-loop-slot g l = record {
   count : l.count
       ≡ length (candidates (is_of g.T.Attached.node l.node)
-      (entries_from 0 (take l.slot (map shown l.places.cells))));
+      (entries_from 0 (take l.slot (map shown l.slots.cells))));
   few : l.count ≤ l.slot;
   looks : l.looks.touches.count ≡ l.fn.looks.touches.count + l.slot;
 }

@@ -16,9 +16,9 @@ loop-slot-preserved g c = record {
     c.loop-slot.invariant.looks,
     c.loop-slot-test.true,
   );
-  others = others_join g.T.Attached.node c.args.node.now (map shown c.args.places.now.cells) _
+  others = others_join g.T.Attached.node c.args.node.now (map shown c.args.slots.now.cells) _
       c.loop-slot.slot c.loop-slot.slot c.args.end
-      (other_at g.T.Attached.node c.args.node.now (map shown c.args.places.now.cells) _
+      (other_at g.T.Attached.node c.args.node.now (map shown c.args.slots.now.cells) _
       c.loop-slot.slot
       (rw c.if-has_at.false at c.has_at.ensures.has)
       (omega (arith, c.loop-slot-test.true)))

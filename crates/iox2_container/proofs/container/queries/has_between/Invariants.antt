@@ -7,7 +7,7 @@ invariant-loop-slot g l = record {
   order : l.start ≤ l.slot;
   within : l.slot ≤ l.end;
   looks : l.looks.touches.count + l.slot ≡ l.fn.looks.touches.count + l.end;
-  others : AreOthers g.T.Attached.node l.node (map shown l.places.cells) l.slot l.end;
+  others : AreOthers g.T.Attached.node l.node (map shown l.slots.cells) l.slot l.end;
 }
 
 abbrev pub decreases-loop-slot : goal.decreases-loop-slot

@@ -13,7 +13,7 @@ returns-in-Stop-clause-visit g c = grind (arith, stops)
 
 pub loop-slot-preserved : goal.loop-slot-preserved
 loop-slot-preserved g c =
-    let cells = map shown c.args.places.now.cells in
+    let cells = map shown c.args.slots.now.cells in
     let goes = not_stop c.show.result c.in_default.not-Stop in
     record {
       callable =
@@ -30,7 +30,7 @@ loop-slot-preserved g c =
 
 pub returns-clause-visit : goal.returns-clause-visit
 returns-clause-visit g c =
-    let cells = map shown c.args.places.now.cells in
+    let cells = map shown c.args.slots.now.cells in
     let all = all_before 0 c.loop-slot.slot cells
     (λ slot later. c.requires.free slot (omega arith)) in
     ends (CalledAt g.F.FnMut) c.args.f.now c.loop-slot.f (details_of (entries_from 0 cells))

@@ -34,11 +34,11 @@ pub returns : goal.returns
 returns g c =
     let calls : g.row.F.Denot → _ → _ → g.row.F.Denot → Type 0 =
     λ f x r h. Called g.F.FnMut f (x, tt) r h in
-    let asks : g.row.F.Denot → _ → _ → g.row.F.Denot → Type 0 =
+    let called : g.row.F.Denot → _ → _ → g.row.F.Denot → Type 0 =
     λ h d goes h'. AskedToGo calls h (port_of (g.T.PortKind.details d)) goes h' in
-    let t = RecoversBy-lent _ asks (λ s. s.0.now) (λ s. s.0.ghost_name)
+    let t = RecoversBy-lent _ called (λ s. s.0.now) (λ s. s.0.ghost_name)
     (λ s x b u e.
-    (e.called.met.0.0, subst (λ d. asks s.0.now d b u.0.now) e.shows e.called.met.1.0))
+    (e.called.met.0.0, subst (λ d. called s.0.now d b u.0.now) e.shows e.called.met.1.0))
     _ _ _ _ _ _ _ c.recover.ensures.recovers in
     let n = left_noted _ (λ s. s.1.ghost_name) (λ s. s.1.now)
     (λ s x b u e. (e.called.met.0.1, e.called.met.1.1.0)) g.T.PortKind.details _

@@ -13,7 +13,7 @@ returns-in_default-pair_in c =
     let expected = c.prefixed-expected.ensures in
     let stops = stops_at_attribute _ _ _ c.in-Some.text.now c.in-Some.tail.now
     c.loop-text.invariant (search rules) (inr c.in_default-pair_in.ensures) in
-    (rw expected.place stops, expected.reason)
+    (rw expected.rest stops, expected.reason)
 
 pub returns-in-Err : goal.returns-in-Err
 returns-in-Err c =
@@ -21,4 +21,4 @@ returns-in-Err c =
     let full = many (length c.loop-text.attributes) (λ few. c.in-Err.ensures.variant.1 few) in
     let stops = stops_at_attribute _ _ _ c.in-Some.text.now c.in-Some.tail.now
     c.loop-text.invariant (search rules) (inl full) in
-    (rw expected.place stops, expected.reason)
+    (rw expected.rest stops, expected.reason)

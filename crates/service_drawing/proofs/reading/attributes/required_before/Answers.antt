@@ -7,4 +7,4 @@ returns-in_default-requiring c =
     let expected = c.prefixed-expected.ensures in
     let stops = stops_at_required _ _ _ c.in-Some.text.now c.in-Some.tail.now
     c.loop-text.invariant (search rules) c.in_default-requiring.ensures in
-    (rw expected.place stops, expected.reason)
+    (rw expected.rest stops, expected.reason)

@@ -9,4 +9,4 @@ returns-in-None c =
     let none = no_line (c.args.prefix.now ++ c.args.word.now) IsFixed type_text c.in-Some.text.now
     c.in-Some.rest.now c.args.bytes.now (search rules)
     (λ t legal. c.in-None.ensures t legal.0 legal.1) in
-    ((expected.place, none), expected.reason)
+    ((expected.rest, none), expected.reason)

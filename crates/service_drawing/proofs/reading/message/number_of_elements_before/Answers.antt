@@ -8,4 +8,4 @@ returns-in-None c =
     let expected = c.prefixed-expected.ensures in
     let none = no_line (c.args.prefix.now ++ codes "elements ") (λ n. n < 2 ^ 64) decimal
     c.in-Some.text.now c.in-Some.rest.now c.args.bytes.now (search rules) c.in-None.ensures in
-    ((expected.place, none), expected.reason)
+    ((expected.rest, none), expected.reason)

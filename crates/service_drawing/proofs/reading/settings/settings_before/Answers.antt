@@ -19,7 +19,7 @@ pub returns-in-Err : goal.returns-in-Err
 returns-in-Err c =
     let set = c.loop-text.invariant.0 in
     let refused = c.in-Err.ensures.refused in
-    rw (c.expected.ensures.place, c.expected.ensures.reason) (
+    rw (c.expected.ensures.rest, c.expected.ensures.reason) (
       stops_at_setting c.args.config.now c.args.kind c.loop-text.config _ _ _ _
           c.in-Some.text.now c.in-Some.tail.now set (search rules) refused,
       setting_reason _ _ _ _ _ _ _ c.in-Some.text.now c.in-Some.tail.now set (search rules) refused,

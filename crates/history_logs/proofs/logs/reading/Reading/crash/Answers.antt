@@ -4,7 +4,7 @@ use Rattle.std.proofs.lemmas.Option.{slice_get-get_or, slice_get_within}
 use Rattle.history_logs.specs.declared.logs.callers.CallerState.{CallerState}
 use Rattle.history_logs.specs.declared.logs.callers.CallerState.TheVariants.{Calls}
 use Rattle.history_logs.specs.Fields.{callers_of}
-use Rattle.history_logs.specs.Reading.{Dies}
+use Rattle.history_logs.specs.Reading.{Crashes}
 use Rattle.history_logs.proofs.logs.reading.Reading.crash.Goals as goal
 
 pub returns-in_ok-set-in-Some-Calls : goal.returns-in_ok-set-in-Some-Calls
@@ -19,15 +19,15 @@ returns-in_ok-set-in-Some-Calls c =
     let there =
     slice_get-get_or services arm.at d (slice_get_within services arm.at found.0 found.1)
     ∙ ap Some (sym c.index_mut.ensures.value) in
-    let dies : Dies services c.args.line (Some (Calls arm.at arm.number))
+    let crashes : Crashes services c.args.line (Some (Calls arm.at arm.number))
     (slice_set services arm.at c.crash.new.self) = (
       d,
       there,
       ap (slice_set services arm.at) c.in_ok-crash-in-Some-Calls.ensures,
     ) in (
       c.requires.waits,
-      subst (λ (state : Option CallerState). Dies services c.args.line state
-          (slice_set services arm.at c.crash.new.self)) (sym does) dies,
+      subst (λ (state : Option CallerState). Crashes services c.args.line state
+          (slice_set services arm.at c.crash.new.self)) (sym does) crashes,
       c.in_ok-set-in-Some-Calls.ensures,
       c.requires.waits,
     )

@@ -9,12 +9,12 @@ invariant_of-self g c = grind (arith, kept_write, newest_write)
 pub returns-clause-adds : goal.returns-clause-adds
 returns-clause-adds g c = rw (← c.self.view_is) (record {
   step = rw c.from_parts.ensures (add_step c.self.inside.header
-      (map shown c.self.inside.places.cells) _ c.put-slot.result
+      (map shown c.self.inside.slots.cells) _ c.put-slot.result
       c.args.details c.self.invariant.0 c.put-slot.ensures.free c.put-slot.ensures.cells
       c.if-self.false c.if-self-2.false);
   kept = (invariant_of-self g c).0.0;
   touched = (
-    omega (arith, c.put-slot.ensures.touched, length-map c.self.inside.places.cells shown),
+    omega (arith, c.put-slot.ensures.touched, length-map c.self.inside.slots.cells shown),
     c.put-slot.ensures.counted,
   );
 })

@@ -9,13 +9,13 @@ pub invariant_of-self : goal.invariant_of-self
 invariant_of-self g c = (
   rw c.leave.ensures.left (kept_recover (CalledAt g.F.FnMut)
       (is_of g.T.Attached.node c.args.dead.now) c.args.f.now c.sweep-gone.new.f
-      c.self.inside.header (map shown c.self.inside.places.cells) _ c.sweep-gone.result
+      c.self.inside.header (map shown c.self.inside.slots.cells) _ c.sweep-gone.result
       c.args.mode c.self.invariant.0 c.sweep-gone.ensures.swept),
   c.sweep-gone.ensures.fits,
   rw c.leave.ensures.left (newest_recover (CalledAt g.F.FnMut)
       (is_of g.T.Attached.node c.args.dead.now) c.args.f.now c.sweep-gone.new.f
-      c.self.inside.header (map shown c.self.inside.places.cells)
-      (map shown c.sweep-gone.new.places.cells) c.sweep-gone.result c.args.mode
+      c.self.inside.header (map shown c.self.inside.slots.cells)
+      (map shown c.sweep-gone.new.slots.cells) c.sweep-gone.result c.args.mode
       c.self.inside.newest_end c.sweep-gone.ensures.swept c.self.invariant.2),
 )
 

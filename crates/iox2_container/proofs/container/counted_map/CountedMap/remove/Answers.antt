@@ -8,19 +8,19 @@ pub leave-requires : goal.leave-requires
 leave-requires g c =
     omega (
       arith,
-      some_stood c.self.inside.header (map shown c.self.inside.places.cells)
-          (map shown c.take_out.new.places.cells) c.args.handle c.in-Some.field-0
+      some_stood c.self.inside.header (map shown c.self.inside.slots.cells)
+          (map shown c.take_out.new.slots.cells) c.args.handle c.in-Some.field-0
           c.self.invariant.0 c.in-Some.ensures.found c.in-Some.ensures.gone,
     )
 
 pub invariant_of-self : goal.invariant_of-self
 invariant_of-self g c = (
   rw c.leave.ensures.left (kept_clear c.self.inside.header
-      (map shown c.self.inside.places.cells) _ c.args.handle c.in-Some.field-0
+      (map shown c.self.inside.slots.cells) _ c.args.handle c.in-Some.field-0
       c.self.invariant.0 c.in-Some.ensures.found c.in-Some.ensures.gone c.args.mode),
   c.take_out.ensures.fits,
   rw c.leave.ensures.left (newest_clear c.self.inside.header
-      (map shown c.self.inside.places.cells) _ c.args.handle c.in-Some.field-0
+      (map shown c.self.inside.slots.cells) _ c.args.handle c.in-Some.field-0
       c.self.invariant.0 c.in-Some.ensures.found c.in-Some.ensures.gone c.args.mode _
       c.self.invariant.2),
 )
@@ -30,7 +30,7 @@ returns-in-Some-clause-removes g c =
     let parts = c.may_have.ensures.0 c.if-not-may_have.false in
     rw (← c.self.view_is) (record {
       step = rw (c.leave.ensures.state, c.leave.ensures.left) (remove_step c.self.inside.header
-          (map shown c.self.inside.places.cells) _ c.args.handle c.in-Some.field-0
+          (map shown c.self.inside.slots.cells) _ c.args.handle c.in-Some.field-0
           c.self.invariant.0 c.in-Some.ensures.found c.in-Some.ensures.gone c.args.mode parts.0
           parts.1);
       kept = (invariant_of-self g c).0.0;
@@ -40,7 +40,7 @@ returns-in-Some-clause-removes g c =
           c.take_out.ensures.touched,
           parts.2,
           c.len.ensures,
-          length-map c.self.inside.places.cells shown,
+          length-map c.self.inside.slots.cells shown,
         ),
         c.take_out.ensures.counted,
       );
@@ -51,7 +51,7 @@ returns-in-None-clause-removes g c =
     let parts = c.may_have.ensures.0 c.if-not-may_have.false in
     rw (← c.self.view_is) (rw c.in-None.ensures.kept (record {
       step = (
-        foreign_by_ticket c.self.inside.header (map shown c.self.inside.places.cells)
+        foreign_by_ticket c.self.inside.header (map shown c.self.inside.slots.cells)
             c.args.handle c.in-None.ensures.found,
         refl,
       );
@@ -62,7 +62,7 @@ returns-in-None-clause-removes g c =
           c.take_out.ensures.touched,
           parts.2,
           c.len.ensures,
-          length-map c.self.inside.places.cells shown,
+          length-map c.self.inside.slots.cells shown,
         ),
         c.take_out.ensures.counted,
       );

@@ -7,17 +7,17 @@ use Rattle.iox2_container.proofs.container.free.FreeListSlotAllocator.put.Goals.
 
 pub returns : goal.returns
 returns g c =
-    let cells = c.args.places.now.cells in
+    let cells = c.args.slots.now.cells in
     let old = c.args.self.now in
     let slot = c.match-self.slot in
     let left = c.match-self.self in
     let new = c.write.new.self.cells in
-    let taken : (c.match-self.places.cells ≡ cells)
+    let taken : (c.match-self.slots.cells ≡ cells)
     × TakesFirst cells old.head old.fresh slot left.head left.fresh =
     elim c.match-self.branch [
-      | in-Some+in-Free w ↦ rw (w.places-is, w.in-Some.is, w.self-is, w.slot-is)
+      | in-Some+in-Free w ↦ rw (w.slots-is, w.in-Some.is, w.self-is, w.slot-is)
           (w.read.ensures.cells, (refl, rw w.in-Free.is at w.read.ensures.cell, refl))
-      | in-None w ↦ rw (w.places-is, w.in-None.is, w.self-is, w.slot-is)
+      | in-None w ↦ rw (w.slots-is, w.in-None.is, w.self-is, w.slot-is)
           (refl, (refl, w.in-None.is, refl))
     ] in
     let w = took cells old slot left taken.1 c.requires.fits c.requires.room in

@@ -7,8 +7,8 @@ pub unreachable-requires : goal.unreachable-requires
 unreachable-requires g c =
     omega (
       arith,
-      full_from 0 (map shown c.args.places.now.cells)
+      full_from 0 (map shown c.args.slots.now.cells)
           (λ k l. c.loop-slot.invariant.taken k
-          (omega (arith, c.len-slot-end.ensures, length-map c.args.places.now.cells shown))),
-      length-map c.args.places.now.cells shown,
+          (omega (arith, c.len-slot-end.ensures, length-map c.args.slots.now.cells shown))),
+      length-map c.args.slots.now.cells shown,
     )

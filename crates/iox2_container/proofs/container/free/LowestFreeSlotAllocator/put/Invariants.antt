@@ -4,7 +4,7 @@ use Rattle.iox2_container.proofs.container.free.LowestFreeSlotAllocator.put.Give
 
 abbrev pub invariant-loop-slot : goal.invariant-loop-slot
 invariant-loop-slot g l = record {
-  cells : l.places.cells ≡ l.fn.places.cells;
-  touches : l.places.touches ≡ l.fn.places.touches + l.slot;
-  taken : (k : ℕ) → k < l.slot → slice_get (map shown l.fn.places.cells) k ≢ Some None;
+  cells : l.slots.cells ≡ l.fn.slots.cells;
+  touches : l.slots.touches ≡ l.fn.slots.touches + l.slot;
+  taken : (k : ℕ) → k < l.slot → slice_get (map shown l.fn.slots.cells) k ≢ Some None;
 }

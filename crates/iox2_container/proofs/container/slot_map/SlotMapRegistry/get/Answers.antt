@@ -8,5 +8,5 @@ returns-clause-details g c =
     let parts = c.may_have.ensures.0 c.if-not-may_have.false in
     let map_is = c.self-inside.inside.0.0 in
     rw (← c.self.view_is, ← c.self-inside.view_is)
-    (names map_is.header (map shown map_is.places.cells) c.args.handle
+    (names map_is.header (map shown map_is.slots.cells) c.args.handle
     c.find.result parts.0 parts.1 c.find.ensures.found)

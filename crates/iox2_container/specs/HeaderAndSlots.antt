@@ -3,7 +3,7 @@ use Rattle.std.specs.Prelude.{◌≡◌, ◌+◌, ℕ, All, Option, List, length
 use Rattle.iox2_container.specs.declared.container.counted_map.RegistryHeader.{RegistryHeader}
 use Rattle.iox2_container.specs.declared.container.cell.Occupant.{Occupant}
 use Rattle.iox2_container.specs.State.{RegistryState, IsRegistry}
-use Rattle.iox2_container.specs.Places.{entries_from}
+use Rattle.iox2_container.specs.SlotEntries.{entries_from}
 
 -- the registry that a header and cells stand for
 abbrev pub registry_of : {T : Type 0} → RegistryHeader → List (Option (Occupant T))

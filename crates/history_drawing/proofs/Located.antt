@@ -1,4 +1,4 @@
--- Where bars and points are, and that each of a time line has a place.
+-- Where bars and points are, and that each of a time line can be drawn.
 use Rattle.std.proofs.Common.{◌≡◌, ◌≢◌, ◌⊎◌, ℕ, zero, suc, ◌+◌, ◌<◌, ◌≤◌, List, [], ◌∷◌, ◌++◌, All, Contains, Option, Some, None, get_or, length, sum_by, take, inl, inr, ap, refl, subst, sym, ◌∙◌, arith}
 use Rattle.std.proofs.lemmas.Bool.{cases_lt}
 use Rattle.std.proofs.lemmas.List.{append-nil, length-append}
@@ -8,7 +8,7 @@ use Rattle.histories.specs.declared.event.Event.{Event}
 use Rattle.log_lines.specs.Lines.{line_text}
 use Rattle.service_conformance.specs.Judged.{Judged as JudgedCall, words_of}
 use Rattle.service_conformance.specs.Judged.Judged.{call, starts, stops}
-use Rattle.history_logs.proofs.Answered.{placed_of}
+use Rattle.history_logs.proofs.Answered.{located_of}
 use Rattle.history_logs.proofs.Kept.{few_step, kept_new, kept_step}
 use Rattle.history_logs.specs.Good.{IsKept}
 use Rattle.history_logs.specs.Logs.{HasGood, Judged, calls_in}
@@ -21,7 +21,7 @@ use Rattle.history_logs.specs.declared.logs.verdict.Refusal.{Refusal}
 use Rattle.history_logs.specs.declared.logs.verdict.Verdict.TheVariants.{Refused}
 use Rattle.std.specs.Prelude.{All}
 use Rattle.std.specs.Borrow.{Bor}
-use Rattle.history_drawing.specs.Places.{IsDrawable}
+use Rattle.history_drawing.specs.Coordinates.{IsDrawable}
 use Rattle.history_drawing.specs.Timelines.{IsPoint, AreBars}
 use Rattle.history_drawing.specs.declared.timeline.Bar.{Bar}
 use Rattle.history_drawing.specs.declared.timeline.Timeline.{Timeline}
@@ -85,15 +85,15 @@ alone text count log read = record {
 }
 
 -- so the events of the services stand in lines of them
-placed_in : (text : List ℕ) (count : ℕ) (log : Log) → HasRead text count log
+located_in : (text : List ℕ) (count : ℕ) (log : Log) → HasRead text count log
     → {s : Service} → Contains log.services s → All (HasEventLines text) log.services
-placed_in text count log read has =
+located_in text count log read has =
     let r = read_on text count log read in
     let few : calls_in log ≤ length text = omega (arith, r.few, r.short) in
     let some : 0 < length log.services = omega (arith, has.1) in
     elim (none_or_some log.waits) as (λ _. All (HasEventLines text) log.services) [
       | inl none ↦
-          placed_of text log.services None (record {
+          located_of text log.services None (record {
             count = count;
             log = log;
             rest = [];
@@ -104,7 +104,7 @@ placed_in text count log read has =
             ends = (refl, none, some);
           })
       | inr waits ↦
-          placed_of text log.services (Some (count + 1, expected.Reply)) (record {
+          located_of text log.services (Some (count + 1, expected.Reply)) (record {
             count = count;
             log = log;
             rest = [];
@@ -146,10 +146,10 @@ window_in bytes reported (count, log, rest, good, refusal) =
     let event_lines = s.event_lines in
     let index = refusal.index in
     let w = refusal.is_window in
-    let placed : HasEventLines good.text s =
+    let located : HasEventLines good.text s =
     All-contains (HasEventLines good.text) log.services s
-    (placed_in good.text count log good.read refusal.stops.is) refusal.stops.is in
-    let answer = placed.answers index refusal.number reported.line refusal.ended
+    (located_in good.text count log good.read refusal.stops.is) refusal.stops.is in
+    let answer = located.answers index refusal.number reported.line refusal.ended
     refusal.stops.there in
     let words : words_of answer.0 ≡ Some reported.words.items =
     ap words_of (same_Some _ _ (sym answer.1 ∙ refusal.called)) ∙ refusal.words in
@@ -168,7 +168,7 @@ window_in bytes reported (count, log, rest, good, refusal) =
     let rises : get_or event_lines refusal.window.begin 0 ≤ get_or event_lines index 0 =
     elim (cases_lt refusal.window.begin index)
     as (λ _. get_or event_lines refusal.window.begin 0 ≤ get_or event_lines index 0) [
-      | inl before ↦ placed.rising refusal.window.begin index 0 before within
+      | inl before ↦ located.rising refusal.window.begin index 0 before within
       | inr late ↦
           let same : refusal.window.begin ≡ index = omega (arith, early, late) in
           subst (λ (k : ℕ). get_or event_lines refusal.window.begin 0 ≤ get_or event_lines k 0) same

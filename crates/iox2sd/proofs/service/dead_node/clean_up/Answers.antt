@@ -1,7 +1,7 @@
 use Rattle.std.proofs.Common.{◌≡◌, rules}
-use Rattle.iox2sd.specs.Deaths.{Keeps}
+use Rattle.iox2sd.specs.DeadNodes.{Keeps}
 use Rattle.iox2_dynamic.proofs.Recoveries.{DeadStep-called}
-use Rattle.iox2sd.proofs.service.death.clean_up.Goals as goal
+use Rattle.iox2sd.proofs.service.dead_node.clean_up.Goals as goal
 
 pub returns : goal.returns
 returns c =

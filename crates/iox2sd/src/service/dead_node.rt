@@ -1,15 +1,15 @@
 //! The removal of dead nodes.
-ghost use Rattle.std.specs.Prelude.{◌≡◌, ◌≤◌, All};
+ghost use Rattle.std.specs.Prelude.{◌≡◌, All};
 ghost use Rattle.iox2_dynamic.specs.Steps.{DeadStep};
-ghost use Rattle.iox2sd.specs.Answers.{death_answer};
-ghost use Rattle.iox2sd.specs.Deaths.{action_for, counted, Keeps, Dies, Went, port_role};
+ghost use Rattle.iox2sd.specs.Answers.{removal_answer};
+ghost use Rattle.iox2sd.specs.DeadNodes.{action_for, counted, Keeps, RemovesNode, Went, port_role};
 ghost use Rattle.iox2sd.specs.Objects.{IsSoundObject, At, Nothing};
-ghost use Rattle.iox2sd.specs.declared.values.Death.TheVariants as death;
+ghost use Rattle.iox2sd.specs.declared.values.NodeRemoval.TheVariants as removal;
 
 use super::Service;
 use super::kept::{Kept, are_ports};
 use super::roles::Counts;
-use crate::values::{Death, DeathAnswer, PortId};
+use crate::values::{DeadNodeRemoval, NodeRemoval, PortId};
 use iox2_dynamic::dynamic_config::{DeregisterNodeState, DynamicConfig, PortCleanupAction};
 use iox2_ids::identifiers::{UniqueNodeId, UniquePortId};
 use iox2sd_common::id::Id;
@@ -79,19 +79,19 @@ fn count_gone(
 }
 
 /// Removes a dead node of these parts, and those of its ports that are not kept.
-fn remove_dead(service: &mut DynamicConfig, dead: Id, kept: &[PortId]) -> Death
-    ensures { Dies dead kept.now service.old result service.new }
+fn remove_dead(service: &mut DynamicConfig, dead: Id, kept: &[PortId]) -> NodeRemoval
+    ensures { RemovesNode dead kept.now service.old result service.new }
 {
     let Some(dead) = dead.of_node() else {
-        return Death::Refused(Status::NoNode);
+        return NodeRemoval::Refused(Status::NoNode);
     };
     if !are_ports(kept) {
-        return Death::Refused(Status::UnknownRole);
+        return NodeRemoval::Refused(Status::UnknownRole);
     }
     let (state, gone) = count_gone(service, &dead, kept);
     match state {
-        DeregisterNodeState::HasOwners => Death::Open(gone),
-        DeregisterNodeState::NoMoreOwners => Death::Locked(gone),
+        DeregisterNodeState::HasOwners => NodeRemoval::Open(gone),
+        DeregisterNodeState::NoMoreOwners => NodeRemoval::Locked(gone),
     }
 }
 
@@ -107,11 +107,12 @@ pub extern "C" fn iox2sd_remove_dead_node_id_at(
     objects: &mut [Service],
     dead: Id,
     kept: &[PortId],
-) -> DeathAnswer
+) -> DeadNodeRemoval
     requires { All IsSoundObject objects.old }
-    ensures { At death_answer death.Refused Nothing (Dies dead kept.now)
+    ensures { At removal_answer removal.Refused Nothing (RemovesNode dead kept.now)
         objects.old result objects.new }
 {
-    let service = lent_or_return!(objects, status => DeathAnswer::of(Death::Refused(status)));
-    DeathAnswer::of(remove_dead(service, dead, kept))
+    let service = lent_or_return!(objects, status =>
+        DeadNodeRemoval::of(NodeRemoval::Refused(status)));
+    DeadNodeRemoval::of(remove_dead(service, dead, kept))
 }

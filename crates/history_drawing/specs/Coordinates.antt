@@ -1,7 +1,7 @@
 -- Where things stand in a picture, in pixels.
 use Rattle.std.specs.Prelude.{ℕ, ◌+◌, ◌*◌, ◌/◌, ◌≤◌, All, Bool, false, if◌then◌else◌, List, Option, Some, None, count_by, is_some, length, ltb}
 use Rattle.history_drawing.specs.declared.timeline.Bar.{Bar}
-use Rattle.history_drawing.specs.declared.timeline.BarEnd.TheVariants.{Answered, Died, Open}
+use Rattle.history_drawing.specs.declared.timeline.BarEnd.TheVariants.{Answered, Crashed, Open}
 use Rattle.history_drawing.specs.declared.timeline.BarEnd.{BarEnd}
 use Rattle.history_drawing.specs.declared.timeline.Point.{Point}
 use Rattle.history_drawing.specs.declared.timeline.Timeline.{Timeline}
@@ -9,7 +9,7 @@ use Rattle.history_drawing.specs.declared.timeline.Timeline.{Timeline}
 -- the line in which a call that begins in this one ends, where that is another one
 abbrev pub end_from : ℕ → BarEnd → Option ℕ
 end_from begin (Answered line words) = if ltb begin line then Some line else None
-end_from begin (Died line) = if ltb begin line then Some line else None
+end_from begin (Crashed line) = if ltb begin line then Some line else None
 end_from begin Open = None
 
 -- the line in which a call ends, where that is another one than that of its begin
@@ -56,7 +56,7 @@ begin_of bars line = left bars line + 4
 -- where the bar of a call that ends so ends: at the right border where it is open
 abbrev pub end_of : List Bar → BarEnd → ℕ
 end_of bars (Answered line words) = left bars line + 114
-end_of bars (Died line) = left bars line + 114
+end_of bars (Crashed line) = left bars line + 114
 end_of bars Open = right bars
 
 -- Where a point stands in the column of a line: the first of its points in the middle, and each
@@ -64,7 +64,7 @@ end_of bars Open = right bars
 abbrev pub point_of : List Bar → ℕ → ℕ → ℕ
 point_of bars line part = left bars line + 118 * (part + 1) / (part + 2)
 
--- there are so few of all that each has a place
+-- there are so few of all that each can be drawn
 pub record IsDrawable (t : Timeline) : Type 0 where
   pub bars : length t.bars.items ≤ 200
   pub rows : length t.rows.items ≤ 200

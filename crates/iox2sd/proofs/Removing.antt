@@ -1,4 +1,4 @@
--- No port comes by a death.
+-- No port comes by the removal of a dead node.
 use Rattle.std.proofs.Common.{◌≡◌, ◌≤◌, ◌-◌, ℕ, Bool, List, length, sym, ap, arith}
 use Rattle.std.specs.Prelude.{not}
 use Rattle.std.proofs.lemmas.List.Sums.{count_by-le-length, length-filter}
@@ -8,7 +8,7 @@ use Rattle.iox2_dynamic.specs.declared.dynamic_config.answers.DeregisterNodeStat
 use Rattle.iox2_dynamic.specs.declared.dynamic_config.cleanup.PortCleanupAction.{PortCleanupAction}
 use Rattle.iox2_dynamic.specs.Recoveries.{RecoversPorts}
 use Rattle.iox2_dynamic.specs.Steps.{DeadStep}
-use Rattle.iox2sd.specs.Deaths.{counted}
+use Rattle.iox2sd.specs.DeadNodes.{counted}
 use Rattle.iox2sd.specs.declared.service.roles.Counts.{Counts}
 
 recovered_fewer : {F : Type 0} (calls : F → UniquePortId → PortCleanupAction → F → Type 0)

@@ -1,4 +1,4 @@
--- What deaths leave of a service.
+-- What removals of dead nodes leave of a service.
 use Rattle.std.proofs.Common.{◌≡◌, ◌∙◌, ℕ, Bool, true, false, List, [], ◌∷◌, ◌++◌, length, refl, sym, ap}
 use Rattle.std.specs.Prelude.{nat_lt, ◌||◌}
 use Rattle.std.specs.Fn.{Mut, Called}
@@ -28,9 +28,9 @@ ports_go : {F : Type 0} (calls : F → UniquePortId → PortCleanupAction → F 
     (h : F) → RecoversPorts calls dead old f new h
     → new.registry ≡ ports_without (dead ∷ []) old.registry
 ports_go {F} calls agrees dead old f new h r =
-    let asks : F → PortDetails → Bool → F → Type 0 =
+    let called : F → PortDetails → Bool → F → Type 0 =
     λ g d goes j. AskedToGo calls g (port_of d) goes j in
-    let go = all_go asks
+    let go = all_go called
     (λ g d goes j a. a.2 ∙ ap removes (agrees g (port_of d) a.0 j a.1)) node_of dead
     r.1.step.marked old.registry.entries f h r.1.step.asked in
     r.1.step.recovers.0
@@ -41,12 +41,12 @@ nodes_go : (dead : ℕ) (old : ContainerState ℕ) (state : ReleaseState) (new :
     → RecoversNodes dead old state new → new.registry ≡ nodes_without (dead ∷ []) old.registry
 nodes_go dead old state new r =
     let node : ℕ → ℕ = λ id. id in
-    let asks : Unit {0} → ℕ → Bool → Unit {0} → Type 0 = λ _ _ goes _. goes ≡ true in
+    let called : Unit {0} → ℕ → Bool → Unit {0} → Type 0 = λ _ _ goes _. goes ≡ true in
     let before : List (Entry ℕ) = old.registry.entries in
     let stay : List (Entry ℕ) = others node (dead ∷ []) before in
     let left : List (Entry ℕ) = staying (is_of node dead) r.step.marked before in
     let go : left ≡ stay =
-    all_go asks (λ f x r h a. a) node dead r.step.marked before tt tt r.step.asked in
+    all_go called (λ f x r h a. a) node dead r.step.marked before tt tt r.step.asked in
     let entries : new.registry.entries ≡ stay =
     ap (λ (n : RegistryState ℕ). n.entries) r.step.recovers.0 ∙ go in
     r.step.recovers.0
@@ -75,12 +75,12 @@ none_of dead old new e =
     ap (λ (r : RegistryState PortDetails). length (candidates (is_of node_of dead) r.entries)) e
     ∙ ap length (none_left node_of dead old.entries)
 
--- one node dies, whose ports all go
-pub one_dies : {F : Type 0} (calls : F → UniquePortId → PortCleanupAction → F → Type 0)
+-- one dead node is removed, and all its ports
+pub one_removed : {F : Type 0} (calls : F → UniquePortId → PortCleanupAction → F → Type 0)
     → ((f : F) (x : UniquePortId) (r : PortCleanupAction) (h : F) → calls f x r h → r ≡ RemovePort)
     → (old : Service) (f : F) (dead : ℕ) (answer : DeregisterNodeState) (new : Service) (h : F)
     → DeadStep calls old f dead answer new h → OnlyOthersStay (dead ∷ []) old new
-one_dies calls agrees old f dead answer new h r =
+one_removed calls agrees old f dead answer new h r =
     let first = ports_go calls agrees dead old.ports.first f new.ports.first r.ports.0
     r.ports.1 in
     let second = ports_go calls agrees dead old.ports.second r.ports.0 new.ports.second
@@ -101,18 +101,18 @@ one_dies calls agrees old f dead answer new h r =
     }
 
 -- the same, where the calls are those of a closure
-pub one_dies_by : {F : Type 0} (g : Mut F (UniquePortId × Unit {0}) PortCleanupAction)
+pub one_removed_by : {F : Type 0} (g : Mut F (UniquePortId × Unit {0}) PortCleanupAction)
     (old : Service) (f : F) (dead : ℕ) (answer : DeregisterNodeState) (new : Service) (h : F)
     → DeadStep (λ f x r h. Called g f (x, tt) r h) old f dead answer new h
     → ((f : F) (x : UniquePortId) (r : PortCleanupAction) (h : F) → Called g f (x, tt) r h
     → r ≡ RemovePort)
     → OnlyOthersStay (dead ∷ []) old new
-one_dies_by g old f dead answer new h r agrees =
-    one_dies (λ f x r h. Called g f (x, tt) r h) agrees old f dead answer new h r
+one_removed_by g old f dead answer new h r agrees =
+    one_removed (λ f x r h. Called g f (x, tt) r h) agrees old f dead answer new h r
 
--- nobody dies
-pub nobody_dies : (s : Service) → OnlyOthersStay [] s s
-nobody_dies s =
+-- no node is removed
+pub none_removed : (s : Service) → OnlyOthersStay [] s s
+none_removed s =
     let ports : (r : RegistryState PortDetails) → r ≡ ports_without [] r =
     λ r. ap (λ (es : List (Entry PortDetails)). record r { entries = es })
     (sym (all_stay node_of r.entries)) in
@@ -128,10 +128,10 @@ nobody_dies s =
       second_ports = ports s.ports.second.registry;
     }
 
--- first some nodes die, and then others
-pub more_die : (ds ms : List ℕ) (old mid new : Service) → OnlyOthersStay ds old mid
+-- first some dead nodes are removed, and then others
+pub more_removed : (ds ms : List ℕ) (old mid new : Service) → OnlyOthersStay ds old mid
     → OnlyOthersStay ms mid new → OnlyOthersStay (ds ++ ms) old new
-more_die ds ms old mid new r s =
+more_removed ds ms old mid new r s =
     let ports : (a b c : RegistryState PortDetails) → b ≡ ports_without ds a
     → c ≡ ports_without ms b → c ≡ ports_without (ds ++ ms) a
     = λ a b c e f. f

@@ -1,5 +1,5 @@
 use Rattle.std.proofs.Common.{ℕ, ◌+◌, ap}
-use Rattle.history_drawing.proofs.svg.place.end_of.Goals as goal
+use Rattle.history_drawing.proofs.svg.coordinates.end_of.Goals as goal
 
 pub returns-in-Answered : goal.returns-in-Answered
 returns-in-Answered c =

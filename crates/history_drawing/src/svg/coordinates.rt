@@ -1,7 +1,7 @@
 //! Where things stand in a picture, in pixels.
 ghost use Rattle.std.specs.Prelude.{◌≡◌, ◌+◌, ◌≤◌, ◌<◌, length};
-ghost use Rattle.history_drawing.specs.Places.{begin_of, column, columns, end_of, ends_above, is_apart};
-ghost use Rattle.history_drawing.specs.Places.{left, own_end, point_of, right, top};
+ghost use Rattle.history_drawing.specs.Coordinates.{begin_of, column, columns, end_of, ends_above, is_apart};
+ghost use Rattle.history_drawing.specs.Coordinates.{left, own_end, point_of, right, top};
 
 use crate::timeline::{Bar, BarEnd};
 
@@ -26,7 +26,7 @@ pub(super) fn own_end(bar: &Bar<'_>) -> Option<usize>
 {
     match bar.end {
         BarEnd::Answered(line, _) if bar.begin < line => Some(line),
-        BarEnd::Died(line) if bar.begin < line => Some(line),
+        BarEnd::Crashed(line) if bar.begin < line => Some(line),
         _ => None,
     }
 }
@@ -109,7 +109,7 @@ pub(super) fn end_of(bars: &[Bar<'_>], end: &BarEnd<'_>) -> usize
 {
     match end {
         BarEnd::Answered(line, _) => left(bars, *line) + (COLUMN - GAP),
-        BarEnd::Died(line) => left(bars, *line) + (COLUMN - GAP),
+        BarEnd::Crashed(line) => left(bars, *line) + (COLUMN - GAP),
         BarEnd::Open => right(bars),
     }
 }

@@ -1,4 +1,4 @@
--- Deaths of nodes, and the ports of a dead node that stay.
+-- Removals of dead nodes, and the ports of a dead node that stay.
 use Rattle.std.specs.Prelude.{ℕ, ◌≤◌, ◌==◌, ◌&&◌, if◌then◌else◌, Bool, List, ◌≡◌, ◌+◌, All, length, Some, None}
 use Rattle.std.specs.List.{list_any}
 use Rattle.std.specs.List.Sorted.{IsNonDecreasingBy}
@@ -8,7 +8,7 @@ use Rattle.iox2_ids.specs.declared.identifiers.port_id.UniquePortId.{UniquePortI
 use Rattle.iox2_ids.specs.declared.identifiers.port_id.UniquePortId.TheVariants as of
 use Rattle.iox2sd_common.specs.Ids.{number_of}
 use Rattle.iox2sd.specs.declared.values.PortId.{PortId}
-use Rattle.iox2sd.specs.Prelude.{port_value, HasOwners, NoMoreOwners, DeadStep, ReadsNode, Id, Counts, Death, Open, Locked, Refused}
+use Rattle.iox2sd.specs.Prelude.{port_value, HasOwners, NoMoreOwners, DeadStep, ReadsNode, Id, Counts, NodeRemoval, Open, Locked, Refused}
 use Rattle.iox2_dynamic.specs.declared.dynamic_config.answers.DeregisterNodeState.{DeregisterNodeState}
 use Rattle.iox2_dynamic.specs.declared.dynamic_config.cleanup.PortCleanupAction.{PortCleanupAction}
 use Rattle.iox2_dynamic.specs.declared.dynamic_config.cleanup.PortCleanupAction.TheVariants.{RemovePort, SkipPort}
@@ -70,20 +70,20 @@ pub record Went (old : Counts) (gone new : Counts) : Type 0 where
   pub first : gone.first + new.first ≡ old.first
   pub second : gone.second + new.second ≡ old.second
 
--- the death of a node, of whose ports these are kept, and how many went
+-- the removal of a dead node, of whose ports these are kept, and how many went
 abbrev pub DiesTo : Held → ℕ → List PortId → DeregisterNodeState → Counts → Held → Type 0
 DiesTo old node kept state gone new =
     DeadStep (Keeps kept) old tt node state new tt × Went (counted old) gone (counted new)
 
 -- the same for a node's id as C sees it
-abbrev pub Dies : Id → List PortId → Held → Death → Held → Type 0
-Dies dead kept old (Open gone) new =
+abbrev pub RemovesNode : Id → List PortId → Held → NodeRemoval → Held → Type 0
+RemovesNode dead kept old (Open gone) new =
     (node : ℕ) × ReadsNode dead (Some node) × All IsPort kept
     × DiesTo old node kept HasOwners gone new
-Dies dead kept old (Locked gone) new =
+RemovesNode dead kept old (Locked gone) new =
     (node : ℕ) × ReadsNode dead (Some node) × All IsPort kept
     × DiesTo old node kept NoMoreOwners gone new
-Dies dead kept old (Refused status.NoNode) new = ReadsNode dead None × (new ≡ old)
-Dies dead kept old (Refused status.UnknownRole) new =
+RemovesNode dead kept old (Refused status.NoNode) new = ReadsNode dead None × (new ≡ old)
+RemovesNode dead kept old (Refused status.UnknownRole) new =
     (node : ℕ) × ReadsNode dead (Some node) × (¬ (All IsPort kept)) × (new ≡ old)
-Dies dead kept old (Refused _) new = ⊥
+RemovesNode dead kept old (Refused _) new = ⊥

@@ -1,4 +1,4 @@
--- Lists that are changed place by place, and orders that are read from links.
+-- Lists that are changed index by index, and orders that are read from links.
 use Rattle.histories.proofs.Words.{zero, suc, [], ◌∷◌, ◌≡◌, ◌≢◌, ℕ, ◌+◌, ◌<◌, ◌≤◌, List, ◌++◌, take, drop, append-nil, take_all, length, get_or, set, refl, sym, ◌∙◌, ap, arith, Contains, map, get_or-map, cases_eq, cases_lt, Contains-get_or, AreEach, drop_all, get_or-set_other, get_or-set_same, get_or_default, length-set, length-map, Option, None, map-id, take-append-drop, reverse, length-append, append_assoc, get_or-append, get_or-append_seam, get_or_past, length-take-le, reverse-append, take_more, Config, Link, Event, IsFollowed, IsFrontier, Path, no_path, order_at, path_more, AreLaid, Grows, IsLaid, IsLaidOut}
 use Rattle.histories.specs.Frontier.{orders, read}
 use Rattle.std.proofs.lemmas.Iterator.Adapters.{YieldsList-from_vec}
@@ -7,7 +7,7 @@ use Rattle.std.specs.Iterator.{Yields}
 use Rattle.std.specs.declared.vec.IntoIter.{IntoIter}
 use Rattle.std.specs.Vec.Iter.{into_iter_items, into_iter_len, into_iter_steps}
 
--- up to a place each value is related to the one that was there, and from there on it is that one
+-- up to an index each value is related to the one that was there, and from there on it is that one
 pub record AreDone {X : Type 0} (R : X → X → Type 0) (olds now : List X) (at : ℕ) : Type 0 where
   pub many : length now ≡ length olds
   pub done : (index : ℕ) (d : X) → index < at → R (get_or olds index d) (get_or now index d)
@@ -20,7 +20,7 @@ less_of i n h ne = grind (arith, cases_lt)
 pub done_none : {X : Type 0} (R : X → X → Type 0) (olds : List X) → AreDone R olds olds 0
 done_none R olds = grind arith
 
--- one place more
+-- one index more
 pub done_more : {X : Type 0} (R : X → X → Type 0) (olds now : List X) (at : ℕ) (item one : X)
     → at < length now → item ≡ get_or now at item → R item one → AreDone R olds now at
     → AreDone R olds (set now at one) (at + 1)

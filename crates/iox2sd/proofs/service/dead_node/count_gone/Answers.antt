@@ -1,5 +1,5 @@
-use Rattle.iox2sd.proofs.Dying.{fewer, so_many_went}
-use Rattle.iox2sd.proofs.service.death.count_gone.Goals as goal
+use Rattle.iox2sd.proofs.Removing.{fewer, so_many_went}
+use Rattle.iox2sd.proofs.service.dead_node.count_gone.Goals as goal
 
 pub overflow_sub-gone : goal.overflow_sub-gone
 overflow_sub-gone c =
