@@ -29,11 +29,11 @@ def whole(front, piece, end, size):
 
 
 def scripts(size):
-    """Scripts by places, commands, bytes, bytes of a line, and entries of a listing."""
+    """Scripts by capacities, commands, bytes, bytes of a line, and entries of a listing."""
     for pattern in map(bytes.decode, ROLES):
-        for places in [(size, 1, 1), (1, size, 1), (1, 1, size)]:
-            line = f"service {pattern} 7 %d %d %d\n" % places
-            yield f"{pattern} with {places} places", [], line.encode(), 0
+        for capacities in [(size, 1, 1), (1, size, 1), (1, 1, size)]:
+            line = f"service {pattern} 7 %d %d %d\n" % capacities
+            yield f"{pattern} with the capacities {capacities}", [], line.encode(), 0
     yield f"{size} commands", [], SERVICE + b"nodes\n" * size, size
     if script := whole(SERVICE, b"nodes\n", b"release 1", size):
         yield f"{size} bytes", [], script[0], script[1] + 1

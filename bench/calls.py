@@ -1,9 +1,9 @@
 #!/usr/bin/env -S python3 -B
 """Typed calls: `bench_calls` beside `plain_calls`, a program without proofs, and calls from C and
 Rust beside plain programs of the same calls, and from C beside those inside. Alone it prints these
-figures. A program takes lines of a call, the places of a service, a number of rounds and of calls
-in a round; a round sets up the same whatever the number of calls. So the instructions of a call
-are the difference of two runs that differ in that number alone."""
+figures. A program takes lines of a call, the capacities of a service, a number of rounds and of
+calls in a round; a round sets up the same whatever the number of calls. So the instructions of a
+call are the difference of two runs that differ in that number alone."""
 
 import os
 import shutil
@@ -22,13 +22,13 @@ ARCHIVE = HERE.parent / "bindings" / "out" / "libiox2sd.a"
 
 
 class Call(NamedTuple):
-    """A call with the places of its service (nodes, subscribers, publishers; for a layout the size
-    of the header, the alignment and the size of an element), how often it is made in each of some
-    rounds, and its mark, the most that its instructions come to beside those of the other
+    """A call with the capacities of its service (nodes, subscribers, publishers; for a layout the
+    size of the header, the alignment and the size of an element), how often it is made in each of
+    some rounds, and its mark, the most that its instructions come to beside those of the other
     program."""
 
     name: str
-    places: str
+    capacities: str
     rounds: int
     few: int
     many: int
@@ -40,7 +40,7 @@ class Call(NamedTuple):
             return [None, None]
         scripts = [work / str(self.few), work / str(self.many)]
         for script in scripts:
-            script.write_text(f"{self.name} {self.places} {self.rounds} {script.name}\n")
+            script.write_text(f"{self.name} {self.capacities} {self.rounds} {script.name}\n")
             measure.check_same(programs, script)
         made = self.rounds * (self.many - self.few)
         counted = ([measure.instructions(program, script) for script in scripts]
@@ -52,8 +52,8 @@ DEFAULT, LARGE, SIZES, NONE = "20 8 2", "500 250 250", "40 8 24", "0 0 0"
 SINGLE = [
     Call("register", DEFAULT, 50, 10, 20),
     Call("register", LARGE, 2, 250, 500),
-    *(Call(name, places, 1, 100, 200) for name in ("list", "nodes", "ports")
-      for places in (DEFAULT, LARGE)),
+    *(Call(name, capacities, 1, 100, 200) for name in ("list", "nodes", "ports")
+      for capacities in (DEFAULT, LARGE)),
     *(Call(name, *at) for name in ("attach", "release", "deregister", "death")
       for at in ((DEFAULT, 50, 4, 8), (LARGE, 2, 125, 250))),
     Call("layout", SIZES, 1, 1_000, 2_000),
@@ -61,7 +61,7 @@ SINGLE = [
     Call("hash-text", NONE, 1, 100, 200, 1.18),
 ]
 BESIDE_PLAIN_CPP = [
-    *(Call("attach-release", places, 1, 100, 200, 1.1) for places in ("1 8 2", "19 8 2")),
+    *(Call("attach-release", capacities, 1, 100, 200, 1.1) for capacities in ("1 8 2", "19 8 2")),
     Call("ports", "1 15 0", 1, 100, 200, 1.1),
     Call("ports", "1 999 0", 1, 10, 20, 1.1),
     Call("port", DEFAULT, 1, 100, 200, 1.1),
@@ -127,7 +127,7 @@ def measure_all(marks):
         ):
             print(f"\n{pair}, instructions a call")
             for call in rows:
-                name = f"{call.name} {call.places}".removesuffix(f" {NONE}")
+                name = f"{call.name} {call.capacities}".removesuffix(f" {NONE}")
                 marks.show(name, call.instructions(programs, work), call.mark, compared)
         kept = [call.instructions(c, work)[0] for call in KEPT]
         marks.show("\na death from C that keeps 16,000 ports, beside one that keeps 1,000", kept,

@@ -12,7 +12,7 @@ ROLES = {
 }
 LAST_U32 = 2**32 - 1
 LAST_U64 = 2**64 - 1
-# From this many places of one kind on no memory has room for a service.
+# From this many slots of one kind on no memory has room for a service.
 TOO_MANY_PLACES = 2**47
 
 
@@ -30,7 +30,7 @@ class Entry(NamedTuple):
     shown: int
 
 
-class Places:
+class Registry:
     """The nodes of a service, or its ports of one role."""
 
     def __init__(self, capacity):
@@ -68,10 +68,10 @@ class Places:
 class Service:
     NODE = b"node"
 
-    def __init__(self, places, pattern, *capacities):
-        """`places` makes those of one kind."""
+    def __init__(self, registry, pattern, *capacities):
+        """`registry` makes that of one kind."""
         self.roles = ROLES[pattern]
-        self.places = dict(zip((Service.NODE, *self.roles), map(places, capacities)))
+        self.registries = dict(zip((Service.NODE, *self.roles), map(registry, capacities)))
         self.locked, self.commands = False, 0
         self.handles = {}  # by the number of the command: kind of entry, slot, ticket
 
@@ -86,30 +86,30 @@ class Service:
         return reply
 
     def register(self, node):
-        return b"locked" if self.locked else self.placed(Service.NODE, id_of(node), id_of(node))
+        return b"locked" if self.locked else self.added(Service.NODE, id_of(node), id_of(node))
 
     def add(self, role, port, node):
         if role not in self.roles:
             return b"wrong-pattern"
         if self.locked:
             return b"locked"
-        if not self.places[Service.NODE].of_node(id_of(node)):
+        if not self.registries[Service.NODE].of_node(id_of(node)):
             return b"not-registered"
-        return self.placed(role, id_of(node), id_of(port))
+        return self.added(role, id_of(node), id_of(port))
 
-    def placed(self, kind, node, shown):
-        place = self.places[kind].add(node, shown)
-        return b"full" if place is None else (kind, *place)
+    def added(self, kind, node, shown):
+        added = self.registries[kind].add(node, shown)
+        return b"full" if added is None else (kind, *added)
 
     def deregister(self, number):
         if int(number) not in self.handles:
             return b"no-handle"
         kind, slot, ticket = self.handles[int(number)]
-        nodes = self.places[Service.NODE]
+        nodes = self.registries[Service.NODE]
         if kind != Service.NODE or not nodes.holds(slot, ticket):
             return b"not-owned"
         node = nodes.entries[slot].node
-        has_ports = any(self.places[role].of_node(node) for role in self.roles)
+        has_ports = any(self.registries[role].of_node(node) for role in self.roles)
         if len(nodes.of_node(node)) == 1 and has_ports:
             return b"ports-attached"
         return self.without_nodes([slot])
@@ -118,9 +118,9 @@ class Service:
         if int(number) not in self.handles:
             return b"no-handle"
         kind, slot, ticket = self.handles[int(number)]
-        if kind == Service.NODE or not self.places[kind].holds(slot, ticket):
+        if kind == Service.NODE or not self.registries[kind].holds(slot, ticket):
             return b"not-owned"
-        self.places[kind].free(slot)
+        self.registries[kind].free(slot)
         return b"released"
 
     def nodes(self):
@@ -132,27 +132,28 @@ class Service:
     def count(self, role):
         if role not in self.roles:
             return b"wrong-pattern"
-        return b"count %d" % len(self.places[role].entries)
+        return b"count %d" % len(self.registries[role].entries)
 
     def dead(self, node, *skipped):
         node, kept = id_of(node), set(map(id_of, skipped[1:]))
-        ports = [(self.places[role], slot) for role in self.roles
-                 for slot in self.places[role].of_node(node)]
-        going = [(places, slot) for places, slot in ports if places.entries[slot].shown not in kept]
-        for places, slot in going:
-            places.free(slot)
-        return self.without_nodes(self.places[Service.NODE].of_node(node) if going == ports else [])
+        ports = [(self.registries[role], slot) for role in self.roles
+                 for slot in self.registries[role].of_node(node)]
+        going = [(of, slot) for of, slot in ports if of.entries[slot].shown not in kept]
+        for of, slot in going:
+            of.free(slot)
+        nodes = self.registries[Service.NODE]
+        return self.without_nodes(nodes.of_node(node) if going == ports else [])
 
     def without_nodes(self, slots):
         """Nodes leave. With the last one the service is locked."""
-        nodes = self.places[Service.NODE]
+        nodes = self.registries[Service.NODE]
         for slot in slots:
             nodes.free(slot)
         self.locked |= bool(slots) and not nodes.entries
         return b"no-owners" if self.locked else b"has-owners"
 
     def listing(self, kind):
-        return b"list" + b"".join(b" %x" % shown for shown in self.places[kind].shown())
+        return b"list" + b"".join(b" %x" % shown for shown in self.registries[kind].shown())
 
 
 def id_of(words):
@@ -160,8 +161,8 @@ def id_of(words):
     return sum(int(part) << shift for part, shift in zip(words.split(b"."), (96, 64, 32, 0)))
 
 
-def new_service(line, places=Places):
+def new_service(line, registry=Registry):
     """The service of a service line, or `None` where no memory has room for it."""
     _, pattern, _, *capacities = line.split(b" ")
     fits = max(map(int, capacities)) < TOO_MANY_PLACES
-    return Service(places, pattern, *map(int, capacities)) if fits else None
+    return Service(registry, pattern, *map(int, capacities)) if fits else None

@@ -73,7 +73,7 @@ class Writer:
     def may_lock(self):
         if not self.service:
             return False
-        held = self.service.places[machine.Service.NODE].entries.values()
+        held = self.service.registries[machine.Service.NODE].entries.values()
         return len({entry.node for entry in held}) < 2
 
     def arguments(self, word):
@@ -103,7 +103,7 @@ class Writer:
         others = [self.dice.randint(0, commands), commands, commands + 1, self.dice.choice(NUMBERS)]
         held = [number for number, (kind, slot, ticket) in handles.items()
                 if (kind == machine.Service.NODE) == of_node
-                and self.service.places[kind].holds(slot, ticket)]
+                and self.service.registries[kind].holds(slot, ticket)]
         chosen = self.dice.choices([held or [*handles], [*handles], others], [7, 2, 1])[0]
         return b"%d" % self.dice.choice(chosen or others)
 

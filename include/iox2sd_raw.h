@@ -80,51 +80,51 @@ struct iox2sd_text_answer iox2sd_id_text_at(struct iox2sd_id id, uint8_t *out, s
 struct iox2sd_id_answer iox2sd_id_from_text_at(const uint8_t *text, size_t length);
 struct iox2sd_number_answer iox2sd_next_service_number_at(struct iox2sd_service_numbers *numbers,
                                                           size_t count);
-uint32_t iox2sd_service_create_at(struct iox2sd_service *places, size_t count, uint64_t pattern,
+uint32_t iox2sd_service_create_at(struct iox2sd_service *objects, size_t count, uint64_t pattern,
                                   uint64_t number, struct iox2sd_capacities capacities,
                                   uint64_t tickets);
-uint32_t iox2sd_service_free_at(struct iox2sd_service *places, size_t count);
-struct iox2sd_handle_answer iox2sd_register_node_id_at(struct iox2sd_service *places, size_t count,
+uint32_t iox2sd_service_free_at(struct iox2sd_service *objects, size_t count);
+struct iox2sd_handle_answer iox2sd_register_node_id_at(struct iox2sd_service *objects, size_t count,
                                                        struct iox2sd_id node);
-uint32_t iox2sd_deregister_node_id_at(struct iox2sd_service *places, size_t count,
+uint32_t iox2sd_deregister_node_id_at(struct iox2sd_service *objects, size_t count,
                                       struct iox2sd_handle handle);
-struct iox2sd_handle_answer iox2sd_attach_at(struct iox2sd_service *places, size_t count,
+struct iox2sd_handle_answer iox2sd_attach_at(struct iox2sd_service *objects, size_t count,
                                              const struct iox2sd_port_details *ports,
                                              size_t port_count);
-uint32_t iox2sd_release_port_at(struct iox2sd_service *places, size_t count,
+uint32_t iox2sd_release_port_at(struct iox2sd_service *objects, size_t count,
                                 struct iox2sd_handle handle);
 struct iox2sd_dead_node_removal
-iox2sd_remove_dead_node_id_at(struct iox2sd_service *places, size_t count, struct iox2sd_id dead,
+iox2sd_remove_dead_node_id_at(struct iox2sd_service *objects, size_t count, struct iox2sd_id dead,
                               const struct iox2sd_port_id *kept, size_t kept_count);
-struct iox2sd_number_answer iox2sd_messaging_pattern_at(const struct iox2sd_service *places,
+struct iox2sd_number_answer iox2sd_messaging_pattern_at(const struct iox2sd_service *objects,
                                                         size_t count);
-struct iox2sd_number_answer iox2sd_service_number_at(const struct iox2sd_service *places,
+struct iox2sd_number_answer iox2sd_service_number_at(const struct iox2sd_service *objects,
                                                      size_t count);
-struct iox2sd_roles_answer iox2sd_port_roles_at(const struct iox2sd_service *places, size_t count);
-struct iox2sd_flag_answer iox2sd_has_role_at(const struct iox2sd_service *places, size_t count,
+struct iox2sd_roles_answer iox2sd_port_roles_at(const struct iox2sd_service *objects, size_t count);
+struct iox2sd_flag_answer iox2sd_has_role_at(const struct iox2sd_service *objects, size_t count,
                                              uint64_t role);
-struct iox2sd_flag_answer iox2sd_is_locked_at(const struct iox2sd_service *places, size_t count);
-struct iox2sd_count_answer iox2sd_number_of_nodes_at(const struct iox2sd_service *places,
+struct iox2sd_flag_answer iox2sd_is_locked_at(const struct iox2sd_service *objects, size_t count);
+struct iox2sd_count_answer iox2sd_number_of_nodes_at(const struct iox2sd_service *objects,
                                                      size_t count);
-struct iox2sd_count_answer iox2sd_max_nodes_at(const struct iox2sd_service *places, size_t count);
-struct iox2sd_flag_answer iox2sd_has_room_for_node_at(const struct iox2sd_service *places,
+struct iox2sd_count_answer iox2sd_max_nodes_at(const struct iox2sd_service *objects, size_t count);
+struct iox2sd_flag_answer iox2sd_has_room_for_node_at(const struct iox2sd_service *objects,
                                                       size_t count);
-struct iox2sd_count_answer iox2sd_count_ports_at(const struct iox2sd_service *places, size_t count,
+struct iox2sd_count_answer iox2sd_count_ports_at(const struct iox2sd_service *objects, size_t count,
                                                  uint64_t role);
-struct iox2sd_count_answer iox2sd_max_ports_at(const struct iox2sd_service *places, size_t count,
+struct iox2sd_count_answer iox2sd_max_ports_at(const struct iox2sd_service *objects, size_t count,
                                                uint64_t role);
-struct iox2sd_flag_answer iox2sd_has_room_at(const struct iox2sd_service *places, size_t count,
+struct iox2sd_flag_answer iox2sd_has_room_at(const struct iox2sd_service *objects, size_t count,
                                              uint64_t role);
-struct iox2sd_id_answer iox2sd_node_at(const struct iox2sd_service *places, size_t count,
+struct iox2sd_id_answer iox2sd_node_at(const struct iox2sd_service *objects, size_t count,
                                        struct iox2sd_handle handle);
-struct iox2sd_port_answer iox2sd_port_at(const struct iox2sd_service *places, size_t count,
+struct iox2sd_port_answer iox2sd_port_at(const struct iox2sd_service *objects, size_t count,
                                          struct iox2sd_handle handle);
-struct iox2sd_count_answer iox2sd_nodes_at(const struct iox2sd_service *places, size_t count,
+struct iox2sd_count_answer iox2sd_nodes_at(const struct iox2sd_service *objects, size_t count,
                                            struct iox2sd_id *out, size_t capacity);
-struct iox2sd_count_answer iox2sd_ports_at(const struct iox2sd_service *places, size_t count,
+struct iox2sd_count_answer iox2sd_ports_at(const struct iox2sd_service *objects, size_t count,
                                            uint64_t role, struct iox2sd_port_details *out,
                                            size_t capacity);
-struct iox2sd_count_answer iox2sd_ports_of_at(const struct iox2sd_service *places, size_t count,
+struct iox2sd_count_answer iox2sd_ports_of_at(const struct iox2sd_service *objects, size_t count,
                                               struct iox2sd_id node,
                                               struct iox2sd_port_details *out, size_t capacity);
 

@@ -58,10 +58,10 @@ public:
         pairs.push(added);
         const iox2sd_place_answer answer = iox2sd_attributes_sort(pairs.items, pairs.size);
         if (answer.status != IOX2SD_STATUS_DONE) return Status{answer.status};
-        std::size_t place = 0;
-        while (pairs.items[place].key != detail::bytes(added.key())) ++place;
-        for (std::size_t i = size_; i > place; --i) items_[i] = items_[i - 1];
-        items_[place] = added;
+        std::size_t index = 0;
+        while (pairs.items[index].key != detail::bytes(added.key())) ++index;
+        for (std::size_t i = size_; i > index; --i) items_[i] = items_[i - 1];
+        items_[index] = added;
         ++size_;
         return {};
     }

@@ -124,7 +124,7 @@ static void values(void) {
     }
     TIME("layout of a message", "20", CALLS, 1,
          sink += iox2sd_message_sample_layout(&details, i & 1023).size);
-    TIME("places in a message", "20", CALLS, 1,
+    TIME("offsets in a message", "20", CALLS, 1,
          sink += iox2sd_message_places(&details, i * 8).payload);
     TIME("compatible messages", "", FEWER_CALLS, 1,
          sink += done(iox2sd_message_is_compatible_to(&details, &details).status));

@@ -4,7 +4,7 @@ use crate::service::{Cleanup, Handle, Id, Pattern, Port, PortKind, Progress, Rol
 use std::collections::TryReserveError;
 
 #[derive(Clone, Copy, Debug)]
-pub struct Places {
+pub struct Capacities {
     pub nodes: u32,
     pub subscribers: u32,
     pub publishers: u32,
@@ -12,37 +12,37 @@ pub struct Places {
 
 /// A publish-subscribe service, and the handles of its nodes and subscribers.
 pub struct Attached {
-    places: Places,
+    capacities: Capacities,
     service: Service,
     nodes: Vec<Handle>,
     subscribers: Vec<Handle>,
 }
 
 impl Attached {
-    pub fn new(places: Places) -> Result<Self, TryReserveError> {
+    pub fn new(capacities: Capacities) -> Result<Self, TryReserveError> {
         let (nodes, first, second) = (
-            places.nodes as usize,
-            places.publishers as usize,
-            places.subscribers as usize,
+            capacities.nodes as usize,
+            capacities.publishers as usize,
+            capacities.subscribers as usize,
         );
         Ok(Attached {
-            places,
+            capacities,
             service: Service::new(Pattern::PublishSubscribe, 7, nodes, first, second)?,
             nodes: Vec::with_capacity(nodes),
             subscribers: Vec::with_capacity(second),
         })
     }
 
-    pub fn with_nodes(places: Places) -> Result<Self, TryReserveError> {
-        let mut attached = Self::new(places)?;
-        attached.register(places.nodes);
+    pub fn with_nodes(capacities: Capacities) -> Result<Self, TryReserveError> {
+        let mut attached = Self::new(capacities)?;
+        attached.register(capacities.nodes);
         Ok(attached)
     }
 
-    pub fn full(places: Places) -> Result<Self, TryReserveError> {
-        let mut attached = Self::with_nodes(places)?;
-        attached.attach_subscribers(places.subscribers);
-        attached.attach_publishers(places.publishers);
+    pub fn full(capacities: Capacities) -> Result<Self, TryReserveError> {
+        let mut attached = Self::with_nodes(capacities)?;
+        attached.attach_subscribers(capacities.subscribers);
+        attached.attach_publishers(capacities.publishers);
         Ok(attached)
     }
 
@@ -59,7 +59,7 @@ impl Attached {
         for number in 0..count {
             let port = Port {
                 id: id(1, number),
-                node: id(0, self.places.nodes.saturating_sub(number)),
+                node: id(0, self.capacities.nodes.saturating_sub(number)),
                 kind: PortKind::Subscriber { buffer_size: 2 },
             };
             if let Ok(handle) = self.service.attach(port) {
@@ -73,7 +73,7 @@ impl Attached {
         for number in 0..count {
             let _handle = self.service.attach(Port {
                 id: id(2, number),
-                node: id(0, self.places.nodes.saturating_sub(number)),
+                node: id(0, self.capacities.nodes.saturating_sub(number)),
                 kind: PortKind::Publisher {
                     number_of_samples: 2,
                     max_slice_len: 1,
@@ -132,7 +132,7 @@ impl Attached {
     pub fn die(&mut self, count: u32) -> u64 {
         let mut ports = 0;
         for number in 0..count {
-            let dead = id(0, self.places.nodes.saturating_sub(number));
+            let dead = id(0, self.capacities.nodes.saturating_sub(number));
             self.service.remove_dead(dead, |_role, _port| {
                 ports += 1;
                 Cleanup::RemovePort

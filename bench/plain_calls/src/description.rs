@@ -69,8 +69,8 @@ pub struct Verifier {
 
 impl Attributes {
     pub fn add(&mut self, attribute: Attribute) {
-        let place = self.0.partition_point(|other| *other <= attribute);
-        self.0.insert(place, attribute);
+        let index = self.0.partition_point(|other| *other <= attribute);
+        self.0.insert(index, attribute);
     }
 
     fn has(&self, attribute: &Attribute) -> bool {

@@ -1,6 +1,6 @@
 //! Which call is made, how often, and among how many nodes and ports.
 
-use crate::attached::{Attached, Places};
+use crate::attached::{Attached, Capacities};
 use crate::described::{self, Sizes};
 use std::collections::TryReserveError;
 
@@ -23,7 +23,7 @@ enum Call {
 #[derive(Clone, Copy, Debug)]
 pub struct Task {
     call: Call,
-    places: Places,
+    capacities: Capacities,
     rounds: u32,
     calls: u32,
 }
@@ -35,14 +35,14 @@ impl Task {
         let mut words = line.split_whitespace();
         let call = Call::named(words.next()?)?;
         let mut number = || words.next()?.parse().ok();
-        let places = Places {
+        let capacities = Capacities {
             nodes: number()?,
             subscribers: number()?,
             publishers: number()?,
         };
         Some(Task {
             call,
-            places,
+            capacities,
             rounds: number()?,
             calls: number()?,
         })
@@ -62,17 +62,17 @@ impl Task {
             Call::Layout => Ok(described::layouts(self.sizes(), self.calls)),
             Call::Verification => Ok(described::verifications(self.calls)),
             Call::HashText => Ok(described::hash_texts(self.calls)),
-            Call::Register => Ok(Attached::new(self.places)?.register(self.calls)),
-            Call::Attach => Ok(Attached::with_nodes(self.places)?.attach_subscribers(self.calls)),
-            _ => self.calls_on(&mut Attached::full(self.places)?),
+            Call::Register => Ok(Attached::new(self.capacities)?.register(self.calls)),
+            Call::Attach => Ok(Attached::with_nodes(self.capacities)?.attach_subscribers(self.calls)),
+            _ => self.calls_on(&mut Attached::full(self.capacities)?),
         }
     }
 
     fn sizes(&self) -> Sizes {
         Sizes {
-            header: self.places.nodes as usize,
-            element: self.places.publishers as usize,
-            alignment: self.places.subscribers as usize,
+            header: self.capacities.nodes as usize,
+            element: self.capacities.publishers as usize,
+            alignment: self.capacities.subscribers as usize,
         }
     }
 

@@ -139,8 +139,8 @@ class DynamicConfig:
     close it. It cannot be copied.
     """
 
-    __slots__ = ("_place", "__weakref__")
-    _place: _native.Service
+    __slots__ = ("_object", "__weakref__")
+    _object: _native.Service
 
     def __init__(
         self, messaging_pattern: MessagingPattern, service_number: int, capacities: Capacities,
@@ -151,8 +151,8 @@ class DynamicConfig:
         attaching uses one, and tickets are never reused. Raises `HasServiceError` where the object
         has one already, and `NoMemoryError`.
         """
-        if not hasattr(self, "_place"):
-            self._place = _native.Service()
+        if not hasattr(self, "_object"):
+            self._object = _native.Service()
         what = "DynamicConfig"
         instance(messaging_pattern, MessagingPattern, f"{what}.messaging_pattern")
         instance(capacities, Capacities, f"{what}.capacities")
@@ -404,7 +404,7 @@ class DynamicConfig:
         self.close()
 
     def __del__(self) -> None:
-        if hasattr(self, "_place"):
+        if hasattr(self, "_object"):
             self.close()
 
     def __repr__(self) -> str:
@@ -426,7 +426,7 @@ class DynamicConfig:
     # ---- Calls of the library ----
 
     def _call(self, function: Any, *arguments: Any) -> Any:
-        return function(self._place, 1, *arguments)
+        return function(self._object, 1, *arguments)
 
     def _answer(self, what: str, function: Any, *arguments: Any) -> Any:
         answer = self._call(function, *arguments)

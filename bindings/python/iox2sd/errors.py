@@ -122,8 +122,8 @@ class RefusedError(Error):
         self.unit = unit
 
     def __str__(self) -> str:
-        place = "" if self.at is None else f", at {self.unit} {self.at}"
-        return f"{self.what}: {self.status}{place}"
+        position = "" if self.at is None else f", at {self.unit} {self.at}"
+        return f"{self.what}: {self.status}{position}"
 
 
 class NoMemoryError(RefusedError, MemoryError, status=Status.NO_MEMORY):

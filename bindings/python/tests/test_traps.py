@@ -258,7 +258,7 @@ class Calls(TestCase):
 
         def asks(place: Any, *_: Any):
             both_within.wait()
-            answers.append((other if place is one._place else one).number_of_nodes)
+            answers.append((other if place is one._object else one).number_of_nodes)
 
         with before("is_locked_at", asks):
             self.joined(lambda: one.is_locked, lambda: other.is_locked)

@@ -257,10 +257,10 @@ impl LogWriter {
     pub fn caller(&self, name: &str) -> Result<Caller<'_>, LogError> {
         let record = Record::new(name)?;
         let mut callers = self.callers.lock().unwrap_or_else(PoisonError::into_inner);
-        let places = callers.alive + 1;
-        let room = callers.records.try_reserve(places);
+        let needed = callers.alive + 1;
+        let room = callers.records.try_reserve(needed);
         room.map_err(|_| LogError::NoMemory)?;
-        callers.alive = places;
+        callers.alive = needed;
         Ok(Caller { log: self, record })
     }
 

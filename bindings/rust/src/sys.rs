@@ -229,38 +229,39 @@ functions! {
     (id: iox2sd_id) -> u64: iox2sd_id_owner_id;
     (id: iox2sd_id, other: iox2sd_id) -> bool: iox2sd_id_is_before;
     (id: iox2sd_id, out: *mut u8, capacity: usize) -> iox2sd_text_answer: iox2sd_id_text_at;
-    (places: *mut iox2sd_service, count: usize, pattern: u64, number: u64,
+    (objects: *mut iox2sd_service, count: usize, pattern: u64, number: u64,
      capacities: iox2sd_capacities, tickets: u64) -> u32: iox2sd_service_create_at;
-    (places: *mut iox2sd_service, count: usize) -> u32: iox2sd_service_free_at;
-    (places: *mut iox2sd_service, count: usize, node: iox2sd_id) -> iox2sd_handle_answer:
+    (objects: *mut iox2sd_service, count: usize) -> u32: iox2sd_service_free_at;
+    (objects: *mut iox2sd_service, count: usize, node: iox2sd_id) -> iox2sd_handle_answer:
         iox2sd_register_node_id_at;
-    (places: *mut iox2sd_service, count: usize, handle: iox2sd_handle) -> u32:
+    (objects: *mut iox2sd_service, count: usize, handle: iox2sd_handle) -> u32:
         iox2sd_deregister_node_id_at iox2sd_release_port_at;
-    (places: *mut iox2sd_service, count: usize, ports: *const iox2sd_port_details,
+    (objects: *mut iox2sd_service, count: usize, ports: *const iox2sd_port_details,
      port_count: usize) -> iox2sd_handle_answer: iox2sd_attach_at;
     (numbers: *mut iox2sd_service_numbers, count: usize) -> iox2sd_number_answer:
         iox2sd_next_service_number_at;
-    (places: *mut iox2sd_service, count: usize, dead: iox2sd_id, kept: *const iox2sd_port_id,
+    (objects: *mut iox2sd_service, count: usize, dead: iox2sd_id, kept: *const iox2sd_port_id,
      kept_count: usize) -> iox2sd_dead_node_removal: iox2sd_remove_dead_node_id_at;
-    (places: *const iox2sd_service, count: usize) -> iox2sd_number_answer: iox2sd_service_number_at;
-    (places: *const iox2sd_service, count: usize) -> iox2sd_roles_answer: iox2sd_port_roles_at;
-    (places: *const iox2sd_service, count: usize, role: u64) -> iox2sd_flag_answer:
+    (objects: *const iox2sd_service, count: usize) -> iox2sd_number_answer:
+        iox2sd_service_number_at;
+    (objects: *const iox2sd_service, count: usize) -> iox2sd_roles_answer: iox2sd_port_roles_at;
+    (objects: *const iox2sd_service, count: usize, role: u64) -> iox2sd_flag_answer:
         iox2sd_has_role_at iox2sd_has_room_at;
-    (places: *const iox2sd_service, count: usize) -> iox2sd_flag_answer:
+    (objects: *const iox2sd_service, count: usize) -> iox2sd_flag_answer:
         iox2sd_is_locked_at iox2sd_has_room_for_node_at;
-    (places: *const iox2sd_service, count: usize) -> iox2sd_count_answer:
+    (objects: *const iox2sd_service, count: usize) -> iox2sd_count_answer:
         iox2sd_number_of_nodes_at iox2sd_max_nodes_at;
-    (places: *const iox2sd_service, count: usize, role: u64) -> iox2sd_count_answer:
+    (objects: *const iox2sd_service, count: usize, role: u64) -> iox2sd_count_answer:
         iox2sd_count_ports_at iox2sd_max_ports_at;
-    (places: *const iox2sd_service, count: usize, handle: iox2sd_handle) -> iox2sd_id_answer:
+    (objects: *const iox2sd_service, count: usize, handle: iox2sd_handle) -> iox2sd_id_answer:
         iox2sd_node_at;
-    (places: *const iox2sd_service, count: usize, handle: iox2sd_handle) -> iox2sd_port_answer:
+    (objects: *const iox2sd_service, count: usize, handle: iox2sd_handle) -> iox2sd_port_answer:
         iox2sd_port_at;
-    (places: *const iox2sd_service, count: usize, out: *mut iox2sd_id,
+    (objects: *const iox2sd_service, count: usize, out: *mut iox2sd_id,
      capacity: usize) -> iox2sd_count_answer: iox2sd_nodes_at;
-    (places: *const iox2sd_service, count: usize, role: u64, out: *mut iox2sd_port_details,
+    (objects: *const iox2sd_service, count: usize, role: u64, out: *mut iox2sd_port_details,
      capacity: usize) -> iox2sd_count_answer: iox2sd_ports_at;
-    (places: *const iox2sd_service, count: usize, node: iox2sd_id, out: *mut iox2sd_port_details,
+    (objects: *const iox2sd_service, count: usize, node: iox2sd_id, out: *mut iox2sd_port_details,
      capacity: usize) -> iox2sd_count_answer: iox2sd_ports_of_at;
     (script: *const u8, length: usize, out: *mut u8, capacity: usize) -> iox2sd_script_answer:
         iox2sd_script_run_at;

@@ -1,7 +1,7 @@
 //! The calls, on a service whose nodes and ports are those of `bench_calls`. What is passed and
 //! returned is a black box to the compiler.
 
-use crate::{Places, Service};
+use crate::{Capacities, Service};
 use std::hint::black_box;
 
 /// A service with all its nodes and ports.
@@ -14,26 +14,26 @@ pub struct Attached<S: Service> {
 }
 
 /// Makes this many services, and drops each.
-pub fn make<S: Service>(places: Places, calls: u32) -> Option<u64> {
+pub fn make<S: Service>(capacities: Capacities, calls: u32) -> Option<u64> {
     for _ in 0..calls {
-        black_box(S::make(black_box(places))?);
+        black_box(S::make(black_box(capacities))?);
     }
     Some(u64::from(calls))
 }
 
 impl<S: Service> Attached<S> {
-    pub fn full(places: Places) -> Option<Self> {
-        let mut service = S::make(places)?;
-        let nodes: Vec<_> = (1..=places.nodes).rev().map(S::node).collect();
+    pub fn full(capacities: Capacities) -> Option<Self> {
+        let mut service = S::make(capacities)?;
+        let nodes: Vec<_> = (1..=capacities.nodes).rev().map(S::node).collect();
         for node in nodes.iter().rev() {
             service.register(*node)?;
         }
         let mut subscribers = Vec::new();
-        for (number, node) in (0..places.subscribers).zip(&nodes) {
+        for (number, node) in (0..capacities.subscribers).zip(&nodes) {
             subscribers.push(service.attach(S::subscriber(*node, number))?);
         }
         let mut publishers = Vec::new();
-        for (number, node) in (0..places.publishers).zip(&nodes) {
+        for (number, node) in (0..capacities.publishers).zip(&nodes) {
             publishers.push(service.attach(S::publisher(*node, number))?);
         }
         Some(Attached {

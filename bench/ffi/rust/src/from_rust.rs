@@ -1,6 +1,6 @@
 //! The calls of the crate `iox2sd`.
 
-use crate::{Places, Service};
+use crate::{Capacities, Service};
 use iox2sd::config::DataSegmentType;
 use iox2sd::container::{ContainerHandle, Role};
 use iox2sd::dynamic_config::{
@@ -39,12 +39,12 @@ impl Service for DynamicConfig {
     }
 
     #[inline]
-    fn make(places: Places) -> Option<Self> {
+    fn make(capacities: Capacities) -> Option<Self> {
         let ports = publish_subscribe::DynamicConfigSettings {
-            number_of_publishers: places.publishers as usize,
-            number_of_subscribers: places.subscribers as usize,
+            number_of_publishers: capacities.publishers as usize,
+            number_of_subscribers: capacities.subscribers as usize,
         };
-        DynamicConfig::new(ports, places.nodes as usize, 7).ok()
+        DynamicConfig::new(ports, capacities.nodes as usize, 7).ok()
     }
 
     #[inline]

@@ -11,7 +11,7 @@ use std::io;
 
 /// How many nodes and ports a service can have at a time.
 #[derive(Clone, Copy, Debug)]
-pub struct Places {
+pub struct Capacities {
     nodes: u32,
     subscribers: u32,
     publishers: u32,
@@ -27,7 +27,7 @@ pub trait Service: Sized {
     fn subscriber(node: Self::Node, counter: u32) -> Self::Port;
     fn publisher(node: Self::Node, counter: u32) -> Self::Port;
 
-    fn make(places: Places) -> Option<Self>;
+    fn make(capacities: Capacities) -> Option<Self>;
     fn register(&mut self, node: Self::Node) -> Option<Self::Handle>;
     fn attach(&mut self, port: Self::Port) -> Option<Self::Handle>;
     fn release(&mut self, port: Self::Handle) -> bool;
@@ -56,7 +56,7 @@ fn digest<S: Service>(line: &str) -> Option<u64> {
     let call = words.next()?;
     let mut number = || words.next()?.parse().ok();
     let (nodes, subscribers, publishers) = (number()?, number()?, number()?);
-    let places = Places {
+    let capacities = Capacities {
         nodes,
         subscribers,
         publishers,
@@ -64,15 +64,15 @@ fn digest<S: Service>(line: &str) -> Option<u64> {
     let (rounds, calls) = (number()?, number()?);
     let mut digest = 0;
     for _ in 0..rounds {
-        digest += round::<S>(call, places, calls)?;
+        digest += round::<S>(call, capacities, calls)?;
     }
     Some(digest)
 }
 
-fn round<S: Service>(call: &str, places: Places, calls: u32) -> Option<u64> {
-    let mut all = Attached::<S>::full(places)?;
+fn round<S: Service>(call: &str, capacities: Capacities, calls: u32) -> Option<u64> {
+    let mut all = Attached::<S>::full(capacities)?;
     match call {
-        "make" => attached::make::<S>(places, calls),
+        "make" => attached::make::<S>(capacities, calls),
         "attach-release" => all.attach_and_release(calls),
         "death" => Some(all.die(calls)),
         "port" => all.port(calls),

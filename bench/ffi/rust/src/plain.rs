@@ -1,6 +1,6 @@
 //! A plain service: slots in a `Vec`, a free list, the details in the slot.
 
-use crate::Places;
+use crate::Capacities;
 use std::hint::black_box;
 
 #[derive(Clone, Copy, Debug, PartialEq, Eq)]
@@ -242,13 +242,13 @@ impl crate::Service for Service {
         }
     }
 
-    fn make(places: Places) -> Option<Self> {
+    fn make(capacities: Capacities) -> Option<Self> {
         Some(Service {
             number: 7,
-            nodes: Registry::new(places.nodes as usize),
+            nodes: Registry::new(capacities.nodes as usize),
             is_locked: false,
-            publishers: Registry::new(places.publishers as usize),
-            subscribers: Registry::new(places.subscribers as usize),
+            publishers: Registry::new(capacities.publishers as usize),
+            subscribers: Registry::new(capacities.subscribers as usize),
         })
     }
 

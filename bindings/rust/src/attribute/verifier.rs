@@ -168,15 +168,15 @@ impl AttributeVerifier {
     ) -> Result<(), AttributeVerificationError> {
         match library::verify(attributes, &self.attributes, &self.keys) {
             Ok(None) => Ok(()),
-            Ok(Some(Missing::Pair(place))) => {
-                let pair = &self.attributes[place];
+            Ok(Some(Missing::Pair(index))) => {
+                let pair = &self.attributes[index];
                 Err(AttributeVerificationError::IncompatibleAttribute((
                     *pair.key(),
                     *pair.value(),
                 )))
             }
-            Ok(Some(Missing::Key(place))) => {
-                Err(AttributeVerificationError::NonExistingKey(self.keys[place]))
+            Ok(Some(Missing::Key(index))) => {
+                Err(AttributeVerificationError::NonExistingKey(self.keys[index]))
             }
             Err(other) => library::unexpected(other),
         }

@@ -11,7 +11,7 @@ const SHORT: usize = 16;
 
 /// A service of the library's, which is freed where it is dropped.
 pub(crate) struct Service {
-    place: sys::iox2sd_service,
+    object: sys::iox2sd_service,
 }
 
 // SAFETY: `iox2sd.h` says: "A service may be moved to another thread. The caller orders moves and
@@ -26,19 +26,19 @@ unsafe impl Sync for Service {}
 /// Calls an export that changes a service.
 macro_rules! change {
     ($service:expr, $export:ident $(, $argument:expr)*) => {{
-        // SAFETY: the place is one service, which the `&mut` gives to this call alone. A pointer
+        // SAFETY: the object is one service, which the `&mut` gives to this call alone. A pointer
         // among the arguments is that of a slice or of a value that lives through the call, before
         // its length.
-        unsafe { sys::$export(&mut $service.place, 1 $(, $argument)*) }
+        unsafe { sys::$export(&mut $service.object, 1 $(, $argument)*) }
     }};
 }
 
 /// Calls an export that queries a service, by a pointer to `const`.
 macro_rules! ask {
     ($service:expr, $export:ident $(, $argument:expr)*) => {{
-        // SAFETY: the place is one service, which no call changes while there is a `&` to it. The
+        // SAFETY: the object is one service, which no call changes while there is a `&` to it. The
         // other arguments are as of a change.
-        unsafe { sys::$export(&$service.place, 1 $(, $argument)*) }
+        unsafe { sys::$export(&$service.object, 1 $(, $argument)*) }
     }};
 }
 
@@ -67,7 +67,7 @@ impl Service {
         tickets: u64,
     ) -> Result<Self, u32> {
         let mut service = Service {
-            place: sys::iox2sd_service {
+            object: sys::iox2sd_service {
                 full: false,
                 at: ptr::null_mut(),
             },
@@ -210,7 +210,7 @@ impl Service {
 
 impl Drop for Service {
     fn drop(&mut self) {
-        // A place that holds no service is refused, and nothing is to be freed there.
+        // An object that holds no service is refused, and nothing is to be freed there.
         let _ = change!(self, iox2sd_service_free_at);
     }
 }
