@@ -30,7 +30,7 @@ flag_answer (Err s) = record { status = code s; yes = false }
 abbrev pub text_answer : Status → ℕ → TextAnswer
 text_answer s n = record { status = code s; cause = 0; length = n }
 
--- the answer tells what is so
+-- the answer says what is so
 abbrev pub Returns : {M R : Type 0} → (M → R) → (M → Type 0) → R → Type 0
 Returns {M} form IsSo answer = (made : M) × IsSo made × (answer ≡ form made)
 
@@ -58,7 +58,7 @@ Writes items old false new = (length old < length items) × (new ≡ old)
 abbrev pub fit_status : Bool → Status
 fit_status fits = if fits then status.Done else status.BufferTooShort
 
--- the same, with the answer that tells it
+-- the same, with the answer that reports it
 abbrev pub Written : List ℕ → List ℕ → TextAnswer → List ℕ → Type 0
 Written text old answer new =
     (fits : Bool) × Writes text old fits new
