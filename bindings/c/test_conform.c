@@ -36,14 +36,14 @@ static const char two_services[] = "service event 7 1 0 0\n"
                                    "= list\n";
 
 /* A service with room for one node, for which two calls ask at a time. */
-static const char one_place[] = "service event 7 1 0 0\n"
+static const char one_slot[] = "service event 7 1 0 0\n"
                                 "A> register 1.0.0.1\n"
                                 "B> register 2.0.0.2\n"
                                 "A< handle 0 0\n"
                                 "B< full\n";
 
 /* The second of the two saw that there is room, after the first one had it. */
-static const char two_in_one_place[] = "service event 7 1 0 0\n"
+static const char two_in_one_slot[] = "service event 7 1 0 0\n"
                                        "A> register 1.0.0.1\n"
                                        "B> register 2.0.0.2\n"
                                        "A< handle 0 0\n"
@@ -91,7 +91,7 @@ static const char refused_report[] = "line 9: no order of the calls explains thi
                                      "nodes: 1000000000000000000000001\n"
                                      "ports:\n";
 
-static const char two_in_one_place_report[] =
+static const char two_in_one_slot_report[] =
     "line 5: no order of the calls explains this reply\n"
     "seen: handle 0 1\n"
     "call: B> register 2.0.0.2 (line 3)\n"
@@ -252,11 +252,11 @@ int main(void) {
     buffers(conforming, conforming_report, IOX2SD_STATUS_DONE, 0, 3);
     buffers(two_services, "conforms, 2 calls on 2 services\n", IOX2SD_STATUS_DONE, 0, 2);
     buffers(refused, refused_report, IOX2SD_STATUS_NO_ORDER, 9, 0);
-    buffers(one_place, "conforms, 2 calls on 1 service\n", IOX2SD_STATUS_DONE, 0, 2);
+    buffers(one_slot, "conforms, 2 calls on 1 service\n", IOX2SD_STATUS_DONE, 0, 2);
     buffers(one_of_three, "conforms, 7 calls on 1 service\n", IOX2SD_STATUS_DONE, 0, 7);
     buffers(died, "conforms, 3 calls on 1 service\n", IOX2SD_STATUS_DONE, 0, 3);
     buffers(three_states, three_states_report, IOX2SD_STATUS_NO_ORDER, 13, 0);
-    buffers(two_in_one_place, two_in_one_place_report, IOX2SD_STATUS_NO_ORDER, 5, 0);
+    buffers(two_in_one_slot, two_in_one_slot_report, IOX2SD_STATUS_NO_ORDER, 5, 0);
     bad_lines();
     open_calls(64, IOX2SD_STATUS_DONE, "conforms, 64 calls on 1 service\n", 64);
     open_calls(65, IOX2SD_STATUS_TOO_MANY_OPEN_CALLS,
@@ -270,7 +270,7 @@ int main(void) {
     no_memory(conforming, MOST, IOX2SD_STATUS_DONE);
     no_memory(refused, MOST, IOX2SD_STATUS_NO_ORDER);
     no_memory(refused, 0, IOX2SD_STATUS_BUFFER_TOO_SHORT);
-    no_memory(one_place, MOST, IOX2SD_STATUS_DONE);
+    no_memory(one_slot, MOST, IOX2SD_STATUS_DONE);
     no_memory(three_states, MOST, IOX2SD_STATUS_NO_ORDER);
     return end_of_checks();
 }

@@ -13,16 +13,16 @@ static long requests, blocks;
 
 void *__real_malloc(size_t size);
 void *__real_calloc(size_t count, size_t size);
-void *__real_realloc(void *place, size_t size);
-void __real_free(void *place);
+void *__real_realloc(void *block, size_t size);
+void __real_free(void *block);
 void *__wrap_malloc(size_t size);
 void *__wrap_calloc(size_t count, size_t size);
-void *__wrap_realloc(void *place, size_t size);
-void __wrap_free(void *place);
+void *__wrap_realloc(void *block, size_t size);
+void __wrap_free(void *block);
 
-static void *counted(void *place) {
-    if (place != NULL) blocks++;
-    return place;
+static void *counted(void *block) {
+    if (block != NULL) blocks++;
+    return block;
 }
 
 static bool is_refused(void) {
@@ -36,14 +36,14 @@ void *__wrap_calloc(size_t count, size_t size) {
     return is_refused() ? NULL : counted(__real_calloc(count, size));
 }
 
-void *__wrap_realloc(void *place, size_t size) {
+void *__wrap_realloc(void *block, size_t size) {
     if (is_refused()) return NULL;
-    return place == NULL ? counted(__real_realloc(place, size)) : __real_realloc(place, size);
+    return block == NULL ? counted(__real_realloc(block, size)) : __real_realloc(block, size);
 }
 
-void __wrap_free(void *place) {
-    if (place != NULL) blocks--;
-    __real_free(place);
+void __wrap_free(void *block) {
+    if (block != NULL) blocks--;
+    __real_free(block);
 }
 
 static void each_request_refused(uint32_t pattern) {

@@ -107,7 +107,7 @@ constexpr std::string_view node_2 = "1000000000000000000000002";
 constexpr std::string_view nodes_2_1 = "1000000000000000000000002 1000000000000000000000001";
 
 /// Two nodes at a time ask for one place: one comes first.
-void one_place() {
+void one_slot() {
     const std::string both = "service event 7 1 0 0\nA> register 1.0.0.1\nB> register 2.0.0.2\n";
     const LogVerdict one = check_log(both + "A< handle 0 0\nB< full\n");
     CHECK(is(one, Status::Done, 0, 2, "conforms, 2 calls on 1 service\n"));
@@ -381,7 +381,7 @@ int main() {
     refused(1);
     refused(200);
     nobody();
-    one_place();
+    one_slot();
     several_configurations();
     open_calls();
     written();
