@@ -13,7 +13,7 @@ ROLES = {
 LAST_U32 = 2**32 - 1
 LAST_U64 = 2**64 - 1
 # From this many slots of one kind on no memory has room for a service.
-TOO_MANY_PLACES = 2**47
+TOO_MANY_SLOTS = 2**47
 
 
 class Result(NamedTuple):
@@ -138,11 +138,10 @@ class Service:
         node, kept = id_of(node), set(map(id_of, skipped[1:]))
         ports = [(self.registries[role], slot) for role in self.roles
                  for slot in self.registries[role].of_node(node)]
-        going = [(of, slot) for of, slot in ports if of.entries[slot].shown not in kept]
-        for of, slot in going:
+        gone = [(of, slot) for of, slot in ports if of.entries[slot].shown not in kept]
+        for of, slot in gone:
             of.free(slot)
-        nodes = self.registries[Service.NODE]
-        return self.without_nodes(nodes.of_node(node) if going == ports else [])
+        return self.without_nodes(self.registries[self.NODE].of_node(node) if gone == ports else [])
 
     def without_nodes(self, slots):
         """Nodes leave. With the last one the service is locked."""
@@ -164,5 +163,5 @@ def id_of(words):
 def new_service(line, registry=Registry):
     """The service of a service line, or `None` where no memory has room for it."""
     _, pattern, _, *capacities = line.split(b" ")
-    fits = max(map(int, capacities)) < TOO_MANY_PLACES
+    fits = max(map(int, capacities)) < TOO_MANY_SLOTS
     return Service(registry, pattern, *map(int, capacities)) if fits else None

@@ -20,7 +20,7 @@ GIGABYTES = 4
 
 PARTS_OF_IDS = [0, 0, 1, 1, 2, 5, 9, 10, 255, 65536, LAST_U32 - 1, LAST_U32]
 NUMBERS = [0, 1, 7, 2**32, 2**63, LAST_U64 - 1, LAST_U64]
-TOO_MANY = [machine.TOO_MANY_PLACES, 2**56, 2**59 + 1, 2**60, 2**63 - 1, *NUMBERS[-3:]]
+TOO_MANY = [machine.TOO_MANY_SLOTS, 2**56, 2**59 + 1, 2**60, 2**63 - 1, *NUMBERS[-3:]]
 ALL_ROLES = [role for pair in ROLES.values() for role in pair]
 WORDS = [b"register", b"deregister", b"nodes", b"add", b"release", b"list", b"count", b"dead"]
 
