@@ -96,7 +96,7 @@ fn check_pairs(pairs: &[Attribute<'_>]) -> Result<(), (Fault, usize)>
 }
 
 /// Whether the pairs are a set, or the first that is wrong.
-fn tell_set(pairs: &[Attribute<'_>]) -> PlaceAnswer
+fn report_set(pairs: &[Attribute<'_>]) -> PlaceAnswer
     ensures { ReportsSet pairs.now result }
 {
     match check_pairs(pairs) {
@@ -115,7 +115,7 @@ pub extern "C" fn iox2sd_attributes_check_at(pairs: &[Attribute<'_>]) -> PlaceAn
     ensures reports { PlaceBut (ReportsSet pairs.now) result }
     ensures cause { SetCause pairs.now result.at result.status result.cause }
 {
-    let reported = tell_set(pairs);
+    let reported = report_set(pairs);
     PlaceAnswer {
         cause: set_cause(reported.status, pairs, reported.at),
         ..reported

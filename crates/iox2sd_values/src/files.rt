@@ -5,7 +5,7 @@ ghost use Rattle.iox2sd_values.specs.Causes.{TextBut, RootCause};
 ghost use Rattle.iox2sd_values.specs.Paths.{IsLegal, Joins, ReportsJoined, ReportsNamed};
 
 use super::causes::root_cause;
-use super::paths::tell_path;
+use super::paths::report_path;
 use iox2_config::config::{Config, Node, Service};
 use iox2_texts::paths::Path;
 use iox2sd_common::answers::{TextAnswer, no_text, write};
@@ -69,7 +69,7 @@ fn write_below(root: &[u8], directory: &Path, out: &mut [u8]) -> TextAnswer
         out.new) result }
     ensures cause { RootCause root.now result.status result.cause }
 {
-    let reported = tell_path(below(root, directory), out);
+    let reported = report_path(below(root, directory), out);
     TextAnswer {
         cause: root_cause(reported.status, root),
         ..reported

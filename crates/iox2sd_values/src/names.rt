@@ -91,7 +91,7 @@ fn hash_of(pattern: u64, name: &[u8], internal: bool) -> Result<ServiceHash, Sta
 }
 
 /// Writes the hash text, or says why there is none.
-fn tell_hash(pattern: u64, name: &[u8], internal: bool, out: &mut [u8]) -> TextAnswer
+fn report_hash(pattern: u64, name: &[u8], internal: bool, out: &mut [u8]) -> TextAnswer
     ensures { ReportsHash internal pattern name.now out.old result out.new }
 {
     match hash_of(pattern, name, internal) {
@@ -106,7 +106,7 @@ fn write_hash(pattern: u64, name: &[u8], internal: bool, out: &mut [u8]) -> Text
         out.new) result }
     ensures cause { NameCause internal name.now result.status result.cause }
 {
-    let reported = tell_hash(pattern, name, internal, out);
+    let reported = report_hash(pattern, name, internal, out);
     TextAnswer {
         cause: name_cause(reported.status, name, internal),
         ..reported

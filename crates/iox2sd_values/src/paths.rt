@@ -33,7 +33,7 @@ fn join_file(path: &[u8], file: &[u8]) -> Result<FilePath, Status>
 }
 
 /// Writes the path, or says why there is none.
-pub(super) fn tell_path<C: Content>(
+pub(super) fn report_path<C: Content>(
     path: Result<SemanticString<C, 255>, Status>,
     out: &mut [u8],
 ) -> TextAnswer
@@ -60,7 +60,7 @@ pub extern "C" fn iox2sd_path_add_path_entry_at(
         out.new) result }
     ensures cause { JoinCause (ChecksPath entry.now) path.now result.status result.cause }
 {
-    let reported = tell_path(join_paths(path, entry), out);
+    let reported = report_path(join_paths(path, entry), out);
     TextAnswer {
         cause: entry_cause(reported.status, path, entry),
         ..reported
@@ -82,7 +82,7 @@ pub extern "C" fn iox2sd_file_path_from_path_and_file_at(
         answer out.new) result }
     ensures cause { JoinCause (ChecksFileName file.now) path.now result.status result.cause }
 {
-    let reported = tell_path(join_file(path, file), out);
+    let reported = report_path(join_file(path, file), out);
     TextAnswer {
         cause: file_cause(reported.status, path, file),
         ..reported
