@@ -2,7 +2,7 @@
 ghost use Rattle.std.specs.Prelude.{◌≡◌};
 ghost use Rattle.iox2_config.specs.Hashing.{ReadsPattern};
 ghost use Rattle.iox2sd_common.specs.Settings.{c_blackboard};
-ghost use Rattle.iox2sd_common.specs.ReadSettings.{field_number, field_status, field_answer};
+ghost use Rattle.iox2sd_common.specs.ReadSettings.{field_status, field_answer};
 ghost use Rattle.iox2sd_common.specs.ReadSettings.{no_field, refusal_answer, ReadsBackpressure};
 ghost use Rattle.iox2sd_common.specs.ReadSettings.{ReadsAllocation, ReadsDuration, ReadsDeadline};
 ghost use Rattle.iox2sd_common.specs.ReadSettings.{ReadsEventId, ReadsPublishSubscribe, ReadsEvent};
@@ -58,13 +58,6 @@ pub struct FieldAnswer {
 }
 
 impl Field {
-    /// The number that C sees.
-    fn number(self) -> u32
-        ensures { result ≡ field_number self }
-    {
-        self as u32
-    }
-
     /// What is wrong with it where it is invalid.
     fn status(self) -> Status
         ensures { result ≡ field_status self }
@@ -81,7 +74,7 @@ impl Field {
     {
         FieldAnswer {
             status: self.status().code(),
-            field: self.number(),
+            field: self as u32,
             cause: 0,
         }
     }

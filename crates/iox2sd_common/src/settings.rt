@@ -1,13 +1,11 @@
 //! The settings that services get where nothing else is said, as plain values.
 ghost use Rattle.std.specs.Prelude.{◌≡◌};
-ghost use Rattle.iox2sd_common.specs.Settings.{backpressure_number, allocation_number, c_span};
 ghost use Rattle.iox2sd_common.specs.Settings.{c_duration, c_event_id, c_global, c_global_with};
 ghost use Rattle.iox2sd_common.specs.Settings.{c_publish_subscribe, c_event, c_request_response};
 ghost use Rattle.iox2sd_common.specs.Settings.{c_blackboard};
 
 use iox2_config::config::{
-    AllocationStrategy, BackpressureStrategy, Blackboard, Event, Global, Node, PublishSubscribe,
-    RequestResonse, Service,
+    Blackboard, Event, Global, Node, PublishSubscribe, RequestResonse, Service,
 };
 use std::time::Duration;
 
@@ -160,20 +158,6 @@ pub struct BlackboardSettings {
     pub max_nodes: usize,
 }
 
-/// The number of a choice.
-fn backpressure_number(strategy: BackpressureStrategy) -> u32
-    ensures { result ≡ backpressure_number strategy }
-{
-    strategy as u32
-}
-
-/// The number of a choice.
-fn allocation_number(strategy: AllocationStrategy) -> u32
-    ensures { result ≡ allocation_number strategy }
-{
-    strategy as u32
-}
-
 /// The span of time, if there is one.
 pub fn duration_of(duration: Option<Duration>) -> OptionalDuration
     ensures { result ≡ c_duration duration }
@@ -201,16 +185,6 @@ pub fn event_id_of(event: Option<usize>) -> OptionalEventId
     }
 }
 
-/// A span of time in seconds and nanoseconds.
-fn span_of(duration: Duration) -> PlainDuration
-    ensures { result ≡ c_span duration }
-{
-    PlainDuration {
-        seconds: duration.as_secs(),
-        nanoseconds: duration.subsec_nanos(),
-    }
-}
-
 /// The settings of a system, beside its texts.
 pub fn global_of(settings: &Global) -> GlobalSettings
     ensures { result ≡ c_global settings.now }
@@ -223,7 +197,10 @@ pub fn global_with(timeout: Duration, service: &Service, node: &Node) -> GlobalS
     ensures { result ≡ c_global_with timeout service.now node.now }
 {
     GlobalSettings {
-        creation_timeout: span_of(timeout),
+        creation_timeout: PlainDuration {
+            seconds: timeout.as_secs(),
+            nanoseconds: timeout.subsec_nanos(),
+        },
         cleanup_dead_nodes_on_open: service.cleanup_dead_nodes_on_open,
         cleanup_dead_nodes_on_creation: node.cleanup_dead_nodes_on_creation,
         cleanup_dead_nodes_on_destruction: node.cleanup_dead_nodes_on_destruction,
@@ -243,8 +220,8 @@ pub fn publish_subscribe_of(settings: &PublishSubscribe) -> PublishSubscribeSett
         publisher_max_loaned_samples: settings.publisher_max_loaned_samples,
         publisher_history_size: settings.publisher_history_size,
         subscriber_expired_connection_buffer: settings.subscriber_expired_connection_buffer,
-        backpressure_strategy: backpressure_number(settings.backpressure_strategy),
-        publisher_allocation_strategy: allocation_number(settings.publisher_allocation_strategy),
+        backpressure_strategy: settings.backpressure_strategy as u32,
+        publisher_allocation_strategy: settings.publisher_allocation_strategy as u32,
         enable_safe_overflow: settings.enable_safe_overflow,
     }
 }
@@ -280,10 +257,10 @@ pub fn request_response_of(settings: &RequestResonse) -> RequestResponseSettings
         server_max_loaned_responses_per_request: settings.server_max_loaned_responses_per_request,
         client_expired_connection_buffer: settings.client_expired_connection_buffer,
         server_expired_connection_buffer: settings.server_expired_connection_buffer,
-        client_backpressure_strategy: backpressure_number(settings.client_backpressure_strategy),
-        server_backpressure_strategy: backpressure_number(settings.server_backpressure_strategy),
-        client_allocation_strategy: allocation_number(settings.client_allocation_strategy),
-        server_allocation_strategy: allocation_number(settings.server_allocation_strategy),
+        client_backpressure_strategy: settings.client_backpressure_strategy as u32,
+        server_backpressure_strategy: settings.server_backpressure_strategy as u32,
+        client_allocation_strategy: settings.client_allocation_strategy as u32,
+        server_allocation_strategy: settings.server_allocation_strategy as u32,
         enable_safe_overflow_for_requests: settings.enable_safe_overflow_for_requests,
         enable_safe_overflow_for_responses: settings.enable_safe_overflow_for_responses,
         enable_fire_and_forget_requests: settings.enable_fire_and_forget_requests,
