@@ -71,18 +71,18 @@ pub record Went (old : Counts) (gone new : Counts) : Type 0 where
   pub second : gone.second + new.second ≡ old.second
 
 -- the removal of a dead node, of whose ports these are kept, and how many went
-abbrev pub DiesTo : Held → ℕ → List PortId → DeregisterNodeState → Counts → Held → Type 0
-DiesTo old node kept state gone new =
+abbrev pub RemovesCounted : Held → ℕ → List PortId → DeregisterNodeState → Counts → Held → Type 0
+RemovesCounted old node kept state gone new =
     DeadStep (Keeps kept) old tt node state new tt × Went (counted old) gone (counted new)
 
 -- the same for a node's id as C sees it
 abbrev pub RemovesNode : Id → List PortId → Held → NodeRemoval → Held → Type 0
 RemovesNode dead kept old (Open gone) new =
     (node : ℕ) × ReadsNode dead (Some node) × All IsPort kept
-    × DiesTo old node kept HasOwners gone new
+    × RemovesCounted old node kept HasOwners gone new
 RemovesNode dead kept old (Locked gone) new =
     (node : ℕ) × ReadsNode dead (Some node) × All IsPort kept
-    × DiesTo old node kept NoMoreOwners gone new
+    × RemovesCounted old node kept NoMoreOwners gone new
 RemovesNode dead kept old (Refused status.NoNode) new = ReadsNode dead None × (new ≡ old)
 RemovesNode dead kept old (Refused status.UnknownRole) new =
     (node : ℕ) × ReadsNode dead (Some node) × (¬ (All IsPort kept)) × (new ≡ old)

@@ -21,31 +21,31 @@ Nothing = Unit {0}
 -- where none is held, the answer says so, and the rest of the caller's memory is as it was
 abbrev pub Called : {M R : Type 0} → (M → R) → (Status → M) → Type 0 → (Held → M → Held → Type 0)
     → Option Held → R → Option Held → Type 0
-Called tell refuse Rest Table None answer new = (answer ≡ tell (refuse status.NoService))
+Called form refuse Rest Table None answer new = (answer ≡ form (refuse status.NoService))
     × (new ≡ None) × Rest
-Called {M} tell refuse Rest Table (Some old) answer new =
-    (made : M) × (answer ≡ tell made) × (after : Held) × (new ≡ Some after) × Table old made after
+Called {M} form refuse Rest Table (Some old) answer new =
+    (made : M) × (answer ≡ form made) × (after : Held) × (new ≡ Some after) × Table old made after
 
 -- the same at an object that may be NULL, which is reported before all else. The object is sound
 -- afterwards, and no other object has changed
 abbrev pub At : {M R : Type 0} → (M → R) → (Status → M) → Type 0 → (Held → M → Held → Type 0)
     → List Service → R → List Service → Type 0
-At tell refuse Rest Table [] answer new = (answer ≡ tell (refuse status.Null)) × (new ≡ []) × Rest
-At tell refuse Rest Table (object ∷ others) answer new =
+At form refuse Rest Table [] answer new = (answer ≡ form (refuse status.Null)) × (new ≡ []) × Rest
+At form refuse Rest Table (object ∷ others) answer new =
     (left : Service) × (new ≡ left ∷ others) × IsSoundObject left
-    × Called tell refuse Rest Table (held object) answer (held left)
+    × Called form refuse Rest Table (held object) answer (held left)
 
 -- the answer to a question is what it says of the service that is held; where none is held, the
 -- answer says so, and the rest of the caller's memory is as it was
 abbrev pub AskedOf : {M R : Type 0} → (M → R) → (Status → M) → Type 0 → (Held → M → Type 0)
     → Option Held → R → Type 0
-AskedOf tell refuse Rest Says None answer = (answer ≡ tell (refuse status.NoService)) × Rest
-AskedOf {M} tell refuse Rest Says (Some service) answer =
-    (made : M) × (answer ≡ tell made) × Says service made
+AskedOf form refuse Rest Says None answer = (answer ≡ form (refuse status.NoService)) × Rest
+AskedOf {M} form refuse Rest Says (Some service) answer =
+    (made : M) × (answer ≡ form made) × Says service made
 
 -- the same at an object that may be NULL, which is reported before all else
 abbrev pub Asked : {M R : Type 0} → (M → R) → (Status → M) → Type 0 → (Held → M → Type 0)
     → List Service → R → Type 0
-Asked tell refuse Rest Says [] answer = (answer ≡ tell (refuse status.Null)) × Rest
-Asked tell refuse Rest Says (object ∷ others) answer =
-    AskedOf tell refuse Rest Says (held object) answer
+Asked form refuse Rest Says [] answer = (answer ≡ form (refuse status.Null)) × Rest
+Asked form refuse Rest Says (object ∷ others) answer =
+    AskedOf form refuse Rest Says (held object) answer

@@ -44,7 +44,7 @@ no_role = 18446744073709551615
 abbrev pub no_handle : Handle
 no_handle = record { service = 0; role = no_role; slot = 0; ticket = 0 }
 
--- the handle that C's handle tells, or that its role is none
+-- the handle that C's handle stands for, or that its role is none
 abbrev pub ReadsHandle : Handle → Option Named → Type 0
 ReadsHandle h (Some read) = h ≡ c_handle read
 ReadsHandle h None = ReadsRole h.role None
@@ -100,7 +100,7 @@ has_segment _ = false
 abbrev pub HasNode : Port → Type 0
 HasNode p = (node : ℕ) × ReadsNode p.node (Some node)
 
--- the details that a port tells, or why there are none
+-- the details that a port has, or why there are none
 abbrev pub ReadsPort : Port → Result PortDetails Status → Type 0
 ReadsPort p (Ok details) = ShowsDetails p details
 ReadsPort p (Err status.NoNode) = ReadsNode p.node None
@@ -127,7 +127,7 @@ no_port = record {
   max_number_of_segments = 0;
 }
 
--- what the details of every kind tell; all other fields are 0
+-- what the details of every kind have; all other fields are 0
 abbrev pub blank : PortDetails → Port
 blank d =
     record no_port {
@@ -136,7 +136,7 @@ blank d =
       node = id_of (node_of d);
     }
 
--- what the details tell
+-- the port with these details
 abbrev pub c_port : PortDetails → Port
 c_port (of.Publisher d) = record (blank (of.Publisher d)) {
   number_of_samples = d.number_of_samples;

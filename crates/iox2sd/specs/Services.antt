@@ -40,7 +40,7 @@ MakesAt pattern number c tickets (object ∷ others) answer new =
     (left : Service) × (new ≡ left ∷ others) × IsSoundObject left
     × Returns code (λ s. Makes pattern number c tickets (held object) s (held left)) answer
 
--- freeing what is held, and telling whether something was
+-- freeing what is held, and reporting whether something was
 abbrev pub Frees : Option Held → ℕ → Option Held → Type 0
 Frees (Some old) answer new = (answer ≡ code status.Done) × (new ≡ None)
 Frees None answer new = (answer ≡ code status.NoService) × (new ≡ None)

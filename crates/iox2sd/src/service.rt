@@ -112,21 +112,6 @@ impl Service {
     ghost use Rattle.iox2sd.specs.Lending.{LendsHeld};
     ghost use Rattle.iox2sd.specs.Objects.{IsSoundObject, held};
 
-    /// Takes the service out, where there is one.
-    pub(super) fn take(&mut self, alloc: Global) -> Option<Box<DynamicConfig>>
-        requires { IsSoundObject self.old }
-        ensures some { IfSome result (λ service. held self.old ≡ Some service.value) }
-        ensures none { IfNone result (held self.old ≡ None) }
-        ensures left { held self.new ≡ None }
-        ensures sound { IsSoundObject self.new }
-    {
-        if !self.full {
-            return None;
-        }
-        self.full = false;
-        Some(self.slot.take(alloc))
-    }
-
     /// Borrows the service, where there is one. It stays in the object.
     pub(super) fn lend(&mut self) -> Option<&mut DynamicConfig>
         requires { IsSoundObject self.old }
@@ -138,17 +123,6 @@ impl Service {
             return None;
         }
         Some(self.slot.lend())
-    }
-
-    /// Puts a service in, where there is none.
-    pub(super) fn put(&mut self, service: Box<DynamicConfig>)
-        requires sound { IsSoundObject self.old }
-        requires none { held self.old ≡ None }
-        ensures service { held self.new ≡ Some service.value }
-        ensures sound { IsSoundObject self.new }
-    {
-        self.full = true;
-        self.slot.put(RawBox::of(service));
     }
 }
 

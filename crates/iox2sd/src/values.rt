@@ -1,9 +1,9 @@
 //! Handles, ports and answers as plain values. An answer says beside its status what was made or
 //! found.
-ghost use Rattle.std.specs.Prelude.{◌≡◌, None};
+ghost use Rattle.std.specs.Prelude.{◌≡◌, None, IfErr};
 ghost use Rattle.iox2sd.specs.Answers.{handle_answer, number_answer, roles_answer, id_answer};
 ghost use Rattle.iox2sd.specs.Answers.{port_answer, removal_with, removal_answer};
-ghost use Rattle.iox2sd.specs.Ports.{ReadsRole, c_handle, no_handle, ReadsHandle};
+ghost use Rattle.iox2sd.specs.Ports.{ReadsRole, c_handle, ReadsHandle};
 ghost use Rattle.iox2sd.specs.Ports.{ReadsSegment, ReadsPort, blank, c_port};
 
 use crate::service::roles::Counts;
@@ -63,19 +63,6 @@ impl Handle {
             role: role as u64,
             slot,
             ticket,
-        }
-    }
-
-    /// The handle that stands for nothing: its role is none, so each call refuses it.
-    pub(crate) fn none() -> Handle
-        ensures parts { result ≡ no_handle }
-        ensures refused { ReadsHandle result None }
-    {
-        Handle {
-            service: 0,
-            role: NO_ROLE,
-            slot: 0,
-            ticket: 0,
         }
     }
 
@@ -262,10 +249,12 @@ pub struct HandleAnswer {
 }
 
 impl HandleAnswer {
-    /// The answer with what was made, or why nothing was.
+    /// The answer with what was made, or why nothing was: its handle has the role of no entry
+    /// then, so each call refuses it.
     #[inline(always)]
     pub(crate) fn of(made: Result<Handle, Status>) -> HandleAnswer
-        ensures { result ≡ handle_answer made }
+        ensures answer { result ≡ handle_answer made }
+        ensures refused { IfErr made (λ _. ReadsHandle result.handle None) }
     {
         match made {
             Ok(handle) => HandleAnswer {
@@ -274,7 +263,12 @@ impl HandleAnswer {
             },
             Err(status) => HandleAnswer {
                 status: status.code(),
-                handle: Handle::none(),
+                handle: Handle {
+                    service: 0,
+                    role: NO_ROLE,
+                    slot: 0,
+                    ticket: 0,
+                },
             },
         }
     }

@@ -222,10 +222,7 @@ pub extern "C" fn iox2sd_ports_at(
 fn one_more(count: Option<usize>) -> Option<usize>
     ensures { (n : ℕ) → CountsTo n count → CountsTo (n + 1) result }
 {
-    match count {
-        Some(number) => number.checked_add(1),
-        None => None,
-    }
+    count?.checked_add(1)
 }
 
 /// Puts the port with these details at this index, where there is one.

@@ -1,9 +1,9 @@
 //! Making and freeing services.
 ghost use Rattle.std.specs.Prelude.{All};
 ghost use Rattle.iox2sd.specs.Objects.{IsSoundObject, held};
-ghost use Rattle.iox2sd.specs.Services.{MakesAt, FreesAt, Makes};
+ghost use Rattle.iox2sd.specs.Services.{MakesAt, FreesAt, Makes, Frees};
 
-use super::Service;
+use super::{RawBox, Service};
 use iox2_dynamic::dynamic_config::{DynamicConfig, MessagingPatternSettings};
 use iox2sd_common::read_settings::pattern_of;
 use iox2sd_common::status::Status;
@@ -35,8 +35,7 @@ fn make(
     ensures made { Makes pattern number capacities tickets (held object.old) result
         (held object.new) }
 {
-    if let Some(held) = object.take(alloc) {
-        object.put(held);
+    if object.full {
         return Status::HasService;
     }
     let Some(kind) = pattern_of(pattern) else {
@@ -50,7 +49,8 @@ fn make(
     let Ok(made) = Box::new(alloc, made) else {
         return Status::NoMemory;
     };
-    object.put(made);
+    object.full = true;
+    object.slot.put(RawBox::of(made));
     Status::Done
 }
 
@@ -77,6 +77,20 @@ pub extern "C" fn iox2sd_service_create_at(
     }
 }
 
+/// Frees the service of an object, where there is one.
+fn free(alloc: Global, object: &mut Service) -> u32
+    requires { IsSoundObject object.old }
+    ensures sound { IsSoundObject object.new }
+    ensures freed { Frees (held object.old) result (held object.new) }
+{
+    if !object.full {
+        return Status::NoService.code();
+    }
+    object.full = false;
+    drop(object.slot.take(alloc));
+    Status::Done.code()
+}
+
 /// Frees the service; the object holds none then. Errors, in this order: NULL, an object without a
 /// service.
 #[unsafe(no_mangle)]
@@ -84,12 +98,8 @@ pub extern "C" fn iox2sd_service_free_at(alloc: Global, objects: &mut [Service])
     requires { All IsSoundObject objects.old }
     ensures { FreesAt objects.old result objects.new }
 {
-    let [object, ..] = objects else {
-        return Status::Null.code();
-    };
-    let Some(held) = object.take(alloc) else {
-        return Status::NoService.code();
-    };
-    drop(held);
-    Status::Done.code()
+    match objects {
+        [] => Status::Null.code(),
+        [object, ..] => free(alloc, object),
+    }
 }
