@@ -181,20 +181,20 @@ not_both given None f is bad = true≢false (sym (bad_deadline given f bad).1 �
 not_both given (Some d) f is bad = omega (arith, is.1.0, (bad_deadline given f bad).2)
 
 -- a reading that gives one thing or has one error, and not both, leads to one answer
-one_reading : {A E : Type 0} (Reads : Result A E → Type 0) (tell : E → FieldAnswer)
+one_reading : {A E : Type 0} (Reads : Result A E → Type 0) (form : E → FieldAnswer)
     (one other : FieldAnswer) (Is Also : A → Type 0)
     → ((a : A) (e : E) → Reads (Ok a) → Reads (Err e) → ⊥)
     → ((e f : E) → Reads (Err e) → Reads (Err f) → e ≡ f)
     → ((a b : A) → Reads (Ok a) → Reads (Ok b) → Is a → Also b → one ≡ other)
-    → Reading Reads (λ e. one ≡ tell e) Is → Reading Reads (λ e. other ≡ tell e) Also → one ≡ other
-one_reading Reads tell one other Is Also apart error same (Ok a, on_a, is) (Ok b, on_b, also) =
+    → Reading Reads (λ e. one ≡ form e) Is → Reading Reads (λ e. other ≡ form e) Also → one ≡ other
+one_reading Reads form one other Is Also apart error same (Ok a, on_a, is) (Ok b, on_b, also) =
     same a b on_a on_b is also
-one_reading Reads tell one other Is Also apart error same (Ok a, on_a, is) (Err f, on_f, also) =
+one_reading Reads form one other Is Also apart error same (Ok a, on_a, is) (Err f, on_f, also) =
     absurd (apart a f on_a on_f)
-one_reading Reads tell one other Is Also apart error same (Err e, on_e, is) (Ok b, on_b, also) =
+one_reading Reads form one other Is Also apart error same (Err e, on_e, is) (Ok b, on_b, also) =
     absurd (apart b e on_b on_e)
-one_reading Reads tell one other Is Also apart error same (Err e, on_e, is) (Err f, on_f, also) =
-    is ∙ ap tell (error e f on_e on_f) ∙ sym also
+one_reading Reads form one other Is Also apart error same (Err e, on_e, is) (Err f, on_f, also) =
+    is ∙ ap form (error e f on_e on_f) ∙ sym also
 
 of_fixed : (c : EventConfig) (one other : FieldAnswer) (Is Also : Event → Type 0)
     → ((a b : Event) → ReadsFixed c (Ok a) → ReadsFixed c (Ok b) → Is a → Also b → one ≡ other)
@@ -212,3 +212,5 @@ events =
     (λ c d on_c on_d is also. is
     ∙ ap (λ rs. satisfied (first_unmet rs)) (required_alike s r a b c d on_a on_b on_c on_d)
     ∙ sym also)))
+
+pub ruleset one_answers = (publish_subscribes, events, request_responses, blackboards)

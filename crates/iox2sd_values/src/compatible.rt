@@ -1,6 +1,6 @@
 //! Which openers may use the messages of a service.
 ghost use Rattle.std.specs.Prelude.{◌≡◌};
-ghost use Rattle.iox2sd_values.specs.Messages.{part_number, part_answer, other, unsuited, fault_of};
+ghost use Rattle.iox2sd_values.specs.Messages.{part_answer, other, unsuited, fault_of};
 ghost use Rattle.iox2sd_values.specs.Messages.{null_answer, Compares, ComparesDetails, ReportsCompatible};
 
 use super::details::{Details, Fault, Which, read_details};
@@ -19,17 +19,6 @@ pub struct PartAnswer {
     pub part: u32,
 }
 
-/// The number of a part.
-fn part_number(part: Which) -> u32
-    ensures { result ≡ part_number part }
-{
-    match part {
-        Which::Header => 0,
-        Which::UserHeader => 1,
-        Which::Payload => 2,
-    }
-}
-
 /// The answer on a fault of this side.
 fn part_answer(fault: Fault, side: u32) -> PartAnswer
     ensures { result ≡ part_answer fault side }
@@ -37,7 +26,7 @@ fn part_answer(fault: Fault, side: u32) -> PartAnswer
     PartAnswer {
         status: fault.status.code(),
         side,
-        part: part_number(fault.part),
+        part: fault.part as u32,
     }
 }
 

@@ -269,9 +269,9 @@ fn fill(made: Result<ServiceDescription, Refusal>, out: &mut [ServiceDescription
 {
     match out {
         [] => no_field(Status::Null),
-        [position, ..] => match made {
+        [first, ..] => match made {
             Ok(description) => {
-                *position = description;
+                *first = description;
                 no_field(Status::Done)
             }
             Err(refusal) => refusal.answer(),

@@ -18,6 +18,7 @@ pub fn pairs_make_one_set(pairs: &mut [Attribute<'_>])
 /// Whether a service meets what an opener requires has one answer, whichever configurations with
 /// these plain values are compared: the types of messages change nothing, nor does when a deadline
 /// was set.
+#[tactic(auto, using(crate::proofs::Compared::one_answers))]
 pub fn comparisons_have_one_answer()
     ensures publish_subscribe { HasOneAnswer SatisfiesPublishSubscribe }
     ensures event { HasOneAnswer SatisfiesEvent }
