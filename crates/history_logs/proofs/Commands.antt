@@ -97,7 +97,8 @@ module _ (log : List ℕ) (i : ℕ) (rest text after : List ℕ) (none : HasNo 1
             let same : at ≡ i + 1 = omega (arith, c.upto) in
             let spelled : line_text c.line ≡ text =
             c.spelled ∙ next_line own (subst (λ n. IsLineAt log n own) same c.there) in
-            absurd (no_note_or_reply c.line c.is c.command (subst IsNoteOrReply (sym spelled) skipped))
+            absurd (no_note_or_reply c.line c.is c.command
+            (subst IsNoteOrReply (sym spelled) skipped))
         | inr before ↦ is at own (above log i (i + 1) at own c before (omega arith))
       ]
 

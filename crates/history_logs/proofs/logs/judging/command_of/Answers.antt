@@ -22,7 +22,8 @@ loop-above-preserved c =
       elim c.if-not-is_note_or_reply.branch [
         | then-not-is_note_or_reply w ↦
             command_next log i rest text after read.0 read.1 left c.if-not-is_note_or_reply.command
-            (is_command _ _ c.is_note_or_reply.ensures w.if-not-is_note_or_reply.true) (ap (λ p. p.0) w.command-is)
+            (is_command _ _ c.is_note_or_reply.ensures w.if-not-is_note_or_reply.true)
+            (ap (λ p. p.0) w.command-is)
             (ap (λ p. p.1.now) w.command-is)
         | else-not-is_note_or_reply w ↦
             subst (IsFoundIn log (i + 1)) (sym w.command-is)
