@@ -28,7 +28,7 @@ use Rattle.history_logs.specs.Reading.{Crashes, GoesOn, HasRead, Log, Says}
 use Rattle.history_logs.specs.Reading.HasRead.{nothing as none_read, note as note_read, line as line_read}
 use Rattle.history_logs.specs.declared.logs.callers.CallerState.{CallerState}
 use Rattle.history_logs.specs.declared.logs.callers.CallerState.TheVariants as caller
-use Rattle.history_logs.proofs.Commands.{aside_more, own_command}
+use Rattle.history_logs.proofs.Commands.{note_or_reply_more, own_command}
 use Rattle.history_logs.proofs.AtIndex.{all_get, get_last, get_left, get_push, get_within}
 use Rattle.history_logs.proofs.Kept.{kept_new, kept_step}
 use Rattle.history_logs.proofs.Orderly.{both, open_new}
@@ -341,7 +341,7 @@ module _ (text : List ℕ) (count : ℕ) where
       let orderly = all_get IsOrderly old.services g.0 s kept.orderly g.5 in
       let c = called s g.1 in
       let has : HasCommandIn text k =
-      λ rest. aside_more (text ++ rest) count (line_text (reply words)) (inr (words, refl))
+      λ rest. note_or_reply_more (text ++ rest) count (line_text (reply words)) (inr (words, refl))
       (there rest) (waits (λ none. let e = sym g.4 ∙ none in absurd (cc)) rest) in
       let begun : HasEventLinesTo text k (with_begin s c k) =
       located_begin text count s (all_get Now old.services g.0 s all g.5) k (omega arith) c has in
@@ -432,7 +432,7 @@ read_on text count log (note_read before n l read first none is) =
           r.located;
       waits = λ some rest.
           let more = first ++ 10 ∷ [] in
-          aside_more ((before ++ more) ++ rest) n first (inl is)
+          note_or_reply_more ((before ++ more) ++ rest) n first (inl is)
           (line_there before n first none r.cut rest)
           (command_on before more n (r.waits some) rest);
     }

@@ -1,12 +1,12 @@
 -- The commands of calls, by the lines in which the calls begin.
-use Rattle.std.proofs.Common.{◌≡◌, ◌↔◌, ℕ, Bool, IsTrue, false, zero, suc, ◌+◌, ◌-◌, ◌<◌, ◌≤◌, List, ◌∷◌, ◌++◌, refl, sym, ◌∙◌, subst, arith, inl, inr}
+use Rattle.std.proofs.Common.{◌≡◌, ◌↔◌, ℕ, Bool, IsTrue, false, suc, ◌+◌, ◌-◌, ◌<◌, ◌≤◌, List, ◌∷◌, ◌++◌, refl, sym, ◌∙◌, subst, arith, inl, inr}
 use Rattle.std.specs.Borrow.{Bor}
 use Rattle.std.proofs.lemmas.Bool.{cases_lt}
 use Rattle.line_streams.specs.Spelling.{HasNo}
 use Rattle.log_lines.specs.Lines.{IsLine, Line, line_text}
 use Rattle.log_lines.specs.Lines.Line.{begin, call, reply}
 use Rattle.log_lines.proofs.OneReading.{notes_are_none, one_way}
-use Rattle.history_logs.specs.EventLines.{HasCommand, IsAside, IsCommand, IsCommandOf, IsLineAt}
+use Rattle.history_logs.specs.EventLines.{HasCommand, IsCommand, IsCommandOf, IsLineAt, IsNoteOrReply}
 use Rattle.history_logs.proofs.LinesAt.{LeftIn, line_first, no_line}
 
 -- a call that begins in the line of its command
@@ -27,9 +27,9 @@ own_command bytes k l is command there = (
 )
 
 -- a note or a reply to a call alone follows
-pub aside_more : (bytes : List ℕ) (k : ℕ) (aside : List ℕ) → IsAside aside
-    → IsLineAt bytes (k + 1) aside → HasCommand bytes k → HasCommand bytes (k + 1)
-aside_more bytes k aside is there h = (
+pub note_or_reply_more : (bytes : List ℕ) (k : ℕ) (text : List ℕ) → IsNoteOrReply text
+    → IsLineAt bytes (k + 1) text → HasCommand bytes k → HasCommand bytes (k + 1)
+note_or_reply_more bytes k text is there h = (
   h.0,
   h.1,
   record {
@@ -41,23 +41,23 @@ aside_more bytes k aside is there h = (
     upto = omega (arith, h.2.upto);
     below = λ later above upto.
         elim (cases_lt k later)
-        as (λ _. (other : List ℕ) × IsAside other × IsLineAt bytes later other) [
+        as (λ _. (other : List ℕ) × IsNoteOrReply other × IsLineAt bytes later other) [
           | inl last ↦
               let same : k + 1 ≡ later = omega arith in
-              (aside, is, subst (λ n. IsLineAt bytes n aside) same there)
+              (text, is, subst (λ n. IsLineAt bytes n text) same there)
           | inr before ↦ h.2.below later above before
         ];
   },
 )
 
 -- a command is no note and no reply
-no_aside : (l : Line) → IsLine l → IsCommand l → ¬ (IsAside (line_text l))
-no_aside l is command (inl note) = notes_are_none l is note
-no_aside (call number c) is command (inr says) =
+no_note_or_reply : (l : Line) → IsLine l → IsCommand l → ¬ (IsNoteOrReply (line_text l))
+no_note_or_reply l is command (inl note) = notes_are_none l is note
+no_note_or_reply (call number c) is command (inr says) =
     one_way (call number c) (reply says.0) is tt says.1
-no_aside (begin number name c) is command (inr says) =
+no_note_or_reply (begin number name c) is command (inr says) =
     one_way (begin number name c) (reply says.0) is tt says.1
-no_aside _ is command (inr says) = absurd command
+no_note_or_reply _ is command (inr says) = absurd command
 
 -- the command of what begins in this line of a log has the line and the text that were found
 abbrev pub IsFoundIn : List ℕ → ℕ → ℕ × Bor (List ℕ) → Type 0
@@ -67,13 +67,6 @@ IsFoundIn log k found =
 -- what follows so many lines
 abbrev pub IsLeft : List ℕ → ℕ → List ℕ → Type 0
 IsLeft log i rest = (count : ℕ) → LeftIn log count i rest
-
-no_zero : (log text : List ℕ) (at : ℕ) → at ≤ 0 → IsLineAt log at text → ⊥
-no_zero log text zero h there = there
-no_zero log text (suc at) h there = absurd (omega arith)
-
-pub found_none : (log : List ℕ) (found : ℕ × Bor (List ℕ)) → IsFoundIn log 0 found
-found_none log found at text c = absurd (no_zero log text at c.upto c.there)
 
 -- the command of what begins in a line, of which it stands above
 above : (log : List ℕ) (i k at : ℕ) (own : List ℕ) → IsCommandOf log k at own → at ≤ i → i ≤ k
@@ -96,19 +89,20 @@ module _ (log : List ℕ) (i : ℕ) (rest text after : List ℕ) (none : HasNo 1
       line_first rest text after line none split
       (left i 0 line (omega arith) (subst (λ n. IsLineAt log n line) same there))
 
-  pub aside_next : (found : ℕ × Bor (List ℕ)) → IsAside text → IsFoundIn log i found
+  pub note_or_reply_next : (found : ℕ × Bor (List ℕ)) → IsNoteOrReply text → IsFoundIn log i found
       → IsFoundIn log (i + 1) found
-  aside_next found aside is at own c =
+  note_or_reply_next found skipped is at own c =
       elim (cases_lt i at) as (λ _. (found.0 ≡ at) × (found.1.now ≡ own)) [
         | inl last ↦
             let same : at ≡ i + 1 = omega (arith, c.upto) in
             let spelled : line_text c.line ≡ text =
             c.spelled ∙ next_line own (subst (λ n. IsLineAt log n own) same c.there) in
-            absurd (no_aside c.line c.is c.command (subst IsAside (sym spelled) aside))
+            absurd (no_note_or_reply c.line c.is c.command
+            (subst IsNoteOrReply (sym spelled) skipped))
         | inr before ↦ is at own (above log i (i + 1) at own c before (omega arith))
       ]
 
-  pub command_next : (found : ℕ × Bor (List ℕ)) → (¬ (IsAside text)) → found.0 ≡ i + 1
+  pub command_next : (found : ℕ × Bor (List ℕ)) → (¬ (IsNoteOrReply text)) → found.0 ≡ i + 1
       → found.1.now ≡ text → IsFoundIn log (i + 1) found
   command_next found command line its at own c =
       elim (cases_lt i at) as (λ _. (found.0 ≡ at) × (found.1.now ≡ own)) [
@@ -118,8 +112,8 @@ module _ (log : List ℕ) (i : ℕ) (rest text after : List ℕ) (none : HasNo 1
               its ∙ sym (next_line own (subst (λ n. IsLineAt log n own) same c.there)),
             )
         | inr before ↦
-            let aside = c.below (i + 1) (omega arith) (omega arith) in
-            absurd (command (subst IsAside (next_line aside.0 aside.2) aside.1))
+            let other = c.below (i + 1) (omega arith) (omega arith) in
+            absurd (command (subst IsNoteOrReply (next_line other.0 other.2) other.1))
       ]
 
 -- no line is left
@@ -143,5 +137,5 @@ found_end log i k found least most is =
     subst (λ n. IsFoundIn log n found) same is
 
 -- by the test of a line, it is a command
-pub is_command : (P : Type 0) (aside : Bool) → (IsTrue aside ↔ P) → aside ≡ false → ¬ P
-is_command P aside is off p = let t = is.1 p in absurd (cc)
+pub is_command : (P : Type 0) (test : Bool) → (IsTrue test ↔ P) → test ≡ false → ¬ P
+is_command P test is off p = let t = is.1 p in absurd (cc)

@@ -1,6 +1,7 @@
 -- Counts after counts.
-use Rattle.std.proofs.Common.{◌≡◌, ◌≢◌, ◌∙◌, ◌∷◌, ◌++◌, [], ℕ, List, Option, None, Some, Result, Ok, Err, codes, refl, sym, ap, subst, inl, inr, append_assoc, append-nil}
+use Rattle.std.proofs.Common.{◌≡◌, ◌≢◌, ◌∙◌, ◌∷◌, ◌++◌, [], ℕ, List, Option, Result, Ok, Err, codes, refl, sym, ap, subst, inl, inr, append_assoc, append-nil}
 use Rattle.std.specs.Prelude.{OnErr, OnOk}
+use Rattle.std.proofs.KnownBytes.{Appends-nil}
 use Rattle.std.proofs.lemmas.List.Elements.{All-append, All-nil, All-push}
 use Rattle.std.proofs.lemmas.List.Folds.{concat-append}
 use Rattle.std.specs.Io.KnownBytes.{Appends}
@@ -9,13 +10,9 @@ use Rattle.line_streams.proofs.Written.{appends_more}
 use Rattle.line_streams.specs.Streams.{AppendsBeginning}
 use Rattle.history_logs.specs.Progress.{AddsCounts, IsCount, count_text}
 
-appends_none : (a : Option (List ℕ)) → Appends a a []
-appends_none None = tt
-appends_none (Some xs) = sym (append-nil xs)
-
 -- nothing is no count
 pub no_counts : (a : Option (List ℕ)) → AddsCounts a a
-no_counts a = ([], All-nil IsCount, appends_none a)
+no_counts a = ([], All-nil IsCount, Appends-nil a)
 
 -- counts, and then some more
 pub counts_more : (a b c : Option (List ℕ)) → AddsCounts a b → AddsCounts b c → AddsCounts a c

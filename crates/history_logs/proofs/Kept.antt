@@ -14,6 +14,7 @@ use Rattle.log_lines.specs.Commands.{Begun, NamedCommand}
 use Rattle.log_lines.specs.Commands.Begun.{command, weak}
 use Rattle.log_lines.specs.Lines.{Line}
 use Rattle.log_lines.specs.Lines.Line.{service, call, reply, begin, end, crash, given}
+use Rattle.service_conformance.proofs.Given.{push_some}
 use Rattle.service_descriptions.specs.declared.replay.lines.service_line.ServiceLine.{ServiceLine}
 use Rattle.history_logs.specs.declared.logs.callers.CallerState.{CallerState}
 use Rattle.history_logs.specs.declared.logs.callers.CallerState.TheVariants as caller
@@ -53,10 +54,6 @@ set_some : (ss : List Service) (at : ℕ) (s t : Service) → slice_get ss at �
     → slice_set ss at t ≢ []
 set_some ss at s t there e =
     omega (arith, slice_get_within ss at s there, length-set ss at t, ap length e)
-
-push_some : {X : Type 0} (xs : List X) (y : X) → xs ++ y ∷ [] ≢ []
-push_some [] y e = absurd (cc)
-push_some (x ∷ xs) y e = absurd (cc)
 
 none_waits : (log : Log) → log.waits ≡ None → (at : ℕ) (c : NamedCommand)
     → log.waits ≡ Some (at, c) → at < length log.services

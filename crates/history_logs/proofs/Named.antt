@@ -17,11 +17,6 @@ use Rattle.history_logs.proofs.AtIndex.{all_get, get_within}
 abbrev number_of : Service → ℕ
 number_of s = s.line.number
 
--- no service from an index on has the number
-abbrev pub NoneFrom : ℕ → List Service → ℕ → Type 0
-NoneFrom number ss at =
-    (later : ℕ) (t : Service) → at ≤ later → slice_get ss later ≡ Some t → number_of t ≢ number
-
 -- what holds of all holds of the one at an index
 number_at : (number : ℕ) (ss : List Service) (at : ℕ) (s : Service) → HaveNumber number ss
     → slice_get ss at ≡ Some s → number_of s ≡ number

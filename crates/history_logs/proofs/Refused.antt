@@ -263,14 +263,6 @@ ok_at (Ok found) old new l m k is h =
     subst (λ (x : Line). Does old k x found new) (sym is) (h k)
 ok_at (Err e) old new l m k is h = h
 
-pub ok_taken : {E : Type 0} (result : Result (Option Expected) E) (old new : Log) (k : ℕ)
-    (text : List ℕ) (l : Line) → IsLine l → text ≡ line_text l
-    → (old.services ≡ [] → is_service l ≡ true)
-    → IfOk result (λ found. Does old k l found new)
-    → IfOk result (λ found. TakesNext old k text found new)
-ok_taken (Ok found) old new k text l p is first h = taken old new k text l found p is first h
-ok_taken (Err e) old new k text l p is first h = h
-
 pub ok_next : {E : Type 0} (result : Result (Option Expected) E) (old new : Log) (k : ℕ)
     (text : List ℕ) (w : Option (ℕ × NamedCommand)) → w ≡ None → old.waits ≡ None
     → IfOk result (λ found. TakesNext (record old { waits = w }) k text found new)

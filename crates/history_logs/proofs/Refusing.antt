@@ -1,5 +1,5 @@
 -- What is reported of a reply that is refused.
-use Rattle.std.proofs.Common.{◌≡◌, ◌⊎◌, inl, inr, ℕ, ◌<◌, ◌≤◌, List, Some, length, get_or, slice_get, take, drop, sym, ◌∙◌, ap, subst, arith, length-append}
+use Rattle.std.proofs.Common.{◌≡◌, ◌⊎◌, inl, inr, ℕ, ◌<◌, List, Some, length, get_or, slice_get, take, drop, sym, ◌∙◌, ap, subst, arith, length-append}
 use Rattle.std.specs.List.{AllZip}
 use Rattle.std.proofs.lemmas.List.{length-take-le, take-append-drop}
 use Rattle.std.proofs.lemmas.Option.{get_or_from_slice_get, slice_get_within}
@@ -36,12 +36,6 @@ module _ (s : Service) (o : IsOrderly s) where
         let all = begins-append number (take index s.events) (drop index s.events) in
         let same = ap (begins number) (take-append-drop index s.events) in
         omega (arith, begin_within number (omega arith))
-
-    pub window_few : length w.front.slots.items ≤ 64
-    window_few = is.front.table.few
-
-    pub index_within : index < length s.event_lines
-    index_within = omega arith
 
     pub window_within : w.begin < length s.event_lines
     window_within =

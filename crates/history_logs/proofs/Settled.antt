@@ -14,7 +14,7 @@ use Rattle.histories.proofs.Verdicts.{begun_none, counts_begin, counts_crash, co
 use Rattle.history_windows.specs.Goings.{AgreesOn, IsFrontAfter}
 use Rattle.history_windows.proofs.Following.{history_front}
 use Rattle.history_windows.proofs.Goings.{no_slot, slot_open}
-use Rattle.history_windows.proofs.Joins.{ended_left, ended_right, open_whole}
+use Rattle.history_windows.proofs.Joins.{ended_right, open_parts, open_whole}
 use Rattle.iox2_dynamic.specs.Service as dynamic
 use Rattle.service_conformance.specs.Judged.{Judged, WindowStep}
 use Rattle.service_conformance.specs.Looks.{Watched, unwatched}
@@ -134,16 +134,6 @@ pub events_split : (live s : Service) (front : Front Watched) → (k : IsShort s
 events_split live s front k =
     k.keeps.has.events
     ∙ ap (λ (l : List Event). k.keeps.has.past ++ l) (sym (ap (λ (x : Service). x.events) k.is))
-
--- a call that is open after two parts was open before the second, or begins in it
-open_parts : (past events : List Event) (c : ℕ) → IsOpen (past ++ events) c
-    → IsOpen past c ⊎ (0 < begins c events)
-open_parts past events c is =
-    let now = begins-append c past events in
-    elim (cases_lt 0 (begins c past)) as (λ _. IsOpen past c ⊎ (0 < begins c events)) [
-      | inl some ↦ inl (some, λ ended. is.1 (ended_left past events c ended))
-      | inr none ↦ inr (omega (arith, is.0, now))
-    ]
 
 slot_is_open : {S : Type 0} (Step : S → ℕ → S → Type 0) (olds : List S) (es : List Event)
     (front : Front S) → IsFrontAfter Step olds es front → (slot c : ℕ)

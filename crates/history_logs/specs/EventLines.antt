@@ -49,8 +49,8 @@ IsCommand (begin number name begun) = Unit {0}
 IsCommand _ = ⊥
 
 -- a note, or the reply to a call alone
-abbrev pub IsAside : List ℕ → Type 0
-IsAside text = IsTrue (is_note text) ⊎ ((words : List ℕ) × (text ≡ codes "= " ++ words))
+abbrev pub IsNoteOrReply : List ℕ → Type 0
+IsNoteOrReply text = IsTrue (is_note text) ⊎ ((words : List ℕ) × (text ≡ codes "= " ++ words))
 
 -- The command of a call that begins in line k has this line and this text: below it, up to k, there
 -- are only notes and replies to calls alone. A call alone begins in the line of its reply.
@@ -62,7 +62,7 @@ pub record IsCommandOf (bytes : List ℕ) (k at : ℕ) (text : List ℕ) : Type 
   pub there : IsLineAt bytes at text
   pub upto : at ≤ k
   pub below : (later : ℕ) → at < later → later ≤ k
-      → (aside : List ℕ) × IsAside aside × IsLineAt bytes later aside
+      → (other : List ℕ) × IsNoteOrReply other × IsLineAt bytes later other
 
 -- the call that begins in the line has a command
 abbrev pub HasCommand : List ℕ → ℕ → Type 0

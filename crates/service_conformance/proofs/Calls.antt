@@ -80,9 +80,6 @@ module _ (call : Call) (s : Service) where
         one_next covered r q next other (all.only q on.0 on.1 on.2) leads on)
 
   module _ (p : Part) where
-    pub none_below : AreAll (GivesBelow call s p 0) []
-    none_below = all_of_none (GivesBelow call s p 0) (λ x g. omega (arith, g.2))
-
     pub slot_taken : (slot : ℕ) (xs : List Service)
         → ((h : Handle) → h.slot ≡ slot → ¬ (MayGiveIn s p h))
         → AreAll (GivesBelow call s p slot) xs → AreAll (GivesBelow call s p (slot + 1)) xs

@@ -5,19 +5,7 @@ use Rattle.std.specs.Prelude.{Result, Ok, Err}
 use Rattle.iox2_container.proofs.Gaining.{All-back, AllPairs-head, AllPairs-tail}
 use Rattle.service_conformance.proofs.Sides.{one_side, ports_are}
 
--- so many tickets of an unused registry make it one
-pub used_is : {T : Type 0} (r : RegistryState T) (used : ℕ) (locked : Bool) → IsUnused r
-    → used ≤ r.budget → IsRegistry (with_used r used locked)
-used_is {T} r used locked u h = record {
-  slots_rise = rw u.entries (λ i j d h k. absurd (omega arith));
-  slots_below = rw u.entries (λ k d h. absurd (omega arith));
-  tickets_differ = rw u.entries (λ i j d h k. absurd (omega arith));
-  tickets_used = rw u.entries (λ k d h. absurd (omega arith));
-  budget_kept = h;
-  locked_is_empty = λ t. u.entries;
-}
-
-push_some : {X : Type 0} (xs : List X) (y : X) → xs ++ y ∷ [] ≢ []
+pub push_some : {X : Type 0} (xs : List X) (y : X) → xs ++ y ∷ [] ≢ []
 push_some [] y e = absurd (cc)
 push_some (x ∷ xs) y e = absurd (cc)
 

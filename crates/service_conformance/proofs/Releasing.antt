@@ -31,18 +31,6 @@ module _ (s : Service) (h : Handle) where
       (let z : ◌≡◌ {A = Result ReleaseState ContainerRemoveError} (Ok state)
       (Err ContainerHandleNotOwnedByContainer) = a.1 in cc)
 
-  elsewhere_only : IsNeither (first_role s.pattern) (second_role s.pattern) h.role → (r : Reply)
-      (new : Service) → ServesRelease s (Some h) r new → reply.NotOwned ≡ r
-  elsewhere_only n reply.Released new so = absurd (never so.0 new.ports n so.1.0)
-  elsewhere_only n reply.NotOwned new so = refl
-  elsewhere_only n _ new so = absurd so
-
-  pub elsewhere : IsService s → IsNeither (first_role s.pattern) (second_role s.pattern) h.role
-      → ArePossible s (ServesRelease s (Some h)) (possible.One (line.Word word.NotOwned))
-  elsewhere i n =
-      alone _ _ (line.Word word.NotOwned) s (λ r. refl) (inr (n, refl, refl), refl) i
-      (elsewhere_only n)
-
   module _ (side : Side) (role : h.role ≡ role_at s.pattern side) where
     from_at : (answer : Result ReleaseState ContainerRemoveError) (new : Ports)
         → RemovesFrom (first_role s.pattern) (second_role s.pattern) s.ports h answer new

@@ -111,13 +111,6 @@ module _ {T : Type 0} (r : RegistryState T) (words : List ℕ) (fits : r.capacit
           λ other so e. same_handle r next other may so (is ∙ sym (parts_reported other so e).0),
         )
 
-same_text : (one r : Reply) → IsSameReply one r → text_of one ≡ text_of r
-same_text (reply.Nodes ids) r e =
-    let a = is_nodes ids r e in rw (a.1, ← a.2) refl
-same_text (reply.Ports ports) r e =
-    let a = is_ports ports r e in rw (a.1, ← a.2) refl
-same_text _ r e = ap text_of e
-
 from_map : {X Y : Type 0} (P : X → Type 0) (f : Y → X) (ys : List Y) → All P (map f ys)
     → All (λ y. P (f y)) ys
 from_map P f ys a = λ k d h.

@@ -14,7 +14,7 @@ ghost use Rattle.history_logs.specs.Judging.{AreBelow, AreJudged, AreLines, AreL
 ghost use Rattle.history_logs.specs.Judging.{IsFoundOf, IsRefusedIn, IsReportOf};
 ghost use Rattle.history_logs.specs.Judging.{comes_before, earlier, is_refused};
 ghost use Rattle.history_logs.specs.Logs.{IsReported, StepOf, news};
-ghost use Rattle.history_logs.specs.EventLines.{Answers, HasEventLines, IsAside, IsCommandOf, IsLineAt};
+ghost use Rattle.history_logs.specs.EventLines.{Answers, HasEventLines, IsCommandOf, IsLineAt, IsNoteOrReply};
 
 use super::needed::{first_states, lines_needed};
 use super::service::LogService;
@@ -176,8 +176,8 @@ fn words_in(alloc: Global, log: &[u8], line: usize) -> Result<Vec<u8>, AllocErro
 }
 
 /// Whether the line is a note, or the reply to a call alone.
-fn is_aside(text: &[u8]) -> bool
-    ensures { IsTrue result ↔ IsAside text.now }
+fn is_note_or_reply(text: &[u8]) -> bool
+    ensures { IsTrue result ↔ IsNoteOrReply text.now }
 {
     is_note(text) || after_word(text, b"= ").is_some()
 }
@@ -193,7 +193,7 @@ fn command_of(log: &[u8], begin: usize) -> (usize, &[u8])
         let Some((text, after)) = before_byte(rest, b'\n') else {
             return command;
         };
-        if !is_aside(text) {
+        if !is_note_or_reply(text) {
             command = (above + 1, text);
         }
         rest = after;

@@ -194,11 +194,12 @@ impl ServiceCheck {
         has_ports_in(&self.first, &self.second, node)
     }
 
-    /// Whether the node has one entry, and some port has the node.
+    /// Whether some port has the node, and the node has one entry. Most nodes that leave have no
+    /// port any more, and then their entries need not be counted.
     fn is_last_of_ports(&self, node: &UniqueNodeId) -> bool
         ensures { result ≡ is_last_of_ports node.now self.now }
     {
-        self.nodes.count(node) == 1 && self.has_ports(node)
+        self.has_ports(node) && self.nodes.count(node) == 1
     }
 
     /// The pattern.

@@ -1,7 +1,7 @@
 use Rattle.std.proofs.Common.{◌+◌, ap, subst, sym}
-use Rattle.history_logs.proofs.Commands.{IsFoundIn, aside_next, command_next, found_end, found_last, is_command}
+use Rattle.history_logs.proofs.Commands.{IsFoundIn, note_or_reply_next, command_next, found_end, found_last, is_command}
 use Rattle.history_logs.proofs.LinesAt.{left_more}
-use Rattle.history_logs.proofs.logs.judging.command_of.Goals.{else-not-is_aside, then-not-is_aside}
+use Rattle.history_logs.proofs.logs.judging.command_of.Goals.{else-not-is_note_or_reply, then-not-is_note_or_reply}
 use Rattle.history_logs.proofs.logs.judging.command_of.Goals as goal
 
 pub returns-in_default : goal.returns-in_default
@@ -19,15 +19,16 @@ loop-above-preserved c =
     let read = c.in-Some.ensures.read in
     let left = c.loop-above.invariant.0 in (
       λ count. left_more log count i rest text after read.0 read.1 (left count),
-      elim c.if-not-is_aside.branch [
-        | then-not-is_aside w ↦
-            command_next log i rest text after read.0 read.1 left c.if-not-is_aside.command
-            (is_command _ _ c.is_aside.ensures w.if-not-is_aside.true) (ap (λ p. p.0) w.command-is)
+      elim c.if-not-is_note_or_reply.branch [
+        | then-not-is_note_or_reply w ↦
+            command_next log i rest text after read.0 read.1 left c.if-not-is_note_or_reply.command
+            (is_command _ _ c.is_note_or_reply.ensures w.if-not-is_note_or_reply.true)
+            (ap (λ p. p.0) w.command-is)
             (ap (λ p. p.1.now) w.command-is)
-        | else-not-is_aside w ↦
+        | else-not-is_note_or_reply w ↦
             subst (IsFoundIn log (i + 1)) (sym w.command-is)
-            (aside_next log i rest text after read.0 read.1 left c.loop-above.command
-            (c.is_aside.ensures.0 w.if-not-is_aside.false) c.loop-above.invariant.1)
+            (note_or_reply_next log i rest text after read.0 read.1 left c.loop-above.command
+            (c.is_note_or_reply.ensures.0 w.if-not-is_note_or_reply.false) c.loop-above.invariant.1)
       ],
     )
 
