@@ -83,16 +83,17 @@ finding_sort_key f = sort_key_of f.position
 abbrev pub sort_key_cmp : ℕ × ℕ → ℕ × ℕ → Ordering
 sort_key_cmp p q = ordering_then (nat_cmp p.0 q.0) (nat_cmp p.1 q.1)
 
--- the same findings, in the order of the file; those of one position in the order that they had
-pub record IsInOrder (found listed : List Finding) : Type 0 where
+-- the same things, in the order of the file; those of one position in the order that they had
+pub record IsInOrder {A : Type 0} (sort_key : A → ℕ × ℕ) (found listed : List A) : Type 0 where
   pub same : IsPermutation found listed
-  pub ordered : IsSortedByKey finding_sort_key sort_key_cmp listed
-  pub stable : IsStableByKey finding_sort_key sort_key_cmp found listed
+  pub ordered : IsSortedByKey sort_key sort_key_cmp listed
+  pub stable : IsStableByKey sort_key sort_key_cmp found listed
 
 -- a finding for each of some notes, in the order of the file
 abbrev pub Lists : List Note → List Finding → Type 0
 Lists notes listed =
-    (found : List Finding) × (map finding_view found ≡ notes) × IsInOrder found listed
+    (found : List Finding) × (map finding_view found ≡ notes)
+    × IsInOrder finding_sort_key found listed
 
 -- what there is to say something of in a file, by what is read of it
 abbrev pub topics_of : FileContents → List Topic

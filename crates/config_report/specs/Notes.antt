@@ -9,13 +9,13 @@ use Rattle.std.specs.List.{list_all}
 use Rattle.iox2_config_file.specs.Read.{reason_text, Located, fault_view}
 use Rattle.iox2_config_file.specs.Unknown.{Proposed, Unknown, unknown_view}
 use Rattle.iox2_config_file.specs.Settings.{prefix_of}
+use Rattle.iox2_config_file.specs.declared.fault.SettingFault.{SettingFault}
 use Rattle.iox2_config_file.specs.declared.proposal.Likeness.TheVariants.{Quoted}
+use Rattle.iox2_config_file.specs.declared.unknown.UnknownKey.{UnknownKey}
 use Rattle.config_report.specs.declared.finding.Finding.{Finding}
 use Rattle.config_report.specs.declared.finding.Severity.{Severity}
 use Rattle.config_report.specs.declared.finding.Severity.TheVariants.{Error, Warning}
 use Rattle.toml_writer.specs.Text.{key_text}
-use Rattle.config_report.specs.declared.finding.Subject.{Subject}
-use Rattle.config_report.specs.declared.finding.Subject.TheVariants as subject
 
 -- the keys that lead to a table
 abbrev pub table_path : Section → List (List ℕ)
@@ -76,6 +76,13 @@ pub data Topic : Type 0 where
   fault : Located → Topic
   unknown : Unknown → Topic
 
+-- the same, as the code holds them
+abbrev pub fault_topic : SettingFault → Topic
+fault_topic f = fault (fault_view f)
+
+abbrev pub unknown_topic : UnknownKey → Topic
+unknown_topic key = unknown (unknown_view key)
+
 -- the path of its key
 abbrev pub topic_path : Topic → List (List ℕ)
 topic_path (fault (s, key, reason)) = table_path s ++ key ∷ []
@@ -128,7 +135,3 @@ abbrev pub note_text : Note → List ℕ
 note_text n =
     at_text n.position
     ++ (severity_text n.severity ++ (codes ": " ++ (of_key n.key ++ n.message)))
-
-abbrev pub subject_view : Subject → Topic
-subject_view (subject.Fault f) = fault (fault_view f.now)
-subject_view (subject.Unknown key) = unknown (unknown_view key.now)

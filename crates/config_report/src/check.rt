@@ -7,8 +7,7 @@ ghost use Rattle.iox2_config_file.specs.Depth.{too_deep};
 ghost use Rattle.config_report.specs.Contradictions.{contradiction_note, contradiction_view};
 ghost use Rattle.config_report.specs.Contradictions.{contradictions_in};
 ghost use Rattle.config_report.specs.Findings.{Checks, FindsInFile, FindsNoFile, Lists, topics_of};
-ghost use Rattle.config_report.specs.Notes.{finding_view, note, note_in, topic_position};
-ghost use Rattle.config_report.specs.Notes.{subject_view};
+ghost use Rattle.config_report.specs.Notes.{finding_view, note, note_in};
 ghost use Rattle.config_report.specs.Findings.{IsNoFile, IsText, IsUnread, lines_of, ReadsFile};
 ghost use Rattle.config_report.specs.Findings.{HasDefaults};
 ghost use Rattle.config_report.specs.Text.{IsReportText};
@@ -19,15 +18,14 @@ ghost use Rattle.toml_positions.specs.Position.{position_after};
 use crate::contradiction::{Contradiction, contradiction_finding};
 use crate::contradictions::contradictions_in;
 use crate::finding::{
-    Finding, Findings, Severity, Subject, in_line, position_at, sort_key, subject_positions,
-    subjects_of,
+    Finding, Findings, Severity, Subject, in_line, key_positions, position_at, sort_key,
 };
 use crate::text::write_text;
 use iox2_config::config::Config;
 use iox2_config_file::{ConfigFileError, FileContents, read_config, too_deep, write_config};
 use std::alloc::{AllocError, Global};
 use std::str;
-use toml_positions::{Position, position_after};
+use toml_positions::position_after;
 
 /// All that is found in a file of settings, in the order of the file: that it is no UTF-8, that its
 /// tables and arrays are more than 32 deep in one another, or that it is no TOML; or else each
@@ -71,35 +69,30 @@ fn list_of(alloc: Global, text: &str, contents: &FileContents) -> Result<Vec<Fin
         ++ map (contradiction_note text.now) (contradictions_in contents.now.config))
         list.items) }
 {
-    let subjects = subjects_of(
-        alloc,
-        contents.faults.as_slice(),
-        contents.unknown.as_slice(),
-    )?;
-    let positions = subject_positions(alloc, text, subjects.as_slice())?;
-    let contradictions = contradictions_in(alloc, contents.config.as_ref())?;
     let mut list = Vec::new(alloc);
-    add_findings(&mut list, alloc, subjects.as_slice(), positions.as_slice())?;
+    add_findings(&mut list, alloc, text, contents.faults.as_slice())?;
+    add_findings(&mut list, alloc, text, contents.unknown.as_slice())?;
+    let contradictions = contradictions_in(alloc, contents.config.as_ref())?;
     add_contradictions(&mut list, alloc, text, contradictions.as_slice())?;
     list.sort_by_key(|finding| sort_key(finding))?;
     Ok(list)
 }
 
-/// Adds what is said of each of some subjects, at its position.
-fn add_findings(
+/// Adds what is said of each of some subjects.
+fn add_findings<T: Subject>(
     list: &mut Vec<Finding>,
     alloc: Global,
-    subjects: &[Subject<'_>],
-    positions: &[Option<Position>],
+    text: &str,
+    subjects: &[T],
 ) -> Result<(), AllocError>
-    ensures { OnOk result ((bytes : List ℕ)
-        → positions.now ≡ map (topic_position bytes) (map subject_view subjects.now)
+    ensures { OnOk result (IsSome (parse_document text.now)
         → map finding_view list.new.items
-        ≡ map finding_view list.old.items ++ map (note_in bytes) (map subject_view subjects.now)) }
+        ≡ map finding_view list.old.items ++ map (note_in text.now) (map T.topic subjects.now)) }
 {
+    let positions = key_positions(alloc, text, subjects)?;
     let mut i = 0;
     for subject in subjects {
-        let position = position_at(positions, i);
+        let position = position_at(positions.as_slice(), i);
         list.push(subject.finding(alloc, position)?)?;
         i += 1;
     }

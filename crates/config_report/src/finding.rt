@@ -1,14 +1,12 @@
 //! What is found in a file of settings, in texts that stand in one line, and where its keys stand.
 ghost use Rattle.std.specs.Prelude.{◌≡◌, ◌++◌, ◌∷◌, [], IfOk, IsSome, None, Some, map};
 ghost use Rattle.std.specs.Prelude.{option_map, slice_index_or, string_bytes};
-ghost use Rattle.iox2_config_file.specs.Read.{fault_view};
-ghost use Rattle.iox2_config_file.specs.Unknown.{unknown_view, proposal_view};
+ghost use Rattle.iox2_config_file.specs.Unknown.{proposal_view};
 ghost use Rattle.config_report.specs.Findings.{sort_key_of, IsToml};
-ghost use Rattle.config_report.specs.Notes.{at_text, fault, fault_position, finding_view};
-ghost use Rattle.config_report.specs.Notes.{has_no_control, in_line, meant_text, note, note_text};
-ghost use Rattle.config_report.specs.Notes.{position_for, proposed_text, severity_text};
-ghost use Rattle.config_report.specs.Notes.{subject_view, table_path, topic_note};
-ghost use Rattle.config_report.specs.Notes.{topic_path, topic_position, unknown, unknown_position};
+ghost use Rattle.config_report.specs.Notes.{at_text, fault_topic, finding_view, has_no_control};
+ghost use Rattle.config_report.specs.Notes.{in_line, meant_text, note, note_text, position_for};
+ghost use Rattle.config_report.specs.Notes.{proposed_text, severity_text, table_path, topic_note};
+ghost use Rattle.config_report.specs.Notes.{topic_path, topic_position, unknown_topic};
 ghost use Rattle.toml.specs.Parse.{parse_document};
 ghost use Rattle.toml_positions.specs.Written.{path_view, position_in};
 ghost use Rattle.toml_writer.specs.Text.{key_text};
@@ -121,45 +119,50 @@ pub(crate) fn in_line(alloc: Global, text: String) -> Result<String, AllocError>
     }
 }
 
-/// What there is to say something of.
-#[derive(Clone, Copy)]
-pub enum Subject<'a> {
-    /// A value that is not allowed.
-    Fault(&'a SettingFault),
-    /// A key that no setting has.
-    Unknown(&'a UnknownKey),
-}
+/// What there is to say something of: a value that is not allowed, or a key that no setting has.
+pub trait Subject {
+    ghost use Rattle.config_report.specs.Notes.{Topic};
 
-impl<'a> Subject<'a> {
+    /// What it is, as the definitions see it.
+    ghost topic: { Self → Topic };
+
     /// The path of its key.
-    pub(crate) fn path(self) -> KeyPath<'a>
-        ensures { path_view result ≡ topic_path (subject_view self.entry) }
-    {
-        match self {
-            Subject::Fault(fault) => key_path(fault.section, fault.key),
-            Subject::Unknown(key) => key_path(key.section, key.key.as_str()),
-        }
-    }
+    fn path(&self) -> KeyPath<'_>
+        ensures { path_view result ≡ topic_path (topic self.now) };
 
     /// What is said of it.
-    pub fn finding(self, alloc: Global, position: Option<Position>) -> Result<Finding, AllocError>
+    fn finding(&self, alloc: Global, position: Option<Position>) -> Result<Finding, AllocError>
         ensures { IfOk result (λ found.
-            finding_view found ≡ topic_note position (subject_view self.entry)) }
-    {
-        match self {
-            Subject::Fault(found) => {
-                let prefix = found.section.prefix();
-                let key = format!(in alloc; "{prefix}{}", found.key)?;
-                let message = format!(in alloc; "{}", found.fault)?;
-                finding_of(alloc, position, Severity::Error, key, message)
-            }
-            Subject::Unknown(found) => {
-                let prefix = found.section.prefix();
-                let key = format!(in alloc; "{prefix}{}", TomlKey(found.key.as_str()))?;
-                let message = format!(in alloc; "{}", Meant(found.meant))?;
-                finding_of(alloc, position, Severity::Warning, key, message)
-            }
-        }
+            finding_view found ≡ topic_note position (topic self.now)) };
+}
+
+impl Subject for SettingFault {
+    ghost topic = { fault_topic };
+
+    fn path(&self) -> KeyPath<'_> {
+        key_path(self.section, self.key)
+    }
+
+    fn finding(&self, alloc: Global, position: Option<Position>) -> Result<Finding, AllocError> {
+        let prefix = self.section.prefix();
+        let key = format!(in alloc; "{prefix}{}", self.key)?;
+        let message = format!(in alloc; "{}", self.fault)?;
+        finding_of(alloc, position, Severity::Error, key, message)
+    }
+}
+
+impl Subject for UnknownKey {
+    ghost topic = { unknown_topic };
+
+    fn path(&self) -> KeyPath<'_> {
+        key_path(self.section, self.key.as_str())
+    }
+
+    fn finding(&self, alloc: Global, position: Option<Position>) -> Result<Finding, AllocError> {
+        let prefix = self.section.prefix();
+        let key = format!(in alloc; "{prefix}{}", TomlKey(self.key.as_str()))?;
+        let message = format!(in alloc; "{}", Meant(self.meant))?;
+        finding_of(alloc, position, Severity::Warning, key, message)
     }
 }
 
@@ -180,25 +183,6 @@ pub(crate) fn finding_of(
         key: Some(in_line(alloc, key)?),
         message: in_line(alloc, message)?,
     })
-}
-
-/// Some faults, and then some unknown keys.
-pub(crate) fn subjects_of<'a>(
-    alloc: Global,
-    faults: &'a [SettingFault],
-    keys: &'a [UnknownKey],
-) -> Result<Vec<Subject<'a>>, AllocError>
-    ensures { IfOk result (λ subjects. map subject_view subjects.items
-        ≡ map fault (map fault_view faults.now) ++ map unknown (map unknown_view keys.now)) }
-{
-    let mut subjects = Vec::new(alloc);
-    for found in faults {
-        subjects.push(Subject::Fault(found))?;
-    }
-    for key in keys {
-        subjects.push(Subject::Unknown(key))?;
-    }
-    Ok(subjects)
 }
 
 /// The size of the largest file, in bytes, in which positions are searched for.
@@ -284,15 +268,16 @@ pub fn written_at(
     Ok(position_at(positions.as_slice(), 0))
 }
 
-/// The positions of the keys of some subjects.
+/// The positions of the keys of some subjects in a text that is TOML. One past 128 KiB is not
+/// searched.
 #[tactic(auto, using(crate::proofs::Lines::all_mapped, crate::proofs::Lines::map_twice))]
-pub(crate) fn subject_positions(
+pub fn key_positions<T: Subject>(
     alloc: Global,
     text: &str,
-    subjects: &[Subject<'_>],
+    subjects: &[T],
 ) -> Result<Vec<Option<Position>>, AllocError>
     ensures { IfOk result (λ found. IsSome (parse_document text.now)
-        → found.items ≡ map (topic_position text.now) (map subject_view subjects.now)) }
+        → found.items ≡ map (topic_position text.now) (map T.topic subjects.now)) }
 {
     let mut paths = Vec::new(alloc);
     for subject in subjects {
@@ -357,21 +342,4 @@ impl fmt::Display for Meant {
             None => f.write_str("this table has no such key"),
         }
     }
-}
-
-/// The positions of the keys of some faults, and then of some unknown keys, of a text that is TOML.
-/// One past 128 KiB is not searched.
-pub fn key_positions(
-    alloc: Global,
-    text: &str,
-    faults: &[SettingFault],
-    keys: &[UnknownKey],
-) -> Result<Vec<Option<Position>>, AllocError>
-    requires { IsSome (parse_document text.now) }
-    ensures { IfOk result (λ found.
-        found.items ≡ map (fault_position text.now) (map fault_view faults.now)
-        ++ map (unknown_position text.now) (map unknown_view keys.now)) }
-{
-    let subjects = subjects_of(alloc, faults, keys)?;
-    subject_positions(alloc, text, subjects.as_slice())
 }

@@ -109,11 +109,6 @@ type_text type.Datetime = codes "a date-time"
 type_text type.Array = codes "an array"
 type_text type.Table = codes "a table"
 
--- why a text is no path
-abbrev pub no_path_text : SemanticStringError → List ℕ
-no_path_text InvalidContent = codes "it has a byte that is not from 1 to 127"
-no_path_text ExceedsMaximumLength = codes "it has more than 255 bytes"
-
 -- why a text is no name of a file
 abbrev pub no_file_name_text : NameFault → List ℕ
 no_file_name_text name.Empty = codes "it is empty"
@@ -121,6 +116,11 @@ no_file_name_text name.TooLong = codes "it has more than 255 bytes"
 no_file_name_text name.Dots = codes "it is `.` or `..`"
 no_file_name_text name.Slash = codes "it has a `/`"
 no_file_name_text name.ForeignByte = codes "it has a byte that is not from 1 to 127"
+
+-- why a text is no path
+abbrev pub no_path_text : SemanticStringError → List ℕ
+no_path_text InvalidContent = no_file_name_text name.ForeignByte
+no_path_text ExceedsMaximumLength = no_file_name_text name.TooLong
 
 -- what is wrong with a value
 unfoldable pub reason_text : Fault → List ℕ

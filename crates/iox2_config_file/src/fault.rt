@@ -120,8 +120,8 @@ fn no_path(error: &SemanticStringError) -> &'static str
     ensures { result.now ≡ no_path_text error.now }
 {
     match error {
-        SemanticStringError::InvalidContent => "it has a byte that is not from 1 to 127",
-        SemanticStringError::ExceedsMaximumLength => "it has more than 255 bytes",
+        SemanticStringError::InvalidContent => no_file_name(NameFault::ForeignByte),
+        SemanticStringError::ExceedsMaximumLength => no_file_name(NameFault::TooLong),
     }
 }
 

@@ -166,55 +166,6 @@ fn blackboard(table: &Table, default: &Blackboard) -> Blackboard
     blackboard_settings!(settings_of table, default, Blackboard,)
 }
 
-/// The settings of a whole system.
-fn global(table: &Table, service: Service, node: Node, default: &GlobalSettings) -> GlobalSettings
-    ensures settings { table_of.global_settings result
-        ≡ map (read_setting (table_view table.now)) (table_of.global_settings default.now) }
-    ensures service { result.service ≡ service }
-    ensures node { result.node ≡ node }
-{
-    let mut global = GlobalSettings::default();
-    global.set_root_path(&read(table, "root-path", default.root_path().copied()));
-    global.prefix = read(table, "prefix", default.prefix.copied());
-    global.creation_timeout = read(table, "creation-timeout", default.creation_timeout);
-    global.service = service;
-    global.node = node;
-    global
-}
-
-/// The settings of services of all patterns.
-fn defaults(file: &Table, empty: &Table, default: &Defaults) -> Defaults
-    requires { table_view empty.now ≡ no_members }
-    ensures publish_subscribe { table_of.publish_subscribe_settings result.publish_subscribe
-        ≡ read_section section.PublishSubscribe (table_view file.now)
-        (table_of.publish_subscribe_settings default.now.publish_subscribe) }
-    ensures event { table_of.event_settings result.event
-        ≡ read_section section.Event (table_view file.now)
-        (table_of.event_settings default.now.event) }
-    ensures request_response { table_of.request_response_settings result.request_response
-        ≡ read_section section.RequestResponse (table_view file.now)
-        (table_of.request_response_settings default.now.request_response) }
-    ensures blackboard { table_of.blackboard_settings result.blackboard
-        ≡ read_section section.Blackboard (table_view file.now)
-        (table_of.blackboard_settings default.now.blackboard) }
-{
-    Defaults {
-        publish_subscribe: publish_subscribe(
-            section_table(file, Section::PublishSubscribe, empty),
-            &default.publish_subscribe,
-        ),
-        event: event(section_table(file, Section::Event, empty), &default.event),
-        request_response: request_response(
-            section_table(file, Section::RequestResponse, empty),
-            &default.request_response,
-        ),
-        blackboard: blackboard(
-            section_table(file, Section::Blackboard, empty),
-            &default.blackboard,
-        ),
-    }
-}
-
 /// The settings of a whole system, those of its services' and nodes' files among them.
 fn system(file: &Table, empty: &Table, default: &GlobalSettings) -> GlobalSettings
     requires { table_view empty.now ≡ no_members }
@@ -228,17 +179,17 @@ fn system(file: &Table, empty: &Table, default: &GlobalSettings) -> GlobalSettin
         ≡ read_section section.Node (table_view file.now)
         (table_of.node_settings default.now.node) }
 {
-    let service = service(
+    let table = section_table(file, Section::Global, empty);
+    let mut global = GlobalSettings::default();
+    global.set_root_path(&read(table, "root-path", default.root_path().copied()));
+    global.prefix = read(table, "prefix", default.prefix.copied());
+    global.creation_timeout = read(table, "creation-timeout", default.creation_timeout);
+    global.service = service(
         section_table(file, Section::Service, empty),
         &default.service,
     );
-    let node = node(section_table(file, Section::Node, empty), &default.node);
-    global(
-        section_table(file, Section::Global, empty),
-        service,
-        node,
-        default,
-    )
+    global.node = node(section_table(file, Section::Node, empty), &default.node);
+    global
 }
 
 /// The settings of a file, with those of a configuration where the file has none.
@@ -246,8 +197,23 @@ fn config(file: &Table, empty: &Table, default: &Config) -> Config
     requires { table_view empty.now ≡ no_members }
     ensures { IsSettingsOf default.now (table_view file.now) result }
 {
+    let defaults = &default.defaults;
     Config {
         global: system(file, empty, &default.global),
-        defaults: defaults(file, empty, &default.defaults),
+        defaults: Defaults {
+            publish_subscribe: publish_subscribe(
+                section_table(file, Section::PublishSubscribe, empty),
+                &defaults.publish_subscribe,
+            ),
+            event: event(section_table(file, Section::Event, empty), &defaults.event),
+            request_response: request_response(
+                section_table(file, Section::RequestResponse, empty),
+                &defaults.request_response,
+            ),
+            blackboard: blackboard(
+                section_table(file, Section::Blackboard, empty),
+                &defaults.blackboard,
+            ),
+        },
     }
 }

@@ -21,8 +21,6 @@ use Rattle.iox2sd_common.specs.declared.status.Status.{Status}
 use Rattle.iox2sd_common.specs.declared.status.Status.TheVariants as status
 use Rattle.iox2sd_config.specs.declared.fault.PlainFault.{PlainFault}
 use Rattle.toml_positions.specs.declared.position.Position.{Position}
-use Rattle.std.specs.List.Sorted.{IsPermutation, IsSortedByKey, IsStableByKey}
-use Rattle.config_report.specs.Findings.{sort_key_cmp}
 
 -- the number of a table of the file
 abbrev pub section_number : Section → ℕ
@@ -199,9 +197,3 @@ unread_status (NoMemory e) = status.NoMemory
 -- where something with this line and this column stands among others: what has none comes last
 abbrev pub sort_key_at : ℕ → ℕ → ℕ × ℕ
 sort_key_at line column = if line == 0 then (2 ^ 64 - 1, 2 ^ 64 - 1) else (line, column)
-
--- the same things, in the order of the file; those of one position in the order that they had
-abbrev pub IsInOrder : {A : Type 0} → (A → ℕ × ℕ) → List A → List A → Type 0
-IsInOrder place found listed =
-    IsPermutation found listed × IsSortedByKey place sort_key_cmp listed
-    × IsStableByKey place sort_key_cmp found listed

@@ -1,6 +1,6 @@
 -- The text of a file of settings: its settings, or what is wrong with it.
 use Rattle.std.specs.Prelude.{◌≡◌, ◌⊎◌, ℕ, Bool, List, [], ◌∷◌, map, length, Option, Some, None}
-use Rattle.config_report.specs.Findings.{IsText, IsUnread}
+use Rattle.config_report.specs.Findings.{IsInOrder, IsText, IsUnread}
 use Rattle.config_report.specs.declared.check.Unread.{Unread}
 use Rattle.iox2_config.specs.declared.config.Config.{Config}
 use Rattle.iox2_config_file.specs.Answers.{ReadsAll}
@@ -13,7 +13,7 @@ use Rattle.iox2sd_common.specs.declared.answers.CountAnswer.{CountAnswer}
 use Rattle.iox2sd_common.specs.declared.status.Status.{Status}
 use Rattle.iox2sd_common.specs.declared.status.Status.TheVariants as status
 use Rattle.iox2sd_config.specs.Configs.{c_config}
-use Rattle.iox2sd_config.specs.Faults.{Known, known_of, no_position, worded, c_fault, c_unread, unread_status, sort_key_at, IsInOrder}
+use Rattle.iox2sd_config.specs.Faults.{Known, known_of, no_position, worded, c_fault, c_unread, unread_status, sort_key_at}
 use Rattle.iox2sd_config.specs.declared.config.PlainConfig.{PlainConfig}
 use Rattle.iox2sd_config.specs.declared.fault.PlainFault.{PlainFault}
 use Rattle.iox2sd_config.specs.declared.read.ConfigAnswer.{ConfigAnswer}

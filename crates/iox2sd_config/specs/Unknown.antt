@@ -1,7 +1,7 @@
 -- The keys of a file that no setting has.
 use Rattle.std.specs.Prelude.{◌≡◌, ◌⊎◌, ◌≤◌, ◌<◌, ℕ, List, [], ◌++◌, map, flat_map, drop, length, Option, Some, None, string_bytes}
 use Rattle.config_report.specs.Notes.{Note, topic_note, unknown, unknown_position}
-use Rattle.config_report.specs.Findings.{IsText, IsUnread}
+use Rattle.config_report.specs.Findings.{IsInOrder, IsText, IsUnread}
 use Rattle.config_report.specs.declared.check.Unread.{Unread}
 use Rattle.iox2_config_file.specs.Answers.{ReadsAll}
 use Rattle.iox2_config_file.specs.Unknown.{Proposed, Unknown, unknown_view}
@@ -13,7 +13,7 @@ use Rattle.iox2_config_file.specs.declared.unknown.UnknownKey.{UnknownKey}
 use Rattle.iox2sd_common.specs.Status.{code}
 use Rattle.iox2sd_common.specs.declared.status.Status.{Status}
 use Rattle.iox2sd_common.specs.declared.status.Status.TheVariants as status
-use Rattle.iox2sd_config.specs.Faults.{section_number, key_path, key_of, cut_key, cut_reason, line_of, column_of, unread_status, sort_key_at, IsInOrder}
+use Rattle.iox2sd_config.specs.Faults.{section_number, key_path, key_of, cut_key, cut_reason, line_of, column_of, unread_status, sort_key_at}
 use Rattle.iox2sd_config.specs.declared.unknown.NamedKey.{NamedKey}
 use Rattle.iox2sd_config.specs.declared.unknown.PlainUnknown.{PlainUnknown}
 use Rattle.iox2sd_config.specs.declared.unknown.UnknownAnswer.{UnknownAnswer}

@@ -240,7 +240,7 @@ pub(crate) fn plain_fault(
 ) -> Result<PlainFault, AllocError>
     ensures { IfOk result (λ plain. known_of plain ≡ c_at position (fault_view fault.now)) }
 {
-    let finding = Subject::Fault(fault).finding(alloc, position)?;
+    let finding = fault.finding(alloc, position)?;
     Ok(reported(
         fault_status(fault.fault),
         section_number(fault.section),

@@ -1,7 +1,5 @@
 //! The text of a file of settings: its settings, or what is wrong with it.
-ghost use Rattle.std.specs.Prelude.{◌≡◌, ◌<◌, ℕ, List, IfOk, IsSome, Some, length, map};
-ghost use Rattle.std.specs.Prelude.{slice_get};
-ghost use Rattle.config_report.specs.Notes.{fault_position};
+ghost use Rattle.std.specs.Prelude.{◌≡◌, ◌<◌, IfOk, IsSome, Some, length, map, slice_get};
 ghost use Rattle.iox2_config_file.specs.Answers.{ReadsAll};
 ghost use Rattle.iox2_config_file.specs.Read.{fault_view};
 ghost use Rattle.iox2sd_config.specs.Faults.{known_of, c_fault};
@@ -17,7 +15,6 @@ use iox2_config_file::{FileContents, SettingFault};
 use iox2sd_common::answers::{CountAnswer, count, put};
 use iox2sd_common::status::Status;
 use std::alloc::{AllocError, Global};
-use toml_positions::Position;
 
 /// What reading a file gave.
 #[repr(C)]
@@ -63,20 +60,21 @@ fn place(fault: &PlainFault) -> (usize, usize)
     sort_key_at(fault.line, fault.column)
 }
 
-/// Some faults as plain values, each at its position.
+/// Some faults of a text as plain values, each at its position.
 fn plain_faults(
     alloc: Global,
+    text: &str,
     faults: &[SettingFault],
-    positions: &[Option<Position>],
 ) -> Result<Vec<PlainFault>, AllocError>
-    ensures { IfOk result (λ plain. (bytes : List ℕ)
-        → positions.now ≡ map (fault_position bytes) (map fault_view faults.now)
-        → map known_of plain.items ≡ map (c_fault bytes) (map fault_view faults.now)) }
+    requires { IsSome (parse_document text.now) }
+    ensures { IfOk result (λ plain.
+        map known_of plain.items ≡ map (c_fault text.now) (map fault_view faults.now)) }
 {
+    let positions = key_positions(alloc, text, faults)?;
     let mut plain = Vec::new(alloc);
     let mut i = 0;
     for fault in faults {
-        let position = position_at(positions, i);
+        let position = position_at(positions.as_slice(), i);
         plain.push(plain_fault(alloc, fault, position)?)?;
         i += 1;
     }
@@ -92,8 +90,7 @@ fn listed_faults(
     requires { IsSome (parse_document text.now) }
     ensures { IfOk result (λ listed. ListsFaults text.now faults.now listed.items) }
 {
-    let positions = key_positions(alloc, text, faults, &[])?;
-    let mut plain = plain_faults(alloc, faults, positions.as_slice())?;
+    let mut plain = plain_faults(alloc, text, faults)?;
     plain.sort_by_key(|fault| place(fault))?;
     Ok(plain)
 }

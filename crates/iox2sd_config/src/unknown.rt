@@ -1,7 +1,6 @@
 //! The keys of a file that no setting has.
-ghost use Rattle.std.specs.Prelude.{◌≡◌, ℕ, List, IfOk, IsSome, map, option_map};
-ghost use Rattle.std.specs.Prelude.{string_bytes};
-ghost use Rattle.config_report.specs.Notes.{finding_view, unknown_position};
+ghost use Rattle.std.specs.Prelude.{◌≡◌, IfOk, IsSome, map, option_map, string_bytes};
+ghost use Rattle.config_report.specs.Notes.{finding_view};
 ghost use Rattle.iox2_config_file.specs.Unknown.{proposal_view, unknown_view};
 ghost use Rattle.iox2sd_config.specs.Unknown.{likeness_number, meant_number, meant_path};
 ghost use Rattle.iox2sd_config.specs.Unknown.{named_sort_key, named_view, paths_of, plain_of, c_key};
@@ -139,7 +138,7 @@ fn named_key(
     ensures { IfOk result (λ named.
         named_view named ≡ c_key_at position (unknown_view key.now)) }
 {
-    let finding = Subject::Unknown(key).finding(alloc, position)?;
+    let finding = key.finding(alloc, position)?;
     let path = String::from_str(alloc, key_of(&finding))?;
     let meant = meant_path(alloc, key.meant)?;
     let plain = c_key(key, meant.as_str(), &finding);
@@ -153,20 +152,17 @@ fn place(key: &NamedKey) -> (usize, usize)
     sort_key_at(key.plain.line, key.plain.column)
 }
 
-/// Some unknown keys, each at its position.
-fn named_keys(
-    alloc: Global,
-    keys: &[UnknownKey],
-    positions: &[Option<Position>],
-) -> Result<Vec<NamedKey>, AllocError>
-    ensures { IfOk result (λ named. (bytes : List ℕ)
-        → positions.now ≡ map (unknown_position bytes) (map unknown_view keys.now)
-        → map named_view named.items ≡ map (c_unknown bytes) (map unknown_view keys.now)) }
+/// Some unknown keys of a text, each at its position.
+fn named_keys(alloc: Global, text: &str, keys: &[UnknownKey]) -> Result<Vec<NamedKey>, AllocError>
+    requires { IsSome (parse_document text.now) }
+    ensures { IfOk result (λ named.
+        map named_view named.items ≡ map (c_unknown text.now) (map unknown_view keys.now)) }
 {
+    let positions = key_positions(alloc, text, keys)?;
     let mut named = Vec::new(alloc);
     let mut i = 0;
     for key in keys {
-        let position = position_at(positions, i);
+        let position = position_at(positions.as_slice(), i);
         named.push(named_key(alloc, key, position)?)?;
         i += 1;
     }
@@ -178,8 +174,7 @@ fn listed_keys(alloc: Global, text: &str, keys: &[UnknownKey]) -> Result<Vec<Nam
     requires { IsSome (parse_document text.now) }
     ensures { IfOk result (λ listed. ListsKeys text.now keys.now listed.items) }
 {
-    let positions = key_positions(alloc, text, &[], keys)?;
-    let mut named = named_keys(alloc, keys, positions.as_slice())?;
+    let mut named = named_keys(alloc, text, keys)?;
     named.sort_by_key(|key| place(key))?;
     Ok(named)
 }

@@ -1,7 +1,8 @@
 -- What is said of two configurations, and how the program ends.
-use Rattle.std.proofs.Common.{◌≡◌, inl, inr, ℕ, true, Bool, List, [], ◌∷◌, ◌++◌, ◌≤◌, length, map, get_or, sym, codes, Option, Some, None, IfOk, Result, Ok, Err, refl, arith, string_bytes}
+use Rattle.std.proofs.Common.{◌≡◌, inl, inr, ℕ, true, Bool, List, [], ◌∷◌, ◌≤◌, length, map, get_or, codes, Option, Some, None, IfOk, Result, Ok, Err, refl, arith, string_bytes}
 use Rattle.std.specs.Prelude.{String, OnOk}
 use Rattle.std.specs.Io.KnownBytes.{Appends, IsAtEnd}
+use Rattle.std.proofs.lemmas.List.Elements.{All-append, All-cons, All-head, All-nil, All-tail}
 use Rattle.std.proofs.lemmas.Result.{IfOk-weaker}
 use Rattle.std.specs.declared.alloc.AllocError.{AllocError}
 use Rattle.std.specs.declared.alloc.Global.{Global}
@@ -10,10 +11,10 @@ use Rattle.std.specs.declared.vec.IntoIter.{IntoIter}
 use Rattle.line_streams.specs.Filters.{either, status_number}
 use Rattle.iox2_config.specs.declared.config.Config.{Config}
 use Rattle.config_report.specs.Text.{IsReportText}
-use Rattle.config_report.specs.Findings.{Checks}
+use Rattle.config_report.specs.Findings.{Checks, IsToml}
 use Rattle.config_report.specs.declared.finding.Findings.{Findings}
-use Rattle.settings_check.specs.Answer.{AreCompared, AreToml, IsTextOf}
-use Rattle.settings_check.specs.Found.{AreAllDifferences, AreFound, IsSeenIn, Said, Seen, ValidFile, valid_in, valid_view}
+use Rattle.settings_check.specs.Answer.{AreToml, IsTextOf}
+use Rattle.settings_check.specs.Found.{AreFound, AreParsed, IsSeenIn, Seen, ValidFile, valid_in, valid_view}
 use Rattle.settings_check.specs.Answer.{input_is_read, AnswersArguments, Ends}
 use Rattle.settings_check.specs.Words.{Requests}
 use Rattle.settings_check.specs.declared.answer.Answer.{Answer}
@@ -29,44 +30,50 @@ text_is first file text p report = rw p report
 
 pub ruleset shown = (IfOk-weaker, text_is)
 
--- the first two of some files are compared
-pub compared_is : (files slice : List Held) (a b d e : Held) (said : List Said) → slice ≡ files
-    → 2 ≤ length slice → a ≡ get_or slice 0 d → b ≡ get_or slice 1 e
-    → AreAllDifferences (valid_view a, valid_view b) said
-    → AreCompared (map valid_view files) said
-compared_is files [] a b d e said same two first second are = absurd (omega arith)
-compared_is files (x ∷ []) a b d e said same two first second are = absurd (omega arith)
-compared_is files (x ∷ (y ∷ more)) a b d e said same two first second are =
-    let one : a ≡ x = first in let other : b ≡ y = second in
-    rw (sym same, sym one, sym other) are
+-- the first two of some files stand before the others
+pub first_two : (files slice : List Held) (a b d e : Held) → slice ≡ files → 2 ≤ length slice
+    → a ≡ get_or slice 0 d → b ≡ get_or slice 1 e
+    → (more : List Held) × (files ≡ a ∷ (b ∷ more))
+first_two files [] a b d e same two first second = absurd (omega arith)
+first_two files (x ∷ []) a b d e same two first second = absurd (omega arith)
+first_two files (x ∷ (y ∷ more)) a b d e same two first second = (more, cc)
+
+abbrev HasToml : ValidFile → Type 0
+HasToml file = IsToml file.text
+
+-- they are TOML where all are
+pub both_toml : (a b : Held) (more : List Held) → AreToml (map valid_view (a ∷ (b ∷ more)))
+    → AreParsed (valid_view a, valid_view b)
+both_toml a b more all =
+    let second = map valid_view (b ∷ more) in
+    let others = All-tail HasToml (valid_view a) second all in (
+      All-head HasToml (valid_view a) second all,
+      All-head HasToml (valid_view b) (map valid_view more) others,
+    )
 
 -- the text of a file that has settings is TOML
 valid_toml : (file bytes : List ℕ) (findings : Findings) (config : Option Config)
     → findings.config ≡ config → Checks bytes findings → AreToml (valid_in file bytes config)
-valid_toml file bytes findings None is checks = tt
+valid_toml file bytes findings None is checks = All-nil HasToml
 valid_toml file bytes findings (Some config) is (inl none) =
     absurd (grind (arith, is, none.config))
 valid_toml file bytes findings (Some config) is (inr found) =
-    ((found.text.0, rw found.parsed refl), tt)
-
-toml_append : (files others : List ValidFile) → AreToml files → AreToml others
-    → AreToml (files ++ others)
-toml_append [] others are more = more
-toml_append (file ∷ files) others are more = (are.0, toml_append files others are.1 more)
+    All-cons HasToml _ [] (found.text.0, rw found.parsed refl)
+    (All-nil HasToml)
 
 -- so are those of the files in which no error was found
 seen_toml : (file : List ℕ) (given : Result (List ℕ) FileError) (seen : Seen)
     → IsSeenIn file given seen → AreToml seen.valid
-seen_toml file (Err why) seen is = rw is tt
+seen_toml file (Err why) seen is = rw is (All-nil HasToml)
 seen_toml file (Ok bytes) seen (findings, checks, is) =
     rw is (valid_toml file bytes findings findings.config refl checks)
 
 pub found_toml : (Gives : List ℕ → Result (List ℕ) FileError → Type 0) (input : List ℕ)
     (files : List (List ℕ)) (seen : Seen) → AreFound Gives input files seen → AreToml seen.valid
-found_toml Gives input [] seen is = rw is tt
+found_toml Gives input [] seen is = rw is (All-nil HasToml)
 found_toml Gives input (file ∷ files) seen (first, others, (given, gives, here), more, is) =
-    rw is (toml_append first.valid others.valid (seen_toml file given first here)
-    (found_toml Gives input files others more))
+    rw is (All-append HasToml first.valid others.valid
+    (seen_toml file given first here) (found_toml Gives input files others more))
 
 -- where an outcome was written, the arguments are answered, or memory was refused
 pub ends_where_written : (Gives : List ℕ → Result (List ℕ) FileError → Type 0) (coloured : Bool)

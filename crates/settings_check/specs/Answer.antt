@@ -1,7 +1,7 @@
 -- What is answered to a request, and what the streams of the program get.
-use Rattle.std.specs.Prelude.{◌≡◌, ⊤, ℕ, Bool, true, false, ◌&&◌, ◌||◌, nat_lt, List, [], ◌∷◌, ◌++◌, flat_map, length, if◌then◌else◌, slice_get, codes, ◌⊎◌, Option, Some, None, IfSome, Result, Ok, Err, String, string_bytes}
+use Rattle.std.specs.Prelude.{◌≡◌, ℕ, Bool, true, false, ◌&&◌, ◌||◌, nat_lt, List, [], ◌∷◌, ◌++◌, flat_map, length, if◌then◌else◌, slice_get, codes, ◌⊎◌, Option, Some, None, IfSome, Result, Ok, Err, String, string_bytes}
 use Rattle.std.specs.Io.KnownBytes.{Appends, IsAtEnd}
-use Rattle.std.specs.List.{list_any}
+use Rattle.std.specs.List.{All, list_any}
 use Rattle.std.specs.Str.{bytes_eq}
 use Rattle.std.specs.declared.alloc.Global.{Global}
 use Rattle.std.specs.declared.io.Error.{Error}
@@ -91,8 +91,7 @@ AddsCompared old new =
 
 -- the texts of files are TOML
 abbrev pub AreToml : List ValidFile → Type 0
-AreToml [] = ⊤
-AreToml (file ∷ files) = IsToml file.text × AreToml files
+AreToml files = All (λ file. IsToml file.text) files
 
 -- what is answered to a request for files, by what was found in them
 abbrev pub AnswersTask : Task → Style → Bool → Seen → Answer → Type 0

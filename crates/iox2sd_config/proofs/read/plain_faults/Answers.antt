@@ -1,19 +1,23 @@
-use Rattle.std.proofs.Common.{None, arith}
-use Rattle.config_report.proofs.Lines.{item_is, one_positioned}
-use Rattle.config_report.specs.Notes.{fault_position}
+use Rattle.std.proofs.Common.{None, arith, sym, ◌∙◌}
+use Rattle.config_report.proofs.Lines.{item_is, map_twice, one_positioned}
+use Rattle.config_report.specs.Notes.{fault_position, fault_topic, topic_position}
 use Rattle.iox2_config_file.specs.Read.{fault_view}
 use Rattle.iox2sd_config.specs.Faults.{known_of, c_at}
 use Rattle.iox2sd_config.proofs.read.plain_faults.Goals as goal
 
 pub loop-fault-preserved : goal.loop-fault-preserved
-loop-fault-preserved c = (
-  omega (arith, c.loop-fault.invariant.0),
-  λ bytes same.
-      one_positioned fault_view (fault_position bytes) c_at known_of c.args.faults.now
-      c.args.positions.now c.loop-fault.fault-index c.loop-fault.i _
-      c.position_at-position.result None c.loop-fault.plain.items c.push.new.self.items
-      c.in_ok-plain_fault.field-0 _ c.loop-fault-test.true c.loop-fault.invariant.0
-      (item_is c.args.faults.now c.loop-fault.fault-index _ c.loop-fault-test.true) same
-      c.position_at-position.ensures c.in_ok-plain_fault.ensures c.in_ok-push.ensures.items
-      (c.loop-fault.invariant.1 bytes same),
-)
+loop-fault-preserved c =
+    let text = c.args.text.now in
+    let faults = c.args.faults.now in (
+      omega (arith, c.loop-fault.invariant.0),
+      one_positioned fault_view (fault_position text) c_at known_of faults c.as_slice.result.now
+          c.loop-fault.fault-index c.loop-fault.i _ c.position_at-position.result None
+          c.loop-fault.plain.items c.push.new.self.items c.in_ok-plain_fault.field-0 _
+          c.loop-fault-test.true c.loop-fault.invariant.0
+          (item_is faults c.loop-fault.fault-index _ c.loop-fault-test.true)
+          (c.as_slice.ensures.value ∙ c.in_ok-positions.ensures c.requires
+          ∙ map_twice fault_topic (topic_position text) faults
+          ∙ sym (map_twice fault_view (fault_position text) faults))
+          c.position_at-position.ensures c.in_ok-plain_fault.ensures c.in_ok-push.ensures.items
+          c.loop-fault.invariant.1,
+    )

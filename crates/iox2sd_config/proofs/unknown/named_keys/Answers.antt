@@ -1,18 +1,22 @@
-use Rattle.std.proofs.Common.{None, arith}
-use Rattle.config_report.proofs.Lines.{one_positioned}
-use Rattle.config_report.specs.Notes.{unknown_position}
+use Rattle.std.proofs.Common.{None, arith, sym, ◌∙◌}
+use Rattle.config_report.proofs.Lines.{map_twice, one_positioned}
+use Rattle.config_report.specs.Notes.{topic_position, unknown_position, unknown_topic}
 use Rattle.iox2_config_file.specs.Unknown.{unknown_view}
 use Rattle.iox2sd_config.specs.Unknown.{named_view, c_key_at}
 use Rattle.iox2sd_config.proofs.unknown.named_keys.Goals as goal
 
 pub loop-key-preserved : goal.loop-key-preserved
-loop-key-preserved c = (
-  omega (arith, c.loop-key.invariant.0),
-  λ bytes same.
-      one_positioned unknown_view (unknown_position bytes) c_key_at named_view c.args.keys.now
-      c.args.positions.now c.loop-key.key-index c.loop-key.i c.key-item.result
-      c.position_at-position.result None c.loop-key.named.items c.push.new.self.items
-      c.in_ok-named_key.field-0 _ c.loop-key-test.true c.loop-key.invariant.0 c.key-item.is same
-      c.position_at-position.ensures c.in_ok-named_key.ensures c.in_ok-push.ensures.items
-      (c.loop-key.invariant.1 bytes same),
-)
+loop-key-preserved c =
+    let text = c.args.text.now in
+    let keys = c.args.keys.now in (
+      omega (arith, c.loop-key.invariant.0),
+      one_positioned unknown_view (unknown_position text) c_key_at named_view keys
+          c.as_slice.result.now c.loop-key.key-index c.loop-key.i c.key-item.result
+          c.position_at-position.result None c.loop-key.named.items c.push.new.self.items
+          c.in_ok-named_key.field-0 _ c.loop-key-test.true c.loop-key.invariant.0 c.key-item.is
+          (c.as_slice.ensures.value ∙ c.in_ok-positions.ensures c.requires
+          ∙ map_twice unknown_topic (topic_position text) keys
+          ∙ sym (map_twice unknown_view (unknown_position text) keys))
+          c.position_at-position.ensures c.in_ok-named_key.ensures c.in_ok-push.ensures.items
+          c.loop-key.invariant.1,
+    )

@@ -1,6 +1,5 @@
-use Rattle.std.proofs.Common.{◌≡◌, ◌++◌, ℕ, List, drop}
+use Rattle.std.proofs.Common.{◌≡◌, ◌++◌, drop}
 use Rattle.std.specs.Prelude.{map}
-use Rattle.config_report.specs.Notes.{unknown_position}
 use Rattle.iox2_config_file.specs.Unknown.{unknown_view}
 use Rattle.iox2sd_config.specs.Unknown.{named_view, c_unknown}
 use Rattle.iox2sd_config.proofs.unknown.named_keys.Given as goal
@@ -8,7 +7,6 @@ use Rattle.iox2sd_config.proofs.unknown.named_keys.Given as goal
 abbrev pub invariant-loop-key : goal.invariant-loop-key
 invariant-loop-key l =
     (l.i ≡ l.key-index)
-    × ((bytes : List ℕ) → l.positions ≡ map (unknown_position bytes) (map unknown_view l.keys)
-    → map named_view l.named.items
-    ++ map (c_unknown bytes) (map unknown_view (drop l.key-index l.keys))
-    ≡ map (c_unknown bytes) (map unknown_view l.keys))
+    × (map named_view l.named.items
+    ++ map (c_unknown l.text) (map unknown_view (drop l.key-index l.keys))
+    ≡ map (c_unknown l.text) (map unknown_view l.keys))
