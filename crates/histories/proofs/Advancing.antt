@@ -64,7 +64,7 @@ module _ {S : Type 0} (Step : S → ℕ → S → Type 0) where
 
       opened_sound : AreSound Step links more (es ++ Begin c ∷ []) olds opened
       opened_sound k has =
-          elim (g.sound k has) [
+          elim (g.adds.sound k has) [
             | inl none ↦ absurd (nothing_in _ none)
             | inr found ↦
                 let from = found.1.0 in
@@ -156,7 +156,7 @@ module _ {S : Type 0} (Step : S → ℕ → S → Type 0) where
       frontier_begin enough = record {
         sound = opened_sound;
         complete = opened_complete enough;
-        once = g.once none_same;
+        once = g.adds.once none_same;
         table = opened_table;
       }
 

@@ -272,7 +272,7 @@ module _ {S : Type 0} (Step : S → ℕ → S → Type 0) (slots : List (Option 
       settles_call Step slots config slot call (made.state ∷ []) _ _ (here, first.0) first.2
       (settles_state Step slots config made slot call made.state _ _ refl first.4 first.3
       (settles_one Step slots (spot_of made) settled _ _ idle
-      (gathers_new [] settled (λ i d h. absurd (omega arith))) (omega arith)))
+      (gathers_new [] settled (λ i d h. absurd (omega arith)))))
 
   closing : IsClosing Step slots (config ∷ []) slot [] (settled ∷ []) (length slots)
   closing =

@@ -1,9 +1,9 @@
 -- A call that ends is made.
-use Rattle.histories.proofs.Words.{◌≡◌, ◌↔◌, ℕ, ◌+◌, ◌<◌, ◌≤◌, List, [], ◌∷◌, ◌++◌, length, refl, sym, ◌∙◌, ap, arith, inl, inr, append-nil, append_assoc, Option, AllPairs, cases_eq, bit_at, Contains, Contains-append_left, Contains-push, Contains-push_cases, Config, HasSlot, IsLighter, IsSame, LeadTo, Path, Runs, cleared, path_more, path_of, ComesFirst, FromOne, Gathers, GoesFrom, GoesOn, IsClosed, IsClosing, IsCopy, IsDone, IsMadeFrom, IsNextAt, IsSettled, MovesFirst, Settles, Spot, ones, spot_of}
+use Rattle.histories.proofs.Words.{◌≡◌, ◌↔◌, ℕ, ◌+◌, ◌<◌, ◌≤◌, List, [], ◌∷◌, ◌++◌, length, refl, sym, ◌∙◌, ap, arith, inl, inr, append-nil, append_assoc, Option, AllPairs, cases_eq, bit_at, Contains, Contains-push, Contains-push_cases, Config, HasSlot, IsLighter, IsSame, LeadTo, Path, Runs, cleared, path_more, path_of, ComesFirst, FromOne, Gathers, GoesFrom, GoesOn, IsClosed, IsClosing, IsCopy, IsDone, IsMadeFrom, IsNextAt, IsSettled, IsUnderWay, MovesFirst, Settles, Spot, ones, spot_of}
 use Rattle.histories.specs.Gathering.{IsNext}
 use Rattle.histories.proofs.Indices.{nothing_in, only}
 use Rattle.histories.proofs.Bits.{bit_cases, cleared_le, cleared_same, ones_le, ones_less, ones_most, slot_64, slot_once, slot_within}
-use Rattle.histories.proofs.Gathering.{gathers_none}
+use Rattle.histories.proofs.Gathering.{adds_as, adds_none, adds_then, from_first, from_last, gathers_none}
 use Rattle.histories.proofs.Running.{lighter_then, runs_fewer, runs_first, runs_lighter, runs_then}
 
 -- of none, all are different
@@ -32,7 +32,7 @@ module _ {S : Type 0} (Step : S → ℕ → S → Type 0) (slots : List (Option 
   -- from the new ones too
   pub leads_kept : (Found : Spot S → Type 0) (old new : List (Config S)) (s : S) (rest : ℕ)
       → Gathers Found old new → LeadTo Step slots old s rest → LeadTo Step slots new s rest
-  leads_kept Found old new s rest g l = (l.0, g.kept l.0 l.1, l.2)
+  leads_kept Found old new s rest g l = (l.0, g.adds.kept l.0 l.1, l.2)
 
   pub leads_found : (Found : Spot S → Type 0) (old new : List (Config S)) (config : Spot S)
       (calls : List ℕ) (s : S) (fewer rest : ℕ) → Gathers Found old new → Found config
@@ -138,15 +138,10 @@ module _ {S : Type 0} (Step : S → ℕ → S → Type 0) (slots : List (Option 
       → IsLighter Step slots fewer rest → LeadTo Step slots new last rest)
       → Settles Step slots Found old new → GoesOn Step slots slot (config ∷ []) old new
   goes_one slot config Found old new waits next leads g = record {
-    sound = λ k has. elim (g.sound k has) [
-      | inl m ↦ inl m
-      | inr p ↦ inr (config, Contains-push [] config, (waits, (p.0, next p.0 p.1, p.2)))
-    ];
-    kept = g.kept;
+    adds = adds_as _ _ _ _
+        (λ k p. (config, Contains-push [] config, (waits, (p.0, next p.0 p.1, p.2)))) g.adds;
     complete = λ short k calls last fewer rest has w over run light.
         leads short calls last fewer rest over (rw (← only _ _ has) run) light;
-    longer = g.longer;
-    once = g.once;
   }
 
   -- by each call that waits
@@ -196,22 +191,19 @@ module _ {S : Type 0} (Step : S → ℕ → S → Type 0) (slots : List (Option 
   pub goes_full : (slot : ℕ) (layer old : List (Config S)) → 4096 < length old
       → GoesOn Step slots slot layer old old
   goes_full slot layer old many = record {
-    sound = λ k has. inl has;
-    kept = λ k has. has;
+    adds = adds_none _ _;
     complete = λ short k calls last fewer rest has waits over run light.
         absurd (short many);
-    longer = λ n h. h;
-    once = λ a. a;
   }
 
   -- where the call does not wait
   pub goes_not : (slot : ℕ) (config : Config S) (old : List (Config S))
       → bit_at config.waiting slot ≡ 0 → GoesOn Step slots slot (config ∷ []) old old
-  goes_not slot config old gone = grind (arith, only)
+  goes_not slot config old gone = record { adds = adds_none _ _; complete = grind (arith, only) }
 
   -- from none
   pub goes_none : (slot : ℕ) (old : List (Config S)) → GoesOn Step slots slot [] old old
-  goes_none slot old = grind (arith, nothing_in)
+  goes_none slot old = record { adds = adds_none _ _; complete = grind (arith, nothing_in) }
 
   -- from one configuration more
   pub goes_pushed : (slot : ℕ) (layer : List (Config S)) (from : Config S)
@@ -219,25 +211,18 @@ module _ {S : Type 0} (Step : S → ℕ → S → Type 0) (slots : List (Option 
       → GoesOn Step slots slot (from ∷ []) mid new
       → GoesOn Step slots slot (layer ++ from ∷ []) old new
   goes_pushed slot layer from old mid new f g = record {
-    sound = λ k has. elim (g.sound k has) [
-      | inl m ↦ elim (f.sound k m) [
-        | inl n ↦ inl n
-        | inr p ↦ inr (p.0, Contains-append_left layer (from ∷ []) p.0 p.1, p.2)
-      ]
-      | inr q ↦ inr (from, Contains-push layer from, rw (← only _ _ q.1) q.2)
-    ];
-    kept = λ k has. g.kept k (f.kept k has);
+    adds = adds_then _ _ _ _ _ _ (from_first _ layer from)
+        (λ k q. from_last (IsUnderWay Step slots slot) layer from k (rw (← only _ _ q.1) q.2))
+        f.adds g.adds;
     complete = λ short k calls last fewer rest has waits over run light.
         elim (Contains-push_cases layer from k has) [
           | inl m ↦
-              let l = f.complete (λ many. short (g.longer 4096 many)) k calls last fewer rest m
-              waits over run light in (l.0, g.kept l.0 l.1, l.2)
+              let l = f.complete (λ many. short (g.adds.longer 4096 many)) k calls last fewer rest
+              m waits over run light in (l.0, g.adds.kept l.0 l.1, l.2)
           | inr e ↦
               g.complete short k calls last fewer rest (rw (← e) (Contains-push [] from))
               waits over run light
         ];
-    longer = λ n h. g.longer n (f.longer n h);
-    once = λ a. g.once (f.once a);
   }
 
   -- a slot that is in no set in the end
@@ -256,7 +241,7 @@ module _ {S : Type 0} (Step : S → ℕ → S → Type 0) (slots : List (Option 
   closing_more configs done layer more next slot call left few here cl goes f g = (
     record {
       sound = λ k has.
-          elim (f.sound k has) [
+          elim (f.adds.sound k has) [
             | inl before ↦ cl.sound k before
             | inr found ↦ (
               made_done _ found.0 _ found.2.1 (cl.under_way found.0 found.1),
@@ -264,7 +249,7 @@ module _ {S : Type 0} (Step : S → ℕ → S → Type 0) (slots : List (Option 
             )
           ];
       under_way = λ k has.
-          elim (g.sound k has) [
+          elim (g.adds.sound k has) [
             | inl none ↦ absurd (nothing_in _ none)
             | inr found ↦
                 let made = found.2.1 in
@@ -282,7 +267,7 @@ module _ {S : Type 0} (Step : S → ℕ → S → Type 0) (slots : List (Option 
                       _ _ f (m.0, m.1, (gone, (refl, refl, refl))) m.2.2 m.2.3)
                 ]
           ];
-      short = λ k has. elim (g.sound k has) [
+      short = λ k has. elim (g.adds.sound k has) [
         | inl none ↦ absurd (nothing_in _ none)
         | inr found ↦
             let from = found.0 in
@@ -303,9 +288,9 @@ module _ {S : Type 0} (Step : S → ℕ → S → Type 0) (slots : List (Option 
                   is.calls few (omega (arith, within, few)) is.runs),
             )
       ];
-      once = f.once cl.once;
+      once = f.adds.once cl.once;
     },
-    g.once none_same,
+    g.adds.once none_same,
   )
 
   -- of no configurations
@@ -366,26 +351,20 @@ module _ {S : Type 0} (A B : S → ℕ → S → Type 0) (slots : List (Option �
   pub settles_steps : (Found : Spot S → Type 0) (old new : List (Config S))
       → Settles A slots Found old new → Settles B slots Found old new
   settles_steps Found old new a = record {
-    sound = λ k has. elim (a.sound k has) [
-      | inl m ↦ inl m
-      | inr p ↦ inr (
-        p.0,
-        p.1,
-        record {
-          state = p.2.state;
-          calls = p.2.calls;
-          runs = as_run _ _ _ _ _ p.2.runs;
-          lighter = as_light _ _ p.2.lighter;
-          made = p.2.made;
-        },
-      )
-    ];
-    kept = a.kept;
+    adds = adds_as _ _ _ _ (λ k p. (
+      p.0,
+      p.1,
+      record {
+        state = p.2.state;
+        calls = p.2.calls;
+        runs = as_run _ _ _ _ _ p.2.runs;
+        lighter = as_light _ _ p.2.lighter;
+        made = p.2.made;
+      },
+    )) a.adds;
     complete = λ few k found.
         let one = a.complete few k found in
         (one.0, one.1, one.2, as_light _ _ one.3);
-    longer = a.longer;
-    once = a.once;
   }
 
 pub closed_as : {S : Type 0} (A B : S → ℕ → S → Type 0) (slots : List (Option ℕ))

@@ -1,5 +1,5 @@
 -- How often a number stands in a list, and what is true of all pairs of a list.
-use Rattle.histories.proofs.Words.{◌≤◌, length-append, ◌-◌, ◌≡◌, ◌≢◌, ℕ, zero, suc, ◌+◌, ◌<◌, List, [], ◌∷◌, ◌++◌, length, take, drop, get_or, refl, ◌∙◌, ap, arith, inl, inr, eq-eqb, remove, split_at, eqb_tells, AllPairs, get_or-append, get_or-append_seam, cases_lt, get_or-append-add}
+use Rattle.histories.proofs.Words.{◌≤◌, length-append, ◌-◌, ◌≡◌, ◌≢◌, ℕ, zero, suc, ◌+◌, ◌<◌, List, [], ◌∷◌, ◌++◌, length, take, drop, get_or, refl, ◌∙◌, ap, arith, inl, inr, eq-eqb, remove, split_at, eqb_tells, AllPairs, get_or-append, get_or-append_right, get_or-append_seam, cases_lt, get_or-append-add}
 use Rattle.histories.specs.Histories.{times}
 
 -- a number of which none is more than zero
@@ -133,18 +133,11 @@ all_pairs_join P xs ys a b across = λ i j d less within.
     elim (cases_lt j (length xs)) [
       | inl early ↦ grind (arith, get_or-append)
       | inr late ↦
-          let k = j - length xs in
-          let there : j ≡ length xs + k = omega (arith, late) in
-          let second : get_or (xs ++ ys) j d ≡ get_or ys k d =
-          ap (λ n. get_or (xs ++ ys) n d) there ∙ get_or-append-add xs ys k d in
-          let inside : k < length ys = omega (arith, there, within, length-append xs ys) in
-          rw second (elim (cases_lt i (length xs)) [
+          let inside : j - length xs < length ys =
+          omega (arith, within, late, length-append xs ys) in
+          rw (get_or-append_right xs ys j d late) (elim (cases_lt i (length xs)) [
             | inl before ↦ grind (arith, get_or-append, times_at)
-            | inr behind ↦
-                let m = i - length xs in
-                let here : i ≡ length xs + m = omega (arith, behind) in
-                let first : get_or (xs ++ ys) i d ≡ get_or ys m d =
-                ap (λ n. get_or (xs ++ ys) n d) here ∙ get_or-append-add xs ys m d in
-                rw (← first) at (b m k d (omega (arith, here, there, less)) inside)
+            | inr behind ↦ rw (get_or-append_right xs ys i d behind)
+                (b (i - length xs) (j - length xs) d (omega (arith, behind, less)) inside)
           ])
     ]

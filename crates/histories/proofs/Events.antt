@@ -1,5 +1,5 @@
 -- One event more.
-use Rattle.histories.proofs.Words.{eq-eqb, Some, false, ◌≡◌, ◌≢◌, ℕ, zero, suc, ◌+◌, ◌<◌, ◌⊎◌, List, [], ◌∷◌, ◌++◌, length, cond, refl, ap, arith, inl, inr, ◌∙◌, Option, cases_eq, eqb_tells, FreesSlot, TakesSlot, Event, Begin, End, Crash, EndsAt, HasEnded, IsAnswered, IsOpen, IsOver, StandsAt, Ends, IsSound, HasSlot, IsTable}
+use Rattle.histories.proofs.Words.{eq-eqb, Some, false, ◌≡◌, ◌≢◌, ℕ, zero, suc, ◌+◌, ◌<◌, ◌⊎◌, List, [], ◌∷◌, ◌++◌, length, cond, refl, ap, arith, inl, inr, ◌∙◌, Option, cases_eq, eqb_tells, slice_get_within, FreesSlot, TakesSlot, Event, Begin, End, Crash, EndsAt, HasEnded, IsAnswered, IsOpen, IsOver, StandsAt, Ends, IsSound, HasSlot, IsTable}
 use Rattle.histories.proofs.Bits.{slot_once}
 use Rattle.histories.specs.Histories.{begins, times}
 use Rattle.histories.proofs.Counting.{times_one, times_other}
@@ -125,9 +125,7 @@ pub begins_cases : (es : List Event) (e : Event) (c : ℕ) → 0 < begins c (es 
 begins_cases es e c h = grind (arith, begins_stands, stands_cases, stands_begins)
 
 pub stands_within : (es : List Event) (k : ℕ) (x : Event) → StandsAt es k x → k < length es
-stands_within [] k x at = absurd (cc)
-stands_within (y ∷ es) zero x at = omega arith
-stands_within (y ∷ es) (suc k) x at = omega (arith, stands_within es k x at)
+stands_within es k x at = slice_get_within es k x at
 
 ends_cases : (es : List Event) (e : Event) (k c : ℕ) → EndsAt (es ++ e ∷ []) k c
     → EndsAt es k c ⊎ ((k ≡ length es) × Ends e c)

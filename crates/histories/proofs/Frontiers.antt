@@ -128,7 +128,7 @@ module _ {S : Type 0} (Step : S → ℕ → S → Type 0) where
 
             crash_gone : (k : Config S) → Contains all k → bit_at k.waiting t ≡ 0
             crash_gone k has =
-                elim (d.sound k has) [
+                elim (d.adds.sound k has) [
                   | inl closed ↦ (g.sound k closed).1
                   | inr found ↦ grind (arith, cleared_same, slot_64)
                 ]
@@ -162,7 +162,7 @@ module _ {S : Type 0} (Step : S → ℕ → S → Type 0) where
             -- a call whose caller crashed is made, or never
             pub frontier_crash : IsFrontier Step links more (es ++ Crash c ∷ []) olds all
             frontier_crash = record {
-              sound = λ k has. elim (d.sound k has) [
+              sound = λ k has. elim (d.adds.sound k has) [
                 | inl closed ↦ done_sound _ (inr refl) k closed
                 | inr found ↦ dropped_sound _ found
               ];
@@ -183,7 +183,7 @@ module _ {S : Type 0} (Step : S → ℕ → S → Type 0) where
                       leads_freed _ _ _ crash_gone (crash_leads new lead.0 some lead.2),
                     )
                   ];
-              once = d.once g.once;
+              once = d.adds.once g.once;
               table = table_end _ _ _ _ _ _ (inr refl) f.table here frees;
             }
 
@@ -265,9 +265,9 @@ module _ {S : Type 0} (Step : S → ℕ → S → Type 0) where
       → Gathers (IsFirst olds) [] configs → IsFrontier Step links [] [] olds configs
   frontier_first links olds configs g =
       frontier_fresh _ _ _ _ table_none
-      (λ k has. elim (g.sound k has) [
+      (λ k has. elim (g.adds.sound k has) [
         | inl none ↦ absurd (nothing_in _ none)
         | inr found ↦ (found.0, found.2)
       ]) (λ old has.
       let spot : Spot S = record { state = old; waiting = 0; made = no_path } in
-      let k = g.complete spot (has, refl, refl) in (k.0, k.1, k.2.0)) (g.once none_same)
+      let k = g.complete spot (has, refl, refl) in (k.0, k.1, k.2.0)) (g.adds.once none_same)

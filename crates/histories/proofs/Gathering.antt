@@ -1,5 +1,5 @@
 -- Configurations that are gathered.
-use Rattle.histories.proofs.Words.{◌≡◌, Option, ℕ, ◌+◌, ◌<◌, ◌⊎◌, List, [], ◌∷◌, ◌++◌, length, take, get_or, refl, sym, ◌∙◌, ap, subst, arith, inl, inr, true, false, ◌≤◌, bit_at, cases_order, take_more, All-contains, Contains-append_left, Contains-push, Contains-push_cases, all_pairs_push, slice_set, Config, AreAll, IsSame, IsWaiting, Path, cleared, no_path, path_more, path_of, FromOne, Gathers, IsBegun, IsCopy, IsDone, IsDropped, IsFirst, IsKnown, IsMadeIn, IsNextAt, IsNextBeside, IsNextIn, IsNextOther, IsOpened, IsSettled, IsWith, Settles, Spot, spot_of}
+use Rattle.histories.proofs.Words.{◌≡◌, Option, ℕ, ◌+◌, ◌<◌, ◌⊎◌, List, [], ◌∷◌, ◌++◌, length, take, get_or, refl, sym, ◌∙◌, ap, subst, arith, inl, inr, true, false, bit_at, cases_eq, cases_order, length_push, take_more, All-contains, Contains-append_left, Contains-push, Contains-push_cases, all_pairs_push, slice_set, Config, AreAll, IsSame, IsWaiting, Path, cleared, no_path, path_more, path_of, Adds, FromOne, Gathers, IsBegun, IsBeside, IsCopy, IsDone, IsDropped, IsFirst, IsKnown, IsMadeIn, IsNextAt, IsNextBeside, IsNextIn, IsOpened, IsSettled, IsWith, Settles, Spot, spot_of}
 use Rattle.histories.specs.Gathering.{IsNext}
 use Rattle.histories.proofs.Bits.{slot_once}
 use Rattle.histories.proofs.Indices.{nothing_in, only}
@@ -14,52 +14,74 @@ unfolding spot_with
 spot_is {S} one other state waiting made = grind (arith, spot_with)
 
 module _ {S : Type 0} where
+  -- nothing is added
+  pub adds_none : (Fact : Spot S → Type 0) (old : List (Config S)) → Adds Fact old old
+  adds_none Fact old = grind arith
+
+  -- the same, by what follows
+  pub adds_as : (P Q : Spot S → Type 0) (old new : List (Config S)) → ((k : Spot S) → P k → Q k)
+      → Adds P old new → Adds Q old new
+  adds_as P Q old new follows a = grind arith
+
+  -- first some are added, and then others
+  pub adds_then : (P Q R : Spot S → Type 0) (old mid new : List (Config S))
+      → ((k : Spot S) → P k → R k) → ((k : Spot S) → Q k → R k) → Adds P old mid
+      → Adds Q mid new → Adds R old new
+  adds_then P Q R old mid new first second f g = record {
+    sound = λ k has. grind arith;
+    kept = λ k has. g.kept k (f.kept k has);
+    longer = λ n h. g.longer n (f.longer n h);
+    once = λ a. g.once (f.once a);
+  }
+
   pub gathers_none : (Found : Spot S → Type 0) (old : List (Config S))
       → ((k : Spot S) → ¬ (Found k)) → Gathers Found old old
-  gathers_none Found old none = grind arith
+  gathers_none Found old none =
+      record { adds = adds_none _ _; complete = λ k found. absurd (none k found) }
 
   -- the same, found by other words
-  pub gathers_as : (P Q : Spot S → Type 0) (old new : List (Config S))
-      → ((k : Spot S) → P k → Q k) → ((k : Spot S) → Q k → P k) → Gathers P old new
-      → Gathers Q old new
-  gathers_as P Q old new there back g = grind arith
+  gathers_as : (P Q : Spot S → Type 0) (old new : List (Config S)) → ((k : Spot S) → P k → Q k)
+      → ((k : Spot S) → Q k → P k) → Gathers P old new → Gathers Q old new
+  gathers_as P Q old new there back g = record {
+    adds = adds_as _ _ _ _ there g.adds;
+    complete = λ k q. g.complete k (back k q);
+  }
 
   -- first some are found, and then others
-  pub gathers_then : (P Q R : Spot S → Type 0) (old mid new : List (Config S))
+  gathers_then : (P Q R : Spot S → Type 0) (old mid new : List (Config S))
       → ((k : Spot S) → R k → P k ⊎ Q k) → ((k : Spot S) → P k → R k)
       → ((k : Spot S) → Q k → R k) → Gathers P old mid → Gathers Q mid new → Gathers R old new
   gathers_then P Q R old mid new either first second f g = record {
-    sound = λ k has. grind arith;
-    kept = λ k has. g.kept k (f.kept k has);
+    adds = adds_then _ _ _ _ _ _ first second f.adds g.adds;
     complete = λ k r.
         elim (either k r) [
-          | inl p ↦ let m = f.complete k p in (m.0, g.kept m.0 m.1, m.2)
+          | inl p ↦ let m = f.complete k p in (m.0, g.adds.kept m.0 m.1, m.2)
           | inr q ↦ g.complete k q
         ];
-    once = λ a. g.once (f.once a);
   }
 
   -- one that is there already
   pub gathers_known : (configs : List (Config S)) (config : Config S)
       → IsKnown configs config true → Gathers (IsCopy config) configs configs
   gathers_known configs config is = record {
-    sound = λ k has. inl has;
-    kept = λ k has. has;
+    adds = adds_none _ _;
     complete = λ k copy. (is.0, is.1, (is.2.0 ∙ sym copy.0, is.2.1 ∙ sym copy.1));
-    once = λ a. a;
   }
 
   -- one that is not there yet
   pub gathers_new : (configs : List (Config S)) (config : Config S) → IsKnown configs config false
       → Gathers (IsCopy config) configs (configs ++ config ∷ [])
   gathers_new configs config is = record {
-    sound = λ k has. elim (Contains-push_cases configs config k has) [
-      | inl m ↦ inl m
-      | inr e ↦ inr (rw (← e) (refl, refl, refl))
-    ];
-    kept = λ k has. Contains-append_left configs (config ∷ []) k has;
+    adds = record {
+      sound = λ k has. elim (Contains-push_cases configs config k has) [
+        | inl m ↦ inl m
+        | inr e ↦ inr (rw (← e) (refl, refl, refl))
+      ];
+      kept = λ k has. Contains-append_left configs (config ∷ []) k has;
+      longer = λ n h. omega (arith, h, length_push configs config);
+      once = λ a. all_pairs_push (λ x y. ¬ (IsSame x y)) configs config a (λ k d h. is k d h);
+    };
     complete = λ k copy. (config, Contains-push configs config, (sym copy.0, sym copy.1));
-    once = λ a. all_pairs_push (λ x y. ¬ (IsSame x y)) configs config a (λ k d h. is k d h);
   }
 
   -- one state more, of some that calls leave
@@ -95,11 +117,11 @@ module _ {S : Type 0} where
         | inr e ↦ inr (rw e r.2)
       ]
 
-  from_first : (Fact : Config S → Spot S → Type 0) (layer : List (Config S)) (from : Config S)
+  pub from_first : (Fact : Config S → Spot S → Type 0) (layer : List (Config S)) (from : Config S)
       (k : Spot S) → FromOne Fact layer k → FromOne Fact (layer ++ from ∷ []) k
   from_first Fact layer from k p = (p.0, Contains-append_left layer (from ∷ []) p.0 p.1, p.2)
 
-  from_last : (Fact : Config S → Spot S → Type 0) (layer : List (Config S)) (from : Config S)
+  pub from_last : (Fact : Config S → Spot S → Type 0) (layer : List (Config S)) (from : Config S)
       (k : Spot S) → Fact from k → FromOne Fact (layer ++ from ∷ []) k
   from_last Fact layer from k q = (from, Contains-push layer from, q)
 
@@ -143,16 +165,16 @@ module _ {S : Type 0} where
   pub gathers_through : (Fact : Spot S → Type 0) (others old new : List (Config S))
       → Gathers Fact [] others → Gathers (FromOne IsCopy others) old new → Gathers Fact old new
   gathers_through Fact others old new f g = record {
-    sound = λ k has. elim (g.sound k has) [
-      | inl before ↦ inl before
-      | inr copy ↦ grind (arith, spot_is)
-    ];
-    kept = g.kept;
+    adds = adds_as (FromOne IsCopy others) Fact _ _
+        (λ k copy. elim (f.adds.sound copy.0 copy.1) [
+          | inl none ↦ absurd (nothing_in _ none)
+          | inr found ↦ subst (λ (s : Spot S). Fact s)
+              (sym (spot_is k (spot_of copy.0) copy.2.0 copy.2.1 copy.2.2)) found
+        ]) g.adds;
     complete = λ spot found.
         let other = f.complete spot found in
         let known = g.complete (spot_of other.0) (other.0, other.1, (refl, refl, refl)) in
         (known.0, known.1, (known.2.0 ∙ other.2.0, known.2.1 ∙ other.2.1));
-    once = g.once;
   }
 
   -- a configuration is gathered where it is done
@@ -176,23 +198,18 @@ module _ {S : Type 0} where
 
 module _ {S : Type 0} (Step : S → ℕ → S → Type 0) (slots : List (Option ℕ)) where
   -- a copy of what was settled
-  pub settled_copy : (from : Spot S) (one : Config S) (copy : Spot S)
+  settled_copy : (from : Spot S) (one : Config S) (copy : Spot S)
       → IsSettled Step slots from (spot_of one) → IsCopy one copy → IsSettled Step slots from copy
   settled_copy from one copy s is = grind arith
 
   -- nothing is added
   settles_stay : (Found : Spot S → Type 0) (old : List (Config S))
       → (¬ (4096 < length old) → (k : Spot S) → ¬ (Found k)) → Settles Step slots Found old old
-  settles_stay Found old none = record {
-    sound = λ k has. inl has;
-    kept = λ k has. has;
-    complete = λ few k found. absurd (none few k found);
-    longer = λ n h. h;
-    once = λ a. a;
-  }
+  settles_stay Found old none =
+      record { adds = adds_none _ _; complete = λ few k found. absurd (none few k found) }
 
-  pub settles_none : (Found : Spot S → Type 0) (old : List (Config S))
-      → ((k : Spot S) → ¬ (Found k)) → Settles Step slots Found old old
+  settles_none : (Found : Spot S → Type 0) (old : List (Config S)) → ((k : Spot S) → ¬ (Found k))
+      → Settles Step slots Found old old
   settles_none Found old none = settles_stay _ _ (λ few k found. none k found)
 
   -- there are too many
@@ -204,14 +221,8 @@ module _ {S : Type 0} (Step : S → ℕ → S → Type 0) (slots : List (Option 
   settles_as : (P Q : Spot S → Type 0) (old new : List (Config S)) → ((k : Spot S) → P k → Q k)
       → ((k : Spot S) → Q k → P k) → Settles Step slots P old new → Settles Step slots Q old new
   settles_as P Q old new there back g = record {
-    sound = λ k has. elim (g.sound k has) [
-      | inl m ↦ inl m
-      | inr p ↦ inr (p.0, there p.0 p.1, p.2)
-    ];
-    kept = g.kept;
+    adds = adds_as _ _ _ _ (λ k p. (p.0, there p.0 p.1, p.2)) g.adds;
     complete = λ few k q. g.complete few k (back k q);
-    longer = g.longer;
-    once = g.once;
   }
 
   -- first some are found, and then others
@@ -220,36 +231,25 @@ module _ {S : Type 0} (Step : S → ℕ → S → Type 0) (slots : List (Option 
       → ((k : Spot S) → Q k → R k) → Settles Step slots P old mid
       → Settles Step slots Q mid new → Settles Step slots R old new
   settles_then P Q R old mid new either first second f g = record {
-    sound = λ k has. elim (g.sound k has) [
-      | inl m ↦ elim (f.sound k m) [
-        | inl n ↦ inl n
-        | inr p ↦ inr (p.0, first p.0 p.1, p.2)
-      ]
-      | inr q ↦ inr (q.0, second q.0 q.1, q.2)
-    ];
-    kept = λ k has. g.kept k (f.kept k has);
+    adds = adds_then _ _ _ _ _ _ (λ k p. (p.0, first p.0 p.1, p.2))
+        (λ k q. (q.0, second q.0 q.1, q.2)) f.adds g.adds;
     complete = λ few k r.
         elim (either k r) [
           | inl p ↦
-              let m = f.complete (λ many. few (g.longer 4096 many)) k p in
-              (m.0, g.kept m.0 m.1, m.2, m.3)
+              let m = f.complete (λ many. few (g.adds.longer 4096 many)) k p in
+              (m.0, g.adds.kept m.0 m.1, m.2, m.3)
           | inr q ↦ g.complete few k q
         ];
-    longer = λ n h. g.longer n (f.longer n h);
-    once = λ a. g.once (f.once a);
   }
 
   -- a configuration is added, which has come from what was found by calls that change nothing
   pub settles_one : (from : Spot S) (one : Config S) (old new : List (Config S))
       → IsSettled Step slots from (spot_of one) → Gathers (IsCopy one) old new
-      → length old ≤ length new → Settles Step slots
+      → Settles Step slots
       (λ k. (k.state ≡ from.state) × (k.waiting ≡ from.waiting) × (k.made ≡ from.made)) old new
-  settles_one from one old new is g longer = record {
-    sound = λ k has. elim (g.sound k has) [
-      | inl m ↦ inl m
-      | inr copy ↦ inr (from, (refl, refl, refl), settled_copy _ one _ is copy)
-    ];
-    kept = g.kept;
+  settles_one from one old new is g = record {
+    adds = adds_as _ _ _ _ (λ k copy. (from, (refl, refl, refl), settled_copy _ one _ is copy))
+        g.adds;
     complete = λ few k copy.
         let known = g.complete (spot_of one) (refl, refl, refl) in (
           known.0,
@@ -257,19 +257,17 @@ module _ {S : Type 0} (Step : S → ℕ → S → Type 0) (slots : List (Option 
           known.2.0 ∙ (is.state ∙ sym copy.0),
           rw (known.2.1, copy.1) is.lighter,
         );
-    longer = λ n h. omega (arith, h, longer);
-    once = g.once;
   }
 
   -- the call in the slot begins in the configuration
   pub settles_begun : (slot : ℕ) (from one : Config S) (old new : List (Config S))
       → IsBegun Step slots slot from one → Gathers (IsCopy one) old new
-      → length old ≤ length new → Settles Step slots (IsOpened slot from) old new
-  settles_begun slot from one old new is g longer =
+      → Settles Step slots (IsOpened slot from) old new
+  settles_begun slot from one old new is g =
       let o = is.1 in
       settles_as _ _ _ _ (λ k p. (p.0 ∙ o.0, p.1 ∙ o.1, p.2 ∙ o.2))
       (λ k p. (p.0 ∙ sym o.0, p.1 ∙ sym o.1, p.2 ∙ sym o.2))
-      (settles_one is.0 one _ _ is.2 g longer)
+      (settles_one is.0 one _ _ is.2 g)
 
   pub settles_no_one : (Fact : Config S → Spot S → Type 0) (old : List (Config S))
       → Settles Step slots (FromOne Fact []) old old
@@ -291,8 +289,7 @@ module _ {S : Type 0} (Step : S → ℕ → S → Type 0) (slots : List (Option 
   settles_alone slot [] from one many is begun = absurd (omega (arith, many))
   settles_alone slot (x ∷ []) from one many is begun =
       rw (← is) (settles_pushed (IsOpened slot) [] from _ _ _ (settles_no_one _ _)
-      (settles_begun slot from one _ _ begun (gathers_new [] one (λ i d h. absurd (omega arith)))
-      (omega arith)))
+      (settles_begun slot from one _ _ begun (gathers_new [] one (λ i d h. absurd (omega arith)))))
   settles_alone slot (x ∷ y ∷ configs) from one many is begun = absurd (omega (arith, many))
 
   -- all states that a call leaves: none, one, and one more
@@ -344,28 +341,38 @@ module _ {S : Type 0} (Step : S → ℕ → S → Type 0) (slots : List (Option 
       (settles_state from next _ _ _ _ _ state (set ∙ ap (λ w. cleared w slot) is.2)
       (path ∙ is.1) g)
 
-  -- one slot more, but for one
-  pub settles_slot : (from : Config S) (slot other : ℕ) (old mid new : List (Config S))
+  -- one slot more, whose call is made
+  pub settles_slot : (from : Config S) (slot other call : ℕ) (old mid new : List (Config S))
+      → IsBeside slots from.waiting slot other call
       → Settles Step slots (IsNextBeside Step slots from slot other) old mid
-      → Settles Step slots (IsNextOther Step slots from slot other) mid new
+      → Settles Step slots (IsNextAt Step slots from other) mid new
       → Settles Step slots (IsNextBeside Step slots from slot (other + 1)) old new
-  settles_slot from slot other old mid new f g =
+  settles_slot from slot other call old mid new beside f g =
       settles_then _ _ _ _ _ _
       (λ k r. elim (cases_order r.0 other) [
-        | inl e ↦ inr (rw (← e) r.2)
-        | inr (inl less) ↦ inl (r.0, less, r.2)
+        | inl e ↦ inr (rw (← e) r.3)
+        | inr (inl less) ↦ inl (r.0, less, r.2, r.3)
         | inr (inr more) ↦ absurd (omega (arith, r.1))
-      ]) (λ k p. (p.0, omega (arith, p.1), p.2)) (λ k q. (other, omega arith, q)) f g
+      ]) (λ k p. (p.0, omega (arith, p.1), p.2, p.3))
+      (λ k q. (other, omega arith, beside.0, q)) f g
+
+  -- or which no call has that waits, but this one
+  pub settles_skip : (from : Config S) (slot other : ℕ) (old new : List (Config S))
+      → ((call : ℕ) → IsBeside slots from.waiting slot other call → ⊥)
+      → Settles Step slots (IsNextBeside Step slots from slot other) old new
+      → Settles Step slots (IsNextBeside Step slots from slot (other + 1)) old new
+  settles_skip from slot other old new none f =
+      settles_as _ _ _ _ (λ k p. (p.0, omega (arith, p.1), p.2, p.3))
+      (λ k r. elim (cases_order r.0 other) [
+        | inl e ↦ absurd (none r.3.0 (subst (λ o. IsBeside slots from.waiting slot o r.3.0) e
+            (r.2, r.3.1)))
+        | inr (inl less) ↦ (r.0, less, r.2, r.3)
+        | inr (inr more) ↦ absurd (omega (arith, r.1))
+      ]) f
 
   pub settles_no_slot : (from : Config S) (slot : ℕ) (old : List (Config S))
       → Settles Step slots (IsNextBeside Step slots from slot 0) old old
   settles_no_slot from slot old = settles_none _ _ (λ k f. absurd (omega (arith, f.1)))
-
-  pub settles_other : (from : Config S) (slot other : ℕ) (old new : List (Config S))
-      → (other ≡ slot → ⊥) → Settles Step slots (IsNextAt Step slots from other) old new
-      → Settles Step slots (IsNextOther Step slots from slot other) old new
-  settles_other from slot other old new apart g =
-      settles_as _ _ _ _ (λ k p. (apart, p)) (λ k p. p.1) g
 
   -- and that one
   pub settles_last : (from : Config S) (slot : ℕ) (old mid new : List (Config S))
@@ -375,8 +382,7 @@ module _ {S : Type 0} (Step : S → ℕ → S → Type 0) (slots : List (Option 
       → Settles Step slots (IsNext Step slots from) old new
   settles_last from slot old mid new within f g =
       settles_then _ _ _ _ _ _
-      (λ k r. elim (cases_order r.0 slot) [
+      (λ k r. elim (cases_eq r.0 slot) [
         | inl e ↦ inr (rw (← e) r.2)
-        | inr (inl less) ↦ inl (r.0, r.1, ((λ e. absurd (omega (arith, less, e))), r.2))
-        | inr (inr more) ↦ inl (r.0, r.1, ((λ e. absurd (omega (arith, more, e))), r.2))
-      ]) (λ k p. (p.0, p.1, p.2.1)) (λ k q. (slot, within, q)) f g
+        | inr ne ↦ inl (r.0, r.1, ne, r.2)
+      ]) (λ k p. (p.0, p.1, p.3)) (λ k q. (slot, within, q)) f g

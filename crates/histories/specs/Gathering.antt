@@ -124,17 +124,11 @@ IsNextAt Step slots config slot next =
     × (next.waiting ≡ cleared config.waiting slot)
     × (next.made ≡ path_more (path_of config) (call ∷ []))
 
--- the same in a slot that is not this one
-abbrev pub IsNextOther : {S : Type 0} → (S → ℕ → S → Type 0) → List (Option ℕ) → Config S → ℕ → ℕ
-    → Spot S → Type 0
-IsNextOther Step slots config slot other next =
-    (other ≡ slot → ⊥) × IsNextAt Step slots config other next
-
--- the same in one of those below a number
+-- the same in a slot below a number, which is not this one
 abbrev pub IsNextBeside : {S : Type 0} → (S → ℕ → S → Type 0) → List (Option ℕ) → Config S → ℕ → ℕ
     → Spot S → Type 0
 IsNextBeside Step slots config slot end next =
-    (other : ℕ) × (other < end) × IsNextOther Step slots config slot other next
+    (other : ℕ) × (other < end) × (other ≡ slot → ⊥) × IsNextAt Step slots config other next
 
 -- a call that waits is made
 abbrev pub IsNext : {S : Type 0} → (S → ℕ → S → Type 0) → List (Option ℕ) → Config S → Spot S
@@ -197,45 +191,42 @@ abbrev pub FromOne : {S : Type 0} → (Config S → Spot S → Type 0) → List 
 FromOne {S} Fact configs spot =
     (config : Config S) × Contains configs config × Fact config spot
 
--- the new ones are the old ones and those that are found, but for those that are there already, and
--- each is there once
+-- the new ones are the old ones, and others of which this is true; each is there once
+pub record Adds {S : Type 0} (Fact : Spot S → Type 0) (old new : List (Config S)) : Type 0 where
+  pub sound : (config : Config S) → Contains new config
+      → Contains old config ⊎ Fact (spot_of config)
+  pub kept : (config : Config S) → Contains old config → Contains new config
+  pub longer : (count : ℕ) → count < length old → count < length new
+  pub once : AllPairs (λ a b. ¬ (IsSame a b)) old → AllPairs (λ a b. ¬ (IsSame a b)) new
+
+-- those that are found are added, but for those that are there already
 pub record Gathers {S : Type 0} (Found : Spot S → Type 0) (old new : List (Config S)) : Type 0
   where
-    pub sound : (config : Config S) → Contains new config
-        → Contains old config ⊎ Found (spot_of config)
-    pub kept : (config : Config S) → Contains old config → Contains new config
+    pub adds : Adds Found old new
     pub complete : (spot : Spot S) → Found spot
         → (known : Config S) × Contains new known × IsAt known spot
-    pub once : AllPairs (λ a b. ¬ (IsSame a b)) old → AllPairs (λ a b. ¬ (IsSame a b)) new
 
 -- The same, where calls that change nothing are made in those that are found. Once the new ones are
 -- too many, others need not be there.
 pub record Settles {S : Type 0} (Step : S → ℕ → S → Type 0) (slots : List (Option ℕ))
     (Found : Spot S → Type 0) (old new : List (Config S)) : Type 0 where
-  pub sound : (config : Config S) → Contains new config → Contains old config
-      ⊎ ((spot : Spot S) × Found spot × IsSettled Step slots spot (spot_of config))
-  pub kept : (config : Config S) → Contains old config → Contains new config
+  pub adds : Adds (λ settled. (spot : Spot S) × Found spot × IsSettled Step slots spot settled)
+      old new
   pub complete : ¬ (4096 < length new) → (spot : Spot S) → Found spot
       → (known : Config S) × Contains new known × (known.state ≡ spot.state)
       × IsLighter Step slots known.waiting spot.waiting
-  pub longer : (count : ℕ) → count < length old → count < length new
-  pub once : AllPairs (λ a b. ¬ (IsSame a b)) old → AllPairs (λ a b. ¬ (IsSame a b)) new
 
--- The new ones are the old ones and some to which one more call leads from one of these, in which
--- the call in the slot waits. What calls lead to from there, the call among them, is led to from
--- the new ones, where these are not too many. Each is there once.
+-- Those are added to which one more call leads from one of these, in which the call in the slot
+-- waits. What calls lead to from there, the call among them, is led to from the new ones, where
+-- these are not too many.
 pub record GoesOn {S : Type 0} (Step : S → ℕ → S → Type 0) (slots : List (Option ℕ)) (slot : ℕ)
     (layer old new : List (Config S)) : Type 0 where
-  pub sound : (config : Config S) → Contains new config
-      → Contains old config ⊎ FromOne (IsUnderWay Step slots slot) layer (spot_of config)
-  pub kept : (config : Config S) → Contains old config → Contains new config
+  pub adds : Adds (FromOne (IsUnderWay Step slots slot) layer) old new
   pub complete : ¬ (4096 < length new)
       → (config : Config S) (calls : List ℕ) (last : S) (fewer rest : ℕ)
       → Contains layer config → bit_at config.waiting slot ≡ 1 → bit_at fewer slot ≡ 0
       → Runs Step slots config.state config.waiting calls last fewer
       → IsLighter Step slots fewer rest → LeadTo Step slots new last rest
-  pub longer : (count : ℕ) → count < length old → count < length new
-  pub once : AllPairs (λ a b. ¬ (IsSame a b)) old → AllPairs (λ a b. ¬ (IsSame a b)) new
 
 -- calls that waited in one of the configurations were made
 abbrev pub IsMadeFrom : {S : Type 0} → (S → ℕ → S → Type 0) → List (Option ℕ) → List (Config S)
@@ -363,8 +354,8 @@ abbrev pub chain_at : {S : Type 0} → (S → ℕ) → List (Config S) → Confi
 chain_at hash configs d index = chain_of hash (get_or configs index d)
 
 -- Indices below the length of `before` are in chains. The head of a chain is above each of its
--- indices, and one above the last of them. The number of an index is above each earlier index of
--- its chain, and one above the last of these.
+-- indices, and one above the last of them. What `before` has at an index is above each
+-- earlier index of its chain, and one above the last of these.
 pub record AreLinked (chain : ℕ → ℕ) (heads before : List ℕ) : Type 0 where
   pub reached : (index : ℕ) → index < length before → index < get_or heads (chain index) 0
   pub head : (number index : ℕ) → get_or heads number 0 ≡ index + 1

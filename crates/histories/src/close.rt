@@ -2,7 +2,7 @@
 ghost use Rattle.std.specs.Prelude.{◌≡◌, ◌<◌, ◌≤◌, ◌++◌, ◌∷◌, [], ℕ, IfNone, IfOk, IfSome, IsTrue, OnOk, length};
 ghost use Rattle.std.specs.Int.{bit_at};
 ghost use Rattle.histories.specs.Frontier.{HasSlot, IsWaiting};
-ghost use Rattle.histories.specs.Gathering.{FromOne, Gathers, GoesOn, IsAlone, IsBeside, IsCloseOutcome, IsClosedInPlace, IsCopy, IsDone, IsDropped, IsMadeFirst, IsMadeIn, IsNextAt, IsNextIn, IsNextOther, MovesFirst, Settles, WaitsInNone};
+ghost use Rattle.histories.specs.Gathering.{FromOne, Gathers, GoesOn, IsAlone, IsBeside, IsCloseOutcome, IsClosedInPlace, IsCopy, IsDone, IsDropped, IsMadeFirst, IsMadeIn, IsNextAt, IsNextIn, MovesFirst, Settles, WaitsInNone};
 
 use super::front::{Config, MAX_CONFIGS};
 use super::gather::{Gathered, add};
@@ -96,6 +96,21 @@ fn make_states<M: Machine>(
     Ok(())
 }
 
+/// Makes the call in the configuration. Returns whether it did; else nothing changed.
+pub fn make_in<M: Machine>(
+    machine: &M,
+    config: &mut Config<M::State>,
+    call: usize,
+) -> Result<bool, AllocError>
+    ensures { IfOk result (IsMadeIn (M.Step machine.now) config.old call config.new) }
+{
+    if !machine.make(&mut config.state, call)? {
+        return Ok(false);
+    }
+    config.made.push(call)?;
+    Ok(true)
+}
+
 /// The call that has a slot and waits, if this is not the other slot.
 fn waits_beside(slots: &[Option<usize>], waiting: u64, slot: usize, at: usize) -> Option<usize>
     requires few { length slots.now ≤ 64 }
@@ -137,44 +152,7 @@ fn make_call<M: Machine>(
     }
 }
 
-/// The same, if a call has the slot and waits, and it is not this other slot.
-#[tactic(auto, using(crate::proofs::Gathering::settles_none, crate::proofs::Gathering::settles_other))]
-fn make_other<M: Machine>(
-    alloc: Global,
-    machine: &M,
-    slots: &[Option<usize>],
-    config: &Config<M::State>,
-    slot: usize,
-    other: usize,
-    next: &mut Gathered<M>,
-) -> Result<(), AllocError>
-    requires few { length slots.now ≤ 64 }
-    requires within { other < length slots.now }
-    ensures { OnOk result (Settles (M.Step machine.now) slots.now
-        (IsNextOther (M.Step machine.now) slots.now config.now slot other) next.old next.new) }
-{
-    match waits_beside(slots, config.waiting, slot, other) {
-        Some(call) => make_call(alloc, machine, slots, config, other, call, next),
-        None => Ok(()),
-    }
-}
-
-/// Makes the call in the configuration. Returns whether it did; else nothing changed.
-pub fn make_in<M: Machine>(
-    machine: &M,
-    config: &mut Config<M::State>,
-    call: usize,
-) -> Result<bool, AllocError>
-    ensures { IfOk result (IsMadeIn (M.Step machine.now) config.old call config.new) }
-{
-    if !machine.make(&mut config.state, call)? {
-        return Ok(false);
-    }
-    config.made.push(call)?;
-    Ok(true)
-}
-
-/// The same for the slot itself, whose call waits. It is made in place where it leaves one state.
+/// The same. The call is made in place where it leaves one state.
 #[tactic(auto, using(crate::proofs::Gathering::settles_made))]
 fn make_last<M: Machine>(
     alloc: Global,
@@ -307,7 +285,7 @@ pub fn close_in_place<M: Machine>(
 /// Adds the configurations to which one more call leads, that in the slot last, unless there are
 /// too many. Where this moves before all others that wait, it is made alone: they can be made after
 /// it.
-#[tactic(auto, using(crate::proofs::Closing::goes_first, crate::proofs::Closing::goes_full, crate::proofs::Gathering::settles_no_slot, crate::proofs::Gathering::settles_slot))]
+#[tactic(auto, using(crate::proofs::Closing::goes_first, crate::proofs::Closing::goes_full, crate::proofs::Gathering::settles_no_slot))]
 fn make_calls<M: Machine>(
     alloc: Global,
     machine: &M,
@@ -329,7 +307,10 @@ fn make_calls<M: Machine>(
         return make_last(alloc, machine, slots, config, slot, next);
     }
     for other in 0..slots.len() {
-        make_other(alloc, machine, slots, &config, slot, other, next)?;
+        let Some(call) = waits_beside(slots, config.waiting, slot, other) else {
+            continue;
+        };
+        make_call(alloc, machine, slots, &config, other, call, next)?;
     }
     make_last(alloc, machine, slots, config, slot, next)
 }
@@ -443,7 +424,7 @@ fn drop_one<M: Machine>(
 }
 
 /// The configurations in which the call in the slot, which waits there, is never made.
-#[tactic(auto, using(crate::proofs::Gathering::gathers_no_one, crate::proofs::Gathering::gathers_one))]
+#[tactic(auto, using(crate::proofs::Gathering::gathers_no_one))]
 pub fn dropped_all<M: Machine>(
     alloc: Global,
     machine: &M,

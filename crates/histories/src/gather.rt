@@ -241,7 +241,6 @@ pub fn add<M: Machine>(
     config: Config<M::State>,
 ) -> Result<(), AllocError>
     ensures gathers { OnOk result (Gathers (IsCopy config) gathered.old gathered.new) }
-    ensures longer { OnOk result (length gathered.old ≤ length gathered.new) }
     ensures most { OnOk result (length gathered.new ≤ length gathered.old + 1) }
 {
     if is_known(

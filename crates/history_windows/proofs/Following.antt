@@ -1,11 +1,12 @@
 -- Windows that go on event by event.
-use Rattle.history_windows.proofs.Words.{◌≡◌, ℕ, zero, suc, ◌+◌, ◌-◌, ◌<◌, ◌≤◌, List, [], ◌∷◌, ◌++◌, length, take, get_or, refl, sym, ◌∙◌, ap, arith, append_assoc, take_all, true, Some, length-take-le, take-take, take-append_seam, slice_get-get_or, Event, Begin, End, Advance, Front, IsAdvance, IsSameFront, IsExplained, IsHistory, StandsAt, IsFrontOf, Cut, Window, GoesTo, IsMadeNext, CutsAt, IsStop}
+use Rattle.history_windows.proofs.Words.{◌≡◌, ℕ, ◌+◌, ◌-◌, ◌<◌, ◌≤◌, List, [], ◌∷◌, ◌++◌, length, take, get_or, refl, sym, ◌∙◌, ap, arith, append_assoc, take_all, true, Some, length-take-le, take-take, take-append_seam, slice_get-get_or, Event, Begin, End, Advance, Front, IsAdvance, IsSameFront, IsExplained, IsHistory, StandsAt, IsFrontOf, Cut, Window, GoesTo, IsMadeNext, CutsAt, IsStop}
 use Rattle.histories.specs.declared.front.Advance.TheVariants as advance
 use Rattle.histories.proofs.Events.{stands_within}
 use Rattle.histories.proofs.Verdicts.{explained_take, one_more}
 use Rattle.history_windows.specs.declared.window.Cut.TheVariants as cut
 use Rattle.history_windows.specs.declared.window.Stop.TheVariants as stop
 use Rattle.history_windows.proofs.Growing.{Passes, StopsBy, advance_same, advances_in, agrees_on, formed_more, goes_begin, goes_more, goes_window, passes_alone, passes_one, stops}
+use Rattle.history_windows.proofs.Joins.{stands_take}
 
 -- the events up to one that stands at an index, and the next one
 pub take_stands : (es : List Event) (at : ℕ) (e : Event) → StandsAt es at e
@@ -25,15 +26,6 @@ take_both es at e f one other =
     ap (λ n. take n es) two ∙ (take_stands _ _ _ other
     ∙ (ap (λ (l : List Event). l ++ f ∷ []) (take_stands _ at e one)
     ∙ append_assoc (take at es) (e ∷ []) (f ∷ [])))
-
-stands_take : (es : List Event) (k p : ℕ) (e : Event) → StandsAt (take k es) p e
-    → StandsAt es p e × (p < k)
-stands_take [] zero p e at = absurd (cc)
-stands_take [] (suc k) p e at = absurd (cc)
-stands_take (x ∷ es) zero p e at = absurd (cc)
-stands_take (x ∷ es) (suc k) zero e at = (at, omega arith)
-stands_take (x ∷ es) (suc k) (suc p) e at =
-    let rest = stands_take es k p e at in (rest.0, omega (arith, rest.1))
 
 -- the first events of a history are one
 pub history_front : (es : List Event) (k : ℕ) → IsHistory es → IsHistory (take k es)

@@ -1,5 +1,5 @@
 -- Histories that are made of two parts.
-use Rattle.history_windows.proofs.Words.{ℕ, ◌<◌, ◌⊎◌, List, ◌++◌, arith, inl, inr, cases_lt, Event, begins, HasEnded, IsOpen, IsSound, IsQuiet}
+use Rattle.history_windows.proofs.Words.{ℕ, zero, suc, ◌<◌, ◌⊎◌, List, [], ◌∷◌, ◌++◌, take, arith, inl, inr, cases_lt, Event, StandsAt, begins, HasEnded, IsOpen, IsSound, IsQuiet}
 use Rattle.histories.proofs.Events.{begins-append, ends_either, ends_left, ends_right}
 
 pub ended_left : (es fs : List Event) (c : ℕ) → HasEnded es c → HasEnded (es ++ fs) c
@@ -54,3 +54,21 @@ open_whole es fs c first whole is = (
     | inr x ↦ is.1 x
   ],
 )
+
+-- what stands among the first events stands in all of them
+pub stands_take : (es : List Event) (k p : ℕ) (e : Event) → StandsAt (take k es) p e
+    → StandsAt es p e × (p < k)
+stands_take [] zero p e at = absurd (cc)
+stands_take [] (suc k) p e at = absurd (cc)
+stands_take (x ∷ es) zero p e at = absurd (cc)
+stands_take (x ∷ es) (suc k) zero e at = (at, omega arith)
+stands_take (x ∷ es) (suc k) (suc p) e at =
+    let rest = stands_take es k p e at in (rest.0, omega (arith, rest.1))
+
+-- and what stands before their end stands among them
+pub stands_front : (es : List Event) (k p : ℕ) (e : Event) → StandsAt es p e → p < k
+    → StandsAt (take k es) p e
+stands_front [] k p e at less = absurd (cc)
+stands_front (x ∷ es) zero p e at less = absurd (omega arith)
+stands_front (x ∷ es) (suc k) zero e at less = at
+stands_front (x ∷ es) (suc k) (suc p) e at less = stands_front es k p e at (omega (arith, less))

@@ -1,7 +1,9 @@
 -- Histories and orders of which calls are left out.
-use Rattle.history_windows.proofs.Words.{◌≡◌, ℕ, zero, suc, ◌<◌, ◌≤◌, Bool, true, false, eqb, List, [], ◌∷◌, take, refl, ap, arith, inl, inr, filter, cond_both, eqb_tells, AllPairs-filter, Event, Begin, End, Crash, Explains, HasEnded, IsAnswered, IsExplained, IsOver, Leads, StandsAt, IsRest, LeavesOutIdle, call_of, events_of}
+use Rattle.history_windows.proofs.Words.{◌≡◌, ℕ, zero, suc, ◌<◌, ◌≤◌, Bool, true, false, eqb, List, [], ◌∷◌, take, refl, ap, arith, inl, inr, filter, cond_both, eqb_tells, AllPairs-filter, Event, Begin, End, Crash, Explains, HasEnded, IsAnswered, IsExplained, IsOver, Leads, StandsAt, LeavesOutIdle, call_of, events_of}
 use Rattle.histories.specs.Histories.{begins, times}
 use Rattle.histories.proofs.Counting.{times-cons, times_none, times_other}
+use Rattle.history_windows.specs.Needed.{OrdersExplainTheRest, RefusedRestsRefuse}
+use Rattle.history_windows.proofs.Joins.{stands_front, stands_take}
 
 module _ (kept : ℕ → Bool) where
   -- what the events of some calls have at an index, all of them have, and those before are the same
@@ -36,35 +38,15 @@ module _ (kept : ℕ → Bool) where
   abbrev AreFrom : List Event → Event → Event → Type 0
   AreFrom es e f = (one : ℕ) × (other : ℕ) × (one < other) × StandsAt es one e × StandsAt es other f
 
-  both_kept : (x : Event) (es : List Event)
-      → ((p q : ℕ) (e f : Event) → p < q → StandsAt (events_of kept es) p e
-      → StandsAt (events_of kept es) q f → AreFrom es e f)
-      → (p q : ℕ) (e f : Event) → p < q → StandsAt (x ∷ events_of kept es) p e
-      → StandsAt (x ∷ events_of kept es) q f → AreFrom (x ∷ es) e f
-  both_kept x es more p zero e f less one other = absurd (omega (arith, less))
-  both_kept x es more zero (suc q) e f less one other =
-      let r = stands_of _ _ _ other in (0, suc r.0, omega arith, one, r.1)
-  both_kept x es more (suc p) (suc q) e f less one other =
-      let r = more p q e f (omega (arith, less)) one other in
-      (suc r.0, suc r.1, omega (arith, r.2), r.3, r.4)
-
-  both_left : (x : Event) (es : List Event)
-      → ((p q : ℕ) (e f : Event) → p < q → StandsAt (events_of kept es) p e
-      → StandsAt (events_of kept es) q f → AreFrom es e f)
-      → (p q : ℕ) (e f : Event) → p < q → StandsAt (events_of kept es) p e
-      → StandsAt (events_of kept es) q f → AreFrom (x ∷ es) e f
-  both_left x es more p q e f less one other =
-      let r = more p q e f less one other in (suc r.0, suc r.1, omega (arith, r.2), r.3, r.4)
-
   both_of : (es : List Event) (p q : ℕ) (e f : Event) → p < q → StandsAt (events_of kept es) p e
       → StandsAt (events_of kept es) q f → AreFrom es e f
-  both_of [] p q e f less one other = absurd (cc)
-  both_of (x ∷ es) p q e f less one other =
-      let rest = events_of kept es in
-      cond_both (kept (call_of x)) (x ∷ rest) rest
-      (λ (l : List Event). (p q : ℕ) (e f : Event) → p < q → StandsAt l p e → StandsAt l q f
-      → AreFrom (x ∷ es) e f) (λ t. both_kept _ _ (both_of es))
-      (λ no. both_left _ _ (both_of es)) p q e f less one other
+  both_of es p q e f less one other =
+      let last = stands_of _ _ _ other in
+      let first =
+      stands_of (take last.0 es) p e (rw last.2 (stands_front (events_of kept es) q p e one less))
+      in
+      let there = stands_take es last.0 first.0 e first.1 in
+      (first.0, last.0, there.1, there.0, last.1)
 
   pub answered_of : (es : List Event) (c : ℕ) → IsAnswered (events_of kept es) c
       → IsAnswered es c × (kept c ≡ true)
@@ -143,13 +125,8 @@ module _ (kept : ℕ → Bool) where
         → IsExplained Step (events_of kept es) olds
     explained_of es olds x = (x.0, filter kept x.1, x.2, x.3, explains_of _ _ _ _ x.4)
 
-pub explains_rest : {S : Type 0} (Step : S → ℕ → S → Type 0) (kept : ℕ → Bool)
-    (events : List Event) (old new : S) (order : List ℕ) → LeavesOutIdle Step kept
-    → Explains Step events old order new
-    → Explains Step (events_of kept events) old (filter kept order) new
+pub explains_rest : {S : Type 0} (Step : S → ℕ → S → Type 0) → OrdersExplainTheRest Step
 explains_rest Step kept events old new order idle ex = explains_of _ _ idle _ _ _ _ ex
 
-pub refused_rest : {S : Type 0} (Step : S → ℕ → S → Type 0) (kept : ℕ → Bool)
-    (events : List Event) (olds : List S) → IsRest Step olds events kept
-    → ¬ (IsExplained Step events olds)
+pub refused_rest : {S : Type 0} (Step : S → ℕ → S → Type 0) → RefusedRestsRefuse Step
 refused_rest Step kept events olds rest x = rest.refused (explained_of _ _ rest.others _ _ x)

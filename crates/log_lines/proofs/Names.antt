@@ -1,8 +1,10 @@
 -- Letters and digits at the front of texts.
-use Rattle.std.proofs.Common.{◌≡◌, ℕ, ◌+◌, ◌<◌, ◌^◌, List, [], ◌∷◌, ◌++◌, Bool, true, false, length, get_or, take, decimal, refl, sym, subst, arith}
-use Rattle.std.specs.Prelude.{◌&&◌, IsTrue}
+use Rattle.std.proofs.Common.{◌≡◌, ℕ, ◌+◌, ◌<◌, ◌^◌, List, [], ◌∷◌, ◌++◌, length, get_or, take, decimal, refl, sym, subst, arith}
+use Rattle.std.specs.Cmp.Derive.{both_true}
+use Rattle.std.specs.Prelude.{IsTrue}
 use Rattle.std.specs.Char.{is_ascii_alphanumeric}
 use Rattle.std.specs.Str.Parse.{AllDigits}
+use Rattle.std.proofs.lemmas.Bool.{and_parts}
 use Rattle.std.proofs.lemmas.Bool.Decides.{nat_tests}
 use Rattle.std.proofs.lemmas.Fmt.{decimal_is_IsNumeral}
 use Rattle.std.proofs.lemmas.List.{take_more}
@@ -10,18 +12,6 @@ use Rattle.std.proofs.lemmas.Str.Parse.{digit_from_value}
 use Rattle.line_streams.specs.Numerals.{cons_same}
 use Rattle.line_streams.specs.Spelling.{IsDigit}
 use Rattle.log_lines.specs.Lines.{IsNameByte, are_letters}
-
-and_parts : (p q : Bool) → IsTrue (p && q) → IsTrue p × IsTrue q
-and_parts true true h = (refl, refl)
-and_parts true false h = absurd (cc)
-and_parts false true h = absurd (cc)
-and_parts false false h = absurd (cc)
-
-and_both : (p q : Bool) → IsTrue p → IsTrue q → IsTrue (p && q)
-and_both true true h k = refl
-and_both true false h k = absurd (cc)
-and_both false true h k = absurd (cc)
-and_both false false h k = absurd (cc)
 
 pub first_letter : (b : ℕ) (bs : List ℕ) → IsTrue (are_letters (b ∷ bs)) → IsNameByte b
 first_letter b bs p = (and_parts (is_ascii_alphanumeric b) (are_letters bs) p).0
@@ -31,14 +21,14 @@ pub letters_join : (a b : List ℕ) → IsTrue (are_letters a) → IsTrue (are_l
 letters_join [] b p q = q
 letters_join (x ∷ a) b p q =
     let parts = and_parts (is_ascii_alphanumeric x) (are_letters a) p in
-    and_both (is_ascii_alphanumeric x) (are_letters (a ++ b)) parts.0 (letters_join a b parts.1 q)
+    both_true parts.0 (letters_join a b parts.1 q)
 
 pub letters_more : (xs : List ℕ) (i : ℕ) → i < length xs → IsTrue (are_letters (take i xs))
     → IsTrue (is_ascii_alphanumeric (get_or xs i 0)) → IsTrue (are_letters (take (i + 1) xs))
 letters_more xs i h front one =
     subst (λ (l : List ℕ). IsTrue (are_letters l)) (sym (take_more xs i 0 h))
     (letters_join (take i xs) (get_or xs i 0 ∷ []) front
-    (and_both (is_ascii_alphanumeric (get_or xs i 0)) true one refl))
+    (both_true one refl))
 
 -- letters and digits before what is none come apart in one way
 pub name_same : (a b x y : List ℕ) → IsTrue (are_letters a) → IsTrue (are_letters b)
@@ -63,8 +53,7 @@ digit_letter c digit = grind (arith, nat_tests, digit.0, digit.1)
 digits_letters : (ds : List ℕ) → AllDigits 10 ds → IsTrue (are_letters ds)
 digits_letters [] p = refl
 digits_letters (c ∷ ds) p =
-    and_both (is_ascii_alphanumeric c) (are_letters ds) (digit_letter c (digit_from_value c p.0))
-    (digits_letters ds p.1)
+    both_true (digit_letter c (digit_from_value c p.0)) (digits_letters ds p.1)
 
 -- the digits of a number are letters and digits
 pub number_letters : (n : ℕ) → n < 2 ^ 64 → IsTrue (are_letters (decimal n))

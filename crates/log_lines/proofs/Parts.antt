@@ -10,12 +10,11 @@ use Rattle.service_descriptions.specs.declared.replay.machine.command.Command.{C
 use Rattle.service_descriptions.specs.Lines.{IsLine as IsCommand, line_of, line_text as command_line, role_word}
 use Rattle.service_descriptions.specs.Script.{IsServiceLine, service_line}
 use Rattle.log_lines.specs.Commands.{Begun, HasBegun, HasText, IsHandle, IsRemoval, NamedCommand, begun_text, command_text, handle_text, weak_text}
-use Rattle.log_lines.specs.Commands.Begun.{command, weak}
 use Rattle.log_lines.specs.Commands.NamedCommand.{numbered, deregister, release}
 use Rattle.log_lines.specs.Lines.{HasNone, Comes, IsCaller, IsLine, Line, begin_text, given_text, line_text, mark, number_text}
 use Rattle.log_lines.specs.States.{HasState, State, state_text}
 use Rattle.log_lines.specs.Lines.Line.{service, call, reply, begin, end, crash, given}
-use Rattle.log_lines.proofs.Splits.{HasKind, begin_comes, class, class_end, class_number, class_plain, comes_same, crash_comes, end_comes, kind, kind_begin, kind_call, kind_given, line_kind, of_given, of_text, one_kind}
+use Rattle.log_lines.proofs.Splits.{HasKind, begin_comes, class, class_end, class_number, class_plain, comes_same, crash_comes, end_comes, kind, kind_begin, kind_call, kind_given, is_of, line_kind, of_given, of_text, one_kind}
 
 -- no role begins the text
 abbrev NoRole : List ℕ → Type 0
@@ -46,24 +45,6 @@ no_text line none removals (numbered c) p e =
     none (c, []) (p, refl) (e ∙ sym (append-nil (line_of c)))
 no_text line none removals (deregister slot ticket) p e = removals (deregister slot ticket) p e
 no_text line none removals (release r slot ticket) p e = removals (release r slot ticket) p e
-
--- what is the text of no command and of no weak listing is begun by no caller
-pub no_begun_text : (line : List ℕ) → ((c : NamedCommand) → HasText c → line ≢ command_text c)
-    → ((r : Role) → line ≢ weak_text r) → (b : Begun) → HasBegun b → line ≢ begun_text b
-no_begun_text line none weaks (command c) p e = none c p e
-no_begun_text line none weaks (weak r) p e = weaks r e
-
--- the text of a weak listing of ports
-pub weak_ports : (r : Role) → r ≢ role.Node → weak_text r ≡ codes "list? " ++ (role_word r ++ [])
-weak_ports role.Publisher n = refl
-weak_ports role.Subscriber n = refl
-weak_ports role.Listener n = refl
-weak_ports role.Notifier n = refl
-weak_ports role.Server n = refl
-weak_ports role.Client n = refl
-weak_ports role.Reader n = refl
-weak_ports role.Writer n = refl
-weak_ports role.Node n = absurd (n refl)
 
 -- no weak listing, where it is not that of the nodes, nor one of ports
 pub no_weak : (line : List ℕ) → line ≢ codes "nodes?"
@@ -116,43 +97,18 @@ no_port line rest is none r slot ticket p q e =
     none r slot ticket p q (append_cancel_left (codes "release ") rest _ (sym is ∙ e))
 
 module _ (text front back : List ℕ) (c : Comes text front back) where
-  begin_same : (caller : List ℕ) (d : Begun) → IsCaller caller → text ≡ begin_text caller d
-      → (front ≡ caller) × (back ≡ codes "> " ++ begun_text d)
-  begin_same caller d p e =
-      comes_same text front back caller (codes "> " ++ begun_text d) c
-      (subst (λ (t : List ℕ). Comes t caller (codes "> " ++ begun_text d)) (sym e)
-      (begin_comes caller d p))
-
-  end_same : (caller words : List ℕ) → IsCaller caller
-      → text ≡ caller ++ (codes "< " ++ words)
-      → (front ≡ caller) × (back ≡ codes "< " ++ words)
-  end_same caller words p e =
-      comes_same text front back caller (codes "< " ++ words) c
-      (subst (λ (t : List ℕ). Comes t caller (codes "< " ++ words)) (sym e)
-      (end_comes caller words p))
-
-  crash_same : (caller : List ℕ) → IsCaller caller → text ≡ caller ++ codes "!"
-      → (front ≡ caller) × (back ≡ codes "!")
-  crash_same caller p e =
-      comes_same text front back caller (codes "!") c
-      (subst (λ (t : List ℕ). Comes t caller (codes "!")) (sym e) (crash_comes caller p))
-
   -- behind the name of a caller that begins a call, where what it begins is none
   pub begun_none : (rest : List ℕ) → back ≡ codes "> " ++ rest
       → ((b : Begun) → IsCaller front → HasBegun b → rest ≢ begun_text b) → HasNone text
   begun_none rest is none = record {
     alone = λ d p e.
-        let k = one_kind text 3 1 is_begin (subst (λ (t : List ℕ). HasKind t 1) (sym e) (of_text d
-        p)) in
-        absurd (omega arith);
+        let k = one_kind 3 1 is_begin (of_text d p) e in absurd (omega arith);
     begun = λ caller b p q e.
-        let same = begin_same caller b p e in
+        let same = comes_same c (begin_comes b p) e in
         none b (subst IsCaller (sym same.0) p) q
         (append_cancel_left (codes "> ") rest (begun_text b) (sym is ∙ same.1));
     given = λ s p e.
-        let k = one_kind text 3 5 is_begin (subst (λ (t : List ℕ). HasKind t 5) (sym e) (of_given
-        s)) in
-        absurd (omega arith);
+        let k = one_kind 3 5 is_begin (of_given (state_text s)) e in absurd (omega arith);
   }
     where
       is_begin : HasKind text 3
@@ -169,63 +125,43 @@ module _ (text front back : List ℕ) (c : Comes text front back) where
       → ((d : NamedCommand) → HasText d → text ≢ command_text d) → HasNone text
   command_none none other alone = record {
     alone = alone;
-    begun = λ caller b p q e. none (begun_text b) (begin_same caller b p e).1;
+    begun = λ caller b p q e. none (begun_text b) (comes_same c (begin_comes b p) e).1;
     given = λ s p e. other (state_text s) e;
   }
-
-  -- a line of a caller whose call ends or who died
-  late : (mark back ≡ 60) ⊎ (mark back ≡ 33) → (l : Line) → IsLine l → text ≡ line_text l
-      → ¬ (kind l ≤ 5)
-  late is l p e few =
-      absurd (omega (
-        arith,
-        line_kind text front back c l p e,
-        class_end (mark back) (mark front) (get_or front 1 0) is,
-      ))
 
   -- no line of a caller whose call ends or who died
   pub ends_none : (mark back ≡ 60) ⊎ (mark back ≡ 33)
       → ((words : List ℕ) → IsCaller front → back ≢ codes "< " ++ words)
       → (IsCaller front → back ≢ codes "!") → (l : Line) → IsLine l → text ≢ line_text l
-  ends_none is ended died (end caller words) p e =
-      let same = end_same caller words p e in
-      ended words (subst IsCaller (sym same.0) p) same.1
-  ends_none is ended died (crash caller) p e =
-      let same = crash_same caller p e in
-      died (subst IsCaller (sym same.0) p) same.1
-  ends_none is ended died (service l) p e = late is (service l) p e (omega arith)
-  ends_none is ended died (call n d) p e = late is (call n d) p e (omega (arith, kind_call))
-  ends_none is ended died (reply words) p e = late is (reply words) p e (omega arith)
-  ends_none is ended died (begin n caller b) p e =
-      late is (begin n caller b) p e (omega (arith, kind_begin))
-  ends_none is ended died (given n s) p e = late is (given n s) p e (omega (arith, kind_given))
-
-  -- a line on the service with a number
-  other : mark back ≡ 58 → (l : Line) → IsLine l → text ≡ line_text l → kind l ≢ 2 → ⊥
-  other is l p e differ =
-      differ (line_kind text front back c l p e
-      ∙ class_number (mark back) (mark front) (get_or front 1 0) is)
+  ends_none is ended died l p e =
+      each l p e (omega (
+        arith,
+        line_kind c l p e,
+        class_end (mark back) (mark front) (get_or front 1 0) is,
+      ))
+    where
+      each : (m : Line) → IsLine m → text ≡ line_text m → 6 ≤ kind m → ⊥
+      each (end caller words) q f late =
+          let same = comes_same c (end_comes words q) f in
+          ended words (subst IsCaller (sym same.0) q) same.1
+      each (crash caller) q f late =
+          let same = comes_same c (crash_comes q) f in
+          died (subst IsCaller (sym same.0) q) same.1
+      each _ q f late = absurd (omega (arith, kind_call, kind_begin, kind_given))
 
   -- no line on the service with a number
   pub number_none : mark back ≡ 58
       → ((n : ℕ) (rest : List ℕ) → n < 2 ^ 64 → text ≢ number_text n ++ rest)
       → (l : Line) → IsLine l → text ≢ line_text l
-  number_none is none (call (Some n) d) p e = none n (command_text d) p.0 e
-  number_none is none (begin (Some n) caller b) p e = none n (begin_text caller b) p.0 e
-  number_none is none (given (Some n) s) p e = none n (given_text s) p.0 e
-  number_none is none (service l) p e = other is (service l) p e (λ k. absurd (omega arith))
-  number_none is none (call None d) p e =
-      other is (call None d) p e (λ k. absurd (omega arith))
-  number_none is none (reply words) p e =
-      other is (reply words) p e (λ k. absurd (omega arith))
-  number_none is none (begin None caller b) p e =
-      other is (begin None caller b) p e (λ k. absurd (omega arith))
-  number_none is none (end caller words) p e =
-      other is (end caller words) p e (λ k. absurd (omega arith))
-  number_none is none (crash caller) p e =
-      other is (crash caller) p e (λ k. absurd (omega arith))
-  number_none is none (given None s) p e =
-      other is (given None s) p e (λ k. absurd (omega arith))
+  number_none is none l p e =
+      each l p e
+      (line_kind c l p e ∙ class_number (mark back) (mark front) (get_or front 1 0) is)
+    where
+      each : (m : Line) → IsLine m → text ≡ line_text m → kind m ≡ 2 → ⊥
+      each (call (Some n) d) q f k = none n (command_text d) q.0 f
+      each (begin (Some n) caller b) q f k = none n (begin_text caller b) q.0 f
+      each (given (Some n) s) q f k = none n (given_text s) q.0 f
+      each _ q f k = absurd (omega arith)
 
   -- no line, where none of these marks follows the letters and digits at its front
   pub plain_none : mark back ≢ 60 → mark back ≢ 33 → mark back ≢ 58
@@ -233,7 +169,7 @@ module _ (text front back : List ℕ) (c : Comes text front back) where
       → ((l : ServiceLine) → IsServiceLine l → text ≢ service_line l) → HasNone text
       → (l : Line) → IsLine l → text ≢ line_text l
   plain_none x y z replies services none l p e =
-      let k = line_kind text front back c l p e in
+      let k = line_kind c l p e in
       let few = class_plain (mark back) (mark front) (get_or front 1 0) x y z in
       each l p e (omega (arith, few.0)) (λ is. few.1 (sym k ∙ is))
     where
@@ -244,48 +180,27 @@ module _ (text front back : List ℕ) (c : Comes text front back) where
       each (reply words) q f few differ = replies words f
       each (begin None caller b) q f few differ = none.begun caller b q.1 q.2 f
       each (begin (Some n) caller b) q f few differ = differ refl
-      each (end caller words) q f few differ = absurd (omega arith)
-      each (crash caller) q f few differ = absurd (omega arith)
       each (given None s) q f few differ = none.given s q.1 f
       each (given (Some n) s) q f few differ = differ refl
+      each _ q f few differ = absurd (omega arith)
 
 -- what is given is no command, and no begin of a call
-pub given_no_command : (text rest : List ℕ) → text ≡ codes "state " ++ rest
-    → (d : NamedCommand) → HasText d → text ≢ command_text d
-given_no_command text rest is d p e =
-    let k =
-    one_kind text 5 1 (record {
-      front = codes "state";
-      back = codes " " ++ rest;
-      comes = record { whole = is; letters = refl; ends = λ h. absurd (cc) };
-      is = refl;
-    }) (subst (λ (t : List ℕ). HasKind t 1) (sym e) (of_text d p)) in
-    absurd (omega arith)
+pub given_no_command : (rest : List ℕ) (d : NamedCommand) → HasText d
+    → codes "state " ++ rest ≢ command_text d
+given_no_command rest d p e =
+    let k = one_kind 5 1 (of_given rest) (of_text d p) e in absurd (omega arith)
 
-pub given_no_begin : (text rest : List ℕ) → text ≡ codes "state " ++ rest → (caller : List ℕ)
-    (d : Begun) → IsCaller caller → HasBegun d → text ≢ begin_text caller d
-given_no_begin text rest is caller d p q e =
-    let k =
-    one_kind text 5 3 (record {
-      front = codes "state";
-      back = codes " " ++ rest;
-      comes = record { whole = is; letters = refl; ends = λ h. absurd (cc) };
-      is = refl;
-    }) (record {
-      front = caller;
-      back = codes "> " ++ begun_text d;
-      comes = subst (λ (t : List ℕ). Comes t caller (codes "> " ++ begun_text d)) (sym e)
-          (begin_comes caller d p);
-      is = refl;
-    }) in
-    absurd (omega arith)
+pub given_no_begin : (rest caller : List ℕ) (d : Begun) → IsCaller caller
+    → codes "state " ++ rest ≢ begin_text caller d
+given_no_begin rest caller d p e =
+    let k = one_kind 5 3 (of_given rest) (is_of (begin_comes d p)) e in absurd (omega arith)
 
 -- nothing, where no state stands behind the word
 pub state_none : (text rest : List ℕ) → text ≡ codes "state " ++ rest
     → ((s : State) → HasState s → rest ≢ state_text s) → HasNone text
 state_none text rest is none = record {
-  alone = given_no_command text rest is;
-  begun = given_no_begin text rest is;
+  alone = λ d p e. given_no_command rest d p (sym is ∙ e);
+  begun = λ caller d p q e. given_no_begin rest caller d p (sym is ∙ e);
   given = λ s p e.
       none s p (append_cancel_left (codes "state ") rest (state_text s) (sym is ∙ e));
 }

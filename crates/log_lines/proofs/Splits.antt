@@ -1,6 +1,6 @@
 -- Each line begins with letters and digits, and what follows them says which line it is.
-use Rattle.std.proofs.Common.{◌≡◌, ◌≢◌, ◌⊎◌, ℕ, ◌<◌, ◌≤◌, ◌^◌, Bool, true, false, List, [], ◌∷◌, ◌++◌, Option, Some, None, codes, get_or, decimal, refl, sym, ◌∙◌, ap, subst, arith, append_assoc, inl, inr}
-use Rattle.std.specs.Prelude.{◌==◌, if◌then◌else◌}
+use Rattle.std.proofs.Common.{◌≡◌, ◌≢◌, ◌⊎◌, ℕ, ◌<◌, ◌≤◌, ◌^◌, Bool, true, false, List, [], ◌∷◌, ◌++◌, Option, Some, None, codes, get_or, decimal, refl, sym, ◌∙◌, ap, arith, append_assoc, inl, inr}
+use Rattle.std.specs.Prelude.{◌==◌, IsTrue, if◌then◌else◌}
 use Rattle.std.proofs.lemmas.Bool.{ne_eqb}
 use Rattle.service_descriptions.specs.declared.replay.machine.command.Cleanup.TheVariants.{ByPort}
 use Rattle.service_descriptions.specs.declared.replay.machine.command.Command.{Command}
@@ -8,15 +8,16 @@ use Rattle.service_descriptions.specs.declared.replay.machine.command.Command.Th
 use Rattle.service_descriptions.specs.Lines.{HasLine, line_of}
 use Rattle.log_lines.specs.Commands.{Begun, HasText, NamedCommand, begun_text, command_text}
 use Rattle.log_lines.specs.Commands.NamedCommand.{numbered, deregister, release}
-use Rattle.log_lines.specs.Lines.{Comes, IsCaller, IsLine, Line, begin_text, given_text, line_text, mark, number_text}
+use Rattle.log_lines.specs.Lines.{Comes, IsCaller, IsLine, IsNameByte, Line, are_letters, begin_text, given_text, line_text, mark, number_text}
 use Rattle.log_lines.specs.States.{State, state_text}
 use Rattle.log_lines.specs.Lines.Line.{service, call, reply, begin, end, crash, given}
 use Rattle.log_lines.proofs.Names.{name_same, number_letters}
 
-pub comes_same : (text a x b y : List ℕ) → Comes text a x → Comes text b y
+-- texts that are the same come apart in one way
+pub comes_same : {text other a x b y : List ℕ} → Comes text a x → Comes other b y → text ≡ other
     → (a ≡ b) × (x ≡ y)
-comes_same text a x b y p q =
-    name_same a b x y p.letters q.letters p.ends q.ends (sym p.whole ∙ q.whole)
+comes_same {text} {other} {a} {x} {b} {y} p q e =
+    name_same a b x y p.letters q.letters p.ends q.ends (sym p.whole ∙ (e ∙ q.whole))
 
 -- which line the letters and digits at its front and what follows them tell: a service (0), a call
 -- without a number (1) or with one (2), alone or begun, the begin of a call without a number (3), a
@@ -64,41 +65,52 @@ pub record HasKind (text : List ℕ) (kind : ℕ) : Type 0 where
   pub is : class front back ≡ kind
 
 -- a text has the kind of its front
-is_of : {text : List ℕ} (front back : List ℕ) → Comes text front back
-    → HasKind text (class front back)
-is_of front back comes = record { front = front; back = back; comes = comes; is = refl }
+pub is_of : {text front back : List ℕ} → Comes text front back → HasKind text (class front back)
+is_of {text} {front} {back} comes =
+    record { front = front; back = back; comes = comes; is = refl }
 
-pub one_kind : (text : List ℕ) (k m : ℕ) → HasKind text k → HasKind text m → k ≡ m
-one_kind text k m p q =
-    let same = comes_same text p.front p.back q.front q.back p.comes q.comes in
+-- one that begins with a word of letters
+starts : (front back : List ℕ) → IsTrue (are_letters front) → ¬ (IsNameByte (mark back))
+    → HasKind (front ++ back) (class front back)
+starts front back letters ends = record {
+  front = front;
+  back = back;
+  comes = record { whole = refl; letters = letters; ends = ends };
+  is = refl;
+}
+
+pub one_kind : {text other : List ℕ} (k m : ℕ) → HasKind text k → HasKind other m → text ≡ other
+    → k ≡ m
+one_kind k m p q e =
+    let same = comes_same p.comes q.comes e in
     sym p.is ∙ (ap (λ (f : List ℕ). class f p.back) same.0 ∙ ap (class q.front) same.1) ∙ q.is
 
 of_command : (c : Command) → HasLine c → HasKind (line_of c) 1
 of_command (command.Register id) p =
-    is_of (codes "register") _ (record { whole = refl; letters = refl; ends = λ e. absurd (cc) })
+    starts (codes "register") _ refl (λ e. absurd (cc))
 of_command (command.Deregister k) p =
-    is_of (codes "deregister") _ (record { whole = refl; letters = refl; ends = λ e. absurd (cc) })
+    starts (codes "deregister") _ refl (λ e. absurd (cc))
 of_command command.Nodes p =
-    is_of (codes "nodes") [] (record { whole = refl; letters = refl; ends = λ e. absurd (cc) })
+    starts (codes "nodes") [] refl (λ e. absurd (cc))
 of_command (command.Add d) p =
-    is_of (codes "add") _ (record { whole = refl; letters = refl; ends = λ e. absurd (cc) })
+    starts (codes "add") _ refl (λ e. absurd (cc))
 of_command (command.Release k) p =
-    is_of (codes "release") _ (record { whole = refl; letters = refl; ends = λ e. absurd (cc) })
+    starts (codes "release") _ refl (λ e. absurd (cc))
 of_command (command.List r) p =
-    is_of (codes "list") _ (record { whole = refl; letters = refl; ends = λ e. absurd (cc) })
+    starts (codes "list") _ refl (λ e. absurd (cc))
 of_command (command.Count r) p =
-    is_of (codes "count") _ (record { whole = refl; letters = refl; ends = λ e. absurd (cc) })
+    starts (codes "count") _ refl (λ e. absurd (cc))
 of_command (command.Dead id (ByPort kept)) p =
-    is_of (codes "dead") _ (record { whole = refl; letters = refl; ends = λ e. absurd (cc) })
+    starts (codes "dead") _ refl (λ e. absurd (cc))
 of_command _ p = absurd p
 
 -- a command has the kind of one
 pub of_text : (c : NamedCommand) → HasText c → HasKind (command_text c) 1
 of_text (numbered c) p = of_command c p
 of_text (deregister slot ticket) p =
-    is_of (codes "deregister") _ (record { whole = refl; letters = refl; ends = λ e. absurd (cc) })
+    starts (codes "deregister") _ refl (λ e. absurd (cc))
 of_text (release r slot ticket) p =
-    is_of (codes "release") _ (record { whole = refl; letters = refl; ends = λ e. absurd (cc) })
+    starts (codes "release") _ refl (λ e. absurd (cc))
 
 -- a number, a colon and a space
 pub number_comes : (n : ℕ) (rest : List ℕ) → n < 2 ^ 64
@@ -110,26 +122,21 @@ number_comes n rest h = record {
 }
 
 -- the name of a caller, and what follows it
-pub begin_comes : (caller : List ℕ) (c : Begun) → IsCaller caller
+pub begin_comes : {caller : List ℕ} (c : Begun) → IsCaller caller
     → Comes (begin_text caller c) caller (codes "> " ++ begun_text c)
-begin_comes caller c p =
-    record { whole = refl; letters = p.letters; ends = λ e. absurd (cc) }
+begin_comes c p = record { whole = refl; letters = p.letters; ends = λ e. absurd (cc) }
 
-pub end_comes : (caller words : List ℕ) → IsCaller caller
+pub end_comes : {caller : List ℕ} (words : List ℕ) → IsCaller caller
     → Comes (caller ++ (codes "< " ++ words)) caller (codes "< " ++ words)
-end_comes caller words p =
-    record { whole = refl; letters = p.letters; ends = λ e. absurd (cc) }
+end_comes words p = record { whole = refl; letters = p.letters; ends = λ e. absurd (cc) }
 
-pub crash_comes : (caller : List ℕ) → IsCaller caller
+pub crash_comes : {caller : List ℕ} → IsCaller caller
     → Comes (caller ++ codes "!") caller (codes "!")
-crash_comes caller p =
-    record { whole = refl; letters = p.letters; ends = λ e. absurd (cc) }
+crash_comes p = record { whole = refl; letters = p.letters; ends = λ e. absurd (cc) }
 
 -- what is given has the kind of it
-pub of_given : (s : State) → HasKind (given_text s) 5
-of_given s =
-    is_of (codes "state") (codes " " ++ state_text s)
-    (record { whole = refl; letters = refl; ends = λ e. absurd (cc) })
+pub of_given : (rest : List ℕ) → HasKind (codes "state " ++ rest) 5
+of_given rest = starts (codes "state") (codes " " ++ rest) refl (λ e. absurd (cc))
 
 -- which line it is
 abbrev pub kind : Line → ℕ
@@ -146,22 +153,17 @@ kind (given (Some n) s) = 2
 
 pub of_line : (l : Line) → IsLine l → HasKind (line_text l) (kind l)
 of_line (service l) p =
-    is_of (codes "service") _ (record { whole = refl; letters = refl; ends = λ e. absurd (cc) })
+    starts (codes "service") _ refl (λ e. absurd (cc))
 of_line (call None c) p = of_text c p.1
-of_line (call (Some n) c) p =
-    is_of (decimal n) (58 ∷ 32 ∷ command_text c) (number_comes n (command_text c) p.0)
+of_line (call (Some n) c) p = is_of (number_comes n (command_text c) p.0)
 of_line (reply words) p =
-    is_of [] (codes "= " ++ words)
-    (record { whole = refl; letters = refl; ends = λ e. absurd (cc) })
-of_line (begin None caller c) p =
-    is_of caller (codes "> " ++ begun_text c) (begin_comes caller c p.1)
-of_line (begin (Some n) caller c) p =
-    is_of (decimal n) (58 ∷ 32 ∷ begin_text caller c) (number_comes n (begin_text caller c) p.0)
-of_line (end caller words) p = is_of caller (codes "< " ++ words) (end_comes caller words p)
-of_line (crash caller) p = is_of caller (codes "!") (crash_comes caller p)
-of_line (given None s) p = of_given s
-of_line (given (Some n) s) p =
-    is_of (decimal n) (58 ∷ 32 ∷ given_text s) (number_comes n (given_text s) p.0)
+    starts [] (codes "= " ++ words) refl (λ e. absurd (cc))
+of_line (begin None caller c) p = is_of (begin_comes c p.1)
+of_line (begin (Some n) caller c) p = is_of (number_comes n (begin_text caller c) p.0)
+of_line (end caller words) p = is_of (end_comes words p)
+of_line (crash caller) p = is_of (crash_comes p)
+of_line (given None s) p = of_given (state_text s)
+of_line (given (Some n) s) p = is_of (number_comes n (given_text s) p.0)
 
 pub kind_given : (n : Option ℕ) (s : State) → (2 ≤ kind (given n s)) × (kind (given n s) ≤ 5)
 kind_given None s = (omega arith, omega arith)
@@ -177,9 +179,6 @@ kind_begin None caller c = (omega arith, omega arith)
 kind_begin (Some n) caller c = (omega arith, omega arith)
 
 -- a line has its kind
-pub line_kind : (text front back : List ℕ) → Comes text front back → (l : Line) → IsLine l
+pub line_kind : {text front back : List ℕ} → Comes text front back → (l : Line) → IsLine l
     → text ≡ line_text l → kind l ≡ class front back
-line_kind text front back c l p e =
-    one_kind text (kind l) (class front back)
-    (subst (λ (t : List ℕ). HasKind t (kind l)) (sym e) (of_line l p))
-    (record { front = front; back = back; comes = c; is = refl })
+line_kind c l p e = one_kind _ _ (of_line l p) (is_of c) (sym e)

@@ -1,6 +1,6 @@
 -- What is given of a service is read in one way.
 use Rattle.std.proofs.Common.{◌≡◌, ◌≢◌, ℕ, ◌<◌, ◌^◌, Bool, true, false, List, [], ◌∷◌, ◌++◌, codes, decimal, get_or, length, refl, sym, ◌∙◌, ap, subst, arith}
-use Rattle.std.specs.Prelude.{IfNone, IfSome, Option, Some, None}
+use Rattle.std.specs.Prelude.{IfNone, Option, Some, None}
 use Rattle.std.proofs.lemmas.Fmt.{decimal_injective, decimal_nonempty}
 use Rattle.std.proofs.lemmas.List.{append-nil, append_cancel_left}
 use Rattle.iox2_container.specs.declared.container.role.Role.{Role}
@@ -156,11 +156,6 @@ entry_read text rest after tail slot ticket d s p q is space line end h adds =
       is ∙ ap (λ (l : List ℕ). decimal slot ++ (codes " " ++ (decimal ticket ++ l)))
           (space ∙ ap (λ (l : List ℕ). codes " " ++ l) same),
     )
-
-pub some_by : {X : Type 0} (P Q : X → Type 0) (found : Option X) → IfSome found P
-    → ((v : X) → P v → Q v) → IfSome found Q
-some_by P Q (Some v) h f = f v h
-some_by P Q None h f = h
 
 pub none_by : {X : Type 0} (P Q : Type 0) (found : Option X) → IfNone found P → (P → Q)
     → IfNone found Q

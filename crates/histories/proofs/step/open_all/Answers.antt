@@ -11,7 +11,7 @@ pub loop-config-preserved : goal.loop-config-preserved
 loop-config-preserved g c = (
   settles_pushed _ _ _ _ _ _ _ _ c.loop-config.invariant.0
       (settles_begun _ _ _ c.in-Some.config c.open-in-loop-config.new.config _ _
-      c.in_ok-open-2.ensures c.in_ok-add.ensures.gathers c.in_ok-add.ensures.longer),
+      c.in_ok-open-2.ensures c.in_ok-add.ensures.gathers),
   omega (arith, length_push, c.loop-config.invariant.1, c.in_ok-add.ensures.most),
 )
 

@@ -1,8 +1,9 @@
 use Rattle.std.proofs.Common.{[], ℕ, List, ◌++◌, ◌∙◌, codes, ap, arith, refl, sym}
 use Rattle.std.proofs.lemmas.List.{append-nil, append_cancel_left}
+use Rattle.std.proofs.lemmas.Option.{IfSome_then}
 use Rattle.service_descriptions.specs.Lines.{command_of, line_of}
 use Rattle.log_lines.specs.States.{state_seen}
-use Rattle.log_lines.proofs.States.{entry_read, no_added, no_entry, none_by, some_by}
+use Rattle.log_lines.proofs.States.{entry_read, no_added, no_entry, none_by}
 use Rattle.log_lines.proofs.state.entry_of.Goals as goal
 
 pub returns-in_default-clause-none : goal.returns-in_default-clause-none
@@ -35,7 +36,7 @@ returns-clause-some c =
     let word = c.in-Some-after_word in
     let found = c.in-Some-2 in
     let line = rw found.is at c.in_ok-command.ensures in
-    some_by _ _ c.added.result c.added.ensures.some
+    IfSome_then c.added.result c.added.ensures.some
     (λ g made. entry_read c.args.text.now c.in-Some.rest.now word.rest.now found.field-0-1.now
     c.in-Some.slot c.in-Some.ticket (command_of found.command) (state_seen g) read.0.0.1
     read.0.1.1 read.1 word.ensures.some line.1 line.0.1 line.0.0 made)
