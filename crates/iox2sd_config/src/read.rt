@@ -54,7 +54,7 @@ impl ConfigAnswer {
 }
 
 /// Where a fault stands among others.
-fn place(fault: &PlainFault) -> (usize, usize)
+fn sort_key(fault: &PlainFault) -> (usize, usize)
     ensures { result ≡ fault_sort_key fault.now }
 {
     sort_key_at(fault.line, fault.column)
@@ -91,7 +91,7 @@ fn listed_faults(
     ensures { IfOk result (λ listed. ListsFaults text.now faults.now listed.items) }
 {
     let mut plain = plain_faults(alloc, text, faults)?;
-    plain.sort_by_key(|fault| place(fault))?;
+    plain.sort_by_key(|fault| sort_key(fault))?;
     Ok(plain)
 }
 
@@ -121,15 +121,15 @@ fn read_contents(
     alloc: Global,
     text: &str,
     contents: &FileContents,
-    place: &mut PlainConfig,
+    plain: &mut PlainConfig,
 ) -> ConfigAnswer
     requires { ReadsAll text.now contents.now }
-    ensures { Settles text.now contents.now contents.now.config place.old (known_answer result)
-        place.new }
+    ensures { Settles text.now contents.now contents.now.config plain.old (known_answer result)
+        plain.new }
 {
     match &contents.config {
         Some(config) => {
-            *place = config_of(config);
+            *plain = config_of(config);
             ConfigAnswer::read(contents.unknown.len())
         }
         None => ConfigAnswer::refused(first_fault(alloc, text, contents.faults.as_slice())),
@@ -137,11 +137,11 @@ fn read_contents(
 }
 
 /// Reads a file into a struct.
-fn read_into(alloc: Global, bytes: &[u8], place: &mut PlainConfig) -> ConfigAnswer
-    ensures { ReadsInto bytes.now place.old (known_answer result) place.new }
+fn read_into(alloc: Global, bytes: &[u8], plain: &mut PlainConfig) -> ConfigAnswer
+    ensures { ReadsInto bytes.now plain.old (known_answer result) plain.new }
 {
     match parse_file(alloc, bytes) {
-        Ok((text, contents)) => read_contents(alloc, text, &contents, place),
+        Ok((text, contents)) => read_contents(alloc, text, &contents, plain),
         Err(unread) => ConfigAnswer::refused(plain_unread(&unread)),
     }
 }
@@ -163,7 +163,7 @@ pub extern "C" fn iox2sd_config_read_at(
 {
     match out {
         [] => ConfigAnswer::refused(PlainFault::of(Status::Null)),
-        [place, ..] => read_into(alloc, text, place),
+        [first, ..] => read_into(alloc, text, first),
     }
 }
 

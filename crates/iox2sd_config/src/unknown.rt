@@ -146,7 +146,7 @@ fn named_key(
 }
 
 /// Where an unknown key stands among others.
-fn place(key: &NamedKey) -> (usize, usize)
+fn sort_key(key: &NamedKey) -> (usize, usize)
     ensures { result ≡ named_sort_key key.now }
 {
     sort_key_at(key.plain.line, key.plain.column)
@@ -175,7 +175,7 @@ fn listed_keys(alloc: Global, text: &str, keys: &[UnknownKey]) -> Result<Vec<Nam
     ensures { IfOk result (λ listed. ListsKeys text.now keys.now listed.items) }
 {
     let mut named = named_keys(alloc, text, keys)?;
-    named.sort_by_key(|key| place(key))?;
+    named.sort_by_key(|key| sort_key(key))?;
     Ok(named)
 }
 

@@ -8,13 +8,13 @@ read_contents-requires c = rw c.in-Ok.ensures.ok.0 c.in-Ok.ensures.ok.2
 pub returns-in-Ok : goal.returns-in-Ok
 returns-in-Ok c =
     let answer = known_answer c.read_contents.result in
-    let place = c.read_contents.new.place in
+    let plain = c.read_contents.new.plain in
     inl (
       c.in-Ok.ensures.ok.1,
       c.in-Ok.contents,
       c.in-Ok.ensures.ok.2,
       subst
-          (λ t. Settles t c.in-Ok.contents c.in-Ok.contents.config c.args.place.now answer place)
+          (λ t. Settles t c.in-Ok.contents c.in-Ok.contents.config c.args.plain.now answer plain)
           c.in-Ok.ensures.ok.0 c.read_contents.ensures,
     )
 

@@ -39,6 +39,7 @@ fn ids_of<T: Printed>(alloc: Global, items: &[T]) -> Result<Vec<u128>, AllocErro
 
 impl ServiceCheck {
     /// The replies that registering a node may have.
+    #[inline(always)]
     fn possible_register(&self, _id: UniqueNodeId) -> Possible
         ensures { ArePossible self.now (ServesRegister self.now _id) result }
     {
@@ -47,6 +48,7 @@ impl ServiceCheck {
     }
 
     /// The replies that attaching a port may have.
+    #[inline(always)]
     fn possible_attach(&self, details: PortDetails) -> Possible
         ensures { ArePossible self.now (ServesAdd self.now details) result }
     {
@@ -64,6 +66,7 @@ impl ServiceCheck {
     }
 
     /// The replies that removing a node's entry may have.
+    #[inline(always)]
     fn possible_deregister(&self, handle: Option<ContainerHandle>) -> Possible
         ensures { ArePossible self.now (ServesDeregister self.now handle) result }
     {
@@ -82,6 +85,7 @@ impl ServiceCheck {
     }
 
     /// The replies that releasing a port may have.
+    #[inline(always)]
     fn possible_release(&self, handle: Option<ContainerHandle>) -> Possible
         ensures { ArePossible self.now (ServesRelease self.now handle) result }
     {
