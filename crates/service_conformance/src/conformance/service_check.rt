@@ -196,6 +196,7 @@ impl ServiceCheck {
 
     /// Whether some port has the node, and the node has one entry. Most nodes that leave have no
     /// port any more, and then their entries need not be counted.
+    #[inline(always)]
     fn is_last_of_ports(&self, node: &UniqueNodeId) -> bool
         ensures { result ≡ is_last_of_ports node.now self.now }
     {

@@ -17,6 +17,7 @@ use std::alloc::AllocError;
 
 impl ServiceCheck {
     /// The service after a node was registered and this was replied.
+    #[inline(always)]
     fn follow_register(&mut self, id: UniqueNodeId, reply: &LineReply) -> Result<(), AllocError>
         requires { CanServe (ServesRegister self.old id) (reply_in reply.now) }
         ensures ok { OnOk result (LeadsTo (ServesRegister self.old id) (reply_in reply.now)
@@ -33,6 +34,7 @@ impl ServiceCheck {
     }
 
     /// The service after a node's entry was to be removed and this was replied.
+    #[inline(always)]
     fn follow_deregister(&mut self, handle: Option<ContainerHandle>, reply: &LineReply)
         requires { CanServe (ServesDeregister self.old handle) (reply_in reply.now) }
         ensures { LeadsTo (ServesDeregister self.old handle) (reply_in reply.now) self.new }
@@ -49,6 +51,7 @@ impl ServiceCheck {
     }
 
     /// The service after a port was to be attached and this was replied.
+    #[inline(always)]
     fn follow_attach(&mut self, details: PortDetails, reply: &LineReply) -> Result<(), AllocError>
         requires { CanServe (ServesAdd self.old details) (reply_in reply.now) }
         ensures ok { OnOk result (LeadsTo (ServesAdd self.old details) (reply_in reply.now)
@@ -72,6 +75,7 @@ impl ServiceCheck {
     }
 
     /// The service after a port was to be released and this was replied.
+    #[inline(always)]
     fn follow_release(&mut self, handle: Option<ContainerHandle>, reply: &LineReply)
         requires { CanServe (ServesRelease self.old handle) (reply_in reply.now) }
         ensures { LeadsTo (ServesRelease self.old handle) (reply_in reply.now) self.new }

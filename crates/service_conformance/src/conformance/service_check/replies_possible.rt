@@ -198,6 +198,7 @@ impl ServiceCheck {
     }
 
     /// The handle of this slot and this ticket that the registry of the part may give next.
+    #[inline(always)]
     fn handle_at(&self, part: Part, slot: usize, ticket: u64) -> Option<ContainerHandle>
         ensures { ReadsReplyHandle (MayGiveIn self.now part) (handle_words slot ticket) result }
     {
