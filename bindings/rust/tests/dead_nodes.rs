@@ -181,7 +181,7 @@ fn a_port_is_skipped_without_the_one_of_another_kind_whose_id_has_the_same_value
 }
 
 #[test]
-fn nobody_is_asked_about_a_node_without_ports() {
+fn nobody_is_details_where_a_node_without_ports() {
     let mut service = busy(MessagingPattern::Event);
     let state = service.remove_dead_node_id(&node(3), |_| panic!("nobody is asked about"));
     assert_eq!(state, DeregisterNodeState::HasOwners);

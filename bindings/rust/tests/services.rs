@@ -123,7 +123,7 @@ fn ports_are_listed_by_their_types() {
 }
 
 #[test]
-fn patterns_are_asked_about() {
+fn patterns_are_details_where() {
     for (kind, ..) in KINDS {
         let service = service(kind, 1, [1, 1]);
         assert_eq!(

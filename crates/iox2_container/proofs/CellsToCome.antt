@@ -1,8 +1,8 @@
 -- Passes over cells, as far as the cells to come, whose
--- callbacks may be asked about what stands there.
+-- callbacks may be called on what stands there.
 use Rattle.iox2_container.proofs.Prelude.{[], ◌+◌, ◌∙◌, ◌∷◌, ◌≡◌, ◌≤◌, Bool, List, None, Option, Some, ℕ, add-one, ap, arith, drop, false, if◌then◌else◌, length, map, refl, slice_get, slice_set, suc, sym, take, true, zero}
-use Rattle.iox2_container.specs.Prelude.{AreOthers, AskedOfCell, CallbackProgression, Cell, Continue, Entry, Found, IsNextOf, MayAsk, MayVisit, NoneFrom, Occupant, Swept, TakesCell, candidates, cell_is_of, entries_from, is_of, occupant, shown}
-use Rattle.iox2_container.proofs.AskedInTurn.{details_of}
+use Rattle.iox2_container.specs.Prelude.{AreOthers, CalledOnCell, CallbackProgression, Cell, Continue, Entry, Found, IsNextOf, MayCall, MayVisit, NoneFrom, Occupant, Swept, TakesCell, candidates, cell_is_of, entries_from, is_of, occupant, shown}
+use Rattle.iox2_container.proofs.CallsInTurn.{details_of}
 use Rattle.iox2_container.proofs.CellEntries.{all_before}
 use Rattle.iox2_container.proofs.Counting.{few_more}
 use Rattle.iox2_container.proofs.Sweeping.{found_cell, later_kept, length_kept, over_others, past_cell}
@@ -26,7 +26,7 @@ module _ {F T : Type 0} (takes : F → T → Type 0)
   shows : (f : F) (i : ℕ) (cell : Option (Occupant T)) (rest : List (Option (Occupant T)))
       → MayVisit takes calls f (details_of (entries_from i (cell ∷ rest)))
       → TakesCell takes f cell
-      × ((h : F) → AskedOfCell calls f cell Continue h
+      × ((h : F) → CalledOnCell calls f cell Continue h
       → MayVisit takes calls h (details_of (entries_from (i + 1) rest)))
   shows f i None rest m = (tt, λ h a. rw a.1 m)
   shows f i (Some o) rest m = (m.0, λ h a. m.1 h a)
@@ -34,7 +34,7 @@ module _ {F T : Type 0} (takes : F → T → Type 0)
   pub visit_at : (f : F) (cells : List (Option (Occupant T))) (i : ℕ) (cell : Option (Occupant T))
       → slice_get cells i ≡ Some cell → MayVisit takes calls f (details_from i cells)
       → TakesCell takes f cell
-      × ((h : F) → AskedOfCell calls f cell Continue h
+      × ((h : F) → CalledOnCell calls f cell Continue h
       → MayVisit takes calls h (details_from (i + 1) cells))
   visit_at f cells i cell is m = grind (arith, add-one, shows, drop_one)
 
@@ -52,11 +52,11 @@ candidate_past : {T : Type 0} (node : T → ℕ) (id : ℕ) (cells : List (Optio
 candidate_past node id cells i None is e = grind (arith, drop_one, add-one)
 candidate_past node id cells i (Some o) is e = grind (arith, drop_one, add-one)
 
--- a sweep that has come to a slot: what it did so far, and whom it may still ask
+-- a sweep that has come to a slot: what it did so far, and on what it may still call
 pub record HasSwept {F T : Type 0} (takes : F → T → Type 0) (calls : F → T → Bool → F → Type 0)
     (is_dead : T → Bool) (f : F) (cs : List (Option (Occupant T))) (i : ℕ) (g : F)
     (m : List (Option (Occupant T))) (gone : ℕ) : Type 0 where
-  pub callable : MayAsk takes calls g (candidates_from is_dead i cs)
+  pub callable : MayCall takes calls g (candidates_from is_dead i cs)
   pub swept : Swept calls is_dead f (entries_from 0 (take i cs)) g (entries_from 0 (take i m)) gone
   pub later : (k : ℕ) → i ≤ k → slice_get m k ≡ slice_get cs k
   pub len : length m ≡ length cs
@@ -89,11 +89,11 @@ module _ {F T N : Type 0} (takes : F → T → Type 0) (calls : F → T → Bool
   stands : slice_get cs found.slot ≡ Some (Some (occupant next.here.1.0 found.details))
   stands = sym (so_far.later found.slot (omega arith)) ∙ next.here.1.1
 
-  may_call : MayAsk takes calls g
+  may_call : MayCall takes calls g
       (found.details ∷ candidates_from (is_of node id) (found.slot + 1) cs)
   may_call = grind (arith, candidate_here, stands, so_far)
 
-  -- the callback may be asked about it
+  -- the callback may be called on it
   pub takes_next : takes g found.details
   takes_next = may_call.0
 

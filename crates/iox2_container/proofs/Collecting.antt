@@ -1,7 +1,7 @@
--- Callbacks that collect what they are asked about, and callbacks that answer by what they hold.
+-- Callbacks that collect what they are called on, and callbacks that answer by what they hold.
 use Rattle.iox2_container.proofs.Prelude.{[], ◌++◌, ◌+◌, ◌<◌, ◌∙◌, ◌∷◌, ◌≡◌, ◌≤◌, Bool, IsTrue, List, ℕ, ap, append-nil, append_assoc, arith, false, filter, if◌then◌else◌, inl, inr, length, map, refl, sym, true}
-use Rattle.iox2_container.specs.Prelude.{Asked, CallbackProgression, CanVisit, Continue, Stop, Visit, Visits}
-use Rattle.iox2_container.proofs.Callable.{Asked-keeps, CanVisit-by}
+use Rattle.iox2_container.specs.Prelude.{CalledInTurn, CallbackProgression, CanVisit, Continue, Stop, Visit, Visits}
+use Rattle.iox2_container.proofs.Callable.{CalledInTurn-keeps, CanVisit-by}
 
 -- a callback that puts what it makes of each item that
 -- passes a test at the end of a list, and goes on
@@ -89,9 +89,9 @@ pub answers_by : {F A R K : Type 0} (calls : F → A → R → F → Type 0) (he
     (answer : K → A → R)
     → ((q : F) (x : A) (r : R) (v : F) → calls q x r v → (held v ≡ held q)
     × (r ≡ answer (held q) x)) → (f : F) (items : List A) (answers : List R) (g : F)
-    → Asked calls f items answers g → answers ≡ map (answer (held f)) items
+    → CalledInTurn calls f items answers g → answers ≡ map (answer (held f)) items
 answers_by calls held answer step f items answers g a =
-    (Asked-keeps calls (λ q xs rs. (held q ≡ held f)
+    (CalledInTurn-keeps calls (λ q xs rs. (held q ≡ held f)
     × (rs ≡ map (answer (held f)) xs → answers ≡ map (answer (held f)) items))
     (λ q x xs r rs v i c. let s = step q x r v c in (s.0 ∙ i.0, λ e. i.1 (cc))) f items answers g
     (refl, λ e. e) a).1 refl

@@ -1,20 +1,22 @@
--- Callbacks that are asked in turn, seen through another state or with other details.
+-- Callbacks that are called in turn, seen through another state or with other details.
 use Rattle.std.proofs.Common.{arith}
 use Rattle.iox2_container.proofs.Prelude.{[], ◌∙◌, ◌∷◌, ◌≡◌, Bool, List, ℕ, ap, filter_agree, inl, inr, length-map, map, map-id, map-map, refl}
-use Rattle.iox2_container.specs.Prelude.{Asked, CallbackProgression, ContainerState, Continue, Entry, RecoverStep, RecoversBy, RegistryState, ReleaseMode, ReleaseState, Stop, Visit, Visits, asked_about, candidates, entry_as, marks_of, registry_as, staying}
-use Rattle.iox2_container.proofs.Callable.{Asked-keeps}
+use Rattle.iox2_container.specs.Prelude.{CalledInTurn, CallbackProgression, ContainerState, Continue, Entry, RecoverStep, RecoversBy, RegistryState, ReleaseMode, ReleaseState, Stop, Visit, Visits, details_where, candidates, entry_as, marks_of, registry_as, staying}
+use Rattle.iox2_container.proofs.Callable.{CalledInTurn-keeps}
 use Rattle.iox2_container.proofs.ListEdits.{filter-map}
 use Rattle.iox2_container.proofs.Mapped.{candidates-as, listed-as}
 
 -- what each call keeps is true at the end, and each call is one of others
-pub Asked-as : {F G A B R : Type 0} (calls : F → A → R → F → Type 0)
+pub CalledInTurn-as : {F G A B R : Type 0} (calls : F → A → R → F → Type 0)
     (others : G → B → R → G → Type 0) (k : F → G) (u : A → B) (I : F → Type 0)
     → ((f : F) (x : A) (r : R) (h : F) → I f → calls f x r h → others (k f) (u x) r (k h) × I h)
-    → (f : F) (items : List A) (answers : List R) (h : F) → I f → Asked calls f items answers h
-    → Asked others (k f) (map u items) answers (k h) × I h
-Asked-as calls others k u I step f items answers h i a =
-    let t = Asked-keeps calls (λ q xs rs. I q × (Asked others (k q) (map u xs) rs (k h)
-    → Asked others (k f) (map u items) answers (k h)))
+    → (f : F) (items : List A) (answers : List R) (h : F) → I f
+    → CalledInTurn calls f items answers h
+    → CalledInTurn others (k f) (map u items) answers (k h) × I h
+CalledInTurn-as calls others k u I step f items answers h i a =
+    let t = CalledInTurn-keeps calls
+    (λ q xs rs. I q × (CalledInTurn others (k q) (map u xs) rs (k h)
+    → CalledInTurn others (k f) (map u items) answers (k h)))
     (λ q x xs r rs v p c.
     let s = step q x r v p.0 c in (s.1, λ rest. p.1 (k v, s.0, rest)))
     f items answers h (i, λ rest. rest) a in (t.1 refl, t.0)
@@ -29,12 +31,12 @@ pub RecoversBy-through : {F G T : Type 0} (calls : F → T → Bool → F → Ty
     → RecoversBy others is_dead old (k f) mode state new (k h) × I h
 RecoversBy-through calls others k I step is_dead old f mode state new h i r =
     let s = r.step in
-    let a = Asked-as calls others k (λ x. x) I step f (asked_about is_dead old.registry)
-    (marks_of is_dead s.marked old.registry.entries) h i s.asked in (
+    let a = CalledInTurn-as calls others k (λ x. x) I step f (details_where is_dead old.registry)
+    (marks_of is_dead s.marked old.registry.entries) h i s.called in (
       record {
         step = record {
           marked = s.marked;
-          asked = rw map-id at a.0;
+          called = rw map-id at a.0;
           recovers = s.recovers;
         };
         kept = r.kept;
@@ -46,10 +48,10 @@ RecoversBy-through calls others k I step is_dead old f mode state new h i r =
 -- candidates and what stays, with other details
 module _ {T U : Type 0} (g : T → U) (is_dead : T → Bool) (is_dead' : U → Bool)
     (same : (x : T) → is_dead' (g x) ≡ is_dead x) where
-  pub asked-as : (es : List (Entry T))
+  pub called-as : (es : List (Entry T))
       → map (λ e. e.details) (candidates is_dead' (map (entry_as g) es))
       ≡ map g (map (λ e. e.details) (candidates is_dead es))
-  asked-as es = ap (map (λ e. e.details)) (candidates-as g is_dead is_dead' same es)
+  called-as es = ap (map (λ e. e.details)) (candidates-as g is_dead is_dead' same es)
       ∙ listed-as g (candidates is_dead es)
 
   marks-as : (marked : ℕ → Bool) (es : List (Entry T))
@@ -70,12 +72,12 @@ module _ {T U : Type 0} (g : T → U) (is_dead : T → Bool) (is_dead' : U → B
       → RecoverStep calls is_dead old f mode state new h
       → RecoverStep others is_dead' (registry_as g old) f mode state (registry_as g new) h
   RecoverStep-as {F} calls others step old f mode state new h r =
-      let a = Asked-as calls others (λ s. s) g (λ _. Unit {0})
-      (λ s x b t i c. (step s x b t c, tt)) f (asked_about is_dead old)
-      (marks_of is_dead r.marked old.entries) h tt r.asked in
+      let a = CalledInTurn-as calls others (λ s. s) g (λ _. Unit {0})
+      (λ s x b t i c. (step s x b t c, tt)) f (details_where is_dead old)
+      (marks_of is_dead r.marked old.entries) h tt r.called in
       record {
         marked = r.marked;
-        asked = rw (asked-as old.entries, marks-as r.marked old.entries) a.0;
+        called = rw (called-as old.entries, marks-as r.marked old.entries) a.0;
         recovers = (
           rw (
             staying-as r.marked old.entries,

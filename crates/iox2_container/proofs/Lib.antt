@@ -9,7 +9,7 @@ pub mod Making
 pub mod Adding
 pub mod Handles
 pub mod Removing
-pub mod AskedInTurn
+pub mod CallsInTurn
 pub mod Callable
 pub mod CellsToCome
 pub mod Sweeping

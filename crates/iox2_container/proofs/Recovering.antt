@@ -37,7 +37,7 @@ same_lock : (mode : ReleaseMode) (locked : Bool) → lock_after mode 0 0 locked 
 same_lock Default locked = refl
 same_lock LockIfLastIndex locked = refl
 
--- where nothing stands, nobody is asked about
+-- where nothing stands, no callback is called
 pub recovers_none : {F T : Type 0} (calls : F → T → Bool → F → Type 0) (is_dead : T → Bool) (f : F)
     (c : ContainerState T) (mode : ReleaseMode) → IsRegistry c.registry
     → c.registry.entries ≡ []
@@ -46,7 +46,7 @@ recovers_none {F} {T} calls is_dead f c mode k e =
     record {
       step = record {
         marked = λ _. false;
-        asked = rw e refl;
+        called = rw e refl;
         recovers = (rw (e, same_lock mode c.registry.locked) refl, refl);
       };
       kept = k;

@@ -87,7 +87,7 @@ left_by is_dead answer old new mode state r =
     ap (λ s. s.entries) r.recovers.0
     ∙ staying_by is_dead answer r.marked old.entries
     (answers_by {F = Unit {0}} {K = Unit {0}} (λ _ d goes _. goes ≡ answer d) (λ q. q) (λ _. answer)
-    (λ q x r v e. (refl, e)) tt _ _ tt r.asked)
+    (λ q x r v e. (refl, e)) tt _ _ tt r.called)
 
 module _ {T : Type 0} (a b a' b' : RegistryState T) (l : SameContents a b) (v : IsRegistry a)
     (w : IsRegistry b) where

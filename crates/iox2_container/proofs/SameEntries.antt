@@ -3,7 +3,7 @@ use Rattle.std.proofs.Common.{arith}
 use Rattle.iox2_container.proofs.Prelude.{[], ◌∙◌, ◌∷◌, ◌≡◌, ◌≢◌, Bool, IsPermutation, IsPermutation-cons, IsPermutation-middle, IsPermutation-refl, IsPermutation-sym, IsPermutation-trans, List, ℕ, ap, filter, inl, inr, map-append, refl, subst, sym}
 use Rattle.iox2_container.specs.Prelude.{Entry, InsertsOne}
 use Rattle.iox2_container.proofs.Keeping.{AllPairs-loss}
-use Rattle.iox2_container.proofs.AskedInTurn.{details_of}
+use Rattle.iox2_container.proofs.CallsInTurn.{details_of}
 use Rattle.iox2_container.proofs.Members.{Among, gained, among_more, among_less, without, DifferBy, head_differs, rest_differ, other_differs, filter_from, filter_to}
 
 abbrev pub ticket_in : {T : Type 0} → Entry T → ℕ

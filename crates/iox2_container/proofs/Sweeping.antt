@@ -1,7 +1,7 @@
 -- What a sweep leaves.
 use Rattle.iox2_container.proofs.Prelude.{[], ◌++◌, ◌+◌, ◌<◌, ◌==◌, ◌∙◌, ◌∷◌, ◌≡◌, ◌≤◌, All, All-filter, All-head, All-tail, All-weaker, Bool, IsTrue, List, None, Option, Some, ℕ, add-one, ap, append-nil, arith, eq-eqb, false, filter-append, if◌then◌else◌, inl, inr, leb_tells, length, length-append, length-set, length-take, map, map-append, ne_eqb, not, refl, slice_get, slice_get_within, slice_set, subst, suc, sym, take, true, zero}
 use Rattle.iox2_container.specs.Prelude.{AreOthers, Entry, Occupant, SlotIsOf, Swept, candidates, cell_is_of, entries_from, is_leaving, is_of, occupant, staying}
-use Rattle.iox2_container.proofs.AskedInTurn.{Asked-push, details_of, taken_more, taken_free}
+use Rattle.iox2_container.proofs.CallsInTurn.{CalledInTurn-push, details_of, taken_more, taken_free}
 use Rattle.iox2_container.proofs.CellEntries.{below_from}
 use Rattle.iox2_container.proofs.ListEdits.{get_set_other}
 
@@ -42,7 +42,7 @@ unless : {X : Type 0} (x : X) (goes : Bool)
 unless x true = refl
 unless x false = refl
 
--- one entry more, after those swept: another one, or one that the callback is asked about
+-- one entry more, after those swept: another one, or one that the callback is called on
 module _ {F T : Type 0} (calls : F → T → Bool → F → Type 0) (is_dead : T → Bool) (f g : F)
     (old new : List (Entry T)) (gone : ℕ) (x : Entry T) (w : Swept calls is_dead f old g new gone)
   where
@@ -50,8 +50,8 @@ module _ {F T : Type 0} (calls : F → T → Bool → F → Type 0) (is_dead : T
         → Swept calls is_dead f (old ++ x ∷ []) g (new ++ x ∷ []) gone
     swept_other e = record {
       marked = w.marked;
-      asked = rw (filter-append (λ (v : Entry T). is_dead v.details) old (x ∷ []), e, append-nil)
-          w.asked;
+      called = rw (filter-append (λ (v : Entry T). is_dead v.details) old (x ∷ []), e, append-nil)
+          w.called;
       left_is =
           rw (filter-append (λ (v : Entry T). not (is_leaving is_dead w.marked v)) old (x ∷ []), e)
           (ap (λ l. l ++ x ∷ []) w.left_is);
@@ -64,22 +64,23 @@ module _ {F T : Type 0} (calls : F → T → Bool → F → Type 0) (is_dead : T
         (gone + (if goes then 1 else 0))
     swept_one h goes below e called =
         let marks : ℕ → Bool = mark_at w.marked x.slot goes in
-        let asked : List (Entry T) = candidates is_dead old in
+        let chosen : List (Entry T) = candidates is_dead old in
         let its : marks x.slot ≡ goes =
         ap (λ c. if c then goes else w.marked x.slot) (eq-eqb x.slot x.slot refl) in
         record {
           marked = marks;
-          asked = rw (
+          called = rw (
             filter-append (λ (v : Entry T). is_dead v.details) old (x ∷ []),
             e,
-            map-append (λ v. v.details) asked (x ∷ []),
-            map-append (λ v. marks v.slot) asked (x ∷ []),
-            answers_before is_dead w.marked x.slot goes asked
+            map-append (λ v. v.details) chosen (x ∷ []),
+            map-append (λ v. marks v.slot) chosen (x ∷ []),
+            answers_before is_dead w.marked x.slot goes chosen
                 (All-filter (λ v. is_dead v.details) (λ (v : Entry T). v.slot < x.slot) old below),
             its,
           )
-              (Asked-push calls f (details_of asked) (map (λ v. w.marked v.slot) asked) g x.details
-              goes h w.asked called);
+              (CalledInTurn-push calls f (details_of chosen) (map (λ v. w.marked v.slot) chosen) g
+              x.details
+              goes h w.called called);
           left_is =
               rw (
                 filter-append (λ (v : Entry T). not (is_leaving is_dead marks v)) old (x ∷ []),

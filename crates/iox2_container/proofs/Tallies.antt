@@ -1,17 +1,17 @@
--- Callbacks that count what they are asked about.
+-- Callbacks that count what they are called on.
 use Rattle.iox2_container.proofs.Prelude.{[], ◌+◌, ◌<◌, ◌∙◌, ◌∷◌, ◌≡◌, List, ℕ, ap, arith, inl, inr, length, refl}
-use Rattle.iox2_container.specs.Prelude.{Asked, CallbackProgression, CanBeAsked, CanVisit, Continue, Stop, Visit, Visits}
-use Rattle.iox2_container.proofs.Callable.{Asked-keeps, CanBeAsked-by, CanVisit-by}
+use Rattle.iox2_container.specs.Prelude.{CalledInTurn, CallbackProgression, CanBeCalled, CanVisit, Continue, Stop, Visit, Visits}
+use Rattle.iox2_container.proofs.Callable.{CalledInTurn-keeps, CanBeCalled-by, CanVisit-by}
 
 -- a callback that counts one more at each call, and may be called while the count is below a bound
 module _ {F A R : Type 0} (takes : F → A → Type 0) (calls : F → A → R → F → Type 0) (count : F → ℕ)
     (top : ℕ)
     (may_call : (f : F) (x : A) → count f + 1 < top → takes f x)
     (counts : (f : F) (x : A) (r : R) (h : F) → calls f x r h → count h ≡ count f + 1) where
-  pub CanBeAsked-counting : (f : F) (items : List A) → count f + length items < top
-      → CanBeAsked takes calls f items
-  CanBeAsked-counting =
-      CanBeAsked-by takes calls (λ f xs. count f + length xs < top)
+  pub CanBeCalled-counting : (f : F) (items : List A) → count f + length items < top
+      → CanBeCalled takes calls f items
+  CanBeCalled-counting =
+      CanBeCalled-by takes calls (λ f xs. count f + length xs < top)
       (λ f x xs i. may_call f x (omega (arith, i)))
       (λ f x xs r h i c. omega (arith, i, counts f x r h c))
 
@@ -30,10 +30,10 @@ module _ {F A : Type 0} (takes : F → A → Type 0) (calls : F → A → Callba
 pub tallied : {F A R N : Type 0} (calls : F → A → R → F → Type 0) (name : F → N) (count : F → ℕ)
     → ((q : F) (x : A) (r : R) (v : F) → calls q x r v → (name v ≡ name q)
     × (count v ≡ count q + 1))
-    → (f : F) (items : List A) (answers : List R) (h : F) → Asked calls f items answers h
+    → (f : F) (items : List A) (answers : List R) (h : F) → CalledInTurn calls f items answers h
     → (name h ≡ name f) × (count h ≡ count f + length items)
 tallied calls name count step f items answers h a =
-    let t = Asked-keeps calls (λ q xs _. (name q ≡ name f)
+    let t = CalledInTurn-keeps calls (λ q xs _. (name q ≡ name f)
     × (count q + length xs ≡ count f + length items))
     (λ q x xs r rs v i c. let s = step q x r v c in (s.0 ∙ i.0, omega (arith, i.1, s.1)))
     f items answers h (refl, refl) a in (t.0, omega (arith, t.1))

@@ -8,7 +8,7 @@ use Rattle.iox2_container.specs.declared.container.release.ReleaseMode.{ReleaseM
 use Rattle.iox2_container.specs.declared.container.release.ReleaseState.{ReleaseState}
 use Rattle.iox2_container.specs.Handle.{Handle}
 use Rattle.iox2_container.specs.State.{RegistryState, IsRegistry, handle_of}
-use Rattle.iox2_container.specs.Steps.{AddStep, RemoveStep, Recovers, HasEntry, Asked, asked_about, marks_of, leaving}
+use Rattle.iox2_container.specs.Steps.{AddStep, RemoveStep, Recovers, HasEntry, CalledInTurn, details_where, marks_of, leaving}
 
 -- a change that was requested, and its result
 pub data Change (T : Type 0) : Type 0 where
@@ -32,7 +32,8 @@ pub record IsRecoveryChange {F T : Type 0} (calls : F → T → Bool → F → T
     (new : RegistryState T) (f' : F) : Type 0 where
   pub marked : ℕ → Bool
   pub went : List Handle
-  pub asked : Asked calls f (asked_about is_dead old) (marks_of is_dead marked old.entries) f'
+  pub called : CalledInTurn calls f (details_where is_dead old)
+      (marks_of is_dead marked old.entries) f'
   pub changes : ChangeStep old (Recovering is_dead marked went mode state) new
 
 -- one change after another; each state is that of a registry

@@ -6,13 +6,13 @@ use Rattle.iox2_container.specs.declared.container.passes.Found.{Found}
 use Rattle.iox2_container.specs.declared.container.cell.Occupant.{Occupant}
 use Rattle.iox2_container.specs.Cells.{occupant}
 use Rattle.iox2_container.specs.State.{Entry}
-use Rattle.iox2_container.specs.Steps.{Asked, marks_of, candidates, staying, is_of}
+use Rattle.iox2_container.specs.Steps.{CalledInTurn, marks_of, candidates, staying, is_of}
 
 -- a callback was called on the entry of a slot, if there is one
-abbrev pub AskedOfCell : {F A : Type 0} → (F → A → CallbackProgression → F → Type 0)
+abbrev pub CalledOnCell : {F A : Type 0} → (F → A → CallbackProgression → F → Type 0)
     → F → Option (Occupant A) → CallbackProgression → F → Type 0
-AskedOfCell calls f None answer f' = (answer ≡ Continue) × (f' ≡ f)
-AskedOfCell calls f (Some o) answer f' = calls f o.details answer f'
+CalledOnCell calls f None answer f' = (answer ≡ Continue) × (f' ≡ f)
+CalledOnCell calls f (Some o) answer f' = calls f o.details answer f'
 
 -- a callback may be called on the entry of a slot, if there is one
 abbrev pub TakesCell : {F A : Type 0} → (F → A → Type 0) → F → Option (Occupant A) → Type 0
@@ -73,7 +73,7 @@ looked_at from to (Some found) = found.slot + 1 - from
 pub record Swept {F T : Type 0} (calls : F → T → Bool → F → Type 0) (is_dead : T → Bool)
     (f : F) (old : List (Entry T)) (f' : F) (new : List (Entry T)) (gone : ℕ) : Type 0 where
   pub marked : ℕ → Bool
-  pub asked : Asked calls f (map (λ e. e.details) (candidates is_dead old))
+  pub called : CalledInTurn calls f (map (λ e. e.details) (candidates is_dead old))
       (marks_of is_dead marked old) f'
   pub left_is : new ≡ staying is_dead marked old
   pub gone_is : length new + gone ≡ length old

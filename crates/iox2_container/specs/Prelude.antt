@@ -1,6 +1,6 @@
 -- The definitions of this crate and the types that they are of, for proofs.
 pub use Rattle.iox2_container.specs.Agreement.{AgreesBy, EquallyMany}
-pub use Rattle.iox2_container.specs.Callbacks.{CanBeAsked, CanVisit, MayAsk, MayVisit}
+pub use Rattle.iox2_container.specs.Callbacks.{CanBeCalled, CanVisit, MayCall, MayVisit}
 pub use Rattle.iox2_container.specs.Calls.{Answered, CallRun, CallStep, Made, RemoveGiven, SameKind, SameReply, handle_given, handle_in, is_outside, reply_of_add, reply_of_remove}
 pub use Rattle.iox2_container.specs.Cells.{occupant, shown}
 pub use Rattle.iox2_container.specs.Changes.{Adds, Changes, RecoversBy, Removes}
@@ -11,10 +11,10 @@ pub use Rattle.iox2_container.specs.HeaderAndSlots.{AreRegistry, IsNewestEnd, re
 pub use Rattle.iox2_container.specs.Histories.{Change, ChangeStep, History, IsNew, IsRefused, Remains, TakesOut, handle_given_by, handles_given}
 pub use Rattle.iox2_container.specs.Histories.Change.{Adding, Recovering, Removing}
 pub use Rattle.iox2_container.specs.Mapped.{container_as, entry_as, registry_as}
-pub use Rattle.iox2_container.specs.Passes.{AreOthers, AskedOfCell, IsLastOf, IsNextOf, SlotIsOf, Swept, TakesCell, cell_is_of}
+pub use Rattle.iox2_container.specs.Passes.{AreOthers, CalledOnCell, IsLastOf, IsNextOf, SlotIsOf, Swept, TakesCell, cell_is_of}
 pub use Rattle.iox2_container.specs.SlotEntries.{Finds, IsTakenAt, NoneFrom, entries_from}
 pub use Rattle.iox2_container.specs.State.{Entry, IsRegistry, RegistryState, handle_of}
-pub use Rattle.iox2_container.specs.Steps.{AddStep, Asked, Enters, HasEntry, HasRoom, InsertsOne, IsFull, IsUnknownHandle, Leaves, RecoverStep, Recovers, RemoveStep, Visit, asked_about, candidates, entries_of, is_leaving, is_of, leaving, listed, lock_after, marks_of, release_state, staying}
+pub use Rattle.iox2_container.specs.Steps.{AddStep, CalledInTurn, Enters, HasEntry, HasRoom, InsertsOne, IsFull, IsUnknownHandle, Leaves, RecoverStep, Recovers, RemoveStep, Visit, details_where, candidates, entries_of, is_leaving, is_of, leaving, listed, lock_after, marks_of, release_state, staying}
 pub use Rattle.iox2_container.specs.declared.container.comparison.calls.RegistryCall.{RegistryCall}
 pub use Rattle.iox2_container.specs.declared.container.comparison.calls.RegistryReply.{RegistryReply}
 pub use Rattle.iox2_container.specs.declared.container.passes.Found.{Found}

@@ -87,12 +87,13 @@ HasEntry {T} r handle details =
     × ((rest : List (Entry T)) × InsertsOne rest r.entries x)
 
 -- a callback was called once on each item, in order, and returned these results
-abbrev pub Asked : {F A R : Type 0} → (F → A → R → F → Type 0) → F → List A → List R → F → Type 0
-Asked calls f [] [] f' = f' ≡ f
-Asked calls f [] (answer ∷ answers) f' = ⊥
-Asked calls f (item ∷ items) [] f' = ⊥
-Asked {F} calls f (item ∷ items) (answer ∷ answers) f' =
-    (g : F) × calls f item answer g × Asked calls g items answers f'
+abbrev pub CalledInTurn : {F A R : Type 0} → (F → A → R → F → Type 0) → F → List A → List R → F
+    → Type 0
+CalledInTurn calls f [] [] f' = f' ≡ f
+CalledInTurn calls f [] (answer ∷ answers) f' = ⊥
+CalledInTurn calls f (item ∷ items) [] f' = ⊥
+CalledInTurn {F} calls f (item ∷ items) (answer ∷ answers) f' =
+    (g : F) × calls f item answer g × CalledInTurn calls g items answers f'
 
 -- the details by rising slot
 abbrev pub listed : {T : Type 0} → RegistryState T → List T
@@ -113,8 +114,8 @@ abbrev pub candidates : {T : Type 0} → (T → Bool) → List (Entry T) → Lis
 candidates is_dead entries = filter (λ e. is_dead e.details) entries
 
 -- the details of the candidates, by rising slot
-abbrev pub asked_about : {T : Type 0} → (T → Bool) → RegistryState T → List T
-asked_about is_dead r = map (λ e. e.details) (candidates is_dead r.entries)
+abbrev pub details_where : {T : Type 0} → (T → Bool) → RegistryState T → List T
+details_where is_dead r = map (λ e. e.details) (candidates is_dead r.entries)
 
 -- how many entries are those of the node
 abbrev pub entries_of : {T : Type 0} → (T → ℕ) → ℕ → RegistryState T → ℕ
@@ -152,5 +153,6 @@ pub record RecoverStep {T F : Type 0} (calls : F → T → Bool → F → Type 0
     (old : RegistryState T) (f : F) (mode : ReleaseMode) (state : ReleaseState)
     (new : RegistryState T) (f' : F) : Type 0 where
   pub marked : ℕ → Bool
-  pub asked : Asked calls f (asked_about is_dead old) (marks_of is_dead marked old.entries) f'
+  pub called : CalledInTurn calls f (details_where is_dead old)
+      (marks_of is_dead marked old.entries) f'
   pub recovers : Recovers is_dead marked old mode state new

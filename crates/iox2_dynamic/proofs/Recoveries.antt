@@ -2,7 +2,7 @@
 use Rattle.std.proofs.Common.{◌≡◌, ℕ, Bool, ap}
 use Rattle.std.specs.Prelude.{◌==◌}
 use Rattle.std.specs.Fn.{Mut, Called}
-use Rattle.iox2_dynamic.proofs.Names.{UniquePortId, Default, ReleaseState, RecoversBy, ContainerState, is_of, DeregisterNodeState, PortCleanupAction, PortDetails, AskedToGo, RecoversPorts, node_of, port_of, container_as, Service, DeadStep}
+use Rattle.iox2_dynamic.proofs.Names.{UniquePortId, Default, ReleaseState, RecoversBy, ContainerState, is_of, DeregisterNodeState, PortCleanupAction, PortDetails, CallsCleanup, RecoversPorts, node_of, port_of, container_as, Service, DeadStep}
 use Rattle.iox2_container.proofs.LentCallbacks.{RecoverStep-as, RecoversBy-through}
 use Rattle.iox2_container.proofs.Mapped.{Changes-as}
 
@@ -10,7 +10,7 @@ pub RecoversPorts-as : {F T : Type 0} (calls : F → UniquePortId → PortCleanu
     (g : T → PortDetails) (node : T → ℕ) → ((x : T) → node_of (g x) ≡ node x)
     → (dead : ℕ) (old : ContainerState T) (f : F) (state : ReleaseState) (new : ContainerState T)
     (h : F)
-    → RecoversBy (λ i d goes j. AskedToGo calls i (port_of (g d)) goes j)
+    → RecoversBy (λ i d goes j. CallsCleanup calls i (port_of (g d)) goes j)
     (is_of node dead) old f Default state new h
     → RecoversPorts calls dead (container_as g old) f (container_as g new) h
 RecoversPorts-as {F} {T} calls g node same dead old f state new h r = (
@@ -18,8 +18,8 @@ RecoversPorts-as {F} {T} calls g node same dead old f state new h r = (
   Changes-as g old new
       (RecoverStep-as g (is_of node dead) (is_of node_of dead)
       (λ x. ap (λ n. n == dead) (same x))
-      (λ i d goes j. AskedToGo calls i (port_of (g d)) goes j)
-      (λ i d goes j. AskedToGo calls i (port_of d) goes j)
+      (λ i d goes j. CallsCleanup calls i (port_of (g d)) goes j)
+      (λ i d goes j. CallsCleanup calls i (port_of d) goes j)
       (λ i x b j c. c) old.registry f Default state new.registry h) r,
 )
 
@@ -35,9 +35,9 @@ module _ {F G : Type 0} (calls : F → UniquePortId → PortCleanupAction → F 
       × I h
   RecoversPorts-through dead old f new h i r =
       let called : F → PortDetails → Bool → F → Type 0 =
-      λ i d goes j. AskedToGo calls i (port_of d) goes j in
+      λ i d goes j. CallsCleanup calls i (port_of d) goes j in
       let called' : G → PortDetails → Bool → G → Type 0 =
-      λ i d goes j. AskedToGo others i (port_of d) goes j in
+      λ i d goes j. CallsCleanup others i (port_of d) goes j in
       let t = RecoversBy-through called called' k I
       (λ s d goes j u e. let q = step s (port_of d) e.0 j u e.1 in ((e.0, q.0, e.2), q.1))
       (is_of node_of dead) old f Default r.0 new h i r.1 in

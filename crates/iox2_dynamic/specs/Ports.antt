@@ -1,10 +1,10 @@
 -- The ports of a service, and what the calls on them do.
 use Rattle.std.specs.Prelude.{◌≡◌, ◌≢◌, ℕ, ◌+◌, ◌≤◌, nat_lt, ◌||◌, ◌⊎◌, Bool, true, false, Option, Some, None, Result, Err, List, ◌++◌, length}
 use Rattle.iox2_texts.specs.declared.bounded.callback_progression.CallbackProgression.{CallbackProgression}
-use Rattle.iox2_dynamic.specs.Prelude.{UniquePortId, ContainerAddFailure, ContainerRemoveError, Default, ReleaseState, Role, Handle, ContainerState, fresh, RegistryState, Visit, IsUnknownHandle, HasEntry, TakesEntry, asked_about, entries_of, is_of, listed, PortCleanupAction, PortDetails, Adds, Removes}
+use Rattle.iox2_dynamic.specs.Prelude.{UniquePortId, ContainerAddFailure, ContainerRemoveError, Default, ReleaseState, Role, Handle, ContainerState, fresh, RegistryState, Visit, IsUnknownHandle, HasEntry, TakesEntry, details_where, entries_of, is_of, listed, PortCleanupAction, PortDetails, Adds, Removes}
 use Rattle.iox2_container.specs.declared.container.refusal.ContainerRemoveError.TheVariants.{ContainerHandleNotOwnedByContainer}
 use Rattle.iox2_container.specs.Callbacks.{CanVisit}
-use Rattle.iox2_dynamic.specs.Recoveries.{RecoversPorts, ids_asked_about}
+use Rattle.iox2_dynamic.specs.Recoveries.{RecoversPorts, ids_of_node}
 use Rattle.iox2_dynamic.specs.Details.{role_of, node_of}
 use Rattle.iox2_container.specs.Mapped.{container_as}
 use Rattle.iox2_dynamic.specs.PortsState.{PortsState, Side, of_side, other_side}
@@ -69,8 +69,8 @@ RemovesFrom a b old handle answer new =
 
 -- the ids of the ports of a dead node, those of the first
 -- kind before those of the second, each by rising slot
-abbrev pub ports_asked_about : ℕ → Ports → List UniquePortId
-ports_asked_about dead p = ids_asked_about dead p.first ++ ids_asked_about dead p.second
+abbrev pub port_ids_of_node : ℕ → Ports → List UniquePortId
+port_ids_of_node dead p = ids_of_node dead p.first ++ ids_of_node dead p.second
 
 -- the ports of a dead node, the first and then the second, by one callback on port ids
 abbrev pub RecoversBoth : {F : Type 0} → (F → UniquePortId → PortCleanupAction → F → Type 0) → ℕ
@@ -108,8 +108,8 @@ StandsAmong p handle details = HasEntry p.first.registry handle details
 
 -- the ports of a node, those of the first kind before those of the second, each by rising slot
 abbrev pub ports_of_node : ℕ → Ports → List PortDetails
-ports_of_node id p = asked_about (is_of node_of id) p.first.registry
-    ++ asked_about (is_of node_of id) p.second.registry
+ports_of_node id p = details_where (is_of node_of id) p.first.registry
+    ++ details_where (is_of node_of id) p.second.registry
 
 -- a callback may be shown the ports of a role, if there are such ports
 pub record CanListIn {F : Type 0} (takes : F → PortDetails → Type 0)

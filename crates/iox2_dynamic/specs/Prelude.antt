@@ -4,7 +4,7 @@ pub use Rattle.iox2_container.specs.Changes.{Adds, RecoversBy, Removes}
 pub use Rattle.iox2_container.specs.ContainerState.{ContainerState, fresh}
 pub use Rattle.iox2_container.specs.Handle.{Handle}
 pub use Rattle.iox2_container.specs.State.{Entry, IsRegistry, RegistryState}
-pub use Rattle.iox2_container.specs.Steps.{HasEntry, IsUnknownHandle, TakesEntry, Visit, asked_about, entries_of, is_of, listed, release_state}
+pub use Rattle.iox2_container.specs.Steps.{HasEntry, IsUnknownHandle, TakesEntry, Visit, details_where, entries_of, is_of, listed, release_state}
 pub use Rattle.iox2_container.specs.declared.container.refusal.ContainerAddFailure.{ContainerAddFailure}
 pub use Rattle.iox2_container.specs.declared.container.refusal.ContainerRemoveError.{ContainerRemoveError}
 pub use Rattle.iox2_container.specs.declared.container.release.ReleaseMode.TheVariants.{Default, LockIfLastIndex}

@@ -1,6 +1,6 @@
 -- What becomes of the ports and the nodes of a dead node.
 use Rattle.std.specs.Prelude.{Bool, true, false, ◌≡◌, ℕ, List, map}
-use Rattle.iox2_dynamic.specs.Prelude.{UniquePortId, Default, LockIfLastIndex, ReleaseState, RecoversBy, ContainerState, asked_about, is_of, PortCleanupAction, PortDetails}
+use Rattle.iox2_dynamic.specs.Prelude.{UniquePortId, Default, LockIfLastIndex, ReleaseState, RecoversBy, ContainerState, details_where, is_of, PortCleanupAction, PortDetails}
 use Rattle.iox2_dynamic.specs.declared.dynamic_config.cleanup.PortCleanupAction.TheVariants.{RemovePort, SkipPort}
 use Rattle.iox2_dynamic.specs.Details.{node_of, port_of}
 
@@ -10,14 +10,14 @@ removes RemovePort = true
 removes SkipPort = false
 
 -- a callback was called on a port, and its result says whether the port is removed
-abbrev pub AskedToGo : {F : Type 0} → (F → UniquePortId → PortCleanupAction → F → Type 0) → F
+abbrev pub CallsCleanup : {F : Type 0} → (F → UniquePortId → PortCleanupAction → F → Type 0) → F
     → UniquePortId → Bool → F → Type 0
-AskedToGo calls f port goes f' =
+CallsCleanup calls f port goes f' =
     (action : PortCleanupAction) × calls f port action f' × (goes ≡ removes action)
 
 -- the ids of the ports of the dead node, by rising slot
-abbrev pub ids_asked_about : ℕ → ContainerState PortDetails → List UniquePortId
-ids_asked_about dead c = map port_of (asked_about (is_of node_of dead) c.registry)
+abbrev pub ids_of_node : ℕ → ContainerState PortDetails → List UniquePortId
+ids_of_node dead c = map port_of (details_where (is_of node_of dead) c.registry)
 
 -- a callback was called once on each port of the dead node, by rising slot, and exactly those are
 -- removed that it removes
@@ -25,7 +25,7 @@ abbrev pub RecoversPorts : {F : Type 0} → (F → UniquePortId → PortCleanupA
     → ContainerState PortDetails → F → ContainerState PortDetails → F → Type 0
 RecoversPorts calls dead old f new f' =
     (state : ReleaseState)
-    × RecoversBy (λ g d goes h. AskedToGo calls g (port_of d) goes h)
+    × RecoversBy (λ g d goes h. CallsCleanup calls g (port_of d) goes h)
     (is_of node_of dead) old f Default state new f'
 
 -- all entries of the dead node go

@@ -8,7 +8,7 @@ use Rattle.iox2_dynamic.specs.PortsState.{side_of}
 use Rattle.iox2_dynamic.specs.Service.{LacksRole, role_at}
 use Rattle.std.proofs.lemmas.List.{append-nil, append_assoc, length-append, length-map, length-set, map-append}
 use Rattle.std.proofs.Math.Seq.{set-append_seam, drop-cons}
-use Rattle.iox2sd.proofs.Names.{Visits, CallbackProgression, Continue, Stop, ContainerState, Entry, Role, Visit, listed, PortDetails, CountsIn, Service, first_role, second_role, id_of, Puts, PutsAll, ListsAll, NeedsMore, ports_in, ports_of_kind, nodes_in, PortsOf, Id, c_port, Port, asked_about, is_of, node_of, ListsIn, Ports, ports_of_node}
+use Rattle.iox2sd.proofs.Names.{Visits, CallbackProgression, Continue, Stop, ContainerState, Entry, Role, Visit, listed, PortDetails, CountsIn, Service, first_role, second_role, id_of, Puts, PutsAll, ListsAll, NeedsMore, ports_in, ports_of_kind, nodes_in, PortsOf, Id, c_port, Port, details_where, is_of, node_of, ListsIn, Ports, ports_of_node}
 use Rattle.iox2sd.specs.Listings.{Counts, PutsAt, Stand, Notes, NotesAll, NotesOfRole}
 use Rattle.iox2_container.specs.Mapped.{entry_as, container_as}
 use Rattle.iox2_dynamic.proofs.Rooms.{roles_differ}
@@ -248,7 +248,7 @@ both_noted xs ys before between after first second =
     (second before (map c_port xs) (first before [] (refl, refl, λ fits. refl)))
 
 few_of_one : (node : ℕ) (ports : ContainerState PortDetails)
-    → length (asked_about (is_of node_of node) ports.registry) ≤ length ports.registry.entries
+    → length (details_where (is_of node_of node) ports.registry) ≤ length ports.registry.entries
 few_of_one node ports =
     omega (
       arith,
@@ -266,8 +266,8 @@ few_of_node node ports =
     omega (
       arith,
       length-map (ports_of_node node ports) c_port,
-      length-append (asked_about (is_of node_of node) ports.first.registry)
-          (asked_about (is_of node_of node) ports.second.registry),
+      length-append (details_where (is_of node_of node) ports.first.registry)
+          (details_where (is_of node_of node) ports.second.registry),
       few_of_one node ports.first,
       few_of_one node ports.second,
     )

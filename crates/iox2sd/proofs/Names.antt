@@ -1,5 +1,5 @@
 -- The names that the proofs cite.
-pub use Rattle.iox2sd.specs.Prelude.{ContainerState, Id, Port, PortDetails, Ports, Role, asked_about, first_role, id_of, is_of, listed, node_of, number_of, ports_of_node, second_role}
+pub use Rattle.iox2sd.specs.Prelude.{ContainerState, Id, Port, PortDetails, Ports, Role, details_where, first_role, id_of, is_of, listed, node_of, number_of, ports_of_node, second_role}
 pub use Rattle.iox2_container.specs.State.{Entry}
 pub use Rattle.iox2_container.specs.Steps.{Visit, is_leaving}
 pub use Rattle.iox2_dynamic.specs.Ports.{CountsIn, ListsIn}

@@ -2,7 +2,7 @@
 use Rattle.std.specs.Prelude.{◌≡◌, Bool, true, false, ℕ, ◌+◌, ◌<◌, ◌≤◌, List, ◌++◌, Some, None, map, drop, length, slice_set, ◌⊎◌, ◌^◌, Option, [], ◌∷◌}
 use Rattle.iox2_texts.specs.declared.bounded.callback_progression.CallbackProgression.{CallbackProgression}
 use Rattle.iox2_texts.specs.declared.bounded.callback_progression.CallbackProgression.TheVariants.{Continue, Stop}
-use Rattle.iox2sd.specs.Prelude.{ContainerState, listed, Role, PortDetails, Ports, IsNeither, first_role, second_role, count_answer, id_of, Id, Port, Listed, All, TooShort, asked_about, is_of, node_of, ports_of_node, ReadsNode}
+use Rattle.iox2sd.specs.Prelude.{ContainerState, listed, Role, PortDetails, Ports, IsNeither, first_role, second_role, count_answer, id_of, Id, Port, Listed, All, TooShort, details_where, is_of, node_of, ports_of_node, ReadsNode}
 use Rattle.iox2_dynamic.specs.Service.{Service as Held}
 use Rattle.iox2sd.specs.Ports.{ReadsRole, c_port}
 use Rattle.iox2sd_common.specs.declared.answers.CountAnswer.{CountAnswer}
@@ -120,7 +120,7 @@ AllFit service room =
 
 -- the ports of a registry that have the node, by rising slot
 abbrev pub ports_of_in : ℕ → ContainerState PortDetails → List Port
-ports_of_in node ports = map c_port (asked_about (is_of node_of node) ports.registry)
+ports_of_in node ports = map c_port (details_where (is_of node_of node) ports.registry)
 
 -- the ports of the role that have the node came behind those that stood in the array
 abbrev pub NotesOfRole : Held → Role → ℕ → List Port × Option ℕ → List Port × Option ℕ → Type 0

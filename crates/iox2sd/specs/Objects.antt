@@ -37,15 +37,15 @@ At form refuse Rest Table (object ∷ others) answer new =
 
 -- the answer to a question is what it says of the service that is held; where none is held, the
 -- answer says so, and the rest of the caller's memory is as it was
-abbrev pub AskedOf : {M R : Type 0} → (M → R) → (Status → M) → Type 0 → (Held → M → Type 0)
+abbrev pub AnswersQueryOf : {M R : Type 0} → (M → R) → (Status → M) → Type 0 → (Held → M → Type 0)
     → Option Held → R → Type 0
-AskedOf form refuse Rest Says None answer = (answer ≡ form (refuse status.NoService)) × Rest
-AskedOf {M} form refuse Rest Says (Some service) answer =
+AnswersQueryOf form refuse Rest Says None answer = (answer ≡ form (refuse status.NoService)) × Rest
+AnswersQueryOf {M} form refuse Rest Says (Some service) answer =
     (made : M) × (answer ≡ form made) × Says service made
 
 -- the same at an object that may be NULL, which is reported before all else
-abbrev pub Asked : {M R : Type 0} → (M → R) → (Status → M) → Type 0 → (Held → M → Type 0)
+abbrev pub AnswersQuery : {M R : Type 0} → (M → R) → (Status → M) → Type 0 → (Held → M → Type 0)
     → List Service → R → Type 0
-Asked form refuse Rest Says [] answer = (answer ≡ form (refuse status.Null)) × Rest
-Asked form refuse Rest Says (object ∷ others) answer =
-    AskedOf form refuse Rest Says (held object) answer
+AnswersQuery form refuse Rest Says [] answer = (answer ≡ form (refuse status.Null)) × Rest
+AnswersQuery form refuse Rest Says (object ∷ others) answer =
+    AnswersQueryOf form refuse Rest Says (held object) answer

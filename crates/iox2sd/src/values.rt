@@ -286,10 +286,10 @@ pub struct NumberAnswer {
 
 impl NumberAnswer {
     /// The answer with a number, or why there is none.
-    pub(crate) fn of(asked: Result<u64, Status>) -> NumberAnswer
-        ensures { result ≡ number_answer asked }
+    pub(crate) fn of(found: Result<u64, Status>) -> NumberAnswer
+        ensures { result ≡ number_answer found }
     {
-        match asked {
+        match found {
             Ok(number) => NumberAnswer {
                 status: Status::Done.code(),
                 number,
@@ -325,10 +325,10 @@ pub(crate) struct Roles {
 
 impl RolesAnswer {
     /// The answer with two roles, or why there are none.
-    pub(crate) fn of(asked: Result<Roles, Status>) -> RolesAnswer
-        ensures { result ≡ roles_answer asked }
+    pub(crate) fn of(found: Result<Roles, Status>) -> RolesAnswer
+        ensures { result ≡ roles_answer found }
     {
-        match asked {
+        match found {
             Ok(roles) => RolesAnswer {
                 status: Status::Done.code(),
                 first: roles.first,

@@ -75,10 +75,10 @@ pub fn count(status: Status, count: usize) -> CountAnswer
 
 impl CountAnswer {
     /// The answer that says how many, or why it does not.
-    pub fn of(asked: Result<usize, Status>) -> CountAnswer
-        ensures { result ≡ c_count asked }
+    pub fn of(found: Result<usize, Status>) -> CountAnswer
+        ensures { result ≡ c_count found }
     {
-        match asked {
+        match found {
             Ok(number) => count(Status::Done, number),
             Err(status) => count(status, 0),
         }
@@ -87,10 +87,10 @@ impl CountAnswer {
 
 impl FlagAnswer {
     /// The answer that says yes or no, or why it does not.
-    pub fn of(asked: Result<bool, Status>) -> FlagAnswer
-        ensures { result ≡ flag_answer asked }
+    pub fn of(found: Result<bool, Status>) -> FlagAnswer
+        ensures { result ≡ flag_answer found }
     {
-        match asked {
+        match found {
             Ok(yes) => FlagAnswer {
                 status: Status::Done.code(),
                 yes,

@@ -79,16 +79,16 @@ OfSet pairs Says = (set : List Pair) → IsListing (map pair_of pairs) set → S
 abbrev pub CountsValues : List Attribute → List ℕ → CountAnswer → Type 0
 CountsValues pairs key answer =
     Reading (ChecksPairs pairs) (λ wrong. answer ≡ count_answer (set_fault wrong.0) 0) (λ _.
-    Reading (MakesName 64 key) (λ _. answer ≡ count_answer status.BadAskedKey 0) (λ asked.
-    OfSet pairs (λ set. answer ≡ count_answer status.Done (length (values_of set asked)))))
+    Reading (MakesName 64 key) (λ _. answer ≡ count_answer status.BadAskedKey 0) (λ name.
+    OfSet pairs (λ set. answer ≡ count_answer status.Done (length (values_of set name)))))
 
 -- the value at the index of those that the key has in the set is written, if there is one
 abbrev pub ReportsValue : List Attribute → List ℕ → ℕ → List ℕ → TextAnswer → List ℕ → Type 0
 ReportsValue pairs key index old answer new =
     Reading (ChecksPairs pairs) (λ wrong. ReportsText (Err (set_fault wrong.0)) old answer new) (λ
     _.
-    Reading (MakesName 64 key) (λ _. ReportsText (Err status.BadAskedKey) old answer new) (λ asked.
-    OfSet pairs (λ set. ReportsText (ok_or (slice_get (values_of set asked) index)
+    Reading (MakesName 64 key) (λ _. ReportsText (Err status.BadAskedKey) old answer new) (λ name.
+    OfSet pairs (λ set. ReportsText (ok_or (slice_get (values_of set name) index)
     status.NoSuchValue)
     old answer new)))
 

@@ -90,8 +90,8 @@ FirstCause Is pairs cause =
     (first : PlaceAnswer) × PlaceBut (ReportsSet pairs) first × Is (slice_get pairs first.at) cause
 
 -- why a key is not searched for in pairs
-abbrev pub AskedCause : List Attribute → List ℕ → ℕ → ℕ → Type 0
-AskedCause pairs key given cause =
+abbrev pub SearchedKeyCause : List Attribute → List ℕ → ℕ → ℕ → Type 0
+SearchedKeyCause pairs key given cause =
     CauseOf status.BadAskedKey given (IsCause (ChecksKey key) cause)
     (CauseOf status.BadKey given (FirstCause KeyCause pairs cause)
     (CauseOf status.BadValue given (FirstCause ValueCause pairs cause) (cause ≡ 0)))

@@ -6,12 +6,12 @@ ghost use Rattle.iox2sd_values.specs.Attributes.{ReportsSet, SortsSet, CountsVal
 ghost use Rattle.iox2sd_values.specs.Attributes.{pair_of, text_of, set_fault, required_fault};
 ghost use Rattle.iox2sd_values.specs.Attributes.{ChecksPairs, ChecksKeys, OfSet};
 ghost use Rattle.iox2sd_values.specs.Attributes.{Judges, VerifiesSet};
-ghost use Rattle.iox2sd_values.specs.Causes.{PlaceBut, CountBut, TextBut, SetCause, AskedCause};
+ghost use Rattle.iox2sd_values.specs.Causes.{PlaceBut, CountBut, TextBut, SetCause, SearchedKeyCause};
 ghost use Rattle.iox2sd_values.specs.Causes.{RequiredCause};
 ghost use Rattle.iox2sd_common.specs.Answers.{ReportsText};
 ghost use Rattle.iox2sd_common.specs.declared.status.Status.TheVariants as status;
 
-use super::causes::{asked_cause, required_cause, set_cause};
+use super::causes::{required_cause, searched_key_cause, set_cause};
 use super::texts::is_name;
 use iox2_texts::attribute::{
     AttributeKey, MAX_ATTRIBUTE_KEY_LENGTH, MAX_ATTRIBUTE_VALUE_LENGTH, MAX_ATTRIBUTES,
@@ -229,11 +229,11 @@ pub extern "C" fn iox2sd_attributes_number_of_key_values_at(
     key: &[u8],
 ) -> CountAnswer
     ensures reports { CountBut (CountsValues pairs.now key.now) result }
-    ensures cause { AskedCause pairs.now key.now result.status result.cause }
+    ensures cause { SearchedKeyCause pairs.now key.now result.status result.cause }
 {
     let reported = count_of(pairs, key);
     CountAnswer {
-        cause: asked_cause(reported.status, pairs, key),
+        cause: searched_key_cause(reported.status, pairs, key),
         ..reported
     }
 }
@@ -266,11 +266,11 @@ pub extern "C" fn iox2sd_attributes_key_value_at(
     ensures reports { TextBut (λ answer. ReportsValue pairs.now key.now index out.old answer
         out.new)
         result }
-    ensures cause { AskedCause pairs.now key.now result.status result.cause }
+    ensures cause { SearchedKeyCause pairs.now key.now result.status result.cause }
 {
     let reported = write_of(pairs, key, index, out);
     TextAnswer {
-        cause: asked_cause(reported.status, pairs, key),
+        cause: searched_key_cause(reported.status, pairs, key),
         ..reported
     }
 }

@@ -2,7 +2,7 @@
 ghost use Rattle.std.specs.Prelude.{slice_get};
 ghost use Rattle.iox2sd_values.specs.Causes.{NameCause, JoinCause, ChecksPath, ChecksFileName};
 ghost use Rattle.iox2sd_values.specs.Causes.{RootCause, KeyCause, ValueCause, TextCause, SetCause};
-ghost use Rattle.iox2sd_values.specs.Causes.{AskedCause, RequiredCause};
+ghost use Rattle.iox2sd_values.specs.Causes.{SearchedKeyCause, RequiredCause};
 
 use super::attributes::{Attribute, Key, iox2sd_attributes_check_at};
 use super::texts::{
@@ -102,8 +102,8 @@ pub(super) fn set_cause(status: u32, pairs: &[Attribute<'_>], at: usize) -> u32
 }
 
 /// Why a key is not searched for in pairs.
-pub(super) fn asked_cause(status: u32, pairs: &[Attribute<'_>], key: &[u8]) -> u32
-    ensures { AskedCause pairs.now key.now status result }
+pub(super) fn searched_key_cause(status: u32, pairs: &[Attribute<'_>], key: &[u8]) -> u32
+    ensures { SearchedKeyCause pairs.now key.now status result }
 {
     if status == Status::BadAskedKey.code() {
         iox2sd_attribute_key_check_at(key).status

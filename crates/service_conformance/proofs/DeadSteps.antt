@@ -1,6 +1,6 @@
 -- The recovery of a dead node can be a step, where ports of some values stay.
 use Rattle.service_conformance.proofs.Prelude.{All, All-cons, All-head, All-nil, All-tail, Bool, List, Vec, [], ap, arith, eq-eqb, false, filter, get_or, if◌then◌else◌, map, ne_eqb, not, refl, subst, sym, true, ℕ, ◌<◌, ◌==◌, ◌∙◌, ◌∷◌, ◌≡◌, and-true}
-use Rattle.service_conformance.proofs.Names.{ArePossible, Asked, ByPort, CleanedUp, Cleans, ContainerState, Default, DeregisterNodeState, Entry, IsRegistry, IsService, LockIfLastIndex, NodesAfter, PortCleanupAction, PortDetails, Ports, RecoverStep, RecoversBoth, RecoversNodes, RecoversPorts, RegistryState, ReleaseState, Reply, ServesDead, Service, action_for, asked_about, candidates, container, has_ports_of, is_kept, is_of, marks_of, node_of, nodes_if, port_of, port_value, ports_after, release_state, reply_in, reply_of_owners, state_of, without_node, without_ports}
+use Rattle.service_conformance.proofs.Names.{ArePossible, CalledInTurn, ByPort, CleanedUp, Cleans, ContainerState, Default, DeregisterNodeState, Entry, IsRegistry, IsService, LockIfLastIndex, NodesAfter, PortCleanupAction, PortDetails, Ports, RecoverStep, RecoversBoth, RecoversNodes, RecoversPorts, RegistryState, ReleaseState, Reply, ServesDead, Service, action_for, details_where, candidates, container, has_ports_of, is_kept, is_of, marks_of, node_of, nodes_if, port_of, port_value, ports_after, release_state, reply_in, reply_of_owners, state_of, without_node, without_ports}
 use Rattle.iox2_container.proofs.Gaining.{AllPairs-head, AllPairs-tail}
 use Rattle.iox2_container.proofs.Leaving.{staying_by}
 use Rattle.iox2_dynamic.specs.declared.dynamic_config.answers.DeregisterNodeState.TheVariants as nodes
@@ -10,7 +10,7 @@ use Rattle.service_conformance.specs.declared.conformance.line_reply.LineReply.T
 use Rattle.service_conformance.specs.declared.conformance.seen_reply.ReplyWord.TheVariants as word
 use Rattle.service_conformance.specs.declared.conformance.possible.Possible.TheVariants as possible
 use Rattle.service_conformance.proofs.Deregistering.{owned}
-use Rattle.service_conformance.proofs.Dying.{AsksCleanup, answered, dies, node_left, removed}
+use Rattle.service_conformance.proofs.Dying.{CleansPort, answered, dies, node_left, removed}
 use Rattle.service_conformance.proofs.Filters.{kept_filter}
 use Rattle.service_conformance.proofs.Possibles.{alone}
 use Rattle.service_conformance.proofs.Quiet.{untouching}
@@ -36,18 +36,19 @@ marks_for {T} (e ∷ es) goes rises =
           ∙ rest.1 k d h),
     )
 
-asked_by : (kept : Vec ℕ) (left : List PortCleanupAction) (dead : ℕ) (marked : ℕ → Bool)
+called_by : (kept : Vec ℕ) (left : List PortCleanupAction) (dead : ℕ) (marked : ℕ → Bool)
     (es : List (Entry PortDetails))
     → All (λ e. marked e.slot ≡ not (is_kept kept.items e.details)) es
-    → Asked (AsksCleanup kept) left (map (λ e. e.details) (candidates (is_of node_of dead) es))
+    → CalledInTurn (CleansPort kept) left
+    (map (λ e. e.details) (candidates (is_of node_of dead) es))
     (marks_of (is_of node_of dead) marked es) left
-asked_by kept left dead marked [] a = refl
-asked_by kept left dead marked (e ∷ es) a =
+called_by kept left dead marked [] a = refl
+called_by kept left dead marked (e ∷ es) a =
     let P : Entry PortDetails → Type 0 = λ e. marked e.slot ≡ not (is_kept kept.items e.details) in
-    let rest = asked_by kept left dead marked es (All-tail P e es a) in
+    let rest = called_by kept left dead marked es (All-tail P e es a) in
     let some = candidates (is_of node_of dead) es in
     elim (is_of node_of dead e.details) as
-    (λ b. Asked (AsksCleanup kept) left
+    (λ b. CalledInTurn (CleansPort kept) left
     (map (λ (e : Entry PortDetails). e.details) (if b then e ∷ some else some))
     (map (λ (v : Entry PortDetails). marked v.slot) (if b then e ∷ some else some)) left) [
       | true ↦ (
@@ -71,29 +72,29 @@ ports_can kept left dead old k =
     let r = old.registry in
     let is_dead : PortDetails → Bool = is_of node_of dead in
     let m = marks_for r.entries (λ e. not (is_kept kept.items e.details)) k.slots_rise in
-    let asked = asked_by kept left dead m.0 r.entries m.1 in
+    let called = called_by kept left dead m.0 r.entries m.1 in
     let those =
     staying_by is_dead (λ d. not (is_kept kept.items d)) m.0 r.entries
-    (answered kept left left (asked_about is_dead r) (marks_of is_dead m.0 r.entries) asked) in
+    (answered kept left left (details_where is_dead r) (marks_of is_dead m.0 r.entries) called) in
     let new = without_ports dead kept.items r in
-    let step : RecoverStep (AsksCleanup kept) is_dead r left Default (release_state r.locked) new
+    let step : RecoverStep (CleansPort kept) is_dead r left Default (release_state r.locked) new
     left =
     record {
       marked = m.0;
-      asked = asked;
+      called = called;
       recovers = (rw those refl, refl);
     } in (
       release_state r.locked,
-      untouching (λ r s. RecoverStep (AsksCleanup kept) is_dead r left Default
+      untouching (λ r s. RecoverStep (CleansPort kept) is_dead r left Default
           (release_state old.registry.locked) s left)
           old new step (kept_filter r Default _ k),
     )
 
-asked_all : (es : List (Entry ℕ))
-    → Asked {F = Unit {0}} (λ _ _ goes _. goes ≡ true) tt (map (λ e. e.details) es)
+called_all : (es : List (Entry ℕ))
+    → CalledInTurn {F = Unit {0}} (λ _ _ goes _. goes ≡ true) tt (map (λ e. e.details) es)
     (map (λ (e : Entry ℕ). true) es) tt
-asked_all [] = refl
-asked_all (e ∷ es) = (tt, refl, asked_all es)
+called_all [] = refl
+called_all (e ∷ es) = (tt, refl, called_all es)
 
 nodes_can : (dead : ℕ) (old : ContainerState ℕ) → IsRegistry old.registry
     → RecoversNodes dead old (release_state (without_node dead old.registry).locked)
@@ -106,7 +107,7 @@ nodes_can dead old k =
     (release_state new.locked) new tt =
     record {
       marked = λ n. true;
-      asked = asked_all (candidates is_dead r.entries);
+      called = called_all (candidates is_dead r.entries);
       recovers = (
         λ i. record new {
           entries = filter (λ e. not (sym (and-true (is_dead e.details)) i)) r.entries;

@@ -1,6 +1,6 @@
 -- The one state that the recovery of a dead node leaves, where ports of some values stay.
 use Rattle.service_conformance.proofs.Prelude.{Bool, List, Vec, ap, false, filter, if◌then◌else◌, length, map, not, refl, true, ℕ, ◌&&◌, ◌∙◌, ◌≡◌, and-true}
-use Rattle.service_conformance.proofs.Names.{Asked, AskedToGo, ByPort, CleanedUp, Cleans, ContainerState, Default, DeregisterNodeState, Entry, LeadsTo, LockIfLastIndex, NodesAfter, PortCleanupAction, PortDetails, RecoverStep, RegistryState, ReleaseState, RemovePort, Reply, ServesDead, Service, SkipPort, after_dead, asked_about, at_rest, has_ports_of, is_kept, is_of, lock_after, marks_of, node_of, nodes_if, port_of, ports_at_rest, quiet, removes, state_of, staying, with_left, without_node, without_ports}
+use Rattle.service_conformance.proofs.Names.{CalledInTurn, CallsCleanup, ByPort, CleanedUp, Cleans, ContainerState, Default, DeregisterNodeState, Entry, LeadsTo, LockIfLastIndex, NodesAfter, PortCleanupAction, PortDetails, RecoverStep, RegistryState, ReleaseState, RemovePort, Reply, ServesDead, Service, SkipPort, after_dead, details_where, at_rest, has_ports_of, is_kept, is_of, lock_after, marks_of, node_of, nodes_if, port_of, ports_at_rest, quiet, removes, state_of, staying, with_left, without_node, without_ports}
 use Rattle.iox2_container.proofs.Collecting.{answers_by}
 use Rattle.iox2_container.proofs.Leaving.{staying_by}
 use Rattle.iox2_dynamic.specs.declared.dynamic_config.answers.DeregisterNodeState.TheVariants as nodes
@@ -10,31 +10,31 @@ pub removed : (b : Bool) → removes (if b then SkipPort else RemovePort) ≡ no
 removed true = refl
 removed false = refl
 
--- a cleanup that keeps ports of these values is asked about a port
-abbrev pub AsksCleanup : Vec ℕ → List PortCleanupAction → PortDetails → Bool → List
+-- a cleanup that keeps ports of these values is called on a port
+abbrev pub CleansPort : Vec ℕ → List PortCleanupAction → PortDetails → Bool → List
     PortCleanupAction
     → Type 0
-AsksCleanup kept f d goes g = AskedToGo (Cleans (ByPort kept)) f (port_of d) goes g
+CleansPort kept f d goes g = CallsCleanup (Cleans (ByPort kept)) f (port_of d) goes g
 
 pub answered : (kept : Vec ℕ) (f g : List PortCleanupAction) (items : List PortDetails)
-    (marks : List Bool) → Asked (AsksCleanup kept) f items marks g
+    (marks : List Bool) → CalledInTurn (CleansPort kept) f items marks g
     → marks ≡ map (λ d. not (is_kept kept.items d)) items
 answered kept f g items marks =
-    answers_by {K = Unit {0}} (AsksCleanup kept) (λ _. tt) (λ _ d. not (is_kept kept.items d))
+    answers_by {K = Unit {0}} (CleansPort kept) (λ _. tt) (λ _ d. not (is_kept kept.items d))
     (λ q d m v s. (refl, s.2 ∙ (ap removes s.1.0 ∙ removed (is_kept kept.items d)))) f items marks g
 
 ports_left : (kept : Vec ℕ) (dead : ℕ) (old new : RegistryState PortDetails)
     (f g : List PortCleanupAction) (state : ReleaseState)
-    → RecoverStep (AsksCleanup kept) (is_of node_of dead) old f Default state new g
+    → RecoverStep (CleansPort kept) (is_of node_of dead) old f Default state new g
     → new ≡ without_ports dead kept.items old
 ports_left kept dead old new f g state s =
     s.recovers.0
     ∙ rw (staying_by (is_of node_of dead) (λ d. not (is_kept kept.items d)) s.marked old.entries
-    (answered kept f g (asked_about (is_of node_of dead) old)
-    (marks_of (is_of node_of dead) s.marked old.entries) s.asked)) refl
+    (answered kept f g (details_where (is_of node_of dead) old)
+    (marks_of (is_of node_of dead) s.marked old.entries) s.called)) refl
 
 all_go : (f g : Unit {0}) (items : List ℕ) (marks : List Bool)
-    → Asked {F = Unit {0}} (λ _ _ goes _. goes ≡ true) f items marks g
+    → CalledInTurn {F = Unit {0}} (λ _ _ goes _. goes ≡ true) f items marks g
     → marks ≡ map (λ d. true) items
 all_go f g items marks =
     answers_by {F = Unit {0}} {K = Unit {0}} (λ _ _ goes _. goes ≡ true) (λ _. tt) (λ _ d. true)
@@ -57,7 +57,7 @@ node_left dead old new state s =
     λ i e. not (and-true (is_dead e.details) i) in
     let those : left ≡ filter (λ e. not (is_dead e.details)) old.entries =
     staying_by is_dead (λ d. true) s.marked old.entries
-    (all_go tt tt (asked_about is_dead old) (marks_of is_dead s.marked old.entries) s.asked)
+    (all_go tt tt (details_where is_dead old) (marks_of is_dead s.marked old.entries) s.called)
     ∙ ap (λ (p : Entry ℕ → Bool). filter p old.entries) same in
     lock ∙ ap (with_left old LockIfLastIndex) those
 

@@ -8,7 +8,7 @@ pub use Rattle.iox2_container.specs.Changes.{Adds, Changes, Removes}
 pub use Rattle.iox2_container.specs.ContainerState.{ContainerState, container}
 pub use Rattle.iox2_container.specs.Handle.{Handle}
 pub use Rattle.iox2_container.specs.State.{Entry, IsRegistry, RegistryState, handle_of}
-pub use Rattle.iox2_container.specs.Steps.{AddStep, Asked, HasEntry, HasRoom, InsertsOne, IsFull, IsUnknownHandle, RecoverStep, Recovers, RemoveStep, TakesEntry, asked_about, candidates, entries_of, is_of, listed, lock_after, marks_of, release_state, staying}
+pub use Rattle.iox2_container.specs.Steps.{AddStep, CalledInTurn, HasEntry, HasRoom, InsertsOne, IsFull, IsUnknownHandle, RecoverStep, Recovers, RemoveStep, TakesEntry, details_where, candidates, entries_of, is_of, listed, lock_after, marks_of, release_state, staying}
 pub use Rattle.iox2_container.specs.declared.container.refusal.ContainerAddFailure.{ContainerAddFailure}
 pub use Rattle.iox2_container.specs.declared.container.refusal.ContainerAddFailure.TheVariants.{IsLocked, OutOfSpace}
 pub use Rattle.iox2_container.specs.declared.container.refusal.ContainerRemoveError.{ContainerRemoveError}
@@ -23,7 +23,7 @@ pub use Rattle.iox2_dynamic.specs.Details.{node_of, port_of, role_of}
 pub use Rattle.iox2_dynamic.specs.Ports.{IsEither, IsNeither, OfRole, OnSide, Ports, RecoversBoth, RemovesFrom, has_ports_of}
 pub use Rattle.iox2_dynamic.specs.PortsState.{Side, of_side, other_side, side_of}
 pub use Rattle.iox2_dynamic.specs.PortsState.Side.{First, Second}
-pub use Rattle.iox2_dynamic.specs.Recoveries.{AskedToGo, RecoversNodes, RecoversPorts, removes}
+pub use Rattle.iox2_dynamic.specs.Recoveries.{CallsCleanup, RecoversNodes, RecoversPorts, removes}
 pub use Rattle.iox2_dynamic.specs.Service.{HasRole, IsPortRegistry, IsService, LacksRole, Registered, Service, entries_of_node, first_role, role_at, second_role}
 pub use Rattle.iox2_dynamic.specs.Steps.{AddsPort, DeadStep, IsOpenFor, NodesAfter, RemovesPort, is_last_of_ports}
 pub use Rattle.iox2_dynamic.specs.declared.dynamic_config.answers.DeregisterNodeState.{DeregisterNodeState}

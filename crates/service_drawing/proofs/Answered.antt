@@ -8,7 +8,7 @@ use Rattle.std.specs.Result.{IsErr, IsErrAnd, MatchResult}
 use Rattle.iox2_config.specs.declared.config.Config.{Config}
 use Rattle.service_drawing.specs.Descriptions.{StopsReading, IsOver, IsReason}
 use Rattle.service_drawing.specs.Streams.{IsRequestOf, IsRead, status_of, output_text, error_text, ReportsBadLine, Draws, Answers, Reported}
-use Rattle.service_drawing.specs.declared.streams.Asked.{Asked}
+use Rattle.service_drawing.specs.declared.streams.Request.{Request}
 use Rattle.service_drawing.specs.declared.fault.Fault.{Fault}
 use Rattle.service_drawing.specs.declared.fault.Fault.TheVariants.{BadLine}
 use Rattle.service_drawing.specs.declared.streams.Written.{Written}
@@ -22,17 +22,17 @@ answered_at_zero end P h k = grind arith
 
 -- what was requested was answered where the outcome was written
 pub reported_where_written : (arguments : Result (IntoIter (String Global) Global) Error)
-    (asked : Result Asked Fault) (end : Result Written Fault) (wrote : Result ℕ Error)
-    (given left out_old out_new err_old err_new : Option (List ℕ)) → IsRequestOf arguments asked
-    → Answers given asked end → IfOk end (λ written. IsRead asked → IsAtEnd left)
+    (request : Result Request Fault) (end : Result Written Fault) (wrote : Result ℕ Error)
+    (given left out_old out_new err_old err_new : Option (List ℕ)) → IsRequestOf arguments request
+    → Answers given request end → IfOk end (λ written. IsRead request → IsAtEnd left)
     → IfOk wrote (λ status. status ≡ status_of end)
     → OnOk wrote (Appends out_old out_new (output_text end))
     → OnOk wrote (Appends err_old err_new (error_text end))
     → IfOk wrote (λ status. Reported arguments status given left out_old out_new err_old err_new)
-reported_where_written arguments asked end (Ok status) given left out_old out_new err_old err_new
-    asks answered read reported output errors = grind (arith, answered_at_zero)
-reported_where_written arguments asked end (Err why) given left out_old out_new err_old err_new
-    asks answered read reported output errors = tt
+reported_where_written arguments request end (Ok status) given left out_old out_new err_old err_new
+    requests answered read reported output errors = grind (arith, answered_at_zero)
+reported_where_written arguments request end (Err why) given left out_old out_new err_old err_new
+    requests answered read reported output errors = tt
 
 -- what is true of an error is true of it where it is handed on
 pub handed_on : {A E : Type 0} (Good : A → Type 0) (Bad : E → Type 0) (r : Result A E) (why : E)
@@ -40,10 +40,11 @@ pub handed_on : {A E : Type 0} (Good : A → Type 0) (Bad : E → Type 0) (r : R
 handed_on Good Bad r why h bad = grind arith
 
 -- what is answered to this request
-pub answers_for : (given : Option (List ℕ)) (asked : Result Asked Fault) (field expected : Asked)
-    (end : Result Written Fault) → asked ≡ Ok field → field ≡ expected
-    → Answers given (Ok expected) end → Answers given asked end
-answers_for given asked field expected end e f h = grind arith
+pub answers_for : (given : Option (List ℕ)) (request : Result Request Fault)
+    (field expected : Request)
+    (end : Result Written Fault) → request ≡ Ok field → field ≡ expected
+    → Answers given (Ok expected) end → Answers given request end
+answers_for given request field expected end e f h = grind arith
 
 -- the line that is reported is that where reading stopped
 pub draws_no_more : (base : Config) (warnings rest bytes : List ℕ) (expected : Expected)

@@ -6,8 +6,8 @@ use Rattle.std.specs.declared.alloc.Global.{Global}
 use Rattle.std.specs.declared.vec.IntoIter.{IntoIter}
 use Rattle.std.specs.declared.io.Error.{Error}
 use Rattle.std.specs.declared.io.ErrorKind.TheVariants.{OutOfMemory}
-use Rattle.service_drawing.specs.declared.streams.Asked.{Asked}
-use Rattle.service_drawing.specs.declared.streams.Asked.TheVariants.{Drawing, Help, Version}
+use Rattle.service_drawing.specs.declared.streams.Request.{Request}
+use Rattle.service_drawing.specs.declared.streams.Request.TheVariants.{Drawing, Help, Version}
 use Rattle.service_drawing.specs.declared.streams.Form.TheVariants.{Text, Svg}
 use Rattle.service_drawing.specs.declared.fault.Fault.{Fault}
 use Rattle.service_drawing.specs.declared.streams.Written.{Written}
@@ -35,7 +35,7 @@ IsNoRequest words =
     × (words ≢ codes "--help" ∷ []) × (words ≢ codes "--version" ∷ [])
 
 -- what the words after the program's name ask for
-abbrev pub IsRequest : List (List ℕ) → Result Asked Fault → Type 0
+abbrev pub IsRequest : List (List ℕ) → Result Request Fault → Type 0
 IsRequest words (Ok (Drawing Text)) = words ≡ []
 IsRequest words (Ok (Drawing Svg)) = words ≡ codes "svg" ∷ []
 IsRequest words (Ok Help) = (words ≡ codes "-h" ∷ []) ⊎ (words ≡ codes "--help" ∷ [])
@@ -44,17 +44,18 @@ IsRequest words (Err BadArgument) = IsNoRequest words
 IsRequest words (Err other) = ⊥
 
 -- what the arguments ask for: where they could not be had, there is no memory or they are bad
-abbrev pub IsRequestOf : Result (IntoIter (String Global) Global) Error → Result Asked Fault → Type
+abbrev pub IsRequestOf : Result (IntoIter (String Global) Global) Error → Result Request Fault
+    → Type
     0
-IsRequestOf (Ok words) asked = IsRequest (drop 1 (words_of words)) asked
+IsRequestOf (Ok words) request = IsRequest (drop 1 (words_of words)) request
 IsRequestOf (Err why) (Err NoMemory) = error_kind why ≡ OutOfMemory
 IsRequestOf (Err why) (Err BadArgument) = error_kind why ≢ OutOfMemory
 IsRequestOf (Err why) other = ⊥
 
 -- what is asked for is made of what is read
-abbrev pub IsRead : Result Asked Fault → Type 0
+abbrev pub IsRead : Result Request Fault → Type 0
 IsRead (Ok (Drawing form)) = Unit {0}
-IsRead asked = ⊥
+IsRead request = ⊥
 
 -- this text, or there is no memory for it
 abbrev pub IsTextOrNoMemory : List ℕ → Result Written Fault → Type 0
@@ -132,7 +133,7 @@ Draws bytes (Err fault) = IsNotOver bytes fault
 
 -- what is answered: the bytes that the reader gives, if they are known, are drawn, or the text
 -- that was asked for is answered unless there is no memory for it
-abbrev pub Answers : Option (List ℕ) → Result Asked Fault → Result Written Fault → Type 0
+abbrev pub Answers : Option (List ℕ) → Result Request Fault → Result Written Fault → Type 0
 Answers given (Err fault) end = end ≡ Err fault
 Answers given (Ok (Drawing form)) end = IfSome given (λ bytes. Draws bytes end)
 Answers given (Ok Help) end = IsTextOrNoMemory HELP.now end
@@ -159,11 +160,11 @@ error_text = either (λ written. string_bytes written.warnings) fault_text
 -- fits it, and for a drawing the input was read to its end
 pub record Reported (arguments : Result (IntoIter (String Global) Global) Error) (status : ℕ)
     (given left out_old out_new err_old err_new : Option (List ℕ)) : Type 0 where
-  pub asked : Result Asked Fault
+  pub request : Result Request Fault
   pub end : Result Written Fault
-  pub asks : IsRequestOf arguments asked
-  pub answered : Answers given asked end
+  pub requests : IsRequestOf arguments request
+  pub answered : Answers given request end
   pub reported : status ≡ status_of end
-  pub read : status ≡ 0 → IsRead asked → IsAtEnd left
+  pub read : status ≡ 0 → IsRead request → IsAtEnd left
   pub output : Appends out_old out_new (output_text end)
   pub errors : Appends err_old err_new (error_text end)

@@ -28,7 +28,7 @@ pub(crate) enum Form {
 
 /// What is requested.
 #[derive(Clone, Copy)]
-pub(crate) enum Asked {
+pub(crate) enum Request {
     /// To draw the description that is read.
     Drawing(Form),
     /// To say how the program is used.
@@ -58,41 +58,41 @@ writing failed.
 pub(crate) const VERSION: &str = "iox2-describe 0.1.0 (iceoryx2 0.9.3)\n";
 
 /// What the arguments request. The first is the program's name.
-pub(crate) fn asked_by(arguments: io::Result<Args>) -> Result<Asked, Fault>
+pub(crate) fn request_by(arguments: io::Result<Args>) -> Result<Request, Fault>
     ensures { IsRequestOf arguments result }
 {
     match arguments {
-        Ok(words) => asked_in(words),
+        Ok(words) => request_in(words),
         Err(why) if why.kind() == ErrorKind::OutOfMemory => Err(Fault::NoMemory),
         Err(_) => Err(Fault::BadArgument),
     }
 }
 
 /// What the words after the first request.
-fn asked_in(words: Args) -> Result<Asked, Fault>
+fn request_in(words: Args) -> Result<Request, Fault>
     ensures { IsRequest (drop 1 (words_of words)) result }
 {
     let mut words = words;
     // The program's name asks for nothing.
     let _program = words.next();
     let Some(word) = words.next() else {
-        return Ok(Asked::Drawing(Form::Text));
+        return Ok(Request::Drawing(Form::Text));
     };
     if words.next().is_some() {
         return Err(Fault::BadArgument);
     }
-    asked_by_word(word.as_str())
+    request_by_word(word.as_str())
 }
 
 /// What one word requests.
-fn asked_by_word(word: &str) -> Result<Asked, Fault>
+fn request_by_word(word: &str) -> Result<Request, Fault>
     ensures { IsRequest (word.now ∷ []) result }
 {
     match word {
-        "svg" => Ok(Asked::Drawing(Form::Svg)),
-        "-h" => Ok(Asked::Help),
-        "--help" => Ok(Asked::Help),
-        "--version" => Ok(Asked::Version),
+        "svg" => Ok(Request::Drawing(Form::Svg)),
+        "-h" => Ok(Request::Help),
+        "--help" => Ok(Request::Help),
+        "--version" => Ok(Request::Version),
         _ => Err(Fault::BadArgument),
     }
 }
@@ -159,21 +159,21 @@ impl Outcome for Written {
 /// that the reader gives, or what is reported without one.
 fn answer<R: Source>(
     alloc: Global,
-    asked: Result<Asked, Fault>,
+    request: Result<Request, Fault>,
     input: &mut R,
 ) -> io::Result<Result<Written, Fault>>
-    ensures end_is { IfOk result (λ end. Answers (R.remaining input.old) asked end) }
+    ensures end_is { IfOk result (λ end. Answers (R.remaining input.old) request end) }
     ensures read { IfOk result (λ end. IfOk end (λ written.
-        IsRead asked → IsAtEnd (R.remaining input.new))) }
+        IsRead request → IsAtEnd (R.remaining input.new))) }
     ensures failed { IfErr result (ReadFails R.FailsBy input.new) }
 {
-    match asked {
-        Ok(Asked::Drawing(form)) => match read_all(alloc, input)? {
+    match request {
+        Ok(Request::Drawing(form)) => match read_all(alloc, input)? {
             Ok(bytes) => Ok(drawn(alloc, form, &bytes)),
             Err(_) => Ok(Err(Fault::NoMemory)),
         },
-        Ok(Asked::Help) => Ok(text_of(alloc, HELP)),
-        Ok(Asked::Version) => Ok(text_of(alloc, VERSION)),
+        Ok(Request::Help) => Ok(text_of(alloc, HELP)),
+        Ok(Request::Version) => Ok(text_of(alloc, VERSION)),
         Err(fault) => Ok(Err(fault)),
     }
 }
@@ -210,7 +210,7 @@ fn run<R: Source, W: Sink, E: Sink>(
         ⊎ (Fails W.Writes W.FailsToFlush output.new e
         ⊎ Fails E.Writes E.FailsToFlush errors.new e)) }
 {
-    let end = answer(alloc, asked_by(arguments), input)?;
+    let end = answer(alloc, request_by(arguments), input)?;
     write_outcome(output, errors, &end)
 }
 

@@ -13,7 +13,7 @@ use Rattle.iox2_dynamic.specs.declared.dynamic_config.cleanup.PortCleanupAction.
 use Rattle.iox2_dynamic.specs.declared.dynamic_config.cleanup.PortCleanupAction.TheVariants.{RemovePort}
 use Rattle.iox2_dynamic.specs.declared.dynamic_config.port_details.PortDetails.{PortDetails}
 use Rattle.iox2_dynamic.specs.Answers.{state_of}
-use Rattle.iox2_dynamic.specs.Recoveries.{AskedToGo, RecoversPorts, RecoversNodes, removes}
+use Rattle.iox2_dynamic.specs.Recoveries.{CallsCleanup, RecoversPorts, RecoversNodes, removes}
 use Rattle.iox2_dynamic.specs.Details.{node_of, port_of}
 use Rattle.iox2_dynamic.specs.Ports.{has_ports_of}
 use Rattle.iox2_dynamic.specs.Service.{Service}
@@ -29,10 +29,10 @@ ports_go : {F : Type 0} (calls : F → UniquePortId → PortCleanupAction → F 
     → new.registry ≡ ports_without (dead ∷ []) old.registry
 ports_go {F} calls agrees dead old f new h r =
     let called : F → PortDetails → Bool → F → Type 0 =
-    λ g d goes j. AskedToGo calls g (port_of d) goes j in
+    λ g d goes j. CallsCleanup calls g (port_of d) goes j in
     let go = all_go called
     (λ g d goes j a. a.2 ∙ ap removes (agrees g (port_of d) a.0 j a.1)) node_of dead
-    r.1.step.marked old.registry.entries f h r.1.step.asked in
+    r.1.step.marked old.registry.entries f h r.1.step.called in
     r.1.step.recovers.0
     ∙ ap (λ (es : List (Entry PortDetails)). record old.registry { entries = es }) go
 
@@ -46,7 +46,7 @@ nodes_go dead old state new r =
     let stay : List (Entry ℕ) = others node (dead ∷ []) before in
     let left : List (Entry ℕ) = staying (is_of node dead) r.step.marked before in
     let go : left ≡ stay =
-    all_go called (λ f x r h a. a) node dead r.step.marked before tt tt r.step.asked in
+    all_go called (λ f x r h a. a) node dead r.step.marked before tt tt r.step.called in
     let entries : new.registry.entries ≡ stay =
     ap (λ (n : RegistryState ℕ). n.entries) r.step.recovers.0 ∙ go in
     r.step.recovers.0

@@ -10,7 +10,7 @@ use Rattle.std.proofs.lemmas.List.Folds.{list_any-append}
 use Rattle.iox2_container.specs.declared.container.release.ReleaseMode.TheVariants.{LockIfLastIndex}
 use Rattle.iox2_container.specs.Calls.{is_outside}
 use Rattle.iox2_container.specs.State.{Entry}
-use Rattle.iox2_container.specs.Steps.{Asked, candidates, is_of, lock_after, marks_of, staying}
+use Rattle.iox2_container.specs.Steps.{CalledInTurn, candidates, is_of, lock_after, marks_of, staying}
 use Rattle.iox2_container.proofs.Collecting.{answers_by}
 use Rattle.iox2_container.proofs.Leaving.{staying_by}
 use Rattle.service_examples.specs.Removal.{others, last_went}
@@ -34,7 +34,7 @@ is_other node d x = ap not (same_order (node x) d ∙ sym (or-false (d == node x
 pub all_go : {F T : Type 0} (calls : F → T → Bool → F → Type 0)
     → ((f : F) (x : T) (r : Bool) (h : F) → calls f x r h → r ≡ true)
     → (node : T → ℕ) (d : ℕ) (marked : ℕ → Bool) (es : List (Entry T)) (f h : F)
-    → Asked calls f (map (λ e. e.details) (candidates (is_of node d) es))
+    → CalledInTurn calls f (map (λ e. e.details) (candidates (is_of node d) es))
     (marks_of (is_of node d) marked es) h
     → staying (is_of node d) marked es ≡ others node (d ∷ []) es
 all_go calls agrees node d marked es f h a =

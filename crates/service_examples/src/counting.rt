@@ -27,7 +27,7 @@ pub fn count_entries<T: Attached + Copy, R: Registry<T>>(registry: &R) -> usize
 }
 
 /// Recovers the node with a callback that removes nothing, and returns how often it was called.
-pub fn count_asked<T: Attached + Copy, R: Registry<T>>(
+pub fn count_called<T: Attached + Copy, R: Registry<T>>(
     registry: &mut R,
     node: &UniqueNodeId,
 ) -> usize

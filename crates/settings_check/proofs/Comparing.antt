@@ -78,10 +78,10 @@ found_toml Gives input (file ∷ files) seen (first, others, (given, gives, here
 -- where an outcome was written, the arguments are answered, or memory was refused
 pub ends_where_written : (Gives : List ℕ → Result (List ℕ) FileError → Type 0) (coloured : Bool)
     (arguments : Result (IntoIter (String Global) Global) Error)
-    (asked : Result Request RequestError) (end : Result Answer AllocError) (wrote : Result ℕ Error)
-    (given left out_old out_new err_old err_new : Option (List ℕ)) → Requests arguments asked
-    → IfOk end (AnswersArguments Gives coloured asked given)
-    → OnOk end (input_is_read asked ≡ true → IsAtEnd left)
+    (parsed : Result Request RequestError) (end : Result Answer AllocError) (wrote : Result ℕ Error)
+    (given left out_old out_new err_old err_new : Option (List ℕ)) → Requests arguments parsed
+    → IfOk end (AnswersArguments Gives coloured parsed given)
+    → OnOk end (input_is_read parsed ≡ true → IsAtEnd left)
     → IfOk wrote (λ status. status ≡ either (λ answer. status_number answer.status) (λ why. 3) end)
     → OnOk wrote (Appends out_old out_new
     (either (λ answer. string_bytes answer.output) (λ why. []) end))
@@ -89,10 +89,10 @@ pub ends_where_written : (Gives : List ℕ → Result (List ℕ) FileError → T
     (either (λ answer. string_bytes answer.errors) (λ why. codes "no memory\n") end))
     → IfOk wrote (λ status.
     Ends Gives coloured arguments status given left out_old out_new err_old err_new)
-ends_where_written _ _ _ asked (Ok answer) (Ok status) _ _ _ _ _ _ requests answered read reported
+ends_where_written _ _ _ parsed (Ok answer) (Ok status) _ _ _ _ _ _ requests answered read reported
     output errors =
     inl (record {
-      asked = asked;
+      parsed = parsed;
       answer = answer;
       requests = requests;
       answered = answered;
@@ -101,9 +101,10 @@ ends_where_written _ _ _ asked (Ok answer) (Ok status) _ _ _ _ _ _ requests answ
       output = output;
       errors = errors;
     })
-ends_where_written _ _ _ asked (Err refused) (Ok status) _ _ _ _ _ _ requests answered read reported
+ends_where_written _ _ _ parsed (Err refused) (Ok status) _ _ _ _ _ _ requests answered read
+    reported
     output errors =
     inr (reported, (output, errors))
-ends_where_written _ _ _ asked end (Err why) _ _ _ _ _ _ requests answered read reported output
+ends_where_written _ _ _ parsed end (Err why) _ _ _ _ _ _ requests answered read reported output
     errors =
     tt

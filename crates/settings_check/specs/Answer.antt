@@ -52,9 +52,9 @@ unread_text seen = flat_map unread_line seen.unread
 -- what a report on files leaves out: contradictions where a file has an error, and differences
 -- where they are requested and there are not two files without errors
 abbrev pub omitted_in : Task → Seen → Omitted
-omitted_in asked seen = record {
+omitted_in parsed seen = record {
   contradictions = nat_lt 0 (errors_in seen.said);
-  differences = is_comparison asked && nat_lt (length seen.valid) 2;
+  differences = is_comparison parsed && nat_lt (length seen.valid) 2;
   files = has_unread seen.unread;
 }
 
@@ -158,25 +158,25 @@ input_is_read (Err why) = false
 
 -- where the standard input is read, these are all bytes that it gives, if they are known
 abbrev pub IsInput : Result Request RequestError → Option (List ℕ) → List ℕ → Type 0
-IsInput asked given bytes = input_is_read asked ≡ true → IfSome given (λ all. bytes ≡ all)
+IsInput parsed given bytes = input_is_read parsed ≡ true → IfSome given (λ all. bytes ≡ all)
 
 -- what is answered to arguments, where the reader gives these bytes
 abbrev pub AnswersArguments : (List ℕ → Result (List ℕ) FileError → Type 0) → Bool
     → Result Request RequestError → Option (List ℕ) → Answer → Type 0
-AnswersArguments Gives coloured asked given answer =
-    (bytes : List ℕ) × IsInput asked given bytes × Answers Gives coloured bytes asked answer
+AnswersArguments Gives coloured parsed given answer =
+    (bytes : List ℕ) × IsInput parsed given bytes × Answers Gives coloured bytes parsed answer
 
 -- the arguments are a request or bad, that is answered, the writers got the answer, the status is
 -- its own, and the standard input was read to its end if it is one of the files
 pub record Reported (Gives : List ℕ → Result (List ℕ) FileError → Type 0) (coloured : Bool)
     (arguments : Result (IntoIter (String Global) Global) Error) (status : ℕ)
     (given left out_old out_new err_old err_new : Option (List ℕ)) : Type 0 where
-  pub asked : Result Request RequestError
+  pub parsed : Result Request RequestError
   pub answer : Answer
-  pub requests : Requests arguments asked
-  pub answered : AnswersArguments Gives coloured asked given answer
+  pub requests : Requests arguments parsed
+  pub answered : AnswersArguments Gives coloured parsed given answer
   pub reported : status ≡ status_number answer.status
-  pub read : input_is_read asked ≡ true → IsAtEnd left
+  pub read : input_is_read parsed ≡ true → IsAtEnd left
   pub output : Appends out_old out_new (string_bytes answer.output)
   pub errors : Appends err_old err_new (string_bytes answer.errors)
 

@@ -240,11 +240,11 @@ fn respond<F: Files>(
     coloured: bool,
     files: &F,
     input: &[u8],
-    asked: &Result<Request, RequestError>,
+    parsed: &Result<Request, RequestError>,
 ) -> Result<Answer, AllocError>
-    ensures { IfOk result (Answers (F.Gives files.now) coloured input.now asked.now) }
+    ensures { IfOk result (Answers (F.Gives files.now) coloured input.now parsed.now) }
 {
-    match asked {
+    match parsed {
         Ok(request) => match request.task {
             Task::DefaultFile => default_answer(alloc),
             Task::Schema => schema_answer(alloc),
@@ -267,10 +267,10 @@ fn reads_input(names: &[String]) -> bool
 }
 
 /// Whether a request reads the standard input.
-fn reads(asked: &Result<Request, RequestError>) -> bool
-    ensures { result ≡ input_is_read asked.now }
+fn reads(parsed: &Result<Request, RequestError>) -> bool
+    ensures { result ≡ input_is_read parsed.now }
 {
-    match asked {
+    match parsed {
         Ok(request) => reads_input(request.files.as_slice()),
         Err(_) => false,
     }
@@ -281,20 +281,20 @@ fn answered<R: Source, F: Files>(
     alloc: Global,
     coloured: bool,
     files: &F,
-    asked: &Result<Request, RequestError>,
+    parsed: &Result<Request, RequestError>,
     input: &mut R,
 ) -> io::Result<Result<Answer, AllocError>>
     ensures answered { IfOk result (λ end. IfOk end (AnswersArguments (F.Gives files.now)
-        coloured asked.now (R.remaining input.old))) }
+        coloured parsed.now (R.remaining input.old))) }
     ensures read { IfOk result (λ end. OnOk end
-        (input_is_read asked.now ≡ true → IsAtEnd (R.remaining input.new))) }
+        (input_is_read parsed.now ≡ true → IsAtEnd (R.remaining input.new))) }
     ensures failed { IfErr result (ReadFails R.FailsBy input.new) }
 {
-    if !reads(asked) {
-        return Ok(respond(alloc, coloured, files, &[], asked));
+    if !reads(parsed) {
+        return Ok(respond(alloc, coloured, files, &[], parsed));
     }
     match read_all(alloc, input)? {
-        Ok(bytes) => Ok(respond(alloc, coloured, files, &bytes, asked)),
+        Ok(bytes) => Ok(respond(alloc, coloured, files, &bytes, parsed)),
         Err(refused) => Ok(Err(refused)),
     }
 }
@@ -319,8 +319,8 @@ fn run<R: Source, W: Sink, E: Sink, F: Files>(
         ⊎ (Fails W.Writes W.FailsToFlush output.new e
         ⊎ Fails E.Writes E.FailsToFlush errors.new e)) }
 {
-    let asked = request_of(alloc, arguments);
-    let end = answered(alloc, coloured, files, &asked, input)?;
+    let parsed = request_of(alloc, arguments);
+    let end = answered(alloc, coloured, files, &parsed, input)?;
     write_outcome(output, errors, &end)
 }
 

@@ -1,11 +1,11 @@
 //! A container as its changes see it.
 ghost use Rattle.std.specs.Prelude.{◌≡◌, ◌+◌, ◌-◌, ◌≤◌, ◌<◌, ◌↔◌, IfOk, IsTrue, length};
 ghost use Rattle.std.specs.Fn.{CalledAt, TakesAt};
-ghost use Rattle.iox2_container.specs.Callbacks.{CanBeAsked};
+ghost use Rattle.iox2_container.specs.Callbacks.{CanBeCalled};
 ghost use Rattle.iox2_container.specs.Changes.{Adds, Removes, RecoversBy};
 ghost use Rattle.iox2_container.specs.ContainerState.{fresh};
 ghost use Rattle.iox2_container.specs.State.{IsRegistry};
-ghost use Rattle.iox2_container.specs.Steps.{asked_about, is_of, lock_after, release_state};
+ghost use Rattle.iox2_container.specs.Steps.{details_where, is_of, lock_after, release_state};
 
 use super::attached::Attached;
 use super::free::SlotAllocator;
@@ -168,8 +168,8 @@ impl<T: Attached + Copy, S: SlotAllocator<T>> CountedMap<T, S> {
         f: &mut F,
         mode: ReleaseMode,
     ) -> ReleaseState
-        requires { CanBeAsked (TakesAt F.FnMut) (CalledAt F.FnMut) f.old
-            (asked_about (is_of T.node dead.now) self.old.registry) }
+        requires { CanBeCalled (TakesAt F.FnMut) (CalledAt F.FnMut) f.old
+            (details_where (is_of T.node dead.now) self.old.registry) }
         ensures known { IsRegistry self.old.registry }
         ensures recovers { RecoversBy (CalledAt F.FnMut) (is_of T.node dead.now)
             self.old f.old mode result self.new f.new }

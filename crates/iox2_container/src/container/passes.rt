@@ -4,7 +4,7 @@ ghost use Rattle.std.specs.Prelude.{MatchOption, length, map, slice_set, if◌th
 ghost use Rattle.std.specs.Fn.{CalledAt, TakesAt};
 ghost use Rattle.iox2_container.specs.Cells.{shown};
 ghost use Rattle.iox2_container.specs.SlotEntries.{Finds, IsTakenAt, entries_from};
-ghost use Rattle.iox2_container.specs.Callbacks.{CanBeAsked};
+ghost use Rattle.iox2_container.specs.Callbacks.{CanBeCalled};
 ghost use Rattle.iox2_container.specs.Passes.{AreOthers, IsNextOf, Swept, looked_at};
 ghost use Rattle.iox2_container.specs.Steps.{candidates, is_of};
 
@@ -16,7 +16,7 @@ use super::slots::EntrySlots;
 use iox2_ids::identifiers::UniqueNodeId;
 
 /// Calls the callback once.
-pub(super) fn ask<T: Copy, R, F: FnMut(&T) -> R>(details: T, f: &mut F) -> R
+pub(super) fn call<T: Copy, R, F: FnMut(&T) -> R>(details: T, f: &mut F) -> R
     requires { TakesAt F.FnMut f.old details }
     ensures { CalledAt F.FnMut f.old details result f.new }
 {
@@ -144,13 +144,13 @@ fn sweep_found<T: Attached + Copy, S: SlotAllocator<T>, F: FnMut(&T) -> bool>(
     requires taken { IsTakenAt (map shown slots.old.cells) found.slot }
     requires callable { TakesAt F.FnMut f.old found.details }
     ensures fits { S.fits free.new slots.new.cells }
-    ensures asked { CalledAt F.FnMut f.old found.details result f.new }
+    ensures called { CalledAt F.FnMut f.old found.details result f.new }
     ensures gone { IsTrue result →
         map shown slots.new.cells ≡ slice_set (map shown slots.old.cells) found.slot None }
     ensures kept { result ≡ false → map shown slots.new.cells ≡ map shown slots.old.cells }
     ensures touches { slots.new.touches ≡ slots.old.touches + (if result then 1 else 0) }
 {
-    let goes = ask(found.details, f);
+    let goes = call(found.details, f);
     if goes {
         free.clear(slots, found.slot);
     }
@@ -166,7 +166,7 @@ pub(super) fn sweep<T: Attached + Copy, S: SlotAllocator<T>, F: FnMut(&T) -> boo
     f: &mut F,
 ) -> usize
     requires fits { S.fits free.old slots.old.cells }
-    requires callable { CanBeAsked (TakesAt F.FnMut) (CalledAt F.FnMut) f.old
+    requires callable { CanBeCalled (TakesAt F.FnMut) (CalledAt F.FnMut) f.old
         (map (λ e. e.details)
         (candidates (is_of T.node dead.now)
         (entries_from 0 (map shown slots.old.cells)))) }

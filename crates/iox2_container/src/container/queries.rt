@@ -5,14 +5,14 @@ ghost use Rattle.std.specs.Fn.{CalledAt, TakesAt};
 ghost use Rattle.iox2_container.specs.Cells.{shown};
 ghost use Rattle.iox2_container.specs.SlotEntries.{Finds, NoneFrom, details_in, entries_from};
 ghost use Rattle.iox2_container.specs.Callbacks.{CanVisit};
-ghost use Rattle.iox2_container.specs.Passes.{AreOthers, AskedOfCell, IsLastOf, SlotIsOf};
+ghost use Rattle.iox2_container.specs.Passes.{AreOthers, CalledOnCell, IsLastOf, SlotIsOf};
 ghost use Rattle.iox2_container.specs.Passes.{TakesCell};
 ghost use Rattle.iox2_container.specs.Steps.{Visit, candidates, is_of};
 
 use super::attached::Attached;
 use super::cell::{Occupant, with_ticket};
 use super::handle::ContainerHandle;
-use super::passes::ask;
+use super::passes::call;
 use super::slot_map::Looks;
 use super::slots::EntrySlots;
 use iox2_ids::identifiers::UniqueNodeId;
@@ -24,10 +24,10 @@ fn show<T: Copy, F: FnMut(&T) -> CallbackProgression>(
     f: &mut F,
 ) -> CallbackProgression
     requires { TakesCell (TakesAt F.FnMut) f.old cell }
-    ensures { AskedOfCell (CalledAt F.FnMut) f.old cell result f.new }
+    ensures { CalledOnCell (CalledAt F.FnMut) f.old cell result f.new }
 {
     match cell {
-        Some(occupant) => ask(occupant.details, f),
+        Some(occupant) => call(occupant.details, f),
         None => CallbackProgression::Continue,
     }
 }

@@ -1,12 +1,12 @@
 //! The contract of a registry, on which everything above rests.
 ghost use Rattle.std.specs.Prelude.{◌≡◌, ℕ, ◌+◌, ◌≤◌, ◌↔◌, IsTrue, MatchOption, length, nat_lt};
 ghost use Rattle.std.specs.Fn.{CalledAt, TakesAt};
-ghost use Rattle.iox2_container.specs.Callbacks.{CanBeAsked, CanVisit};
+ghost use Rattle.iox2_container.specs.Callbacks.{CanBeCalled, CanVisit};
 ghost use Rattle.iox2_container.specs.Changes.{Adds, Removes, RecoversBy};
 ghost use Rattle.iox2_container.specs.ContainerState.{ContainerState};
 ghost use Rattle.iox2_container.specs.State.{IsRegistry};
 ghost use Rattle.iox2_container.specs.Steps.{IsUnknownHandle, HasEntry, TakesEntry, Visit};
-ghost use Rattle.iox2_container.specs.Steps.{asked_about, entries_of, is_of, listed};
+ghost use Rattle.iox2_container.specs.Steps.{details_where, entries_of, is_of, listed};
 
 use super::attached::Attached;
 use super::handle::ContainerHandle;
@@ -71,8 +71,8 @@ pub trait Registry<T: Attached + Copy> {
         f: &mut F,
         mode: ReleaseMode,
     ) -> ReleaseState
-        requires { CanBeAsked (TakesAt F.FnMut) (CalledAt F.FnMut) f.old
-            (asked_about (is_of T.node dead.now) (state self.old).registry) }
+        requires { CanBeCalled (TakesAt F.FnMut) (CalledAt F.FnMut) f.old
+            (details_where (is_of T.node dead.now) (state self.old).registry) }
         ensures known { IsRegistry (state self.old).registry }
         ensures recovers { RecoversBy (CalledAt F.FnMut) (is_of T.node dead.now)
             (state self.old) f.old mode result (state self.new) f.new }

@@ -2,7 +2,7 @@
 ghost use Rattle.std.specs.Prelude.{◌≡◌, ◌+◌, ◌≤◌, ◌<◌, ◌++◌, ◌∷◌, [], IfOk, IsTrue, length, vec_capacity, vec_len};
 ghost use Rattle.std.specs.Fn.{CalledAt, TakesAt};
 ghost use Rattle.iox2_container.specs.Callbacks.{CanVisit};
-ghost use Rattle.iox2_container.specs.Steps.{Visit, asked_about, entries_of, is_of, listed};
+ghost use Rattle.iox2_container.specs.Steps.{Visit, details_where, entries_of, is_of, listed};
 ghost use Rattle.iox2_container.specs.Mapped.{registry_as};
 ghost use Rattle.iox2_dynamic.specs.Details.{node_of};
 ghost use Rattle.iox2_dynamic.specs.Lists.{PutsIf};
@@ -27,7 +27,7 @@ pub(super) fn list_details<T: PortKind, F: FnMut(&PortDetails) -> CallbackProgre
 {
     let mut show = |details: &T| -> CallbackProgression
         requires { TakesAt F.FnMut f.now (T.details details.now) }
-        ensures asked { CalledAt F.FnMut f.entry.now (T.details details.now) result f.exit.now }
+        ensures called { CalledAt F.FnMut f.entry.now (T.details details.now) result f.exit.now }
         ensures same { f.exit.ghost_name ≡ f.entry.ghost_name }
     { f(&(*details).into_details()) };
     ports.for_each(&mut show);
@@ -66,7 +66,7 @@ pub(super) fn append_details_of<T: PortKind>(
     requires { vec_len list.old + entries_of T.Attached.node node.now ports.now.registry
         ≤ vec_capacity list.old }
     ensures items { list.new.items ≡ list.old.items
-        ++ asked_about (is_of node_of node.now) (registry_as T.details ports.now.registry) }
+        ++ details_where (is_of node_of node.now) (registry_as T.details ports.now.registry) }
     ensures len { vec_len list.new ≡ vec_len list.old
         + entries_of T.Attached.node node.now ports.now.registry }
     ensures capacity { vec_capacity list.new ≡ vec_capacity list.old }

@@ -1,13 +1,13 @@
 //! The ports of a service, by its pattern: a registry for each of two kinds of ports.
 ghost use Rattle.std.specs.Prelude.{◌≡◌, ◌↔◌, IfNone, IfOk, IfSome, IsTrue, MatchOption, length, vec_capacity};
 ghost use Rattle.std.specs.Fn.{CalledAt, TakesAt};
-ghost use Rattle.iox2_container.specs.Callbacks.{CanBeAsked, CanVisit};
+ghost use Rattle.iox2_container.specs.Callbacks.{CanBeCalled, CanVisit};
 ghost use Rattle.iox2_container.specs.Steps.{Visit, listed};
 ghost use Rattle.iox2_dynamic.specs.Details.{role_of};
 ghost use Rattle.iox2_dynamic.specs.Patterns.{kind_of_service, ports_of};
 ghost use Rattle.iox2_dynamic.specs.Ports.{ports_as, empty_ports, has_ports_of, IsNoPort, OfRole};
 ghost use Rattle.iox2_dynamic.specs.Ports.{RemovesFrom, RecoversBoth, CountsIn, CanListIn, ListsIn};
-ghost use Rattle.iox2_dynamic.specs.Ports.{StandsAmong, TakesIn, TouchesFew, ports_asked_about, ports_of_node};
+ghost use Rattle.iox2_dynamic.specs.Ports.{StandsAmong, TakesIn, TouchesFew, port_ids_of_node, ports_of_node};
 ghost use Rattle.iox2_dynamic.specs.Service.{HasRole, LacksRole, first_role, second_role, capacities_in, fresh_ports};
 ghost use Rattle.iox2_dynamic.specs.Steps.{Admits, AttachesTo};
 
@@ -172,8 +172,8 @@ impl<A: PortKind, B: PortKind> PortRegistries<A, B> {
     pub(super) fn recover<F>(&mut self, dead: &UniqueNodeId, f: &mut F) -> bool
     where
         F: FnMut(UniquePortId) -> PortCleanupAction,
-        requires { CanBeAsked F.pre F.step f.old
-            (ports_asked_about dead.now (ports_as A.details B.details self.old)) }
+        requires { CanBeCalled F.pre F.step f.old
+            (port_ids_of_node dead.now (ports_as A.details B.details self.old)) }
         ensures recovered { RecoversBoth F.step dead.now
             (ports_as A.details B.details self.old) f.old
             (ports_as A.details B.details self.new) f.new }
@@ -452,7 +452,7 @@ impl MessagingPattern {
         dead: &UniqueNodeId,
         f: &mut F,
     ) -> bool
-        requires { CanBeAsked F.pre F.step f.old (ports_asked_about dead.now (ports_of self.old)) }
+        requires { CanBeCalled F.pre F.step f.old (port_ids_of_node dead.now (ports_of self.old)) }
         ensures recovered { RecoversBoth F.step dead.now
             (ports_of self.old) f.old (ports_of self.new) f.new }
         ensures left { result ≡ has_ports_of dead.now (ports_of self.new) }

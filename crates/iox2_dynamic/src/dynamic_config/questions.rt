@@ -3,7 +3,7 @@ ghost use Rattle.std.specs.Prelude.{◌≡◌, ◌↔◌, IfOk, IfSome, IsTrue, 
 ghost use Rattle.iox2_container.specs.Steps.{IsUnknownHandle, HasEntry, TakesEntry, listed};
 ghost use Rattle.iox2_dynamic.specs.Details.{port_of};
 ghost use Rattle.iox2_dynamic.specs.Ports.{IsNoPort, OfRole, StandsAmong};
-ghost use Rattle.iox2_dynamic.specs.Ports.{ports_asked_about, ports_of_node};
+ghost use Rattle.iox2_dynamic.specs.Ports.{port_ids_of_node, ports_of_node};
 ghost use Rattle.iox2_dynamic.specs.Service.{HasRole, IsService, TakesPort};
 ghost use Rattle.iox2_dynamic.specs.Service.{first_role, second_role};
 
@@ -129,8 +129,8 @@ impl DynamicConfig {
     ) -> Result<Vec<PortDetails>, AllocError>
         ensures listed { IfOk result (λ ports.
             ports.items ≡ ports_of_node node.now self.now.ports) }
-        ensures asked_about { IfOk result (λ ports.
-            map port_of ports.items ≡ ports_asked_about node.now self.now.ports) }
+        ensures details_where { IfOk result (λ ports.
+            map port_of ports.items ≡ port_ids_of_node node.now self.now.ports) }
         ensures exact { IfOk result (λ ports. vec_capacity ports ≡ length ports.items) }
         ensures kept { IsService self.now }
     {

@@ -1,9 +1,9 @@
 //! Ports and nodes of a dead node.
 ghost use Rattle.std.specs.Prelude.{◌≡◌, ◌||◌, true, nat_lt, not};
-ghost use Rattle.iox2_container.specs.Callbacks.{CanBeAsked};
+ghost use Rattle.iox2_container.specs.Callbacks.{CanBeCalled};
 ghost use Rattle.iox2_container.specs.Mapped.{container_as, registry_as};
 ghost use Rattle.iox2_container.specs.Steps.{entries_of};
-ghost use Rattle.iox2_dynamic.specs.Recoveries.{AskedToGo, RecoversPorts, RecoversNodes, ids_asked_about};
+ghost use Rattle.iox2_dynamic.specs.Recoveries.{CallsCleanup, RecoversPorts, RecoversNodes, ids_of_node};
 ghost use Rattle.iox2_dynamic.specs.Details.{node_of, port_of};
 
 use super::cleanup::PortCleanupAction;
@@ -18,8 +18,8 @@ pub(super) fn recover_ports<T: PortKind, F: FnMut(UniquePortId) -> PortCleanupAc
     dead: &UniqueNodeId,
     f: &mut F,
 ) -> bool
-    requires { CanBeAsked F.pre F.step f.old
-        (ids_asked_about dead.now (container_as T.details ports.old)) }
+    requires { CanBeCalled F.pre F.step f.old
+        (ids_of_node dead.now (container_as T.details ports.old)) }
     ensures recovered { RecoversPorts F.step dead.now
         (container_as T.details ports.old) f.old (container_as T.details ports.new) f.new }
     ensures left { result ≡
@@ -28,7 +28,7 @@ pub(super) fn recover_ports<T: PortKind, F: FnMut(UniquePortId) -> PortCleanupAc
     let mut left = false;
     let mut goes = |details: &T| -> bool
         requires { F.pre f.now (port_of (T.details details.now)) }
-        ensures asked { AskedToGo F.step f.entry.now
+        ensures called { CallsCleanup F.step f.entry.now
             (port_of (T.details details.now)) result f.exit.now }
         ensures noted { left.exit ≡ (left.entry || not result) }
         ensures same { f.exit.ghost_name ≡ f.entry.ghost_name }

@@ -2,13 +2,13 @@
 ghost use Rattle.std.specs.Prelude.{◌≡◌, ◌+◌, ◌≤◌, ◌↔◌, IfNone, IfOk, IfSome, IsTrue};
 ghost use Rattle.std.specs.Fn.{CalledAt, TakesAt};
 ghost use Rattle.iox2_config.specs.declared.hash.input.PatternKind.TheVariants as kind;
-ghost use Rattle.iox2_container.specs.Callbacks.{CanBeAsked, CanVisit};
+ghost use Rattle.iox2_container.specs.Callbacks.{CanBeCalled, CanVisit};
 ghost use Rattle.iox2_container.specs.Steps.{Visit, listed, release_state};
 ghost use Rattle.iox2_dynamic.specs.declared.dynamic_config.port_details.PortDetails.TheVariants as of;
 ghost use Rattle.iox2_dynamic.specs.Answers.{state_of};
 ghost use Rattle.iox2_dynamic.specs.Details.{role_of};
 ghost use Rattle.iox2_dynamic.specs.Patterns.{kind_of_service, ports_of};
-ghost use Rattle.iox2_dynamic.specs.Ports.{ports_as, ports_asked_about, CountsIn, CanListIn, ListsIn};
+ghost use Rattle.iox2_dynamic.specs.Ports.{ports_as, port_ids_of_node, CountsIn, CanListIn, ListsIn};
 ghost use Rattle.iox2_dynamic.specs.Ports.{TouchesFew};
 ghost use Rattle.iox2_dynamic.specs.Service.{IsService, HasRole, LacksRole, first_role, second_role};
 ghost use Rattle.iox2_dynamic.specs.Service.{capacities_in, fresh_service};
@@ -236,7 +236,7 @@ impl DynamicConfig {
         dead: &UniqueNodeId,
         f: &mut F,
     ) -> DeregisterNodeState
-        requires { CanBeAsked F.pre F.step f.old (ports_asked_about dead.now self.old.ports) }
+        requires { CanBeCalled F.pre F.step f.old (port_ids_of_node dead.now self.old.ports) }
         ensures step { DeadStep F.step self.old f.old dead.now result self.new f.new }
         ensures lock { state_of result ≡ release_state self.new.nodes.registry.locked }
         ensures kept { IsService self.new }

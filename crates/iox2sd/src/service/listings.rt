@@ -7,7 +7,7 @@ ghost use Rattle.iox2sd.specs.Listings.{Puts, PutsAll, ports_in, ports_of_kind, 
 ghost use Rattle.iox2sd.specs.Listings.{nodes_in, ListsNodes, listed_answer};
 ghost use Rattle.iox2sd.specs.Listings.{Counts as CountsTo, PutsAt, Notes, NotesOfRole};
 ghost use Rattle.iox2sd.specs.Listings.{AllFit, Stand, ListsPortsOf};
-ghost use Rattle.iox2sd.specs.Objects.{IsSoundObject, Asked};
+ghost use Rattle.iox2sd.specs.Objects.{IsSoundObject, AnswersQuery};
 ghost use Rattle.iox2sd.specs.Ports.{c_port};
 ghost use Rattle.iox2sd_common.specs.Ids.{id_of};
 ghost use Rattle.iox2sd.specs.declared.service.listings.Listed.TheVariants as listed;
@@ -98,7 +98,7 @@ fn list_nodes(service: &DynamicConfig, out: &mut [Id]) -> Listed
 #[unsafe(no_mangle)]
 pub extern "C" fn iox2sd_nodes_at(objects: &mut [Service], out: &mut [Id]) -> CountAnswer
     requires { All IsSoundObject objects.old }
-    ensures answer { Asked listed_answer listed.Refused (out.new ≡ out.old)
+    ensures answer { AnswersQuery listed_answer listed.Refused (out.new ≡ out.old)
         (λ service made. ListsNodes out.old service made out.new) objects.old result }
     ensures unchanged { objects.new ≡ objects.old }
 {
@@ -210,7 +210,7 @@ pub extern "C" fn iox2sd_ports_at(
     out: &mut [Port],
 ) -> CountAnswer
     requires { All IsSoundObject objects.old }
-    ensures answer { Asked listed_answer listed.Refused (out.new ≡ out.old)
+    ensures answer { AnswersQuery listed_answer listed.Refused (out.new ≡ out.old)
         (λ service made. ListsPorts role out.old service made out.new) objects.old result }
     ensures unchanged { objects.new ≡ objects.old }
 {
@@ -346,7 +346,7 @@ pub extern "C" fn iox2sd_ports_of_at(
     out: &mut [Port],
 ) -> CountAnswer
     requires { All IsSoundObject objects.old }
-    ensures answer { Asked listed_answer listed.Refused (out.new ≡ out.old)
+    ensures answer { AnswersQuery listed_answer listed.Refused (out.new ≡ out.old)
         (λ service made. ListsPortsOf node out.old service made out.new) objects.old result }
     ensures unchanged { objects.new ≡ objects.old }
 {

@@ -5,7 +5,7 @@
 ghost use Rattle.std.specs.Prelude.{◌≡◌, All, Err, length};
 ghost use Rattle.iox2_config.specs.Hashing.{pattern_number};
 ghost use Rattle.iox2sd.specs.Answers.{id_answer, number_answer, port_answer, roles_answer};
-ghost use Rattle.iox2sd.specs.Objects.{IsSoundObject, Asked, Nothing};
+ghost use Rattle.iox2sd.specs.Objects.{IsSoundObject, AnswersQuery, Nothing};
 ghost use Rattle.iox2sd.specs.Queries.{Gives, RoleAnswer, roles_in, PortsAnswer, RoomAnswer};
 ghost use Rattle.iox2sd.specs.Queries.{NodeRoomAnswer, FindsNode, FindsPort};
 ghost use Rattle.iox2sd_common.specs.Answers.{flag_answer, c_count};
@@ -31,7 +31,7 @@ fn has_role(service: &DynamicConfig, role: u64) -> Result<bool, Status>
 #[unsafe(no_mangle)]
 pub extern "C" fn iox2sd_messaging_pattern_at(objects: &mut [Service]) -> NumberAnswer
     requires { All IsSoundObject objects.old }
-    ensures answer { Asked number_answer Err Nothing (Gives (λ s. pattern_number s.pattern))
+    ensures answer { AnswersQuery number_answer Err Nothing (Gives (λ s. pattern_number s.pattern))
         objects.old result }
     ensures unchanged { objects.new ≡ objects.old }
 {
@@ -44,7 +44,7 @@ pub extern "C" fn iox2sd_messaging_pattern_at(objects: &mut [Service]) -> Number
 #[unsafe(no_mangle)]
 pub extern "C" fn iox2sd_port_roles_at(objects: &mut [Service]) -> RolesAnswer
     requires { All IsSoundObject objects.old }
-    ensures answer { Asked roles_answer Err Nothing (Gives roles_in) objects.old result }
+    ensures answer { AnswersQuery roles_answer Err Nothing (Gives roles_in) objects.old result }
     ensures unchanged { objects.new ≡ objects.old }
 {
     let service = lent_or_return!(objects, status => RolesAnswer::of(Err(status)));
@@ -60,7 +60,7 @@ pub extern "C" fn iox2sd_port_roles_at(objects: &mut [Service]) -> RolesAnswer
 #[unsafe(no_mangle)]
 pub extern "C" fn iox2sd_service_number_at(objects: &mut [Service]) -> NumberAnswer
     requires { All IsSoundObject objects.old }
-    ensures answer { Asked number_answer Err Nothing (Gives (λ s. s.nodes.registry.service))
+    ensures answer { AnswersQuery number_answer Err Nothing (Gives (λ s. s.nodes.registry.service))
         objects.old result }
     ensures unchanged { objects.new ≡ objects.old }
 {
@@ -73,7 +73,7 @@ pub extern "C" fn iox2sd_service_number_at(objects: &mut [Service]) -> NumberAns
 #[unsafe(no_mangle)]
 pub extern "C" fn iox2sd_is_locked_at(objects: &mut [Service]) -> FlagAnswer
     requires { All IsSoundObject objects.old }
-    ensures answer { Asked flag_answer Err Nothing (Gives (λ s. s.nodes.registry.locked))
+    ensures answer { AnswersQuery flag_answer Err Nothing (Gives (λ s. s.nodes.registry.locked))
         objects.old result }
     ensures unchanged { objects.new ≡ objects.old }
 {
@@ -86,7 +86,7 @@ pub extern "C" fn iox2sd_is_locked_at(objects: &mut [Service]) -> FlagAnswer
 #[unsafe(no_mangle)]
 pub extern "C" fn iox2sd_has_role_at(objects: &mut [Service], role: u64) -> FlagAnswer
     requires { All IsSoundObject objects.old }
-    ensures answer { Asked flag_answer Err Nothing (RoleAnswer role) objects.old result }
+    ensures answer { AnswersQuery flag_answer Err Nothing (RoleAnswer role) objects.old result }
     ensures unchanged { objects.new ≡ objects.old }
 {
     let service = lent_or_return!(objects, status => FlagAnswer::of(Err(status)));
@@ -131,7 +131,7 @@ fn has_room_for_node(service: &DynamicConfig) -> Result<bool, Status>
 #[unsafe(no_mangle)]
 pub extern "C" fn iox2sd_number_of_nodes_at(objects: &mut [Service]) -> CountAnswer
     requires { All IsSoundObject objects.old }
-    ensures answer { Asked c_count Err Nothing (Gives (λ s. length s.nodes.registry.entries))
+    ensures answer { AnswersQuery c_count Err Nothing (Gives (λ s. length s.nodes.registry.entries))
         objects.old result }
     ensures unchanged { objects.new ≡ objects.old }
 {
@@ -144,7 +144,7 @@ pub extern "C" fn iox2sd_number_of_nodes_at(objects: &mut [Service]) -> CountAns
 #[unsafe(no_mangle)]
 pub extern "C" fn iox2sd_max_nodes_at(objects: &mut [Service]) -> CountAnswer
     requires { All IsSoundObject objects.old }
-    ensures answer { Asked c_count Err Nothing (Gives (λ s. s.nodes.registry.capacity))
+    ensures answer { AnswersQuery c_count Err Nothing (Gives (λ s. s.nodes.registry.capacity))
         objects.old result }
     ensures unchanged { objects.new ≡ objects.old }
 {
@@ -157,7 +157,7 @@ pub extern "C" fn iox2sd_max_nodes_at(objects: &mut [Service]) -> CountAnswer
 #[unsafe(no_mangle)]
 pub extern "C" fn iox2sd_has_room_for_node_at(objects: &mut [Service]) -> FlagAnswer
     requires { All IsSoundObject objects.old }
-    ensures answer { Asked flag_answer Err Nothing NodeRoomAnswer objects.old result }
+    ensures answer { AnswersQuery flag_answer Err Nothing NodeRoomAnswer objects.old result }
     ensures unchanged { objects.new ≡ objects.old }
 {
     let service = lent_or_return!(objects, status => FlagAnswer::of(Err(status)));
@@ -169,7 +169,8 @@ pub extern "C" fn iox2sd_has_room_for_node_at(objects: &mut [Service]) -> FlagAn
 #[unsafe(no_mangle)]
 pub extern "C" fn iox2sd_count_ports_at(objects: &mut [Service], role: u64) -> CountAnswer
     requires { All IsSoundObject objects.old }
-    ensures answer { Asked c_count Err Nothing (PortsAnswer (λ r n. n ≡ length r.entries) role)
+    ensures answer { AnswersQuery c_count Err Nothing (PortsAnswer (λ r n. n ≡ length r.entries)
+        role)
         objects.old result }
     ensures unchanged { objects.new ≡ objects.old }
 {
@@ -181,7 +182,7 @@ pub extern "C" fn iox2sd_count_ports_at(objects: &mut [Service], role: u64) -> C
 #[unsafe(no_mangle)]
 pub extern "C" fn iox2sd_max_ports_at(objects: &mut [Service], role: u64) -> CountAnswer
     requires { All IsSoundObject objects.old }
-    ensures answer { Asked c_count Err Nothing (PortsAnswer (λ r n. n ≡ r.capacity) role)
+    ensures answer { AnswersQuery c_count Err Nothing (PortsAnswer (λ r n. n ≡ r.capacity) role)
         objects.old result }
     ensures unchanged { objects.new ≡ objects.old }
 {
@@ -194,7 +195,7 @@ pub extern "C" fn iox2sd_max_ports_at(objects: &mut [Service], role: u64) -> Cou
 #[unsafe(no_mangle)]
 pub extern "C" fn iox2sd_has_room_at(objects: &mut [Service], role: u64) -> FlagAnswer
     requires { All IsSoundObject objects.old }
-    ensures answer { Asked flag_answer Err Nothing (RoomAnswer role) objects.old result }
+    ensures answer { AnswersQuery flag_answer Err Nothing (RoomAnswer role) objects.old result }
     ensures unchanged { objects.new ≡ objects.old }
 {
     let service = lent_or_return!(objects, status => FlagAnswer::of(Err(status)));
@@ -224,7 +225,7 @@ fn find_port(service: &DynamicConfig, handle: Handle) -> Result<Port, Status>
 #[unsafe(no_mangle)]
 pub extern "C" fn iox2sd_node_at(objects: &mut [Service], handle: Handle) -> IdAnswer
     requires { All IsSoundObject objects.old }
-    ensures answer { Asked id_answer Err Nothing (FindsNode handle) objects.old result }
+    ensures answer { AnswersQuery id_answer Err Nothing (FindsNode handle) objects.old result }
     ensures unchanged { objects.new ≡ objects.old }
 {
     let service = lent_or_return!(objects, status => IdAnswer::of(Err(status)));
@@ -236,7 +237,7 @@ pub extern "C" fn iox2sd_node_at(objects: &mut [Service], handle: Handle) -> IdA
 #[unsafe(no_mangle)]
 pub extern "C" fn iox2sd_port_at(objects: &mut [Service], handle: Handle) -> PortAnswer
     requires { All IsSoundObject objects.old }
-    ensures answer { Asked port_answer Err Nothing (FindsPort handle) objects.old result }
+    ensures answer { AnswersQuery port_answer Err Nothing (FindsPort handle) objects.old result }
     ensures unchanged { objects.new ≡ objects.old }
 {
     let service = lent_or_return!(objects, status => PortAnswer::of(Err(status)));

@@ -5,8 +5,8 @@ use Rattle.settings_check.proofs.answer.run.Goals as goal
 
 pub returns-clause-ends : goal.returns-clause-ends
 returns-clause-ends g c =
-    ends_where_written _ _ _ c.request_of-asked.result c.in_ok-end.end c.write_outcome.result _ _ _
-    _ _ _ c.request_of-asked.ensures c.in_ok-end.ensures.answered c.in_ok-end.ensures.read
+    ends_where_written _ _ _ c.request_of-parsed.result c.in_ok-end.end c.write_outcome.result _ _ _
+    _ _ _ c.request_of-parsed.ensures c.in_ok-end.ensures.answered c.in_ok-end.ensures.read
     c.write_outcome.ensures.status c.write_outcome.ensures.output c.write_outcome.ensures.errors
 
 pub returns-clause-failed : goal.returns-clause-failed

@@ -11,7 +11,7 @@ loop-found-init g c = record {
   fits = c.requires.fits;
   so_far = record {
     callable = c.requires.callable.may_call;
-    swept = record { marked = λ _. false; asked = refl; left_is = refl; gone_is = refl };
+    swept = record { marked = λ _. false; called = refl; left_is = refl; gone_is = refl };
     later = λ k l. refl;
     len = refl;
     few = omega arith;
@@ -48,7 +48,7 @@ loop-found-preserved g c =
           c.loop-found.slots.cells c.loop-found.start c.end-end.result c.loop-found.gone found
           c.in-Some.ensures.found c.loop-found.invariant.so_far c.next_of.new.slots.cells
           c.sweep_found.new.slots.cells c.sweep_found.new.f c.if-sweep_found.gone goes
-          c.next_of.ensures.cells c.sweep_found.ensures.asked
+          c.next_of.ensures.cells c.sweep_found.ensures.called
           (cells_swept (map shown c.next_of.new.slots.cells)
           (map shown c.sweep_found.new.slots.cells) found.slot goes c.sweep_found.ensures.gone
           c.sweep_found.ensures.kept) gone_is;

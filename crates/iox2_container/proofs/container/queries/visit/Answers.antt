@@ -1,7 +1,7 @@
 use Rattle.iox2_container.proofs.Prelude.{CalledAt, TakesAt, add-one, arith, map}
 use Rattle.iox2_container.specs.Prelude.{entries_from, shown}
 use Rattle.iox2_container.proofs.CellEntries.{all_before}
-use Rattle.iox2_container.proofs.AskedInTurn.{details_of, goes_on, stops, ends, not_stop}
+use Rattle.iox2_container.proofs.CallsInTurn.{details_of, goes_on, stops, ends, not_stop}
 use Rattle.iox2_container.proofs.CellsToCome.{visit_at}
 use Rattle.iox2_container.proofs.container.queries.visit.Goals as goal
 
@@ -20,11 +20,11 @@ loop-slot-preserved g c =
           (visit_at (TakesAt g.F.FnMut) (CalledAt g.F.FnMut) c.loop-slot.f cells c.loop-slot.slot
           c.peek_at.result c.peek_at.ensures.cell c.loop-slot.invariant.callable).1 c.show.new.f
           (rw goes at c.show.ensures);
-      asked =
+      called =
           rw (add-one c.loop-slot.slot)
           (goes_on (CalledAt g.F.FnMut) c.args.f.now c.loop-slot.f c.show.new.f cells
           c.loop-slot.slot c.peek_at.result c.show.result c.peek_at.ensures.cell c.show.ensures
-          goes c.loop-slot.invariant.asked);
+          goes c.loop-slot.invariant.called);
       looks = omega (arith, c.peek_at.ensures.looks, c.loop-slot.invariant.looks);
     }
 
@@ -34,4 +34,4 @@ returns-clause-visit g c =
     let all = all_before 0 c.loop-slot.slot cells
     (λ slot later. c.requires.free slot (omega arith)) in
     ends (CalledAt g.F.FnMut) c.args.f.now c.loop-slot.f (details_of (entries_from 0 cells))
-    (rw all at c.loop-slot.invariant.asked)
+    (rw all at c.loop-slot.invariant.called)

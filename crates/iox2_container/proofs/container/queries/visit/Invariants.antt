@@ -1,6 +1,6 @@
 use Rattle.iox2_container.proofs.Prelude.{◌+◌, ◌≡◌, CalledAt, TakesAt, map, take}
 use Rattle.iox2_container.specs.Prelude.{MayVisit, entries_from, shown}
-use Rattle.iox2_container.proofs.AskedInTurn.{details_of, GoesOn}
+use Rattle.iox2_container.proofs.CallsInTurn.{details_of, GoesOn}
 use Rattle.iox2_container.proofs.CellsToCome.{details_from}
 use Rattle.iox2_container.proofs.container.queries.visit.Given as goal
 
@@ -8,7 +8,7 @@ abbrev pub invariant-loop-slot : goal.invariant-loop-slot
 invariant-loop-slot g l = record {
   callable : MayVisit (TakesAt g.F.FnMut) (CalledAt g.F.FnMut) l.f
       (details_from l.slot (map shown l.slots.cells));
-  asked : GoesOn (CalledAt g.F.FnMut) l.fn.f
+  called : GoesOn (CalledAt g.F.FnMut) l.fn.f
       (details_of (entries_from 0 (take l.slot (map shown l.slots.cells)))) l.f;
   looks : l.looks.touches.count ≡ l.fn.looks.touches.count + l.slot;
 }

@@ -2,9 +2,9 @@ use Rattle.std.proofs.Common.{map, rules, refl, sym, ◌∙◌, ap, subst}
 use Rattle.std.proofs.lemmas.Simd.{map-map}
 use Rattle.std.specs.Prelude.{◌==◌}
 use Rattle.std.specs.Fn.{Called, Takes}
-use Rattle.iox2_dynamic.proofs.Names.{CanBeAsked, asked_about, is_of, AskedToGo, node_of, port_of}
-use Rattle.iox2_container.proofs.Callable.{CanBeAsked-lent}
-use Rattle.iox2_container.proofs.LentCallbacks.{RecoversBy-lent, asked-as}
+use Rattle.iox2_dynamic.proofs.Names.{CanBeCalled, details_where, is_of, CallsCleanup, node_of, port_of}
+use Rattle.iox2_container.proofs.Callable.{CanBeCalled-lent}
+use Rattle.iox2_container.proofs.LentCallbacks.{RecoversBy-lent, called-as}
 use Rattle.iox2_dynamic.proofs.Recoveries.{RecoversPorts-as}
 use Rattle.iox2_dynamic.proofs.Skipping.{left_noted}
 use Rattle.iox2_dynamic.proofs.dynamic_config.recovery.recover_ports.Goals as goal
@@ -17,25 +17,25 @@ recover-requires g c =
     let details = g.T.PortKind.details in
     let dead = c.args.dead.now in
     let entries = c.args.ports.now.registry.entries in
-    let items = asked_about (is_of g.T.Attached.node dead) c.args.ports.now.registry in
+    let items = details_where (is_of g.T.Attached.node dead) c.args.ports.now.registry in
     let seen =
     ap (map port_of)
-    (asked-as details (is_of g.T.Attached.node dead) (is_of node_of dead)
+    (called-as details (is_of g.T.Attached.node dead) (is_of node_of dead)
     (λ x. ap (λ n. n == dead) (g.met.T.PortKind.same_node x)) entries)
     ∙ map-map port_of details items in
-    CanBeAsked-lent _ _ takes calls (λ s. s.0.now) (λ d. port_of (details d))
+    CanBeCalled-lent _ _ takes calls (λ s. s.0.now) (λ d. port_of (details d))
     (λ s x t y e. subst (λ d. takes s.0.now (port_of (details d))) (sym e) t)
     (λ s x r h e. let a = subst
-    (λ d. AskedToGo calls s.0.now (port_of (details d)) r h.0.now) e.shows e.called.met.1.0
+    (λ d. CallsCleanup calls s.0.now (port_of (details d)) r h.0.now) e.shows e.called.met.1.0
     in (a.0, a.1)) _ items
-    (subst (λ l. CanBeAsked takes calls c.args.f.now l) seen c.requires)
+    (subst (λ l. CanBeCalled takes calls c.args.f.now l) seen c.requires)
 
 pub returns : goal.returns
 returns g c =
     let calls : g.row.F.Denot → _ → _ → g.row.F.Denot → Type 0 =
     λ f x r h. Called g.F.FnMut f (x, tt) r h in
     let called : g.row.F.Denot → _ → _ → g.row.F.Denot → Type 0 =
-    λ h d goes h'. AskedToGo calls h (port_of (g.T.PortKind.details d)) goes h' in
+    λ h d goes h'. CallsCleanup calls h (port_of (g.T.PortKind.details d)) goes h' in
     let t = RecoversBy-lent _ called (λ s. s.0.now) (λ s. s.0.ghost_name)
     (λ s x b u e.
     (e.called.met.0.0, subst (λ d. called s.0.now d b u.0.now) e.shows e.called.met.1.0))

@@ -1,15 +1,16 @@
--- Callbacks that are asked in turn.
+-- Callbacks that are called in turn.
 use Rattle.iox2_container.proofs.Prelude.{[], ◌++◌, ◌+◌, ◌∙◌, ◌∷◌, ◌≡◌, List, None, Option, Some, ℕ, ap, append-nil, append_assoc, arith, inl, inr, map, map-append, refl, slice_get, suc, sym, take, zero}
-use Rattle.iox2_container.specs.Prelude.{Asked, AskedOfCell, CallbackProgression, Continue, Entry, Occupant, Stop, Visit, Visits, entries_from, occupant}
+use Rattle.iox2_container.specs.Prelude.{CalledInTurn, CalledOnCell, CallbackProgression, Continue, Entry, Occupant, Stop, Visit, Visits, entries_from, occupant}
 use Rattle.iox2_container.proofs.CellEntries.{same_entry}
 
-pub Asked-push : {F A R : Type 0} (calls : F → A → R → F → Type 0) (f : F) (items : List A)
-    (answers : List R) (g : F) (item : A) (answer : R) (h : F) → Asked calls f items answers g
-    → calls g item answer h → Asked calls f (items ++ item ∷ []) (answers ++ answer ∷ []) h
-Asked-push calls f [] [] g item answer h a c = (h, rw a at c, refl)
-Asked-push calls f (x ∷ xs) (r ∷ rs) g item answer h a c =
-    (a.0, a.1, Asked-push calls a.0 xs rs g item answer h a.2 c)
-Asked-push calls f items answers g item answer h a c = absurd a
+pub CalledInTurn-push : {F A R : Type 0} (calls : F → A → R → F → Type 0) (f : F) (items : List A)
+    (answers : List R) (g : F) (item : A) (answer : R) (h : F)
+    → CalledInTurn calls f items answers g
+    → calls g item answer h → CalledInTurn calls f (items ++ item ∷ []) (answers ++ answer ∷ []) h
+CalledInTurn-push calls f [] [] g item answer h a c = (h, rw a at c, refl)
+CalledInTurn-push calls f (x ∷ xs) (r ∷ rs) g item answer h a c =
+    (a.0, a.1, CalledInTurn-push calls a.0 xs rs g item answer h a.2 c)
+CalledInTurn-push calls f items answers g item answer h a c = absurd a
 
 -- the details in the first cells, and those after them
 pub entries_split : {T : Type 0} (low i : ℕ) (cells : List (Option (Occupant T)))
@@ -46,7 +47,7 @@ taken_free low (suc i) (Some o ∷ cells) h = rw (taken_free (low + 1) i cells h
 -- so far each answer was `Continue`
 abbrev pub GoesOn : {F T : Type 0} → (F → T → CallbackProgression → F → Type 0) → F → List T → F
     → Type 0
-GoesOn calls f items g = Asked calls f items (map (λ _. Continue) items) g
+GoesOn calls f items g = CalledInTurn calls f items (map (λ _. Continue) items) g
 
 visits_rest : {F T : Type 0} (calls : F → T → CallbackProgression → F → Type 0) (f : F)
     (seen : List T) (g : F) (rest : List T) (h : F) → GoesOn calls f seen g
@@ -66,19 +67,19 @@ details_more {T} i cells t d h =
 pub goes_on : {F T : Type 0} (calls : F → T → CallbackProgression → F → Type 0) (f g h : F)
     (cells : List (Option (Occupant T))) (i : ℕ) (cell : Option (Occupant T))
     (answer : CallbackProgression) → slice_get cells i ≡ Some cell
-    → AskedOfCell calls g cell answer h → answer ≡ Continue
+    → CalledOnCell calls g cell answer h → answer ≡ Continue
     → GoesOn calls f (details_of (entries_from 0 (take i cells))) g
     → GoesOn calls f (details_of (entries_from 0 (take (suc i) cells))) h
 goes_on calls f g h cells i None answer is a c w = rw a.1 (rw (taken_free 0 i cells is) w)
 goes_on {F} {T} calls f g h cells i (Some o) answer is a c w =
     let seen : List T = details_of (entries_from 0 (take i cells)) in
     rw (details_more i cells o.ticket o.details is, map-append (λ _. Continue) seen)
-    (Asked-push calls f seen (map (λ _. Continue) seen) g o.details Continue h w (rw c at a))
+    (CalledInTurn-push calls f seen (map (λ _. Continue) seen) g o.details Continue h w (rw c at a))
 
 pub stops : {F T : Type 0} (calls : F → T → CallbackProgression → F → Type 0) (f g h : F)
     (cells : List (Option (Occupant T))) (i : ℕ) (cell : Option (Occupant T))
     (answer : CallbackProgression) → slice_get cells i ≡ Some cell
-    → AskedOfCell calls g cell answer h → answer ≡ Stop
+    → CalledOnCell calls g cell answer h → answer ≡ Stop
     → GoesOn calls f (details_of (entries_from 0 (take i cells))) g
     → Visit calls f (details_of (entries_from 0 cells)) h
 stops {F} {T} calls f g h cells i None answer is a c w =

@@ -1,15 +1,15 @@
 use Rattle.std.proofs.Common.{rules, ◌^◌, arith}
 use Rattle.std.proofs.lemmas.List.{length-map}
-use Rattle.iox2_container.specs.Steps.{asked_about, candidates, is_of}
-use Rattle.iox2_container.proofs.Tallies.{CanBeAsked-counting, tallied}
-use Rattle.service_examples.proofs.counting.count_asked.Goals as goal
+use Rattle.iox2_container.specs.Steps.{details_where, candidates, is_of}
+use Rattle.iox2_container.proofs.Tallies.{CanBeCalled-counting, tallied}
+use Rattle.service_examples.proofs.counting.count_called.Goals as goal
 
 pub recover-requires : goal.recover-requires
 recover-requires g c =
     let registry = (g.R.Registry.state c.args.registry.now).registry in
     let is_dead = is_of g.T.Attached.node c.args.node.now in
-    CanBeAsked-counting _ _ (λ q. q.0.now) (2 ^ 64) (λ q x i. λ y e. search rules)
-    (λ q x r h e. search rules) _ (asked_about is_dead registry)
+    CanBeCalled-counting _ _ (λ q. q.0.now) (2 ^ 64) (λ q x i. λ y e. search rules)
+    (λ q x r h e. search rules) _ (details_where is_dead registry)
     (omega (
       arith,
       c.entries_of-bound.ensures.count,
@@ -21,5 +21,5 @@ returns g c =
     let registry = (g.R.Registry.state c.args.registry.now).registry in
     let is_dead = is_of g.T.Attached.node c.args.node.now in
     let t = tallied _ (λ q. q.0.ghost_name) (λ q. q.0.now)
-    (λ q x r v e. search rules) _ _ _ c.recover.new.f c.recover.ensures.recovers.step.asked in
+    (λ q x r v e. search rules) _ _ _ c.recover.new.f c.recover.ensures.recovers.step.called in
     search (rules, t.0, t.1, length-map (candidates is_dead registry.entries) (λ e. e.details))
