@@ -87,7 +87,7 @@ static const char refused_report[] = "line 9: no order of the calls explains thi
                                      "window: from line 9\n"
                                      "needed: lines 9\n"
                                      "made: none\n"
-                                     "possible: handle SLOT 1, SLOT below 2 and none of:\n"
+                                     "possible: handle 0-1 1\n"
                                      "nodes: 1000000000000000000000001\n"
                                      "ports:\n";
 

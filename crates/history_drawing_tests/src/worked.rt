@@ -42,7 +42,7 @@ const REFUSED: Row = Row {
         ">add listener 1.0.0.12 1.0.0.1</text>\n<text class=\"reply\" x=\"7\" y=\"36\">handle 1 1</text>",
         "</title>\n<path class=\"bar\" d=\"M480 140H252v44H480\"/>",
         "</title>\n<path class=\"bar\" d=\"M716 140H488v44H716\"/>",
-        ">possible: handle SLOT 2, SLOT below 2 and none of: 0</tspan>",
+        ">possible: handle 1 2</tspan>",
     ],
 };
 

@@ -1,5 +1,5 @@
 -- What is written of a verdict.
-use Rattle.std.specs.Prelude.{◌≡◌, ◌==◌, ℕ, if◌then◌else◌, List, [], ◌∷◌, ◌++◌, codes, Option}
+use Rattle.std.specs.Prelude.{◌≡◌, ◌==◌, ℕ, ◌+◌, ◌-◌, nat_lt, if◌then◌else◌, List, [], ◌∷◌, ◌++◌, codes, Option}
 use Rattle.std.specs.Fmt.{decimal}
 use Rattle.std.specs.Io.KnownBytes.{Appends}
 use Rattle.std.specs.List.{flat_map}
@@ -24,12 +24,30 @@ use Rattle.history_logs.specs.Logs.{Judged}
 abbrev pub number_word : ℕ → List ℕ
 number_word number = 32 ∷ decimal number
 
--- the handles that an add may give
+-- the slots from one on and below the end, if there are any: the one, or the first and the last
+abbrev pub range_text : ℕ → ℕ → ℕ → List ℕ
+range_text before from end =
+    if nat_lt from end
+    then before ∷ (decimal from
+    ++ (if nat_lt (from + 1) end then codes "-" ++ decimal (end - 1) else []))
+    else []
+
+-- what stands before the slots behind them: a comma, if there were some
+abbrev pub before_next : ℕ → ℕ → ℕ → ℕ
+before_next before from end = if nat_lt from end then 44 else before
+
+-- the slots from one on that are below the capacity and not taken
+abbrev pub free_text : ℕ → ℕ → List ℕ → ℕ → List ℕ
+free_text before from [] capacity = range_text before from capacity
+free_text before from (slot ∷ taken) capacity =
+    range_text before from slot
+    ++ free_text (before_next before from slot) (slot + 1) taken capacity
+
+-- the handles that an add may give: the free slots, and the ticket
 abbrev pub next_text : NextHandle → List ℕ
 next_text next =
-    (codes "handle SLOT " ++ decimal next.ticket)
-    ++ ((codes ", SLOT below " ++ decimal next.capacity)
-    ++ (codes " and none of:" ++ flat_map number_word next.taken.items))
+    codes "handle"
+    ++ (free_text 32 0 next.taken.items next.capacity ++ (codes " " ++ decimal next.ticket))
 
 -- the ids with which, and without which, the list would do that was seen
 abbrev pub lists_text : PossibleList → List ℕ

@@ -67,7 +67,7 @@ const GOOD: &str = "service event 7 2 0 1\nregister 1.0.0.1\n= handle 1 0\n";
 const CONFORMS: &str = "conforms, 1 call on 1 service\n";
 
 /// Logs, with the status, the output and the errors of each.
-static VERDICTS: [(&str, u8, &str, &str); 16] = [
+static VERDICTS: [(&str, u8, &str, &str); 17] = [
     (GOOD, 0, CONFORMS, ""),
     (
         "service event 7 2 0 1\nservice event 8 2 0 1\n",
@@ -78,7 +78,13 @@ static VERDICTS: [(&str, u8, &str, &str); 16] = [
     (
         "service event 7 2 0 1\nregister 1.0.0.1\n= locked\n",
         1,
-        "line 3: no order of the calls explains this reply\nseen: locked\ncall: register 1.0.0.1 (line 2)\nwindow: from line 3\nneeded: lines 3\nmade: none\npossible: handle SLOT 0, SLOT below 2 and none of:\nnodes:\nports:\n",
+        "line 3: no order of the calls explains this reply\nseen: locked\ncall: register 1.0.0.1 (line 2)\nwindow: from line 3\nneeded: lines 3\nmade: none\npossible: handle 0-1 0\nnodes:\nports:\n",
+        "",
+    ),
+    (
+        "service event 7 7 0 0\nstate nodes 5\nstate 1 0 register 1.0.0.1\nstate 4 3 register 2.0.0.1\nregister 3.0.0.1\n= locked\n",
+        1,
+        "line 6: no order of the calls explains this reply\nseen: locked\ncall: register 3.0.0.1 (line 5)\nwindow: from line 6\nneeded: lines 6\nmade: none\npossible: handle 0,2-3,5-6 5\nnodes: 1000000000000000000000001 2000000000000000000000001\nports:\n",
         "",
     ),
     (

@@ -1,9 +1,9 @@
 //! The texts of verdicts.
-ghost use Rattle.std.specs.Prelude.{◌≡◌, ◌++◌, OnOk, codes, decimal};
+ghost use Rattle.std.specs.Prelude.{◌≡◌, ◌++◌, IfOk, OnOk, codes, decimal};
 ghost use Rattle.std.specs.List.{flat_map};
 ghost use Rattle.history_logs.specs.Reports.{attached_text, call_text, choice_text, config_text};
 ghost use Rattle.history_logs.specs.Reports.{conforms_text, expected_text, for_count, form_text};
-ghost use Rattle.history_logs.specs.Reports.{lists_text};
+ghost use Rattle.history_logs.specs.Reports.{before_next, free_text, lists_text, range_text};
 ghost use Rattle.history_logs.specs.Reports.{line_of, made_text, next_text, number_word, order_text};
 ghost use Rattle.history_logs.specs.Reports.{possible_text, refusal_text, report_text, window_text};
 ghost use Rattle.service_descriptions.specs.Replies.{id_word, port_word, text_of};
@@ -54,7 +54,7 @@ fn append_ports(ports: &[PortDetails], out: &mut Vec<u8>) -> Result<(), AllocErr
     Ok(())
 }
 
-/// Appends slots, or lines.
+/// Appends lines.
 fn append_numbers(numbers: &[usize], out: &mut Vec<u8>) -> Result<(), AllocError>
     ensures { OnOk result (out.new.items ≡ out.old.items ++ flat_map number_word numbers.now) }
 {
@@ -83,15 +83,45 @@ fn append_words(reply: &Reply, out: &mut Vec<u8>) -> Result<(), AllocError>
     Ok(())
 }
 
+/// Appends the slots from one on and below the end, if there are any: the one, or the first and the
+/// last. Returns what stands before the next ones.
+fn append_range(before: u8, from: u128, end: usize, out: &mut Vec<u8>) -> Result<u8, AllocError>
+    ensures text { OnOk result (out.new.items ≡ out.old.items ++ range_text before from end) }
+    ensures next { IfOk result (λ next. next ≡ before_next before from end) }
+{
+    if from >= end as u128 {
+        return Ok(before);
+    }
+    out.push(before)?;
+    append_decimal(from as u64, out)?;
+    if from + 1 < end as u128 {
+        append_number(b"-", end as u64 - 1, out)?;
+    }
+    Ok(b',')
+}
+
+/// Appends the slots below the capacity that are not taken.
+fn append_free(taken: &[usize], capacity: usize, out: &mut Vec<u8>) -> Result<(), AllocError>
+    ensures { OnOk result
+        (out.new.items ≡ out.old.items ++ free_text 32 0 taken.now capacity) }
+{
+    let mut before = b' ';
+    let mut from = 0u128;
+    for slot in taken {
+        before = append_range(before, from, *slot, out)?;
+        from = *slot as u128 + 1;
+    }
+    append_range(before, from, capacity, out)?;
+    Ok(())
+}
+
 /// Appends the handles that an add may give.
 fn append_next(next: &NextHandle, out: &mut Vec<u8>) -> Result<(), AllocError>
     ensures { OnOk result (out.new.items ≡ out.old.items ++ next_text next.now) }
 {
-    append_number(b"handle SLOT ", next.ticket, out)?;
-    append_number(b", SLOT below ", next.capacity as u64, out)?;
-    out.extend_from_slice(b" and none of:")?;
-    append_numbers(&next.taken, out)?;
-    Ok(())
+    out.extend_from_slice(b"handle")?;
+    append_free(&next.taken, next.capacity, out)?;
+    append_number(b" ", next.ticket, out)
 }
 
 /// Appends ids.
