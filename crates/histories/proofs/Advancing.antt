@@ -1,11 +1,11 @@
 -- What an event does to a front, and the configurations after the begin of a call.
-use Rattle.histories.proofs.Words.{map, get_or-map, length-map, zero, ◌≡◌, ℕ, ◌+◌, ◌<◌, ◌≤◌, List, [], ◌∷◌, ◌++◌, length, get_or, sym, ◌∙◌, ap, subst, arith, inl, inr, Option, suc, refl, Some, None, bit_at, Contains, cases_lt, Config, Link, Event, Begin, End, begins, times, Explains, IsOpen, HasSlot, IsFrontier, IsLighter, IsSound, IsTable, IsWaiting, LeadTo, Leaves, Path, Runs, order_at, order_of, path_more, path_of, put, HasManyOpen, IsFrontOf, FromOne, IsOpened, Settles, Spot, TakesSlot, AreLaidIn, AreTaken, Finishes, FreesSlot, HasMany, IsClosed, IsLeft, Advance, Front, AdvancesIn, Agrees, Ends, EndsOpen, IsSameFront}
+use Rattle.histories.proofs.Words.{map, get_or-map, length-map, zero, ◌≡◌, ℕ, ◌+◌, ◌<◌, ◌≤◌, List, [], ◌∷◌, ◌++◌, length, get_or, sym, ◌∙◌, ap, subst, arith, inl, inr, Option, suc, refl, Some, None, bit_at, Contains, cases_lt, Config, Link, Event, Begin, End, begins, times, AreComplete, AreSound, Explains, IsOpen, HasSlot, IsFrontier, IsLighter, IsSound, IsTable, IsWaiting, LeadTo, Leaves, Path, Runs, order_at, order_of, path_more, path_of, put, HasManyOpen, HasManyOrders, IsFrontOf, FromOne, IsOpened, Settles, Spot, TakesSlot, AreLaidIn, AreTaken, Finishes, FreesSlot, HasMany, IsClosed, IsLeft, Advance, Front, AdvancesIn, Agrees, Ends, EndsOpen, IsSameFront}
 use Rattle.histories.proofs.Bits.{cleared_put, put_other, put_same}
 use Rattle.histories.proofs.Counting.{not_some, split_times, times-append, times-cons, times_one, times_same, at_times, times_once}
 use Rattle.histories.proofs.Events.{begins_begin, table_begin, taken_cases, taken_other, taken_still, begin_no_end, ends_one, open_begin_now, open_begin_still}
 use Rattle.histories.proofs.Running.{leads_split, leaves_run, runs_in, runs_lighter, runs_order, runs_then}
 use Rattle.histories.proofs.Explaining.{behind_open, explains_begin, explains_front, explains_run, explains_without}
-use Rattle.histories.proofs.Frontiers.{AreComplete, AreSound, front_many, frontier_end}
+use Rattle.histories.proofs.Frontiers.{followed_made, front_many, frontier_end}
 use Rattle.histories.proofs.Indices.{frontier_laid, nothing_in, order_more}
 use Rattle.histories.proofs.Closing.{HaveSameSteps, closed_as, leads_sought, made_as, none_same}
 use Rattle.histories.specs.declared.front.Advance.TheVariants as advance
@@ -153,12 +153,7 @@ module _ {S : Type 0} (Step : S → ℕ → S → Type 0) where
       -- a call begins
       pub frontier_begin : ¬ (4096 < length opened)
           → IsFrontier Step links more (es ++ Begin c ∷ []) olds opened
-      frontier_begin enough = record {
-        sound = opened_sound;
-        complete = opened_complete enough;
-        once = g.adds.once none_same;
-        table = opened_table;
-      }
+      frontier_begin enough = grind (arith, opened_sound, opened_complete, none_same, opened_table)
 
 module _ {S : Type 0} (Step : S → ℕ → S → Type 0) (events : List Event) (olds : List S)
     (event : Event) where
@@ -230,15 +225,21 @@ pub front_same : {S : Type 0} (Step : S → ℕ → S → Type 0) (events : List
     → IsFrontOf Step new events olds
 front_same {S} Step events olds old new is front = grind arith
 
-pub many_as : {S : Type 0} (A B : S → ℕ → S → Type 0) (slots : List (Option ℕ))
-    → HaveSameSteps A B slots → (configs : List (Config S)) → HasMany A slots configs
-    → HasMany B slots configs
-many_as A B slots same configs many = (
-  many.0,
-  many.1,
-  many.2,
-  λ k has. made_as _ _ _ same _ _ (many.3 k has),
-)
+-- calls that waited lead to too many configurations
+pub many_orders : {S : Type 0} (Made Step : S → ℕ → S → Type 0) (events : List Event)
+    (olds : List S) (front : Front S) → Agrees Made Step events
+    → HasMany Made front.slots.items front.configs.items → IsFrontOf Step front events olds
+    → HasManyOrders Step events olds
+many_orders Made Step events olds front agrees many f =
+    let same = agrees_slots _ _ _ _ f.table agrees in (
+      front.links.items,
+      front.slots.items,
+      many.0,
+      many.1,
+      many.2,
+      f.table,
+      λ k has. followed_made _ _ _ _ _ _ _ f.table f.sound (made_as _ _ _ same _ _ (many.3 k has)),
+    )
 
 -- the number of a call that has a slot
 abbrev number : Option ℕ → ℕ

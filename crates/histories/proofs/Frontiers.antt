@@ -1,5 +1,5 @@
 -- The configurations after one event more.
-use Rattle.histories.proofs.Words.{◌≡◌, ◌≢◌, ℕ, ◌<◌, ◌≤◌, List, [], ◌∷◌, ◌++◌, length, refl, sym, ◌∙◌, ap, subst, arith, inl, inr, Option, AllPairs, bit_at, Contains, Config, Link, Event, End, Crash, times, Explains, Ends, HasManyOrders, HasSlot, IsFollowed, IsFrontier, IsLighter, IsSame, IsTable, LeadTo, Leaves, Path, cleared, no_path, order_at, order_of, path_of, FreesSlot, FromOne, Gathers, HasMany, IsClosed, IsDropped, IsFirst, IsMadeFrom, Spot, spot_of}
+use Rattle.histories.proofs.Words.{◌≡◌, ◌≢◌, ℕ, ◌<◌, ◌≤◌, List, [], ◌∷◌, ◌++◌, length, refl, sym, ◌∙◌, ap, subst, arith, inl, inr, Option, AllPairs, bit_at, Contains, Config, Link, Event, End, Crash, times, AreSound, Explains, Ends, HasManyOrders, HasSlot, IsFollowed, IsFrontier, IsLighter, IsSame, IsTable, LeadTo, Leaves, Path, cleared, no_path, order_at, order_of, path_of, FreesSlot, FromOne, Gathers, HasMany, IsClosed, IsDropped, IsFirst, IsMadeFrom, Spot, spot_of}
 use Rattle.histories.proofs.Bits.{bit_cases, cleared_other, cleared_same, slot_64, slot_within}
 use Rattle.histories.proofs.Counting.{not_some, times_none, no_times}
 use Rattle.histories.proofs.Events.{answered_now, begins_none, freed_before, table_end}
@@ -9,21 +9,10 @@ use Rattle.histories.proofs.Closing.{leads_found, leads_kept, none_same}
 use Rattle.histories.proofs.Indices.{nothing_in, order_more, order_none}
 
 module _ {S : Type 0} (Step : S → ℕ → S → Type 0) where
-  -- each configuration is that of an order
-  abbrev pub AreSound : List Link → List (Option ℕ) → List Event → List S → List (Config S) → Type 0
-  AreSound links slots es olds configs =
-      (config : Config S) → Contains configs config → IsFollowed Step links slots es olds config
-
-  -- each order is that of a configuration
-  abbrev pub AreComplete : List (Option ℕ) → List Event → List S → List (Config S) → Type 0
-  AreComplete slots es olds configs =
-      (old : S) (order : List ℕ) (new : S) → Contains olds old → Explains Step es old order new
-      → (rest : ℕ) × Leaves slots order rest × LeadTo Step slots configs new rest
-
   -- where waiting calls were made, the order explains the history still
   pub followed_made : (links : List Link) (slots : List (Option ℕ)) (es : List Event)
       (olds : List S) (configs : List (Config S)) (k : Config S) → IsTable es slots
-      → AreSound links slots es olds configs → IsMadeFrom Step slots configs (spot_of k)
+      → AreSound Step links slots es olds configs → IsMadeFrom Step slots configs (spot_of k)
       → IsFollowed Step links slots es olds k
   followed_made links slots es olds configs k table sound made =
       let is = sound made.0 made.1 in
@@ -75,7 +64,7 @@ module _ {S : Type 0} (Step : S → ℕ → S → Type 0) where
         (f : IsFrontier Step links slots es olds configs) (g : IsClosed Step slots configs t done)
       where
         -- a configuration in which the call was made
-        done_sound : (e : Event) → Ends e c → AreSound links more (es ++ e ∷ []) olds done
+        done_sound : (e : Event) → Ends e c → AreSound Step links more (es ++ e ∷ []) olds done
         done_sound e ends k has =
             let closed = g.sound k has in
             let is = followed_made links slots es olds configs k f.table f.sound closed.0 in
@@ -115,15 +104,15 @@ module _ {S : Type 0} (Step : S → ℕ → S → Type 0) where
                 let is = f.sound from found.1 in
                 let drop = found.2 in
                 let order : order_of links k ≡ order_of links from =
-                ap (λ (p : Path). order_at links p) drop.3 in record {
+                ap (λ (p : Path). order_at links p) drop.1.2 in record {
                   old = is.old;
                   from = is.from;
                   explains = rw order (subst
                       (λ x. Explains Step (es ++ Crash c ∷ []) is.old (order_of links from) x)
-                      (sym drop.1) (explains_end _ _ _ _ _ _ _
+                      (sym drop.1.0) (explains_end _ _ _ _ _ _ _
                       (inr refl) (λ is_end. absurd (cc)) is.explains));
                   leaves = λ slot call has. grind (arith, freed_before, cleared_other, slot_64);
-                  within = omega (arith, is.within, ap (λ (p : Path). p.base) drop.3);
+                  within = omega (arith, is.within, ap (λ (p : Path). p.base) drop.1.2);
                 }
 
             crash_gone : (k : Config S) → Contains all k → bit_at k.waiting t ≡ 0
@@ -154,7 +143,7 @@ module _ {S : Type 0} (Step : S → ℕ → S → Type 0) where
                         bit_cases,
                         runs_fewer Step slots from.state new from.waiting fewer t l.2.0 few h l.2.2,
                       ) in
-                      leads_found _ _ _ _ _ _ _ _ _ _ d (from, l.1, (there, refl, refl, refl))
+                      leads_found _ _ _ _ _ _ _ _ _ _ d (from, l.1, (there, (refl, refl, refl)))
                       (runs_without _ _ _ _ _ _ _ _ few h some l.2.2)
                       (lighter_cleared _ _ _ _ _ few h l.2.3)
                 ]
@@ -186,19 +175,6 @@ module _ {S : Type 0} (Step : S → ℕ → S → Type 0) where
               once = d.adds.once g.once;
               table = table_end _ _ _ _ _ _ (inr refl) f.table here frees;
             }
-
-  pub many_orders : (links : List Link) (slots : List (Option ℕ)) (es : List Event)
-      (olds : List S) (configs : List (Config S)) → IsFrontier Step links slots es olds configs
-      → HasMany Step slots configs → HasManyOrders Step es olds
-  many_orders links slots es olds configs f many = (
-    links,
-    slots,
-    many.0,
-    many.1,
-    many.2,
-    f.table,
-    λ k has. followed_made _ _ _ _ _ _ f.table f.sound (many.3 k has),
-  )
 
   pub front_many : (links : List Link) (slots : List (Option ℕ)) (es : List Event)
       (olds : List S) (configs : List (Config S)) → IsFrontier Step links slots es olds configs
@@ -262,12 +238,13 @@ module _ {S : Type 0} (Step : S → ℕ → S → Type 0) where
 
   -- before any event
   pub frontier_first : (links : List Link) (olds : List S) (configs : List (Config S))
-      → Gathers (IsFirst olds) [] configs → IsFrontier Step links [] [] olds configs
+      → Gathers (FromOne IsFirst olds) [] configs → IsFrontier Step links [] [] olds configs
   frontier_first links olds configs g =
       frontier_fresh _ _ _ _ table_none
       (λ k has. elim (g.adds.sound k has) [
         | inl none ↦ absurd (nothing_in _ none)
-        | inr found ↦ (found.0, found.2)
+        | inr found ↦ (rw found.2.0 found.1, found.2.2)
       ]) (λ old has.
       let spot : Spot S = record { state = old; waiting = 0; made = no_path } in
-      let k = g.complete spot (has, refl, refl) in (k.0, k.1, k.2.0)) (g.adds.once none_same)
+      let k = g.complete spot (old, has, (refl, refl, refl)) in (k.0, k.1, k.2.0))
+      (g.adds.once none_same)
