@@ -223,31 +223,18 @@ laid_out_more links mid base at calls link h is l = (
 )
 
 module _ {S : Type 0} where
-  -- with more links after it
-  pub laid_grows : (links mid more : List Link) (config laid : Config S) → Grows mid more
-      → IsLaid links mid config laid → IsLaid links more config laid
-  laid_grows links mid more config laid g l = (
+  -- with fewer links before it, and more after it
+  pub laid_within : (links mid more last : List Link) (config laid : Config S) → Grows links mid
+      → Grows more last → IsLaid mid more config laid → IsLaid links last config laid
+  laid_within links mid more last config laid g h l = (
     l.0,
     l.1,
-    grows_then _ _ _ l.2 g,
-    λ within.
-        let is = l.3 within in (
-          omega (arith, is.0, length_grows mid more g),
-          ap (λ (o : List ℕ). o ++ laid.made.items) (read_grows _ _ _ g is.0) ∙ is.1,
-        ),
-  )
-
-  -- with fewer links before it
-  pub laid_before : (links mid more : List Link) (config laid : Config S) → Grows links mid
-      → IsLaid mid more config laid → IsLaid links more config laid
-  laid_before links mid more config laid g l = (
-    l.0,
-    l.1,
-    grows_then _ _ _ g l.2,
+    grows_then _ _ _ g (grows_then _ _ _ l.2 h),
     λ within.
         let is = l.3 (omega (arith, within, length_grows links mid g)) in (
-          is.0,
-          is.1 ∙ ap (λ (o : List ℕ). o ++ config.made.items) (read_grows _ _ _ g within),
+          omega (arith, is.0, length_grows more last h),
+          ap (λ (o : List ℕ). o ++ laid.made.items) (read_grows _ _ _ h is.0)
+              ∙ (is.1 ∙ ap (λ (o : List ℕ). o ++ config.made.items) (read_grows _ _ _ g within)),
         ),
   )
 

@@ -1,5 +1,5 @@
 -- The states with which a window begins, and its calls that are left out.
-use Rattle.history_windows.proofs.Words.{◌≡◌, ◌+◌, ◌<◌, ℕ, zero, suc, Option, List, [], ◌∷◌, ◌++◌, length, get_or, refl, sym, ◌∙◌, ap, subst, arith, append-nil, Bool, true, false, take, take_all, Result, Ok, Err, IfOk, Contains, set, replicate, nil_from_length, length-append, get_or-set_other, get_or_past, get_or-replicate, length-replicate, Event, Config, Link, HasSlot, IsFrontOf, IsFrontier, IsIdle, IsExplained, IsHistory, Window, states_of, AreIdle, AreNeeded, HasCut, IsRest, IsWellFormed, events_of, is_kept, IsCut, IsWindowOf, cases_eq, cases_lt, not, Vec, slice_get-get_or, Advance, Front, AdvancesIn, IsAdvance}
+use Rattle.history_windows.proofs.Words.{◌≡◌, ◌+◌, ◌<◌, ℕ, zero, suc, Option, List, [], ◌∷◌, ◌++◌, length, get_or, refl, sym, ◌∙◌, ap, subst, arith, append-nil, Bool, true, false, take, take_all, Result, Ok, Err, IfOk, Contains, set, replicate, nil_from_length, length-append, get_or-set_other, set-get_or, set-set, get_or_past, get_or-replicate, length-replicate, Event, Config, Link, HasSlot, IsFrontOf, IsFrontier, IsIdle, IsExplained, IsHistory, Window, states_of, AreIdle, AreNeeded, HasCut, IsRest, IsWellFormed, events_of, is_kept, IsCut, IsWindowOf, cases_eq, cases_lt, not, Vec, slice_get-get_or, Advance, Front, AdvancesIn, IsAdvance}
 use Rattle.histories.proofs.Cutting.{runs_nothing}
 use Rattle.histories.proofs.Events.{begins_none}
 use Rattle.histories.proofs.Indices.{contains_map_of, contains_of_map}
@@ -60,19 +60,12 @@ left_out_is calls call h = cases (get_or calls call false) h
     cases true h = refl
     cases false h = absurd (cc)
 
--- what was written at an index, and then what was there before
-set_back : (calls : List Bool) (i : ℕ) (x d : Bool)
-    → set (set calls i x) i (get_or calls i d) ≡ calls
-set_back [] i x d = refl
-set_back (y ∷ ys) zero x d = refl
-set_back (y ∷ ys) (suc i) x d = ap (λ (l : List Bool). y ∷ l) (set_back ys i x d)
-
 module _ {S : Type 0} (Step : S → ℕ → S → Type 0) (olds : List S) (es : List Event) where
   -- the call stays
   pub rest_back : (calls : List Bool) (call : ℕ) (was : Bool) → was ≡ get_or calls call was
       → IsRest Step olds es (is_kept calls)
       → IsRest Step olds es (is_kept (set (set calls call true) call was))
-  rest_back calls call was is rest = grind (arith, set_back)
+  rest_back calls call was is rest = grind (arith, set-set, set-get_or)
 
   -- one call more is left out
   pub rest_more : (calls : List Bool) (call : ℕ) → IsIdle Step call

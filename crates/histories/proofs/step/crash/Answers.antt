@@ -1,7 +1,6 @@
 use Rattle.histories.proofs.Words.{inl, inr, refl, IfOk-weaker, HasSlot, FromOne, Gathers, HasMany, IsClosed, IsDropped}
-use Rattle.histories.proofs.Advancing.{agrees_slots, finished, many_orders, no_slot, slot_ends}
 use Rattle.histories.proofs.Closing.{closed_as}
-use Rattle.histories.proofs.Frontiers.{frontier_crash}
+use Rattle.histories.proofs.Frontiers.{agrees_slots, finished, frontier_crash, many_orders, no_slot, slot_ends}
 use Rattle.histories.proofs.Gathering.{gathers_through}
 use Rattle.histories.proofs.step.crash.Goals as goal
 

@@ -1,5 +1,5 @@
 use Rattle.histories.proofs.Words.{◌∙◌, inl, refl, IfOk-weaker, IsSameFront, HasSlot, HasMany, IsClosed}
-use Rattle.histories.proofs.Advancing.{call_ended, front_same, many_orders, no_slot}
+use Rattle.histories.proofs.Frontiers.{call_ended, front_same, many_orders, no_slot}
 use Rattle.histories.proofs.step.end.Goals as goal
 
 pub returns-in_default : goal.returns-in_default
