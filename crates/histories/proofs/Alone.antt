@@ -1,7 +1,7 @@
 -- Calls that are made at once: those that change nothing, and those that come first or overlap
 -- nothing.
 use Rattle.histories.proofs.Words.{◌≡◌, ◌↔◌, slice_set, true, ℕ, zero, suc, ◌+◌, ◌<◌, List, [], ◌∷◌, ◌++◌, length, get_or, Option, refl, sym, ◌∙◌, ap, subst, arith, inl, inr, append_assoc, cases_lt, Event, Begin, End, Config, Link, AreAll, begins, times, Explains, Leads, HasSlot, IsFrontier, IsSound, IsTable, Path, order_at, order_of, path_more, path_of, Agrees, IsQuiet, IsMadeIn, CallsAloneAreRuns, ◌≤◌, AllPairs, IsIdle, IsSame, IsWaiting, cleared, IsCopy, IsSettled, Settles, Spot, WaitsInNone, spot_of, IsClosed, IsClosing, IsMadeFirst, IsNextAt, bit_at}
-use Rattle.histories.proofs.Indices.{order_more, only, nothing_in}
+use Rattle.histories.proofs.Indices.{nothing_in, one_of_one, only, order_more}
 use Rattle.histories.specs.Laws.{calls_alone, in_order}
 use Rattle.histories.proofs.Counting.{no_times, not_some, split_times, times-append, times-cons, times_one, times_other, times_same}
 use Rattle.histories.proofs.Events.{answered_now, begins_begin, begins_ends, begins_none, ended_now, ended_still, open_begin_cases, open_begin_now, open_end_before, open_end_other, sound_begin, sound_end, sound_none}
@@ -11,7 +11,7 @@ use Rattle.histories.proofs.Frontiers.{explains_none, no_calls}
 use Rattle.histories.proofs.Cutting.{quiet_empty, runs_nothing}
 use Rattle.histories.proofs.Bits.{cleared_same, slot_64}
 use Rattle.histories.proofs.Closing.{closing_begin, closing_more, goes_by, path_none, path_then}
-use Rattle.histories.proofs.Gathering.{gathers_new, gathers_none, settles_call, settles_one, settles_state}
+use Rattle.histories.proofs.Gathering.{gathers_new, gathers_none, settles_call, settles_one, settles_only}
 
 -- one event after the other
 two_more : (es : List Event) (a b : Event) → es ++ a ∷ b ∷ [] ≡ (es ++ a ∷ []) ++ b ∷ []
@@ -185,13 +185,6 @@ all_as : {S : Type 0} (Made Step : S → Type 0) (states : List S)
     → ((new : S) → Made new ↔ Step new) → AreAll Made states → AreAll Step states
 all_as Made Step states same all = grind arith
 
--- a list of one value, and the same where another is put in its stead
-pub one_of_one : {X : Type 0} (xs : List X) (x y : X) → length xs ≡ 1 → x ≡ get_or xs 0 x
-    → (xs ≡ x ∷ []) × (slice_set xs 0 y ≡ y ∷ [])
-one_of_one [] x y one is = absurd (omega (arith, one))
-one_of_one (z ∷ []) x y one is = (ap (λ v. v ∷ []) (sym is), refl)
-one_of_one (z ∷ w ∷ xs) x y one is = absurd (omega (arith, one))
-
 -- the call was made in the one configuration
 pub made_alone : {M S : Type 0} (Step : M → S → ℕ → S → Type 0) (machine : M) (links : List Link)
     (slots : List (Option ℕ)) (configs : List (Config S)) (config made : Config S) (c : ℕ)
@@ -235,14 +228,7 @@ module _ {S : Type 0} (Step : S → ℕ → S → Type 0) (slots : List (Option 
   -- one call more
   pub settled_then : (from mid one : Spot S) → IsSettled Step slots from mid
       → IsSettled Step slots mid one → IsSettled Step slots from one
-  settled_then from mid one a b = record {
-    state = b.state ∙ a.state;
-    calls = a.calls ++ b.calls;
-    runs = grind (arith, runs_then);
-    lighter = lighter_then _ _ _ _ _ b.lighter a.lighter;
-    made = b.made ∙ (ap (λ (p : Path). path_more p b.calls) a.made
-        ∙ path_then from.made a.calls b.calls);
-  }
+  settled_then from mid one a b = grind (arith, runs_then, lighter_then, path_then)
 
   pub settled_call : (config : Config S) (one : Spot S) (slot call : ℕ) → length slots ≤ 64
       → IsWaiting slots config.waiting slot call → Step config.state call config.state
@@ -261,18 +247,15 @@ module _ {S : Type 0} (Step : S → ℕ → S → Type 0) (slots : List (Option 
     (few : length slots ≤ 64) (slot call : ℕ) (here : HasSlot slots slot call)
     (config made settled : Config S) (first : IsMadeFirst Step slots slot call config made true)
     (idle : IsSettled Step slots (spot_of made) (spot_of settled)) where
-  one_apart : (k : Config S) → AllPairs (λ a b. ¬ (IsSame a b)) (k ∷ [])
-  one_apart k = λ i j d less h. absurd (omega (arith, less, h))
-
   gone : bit_at settled.waiting slot ≡ 0
   gone = grind (arith, slot_64, bit_at, cleared_same, runs_fewer)
 
   added : Settles Step slots (IsNextAt Step slots config slot) [] (settled ∷ [])
   added =
       settles_call Step slots config slot call (made.state ∷ []) _ _ (here, first.0) first.2
-      (settles_state Step slots config made slot call made.state _ _ refl first.4 first.3
+      (settles_only Step slots _ _ _ _ (rw (← first.4, ← first.3)
       (settles_one Step slots (spot_of made) settled _ _ idle
-      (gathers_new [] settled (λ i d h. absurd (omega arith)))))
+      (gathers_new [] settled (λ i d h. absurd (omega arith))))))
 
   closing : IsClosing Step slots (config ∷ []) slot [] (settled ∷ []) (length slots)
   closing =
@@ -293,7 +276,7 @@ module _ {S : Type 0} (Step : S → ℕ → S → Type 0) (slots : List (Option 
           | inl none ↦ absurd (nothing_in _ none.1)
           | inr there ↦ there
         ];
-    once = one_apart _;
+    once = λ i j d less within. absurd (omega (arith, less, within));
   }
 
 -- the call in the slot waits in none

@@ -190,11 +190,7 @@ module _ {S : Type 0} (Step : S → ℕ → S → Type 0) (slots : List (Option 
   -- where there are too many already
   pub goes_full : (slot : ℕ) (layer old : List (Config S)) → 4096 < length old
       → GoesOn Step slots slot layer old old
-  goes_full slot layer old many = record {
-    adds = adds_none _ _;
-    complete = λ short k calls last fewer rest has waits over run light.
-        absurd (short many);
-  }
+  goes_full slot layer old many = grind (arith, adds_none)
 
   -- where the call does not wait
   pub goes_not : (slot : ℕ) (config : Config S) (old : List (Config S))

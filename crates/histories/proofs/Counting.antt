@@ -129,15 +129,5 @@ all_pairs_behind P xs ys x y all h =
 -- what is true of all pairs of two lists, and across them, is true of those of both
 pub all_pairs_join : (P : ℕ → ℕ → Type 0) (xs ys : List ℕ) → AllPairs P xs → AllPairs P ys
     → ((x y : ℕ) → 0 < times x xs → 0 < times y ys → P x y) → AllPairs P (xs ++ ys)
-all_pairs_join P xs ys a b across = λ i j d less within.
-    elim (cases_lt j (length xs)) [
-      | inl early ↦ grind (arith, get_or-append)
-      | inr late ↦
-          let inside : j - length xs < length ys =
-          omega (arith, within, late, length-append xs ys) in
-          rw (get_or-append_right xs ys j d late) (elim (cases_lt i (length xs)) [
-            | inl before ↦ grind (arith, get_or-append, times_at)
-            | inr behind ↦ rw (get_or-append_right xs ys i d behind)
-                (b (i - length xs) (j - length xs) d (omega (arith, behind, less)) inside)
-          ])
-    ]
+all_pairs_join P xs ys a b across =
+    grind (arith, cases_lt, get_or-append, length-append, get_or-append_right, times_at)

@@ -1,29 +1,19 @@
--- The configurations after one event more.
-use Rattle.histories.proofs.Words.{◌≡◌, ◌≢◌, ℕ, ◌<◌, ◌≤◌, List, [], ◌∷◌, ◌++◌, length, refl, sym, ◌∙◌, ap, subst, arith, inl, inr, Option, AllPairs, bit_at, Contains, Config, Link, Event, End, Crash, times, Explains, Ends, HasManyOrders, HasSlot, IsFollowed, IsFrontier, IsLighter, IsSame, IsTable, LeadTo, Leaves, Path, cleared, no_path, order_at, order_of, path_of, FreesSlot, FromOne, Gathers, HasMany, IsClosed, IsDropped, IsFirst, IsMadeFrom, Spot, spot_of}
-use Rattle.histories.proofs.Bits.{bit_cases, cleared_other, cleared_same, slot_64, slot_within}
-use Rattle.histories.proofs.Counting.{not_some, times_none, no_times}
-use Rattle.histories.proofs.Events.{answered_now, begins_none, freed_before, table_end}
-use Rattle.histories.proofs.Running.{lighter_cleared, runs_fewer, runs_in, runs_without, lighter_without}
-use Rattle.histories.proofs.Explaining.{explains_end, explains_open, explains_run}
-use Rattle.histories.proofs.Closing.{leads_found, leads_kept, none_same}
-use Rattle.histories.proofs.Indices.{nothing_in, order_more, order_none}
+-- The configurations after one event more, and what an event does to a front.
+use Rattle.histories.proofs.Words.{◌≡◌, ◌≢◌, ℕ, ◌<◌, ◌≤◌, List, [], ◌∷◌, ◌++◌, length, refl, sym, ◌∙◌, ap, subst, arith, inl, inr, Option, AllPairs, bit_at, Contains, Config, Link, Event, End, Crash, times, AreSound, Explains, Ends, HasManyOrders, HasSlot, IsFollowed, IsFrontier, IsLighter, IsSame, IsTable, LeadTo, Leaves, Path, cleared, no_path, order_at, order_of, path_of, FreesSlot, FromOne, Gathers, HasMany, IsClosed, IsDropped, IsFirst, IsMadeFrom, Spot, spot_of, map, get_or-map, length-map, zero, ◌+◌, get_or, suc, Some, None, cases_lt, Begin, begins, AreComplete, IsOpen, IsSound, IsWaiting, Runs, path_more, put, HasManyOpen, IsFrontOf, IsOpened, Settles, TakesSlot, AreLaidIn, AreTaken, Finishes, IsLeft, Advance, Front, AdvancesIn, Agrees, EndsOpen, IsSameFront}
+use Rattle.histories.proofs.Bits.{bit_cases, cleared_other, cleared_same, slot_64, slot_within, cleared_put, put_other, put_same}
+use Rattle.histories.proofs.Counting.{not_some, times_none, no_times, split_times, times-append, times-cons, times_one, times_same, at_times, times_once}
+use Rattle.histories.proofs.Events.{answered_now, begins_none, freed_before, table_end, begins_begin, table_begin, taken_cases, taken_other, taken_still, begin_no_end, ends_one, open_begin_now, open_begin_still}
+use Rattle.histories.proofs.Running.{lighter_cleared, runs_fewer, runs_in, runs_without, lighter_without, leads_split, leaves_run, runs_lighter, runs_order, runs_then}
+use Rattle.histories.proofs.Explaining.{explains_end, explains_open, explains_run, behind_open, explains_begin, explains_front, explains_without}
+use Rattle.histories.proofs.Closing.{leads_found, leads_kept, none_same, HaveSameSteps, closed_as, leads_sought, made_as}
+use Rattle.histories.proofs.Indices.{nothing_in, order_more, order_none, frontier_laid}
+use Rattle.histories.specs.declared.front.Advance.TheVariants as advance
 
 module _ {S : Type 0} (Step : S → ℕ → S → Type 0) where
-  -- each configuration is that of an order
-  abbrev pub AreSound : List Link → List (Option ℕ) → List Event → List S → List (Config S) → Type 0
-  AreSound links slots es olds configs =
-      (config : Config S) → Contains configs config → IsFollowed Step links slots es olds config
-
-  -- each order is that of a configuration
-  abbrev pub AreComplete : List (Option ℕ) → List Event → List S → List (Config S) → Type 0
-  AreComplete slots es olds configs =
-      (old : S) (order : List ℕ) (new : S) → Contains olds old → Explains Step es old order new
-      → (rest : ℕ) × Leaves slots order rest × LeadTo Step slots configs new rest
-
   -- where waiting calls were made, the order explains the history still
   pub followed_made : (links : List Link) (slots : List (Option ℕ)) (es : List Event)
       (olds : List S) (configs : List (Config S)) (k : Config S) → IsTable es slots
-      → AreSound links slots es olds configs → IsMadeFrom Step slots configs (spot_of k)
+      → AreSound Step links slots es olds configs → IsMadeFrom Step slots configs (spot_of k)
       → IsFollowed Step links slots es olds k
   followed_made links slots es olds configs k table sound made =
       let is = sound made.0 made.1 in
@@ -75,7 +65,7 @@ module _ {S : Type 0} (Step : S → ℕ → S → Type 0) where
         (f : IsFrontier Step links slots es olds configs) (g : IsClosed Step slots configs t done)
       where
         -- a configuration in which the call was made
-        done_sound : (e : Event) → Ends e c → AreSound links more (es ++ e ∷ []) olds done
+        done_sound : (e : Event) → Ends e c → AreSound Step links more (es ++ e ∷ []) olds done
         done_sound e ends k has =
             let closed = g.sound k has in
             let is = followed_made links slots es olds configs k f.table f.sound closed.0 in
@@ -115,15 +105,15 @@ module _ {S : Type 0} (Step : S → ℕ → S → Type 0) where
                 let is = f.sound from found.1 in
                 let drop = found.2 in
                 let order : order_of links k ≡ order_of links from =
-                ap (λ (p : Path). order_at links p) drop.3 in record {
+                ap (λ (p : Path). order_at links p) drop.1.2 in record {
                   old = is.old;
                   from = is.from;
                   explains = rw order (subst
                       (λ x. Explains Step (es ++ Crash c ∷ []) is.old (order_of links from) x)
-                      (sym drop.1) (explains_end _ _ _ _ _ _ _
+                      (sym drop.1.0) (explains_end _ _ _ _ _ _ _
                       (inr refl) (λ is_end. absurd (cc)) is.explains));
                   leaves = λ slot call has. grind (arith, freed_before, cleared_other, slot_64);
-                  within = omega (arith, is.within, ap (λ (p : Path). p.base) drop.3);
+                  within = omega (arith, is.within, ap (λ (p : Path). p.base) drop.1.2);
                 }
 
             crash_gone : (k : Config S) → Contains all k → bit_at k.waiting t ≡ 0
@@ -154,7 +144,7 @@ module _ {S : Type 0} (Step : S → ℕ → S → Type 0) where
                         bit_cases,
                         runs_fewer Step slots from.state new from.waiting fewer t l.2.0 few h l.2.2,
                       ) in
-                      leads_found _ _ _ _ _ _ _ _ _ _ d (from, l.1, (there, refl, refl, refl))
+                      leads_found _ _ _ _ _ _ _ _ _ _ d (from, l.1, (there, (refl, refl, refl)))
                       (runs_without _ _ _ _ _ _ _ _ few h some l.2.2)
                       (lighter_cleared _ _ _ _ _ few h l.2.3)
                 ]
@@ -186,19 +176,6 @@ module _ {S : Type 0} (Step : S → ℕ → S → Type 0) where
               once = d.adds.once g.once;
               table = table_end _ _ _ _ _ _ (inr refl) f.table here frees;
             }
-
-  pub many_orders : (links : List Link) (slots : List (Option ℕ)) (es : List Event)
-      (olds : List S) (configs : List (Config S)) → IsFrontier Step links slots es olds configs
-      → HasMany Step slots configs → HasManyOrders Step es olds
-  many_orders links slots es olds configs f many = (
-    links,
-    slots,
-    many.0,
-    many.1,
-    many.2,
-    f.table,
-    λ k has. followed_made _ _ _ _ _ _ f.table f.sound (many.3 k has),
-  )
 
   pub front_many : (links : List Link) (slots : List (Option ℕ)) (es : List Event)
       (olds : List S) (configs : List (Config S)) → IsFrontier Step links slots es olds configs
@@ -262,12 +239,293 @@ module _ {S : Type 0} (Step : S → ℕ → S → Type 0) where
 
   -- before any event
   pub frontier_first : (links : List Link) (olds : List S) (configs : List (Config S))
-      → Gathers (IsFirst olds) [] configs → IsFrontier Step links [] [] olds configs
+      → Gathers (FromOne IsFirst olds) [] configs → IsFrontier Step links [] [] olds configs
   frontier_first links olds configs g =
       frontier_fresh _ _ _ _ table_none
       (λ k has. elim (g.adds.sound k has) [
         | inl none ↦ absurd (nothing_in _ none)
-        | inr found ↦ (found.0, found.2)
+        | inr found ↦ (rw found.2.0 found.1, found.2.2)
       ]) (λ old has.
       let spot : Spot S = record { state = old; waiting = 0; made = no_path } in
-      let k = g.complete spot (has, refl, refl) in (k.0, k.1, k.2.0)) (g.adds.once none_same)
+      let k = g.complete spot (old, has, (refl, refl, refl)) in (k.0, k.1, k.2.0))
+      (g.adds.once none_same)
+
+  module _ (slots more : List (Option ℕ)) (c t : ℕ) (takes : TakesSlot slots c t more)
+      (few : length slots ≤ 64) where
+    lighter_put : (fewer rest : ℕ) → IsLighter Step slots fewer rest
+        → IsLighter Step more (put fewer t) (put rest t)
+    lighter_put fewer rest l slot call has = grind (arith, taken_cases, bit_at, put_same, put_other)
+
+    leaves_put : (order : List ℕ) (rest : ℕ) → times c order ≡ 0 → Leaves slots order rest
+        → Leaves more order (put rest t)
+    leaves_put order rest none leaves slot call has =
+        grind (arith, taken_cases, bit_at, put_same, put_other)
+
+    runs_put : (old new : S) (waiting rest : ℕ) (calls : List ℕ)
+        → Runs Step slots old waiting calls new rest
+        → Runs Step more old (put waiting t) calls new (put rest t)
+    runs_put old new waiting rest calls run =
+        runs_in _ _ _ _ _ _ _ _ _ _ (λ w s ne h. cleared_put _ _ _ h takes.within ne)
+        (λ w s ne h. put_other _ _ _ takes.within ne) few
+        (λ s call has some. (
+          taken_other _ _ _ _ _ _ takes has,
+          taken_still _ _ _ _ _ _ takes has,
+        )) run
+
+    -- the same leads on where one call more waits
+    leads_put : (configs opened : List (Config S)) (new : S) (rest : ℕ) → length more ≤ 64
+        → ¬ (4096 < length opened) → Settles Step more (FromOne (IsOpened t) configs) [] opened
+        → LeadTo Step slots configs new rest → LeadTo Step more opened new (put rest t)
+    leads_put configs opened new rest short enough g l =
+        let from = l.0 in
+        let at : Spot S =
+        record { state = from.state; waiting = put from.waiting t; made = path_of from } in
+        leads_sought Step more _ _ _ at _ _ _ _ short enough g (from, l.1, (refl, refl, refl))
+        (runs_put from.state new from.waiting l.2.1 l.2.0 l.2.2) (lighter_put l.2.1 rest l.2.3)
+
+    -- and other calls go on from there
+    leads_on : (opened : List (Config S)) (mid new : S) (rest last : ℕ) (calls : List ℕ)
+        → length more ≤ 64 → LeadTo Step more opened mid rest
+        → Runs Step more mid rest calls new last → LeadTo Step more opened new last
+    leads_on opened mid new rest last calls short l run =
+        let on = runs_lighter _ _ _ _ _ _ _ _ short l.2.3 run in (
+          l.0,
+          l.1,
+          (l.2.0 ++ on.0, on.1, runs_then _ _ _ _ _ _ _ _ _ _ l.2.2 on.2, on.3),
+        )
+
+    module _ (links : List Link) (es : List Event) (olds : List S)
+        (configs opened : List (Config S)) (s : IsSound es) (fresh : begins c es ≡ 0)
+        (f : IsFrontier Step links slots es olds configs)
+        (g : Settles Step more (FromOne (IsOpened t) configs) [] opened) where
+      opened_table : IsTable (es ++ Begin c ∷ []) more
+      opened_table = table_begin _ _ _ _ _ s fresh f.table takes
+
+      opened_sound : AreSound Step links more (es ++ Begin c ∷ []) olds opened
+      opened_sound k has =
+          elim (g.adds.sound k has) [
+            | inl none ↦ absurd (nothing_in _ none)
+            | inr found ↦
+                let from = found.1.0 in
+                let at = found.1.2 in
+                let is = f.sound from found.1.1 in
+                let idle = found.2 in
+                let path : path_of k ≡ path_more (path_of from) idle.calls =
+                idle.made ∙ ap (λ (p : Path). path_more p idle.calls) at.2 in
+                let order : order_of links k ≡ order_of links from ++ idle.calls =
+                ap (λ (p : Path). order_at links p) path ∙ order_more _ _ _ in
+                let none : times c (order_of links from) ≡ 0 =
+                not_some _ (λ some. absurd (omega (arith, is.explains.begun c some, fresh))) in
+                let run : Runs Step more from.state (put from.waiting t) idle.calls k.state
+                k.waiting = rw (idle.state, ← at.0, ← at.1) idle.runs in
+                let now = explains_run _ _ _ _ _ _ _ _ _ _ opened_table
+                (explains_begin _ _ _ _ _ _ fresh is.explains) (leaves_put _ _ none is.leaves) run
+                in record {
+                  old = is.old;
+                  from = is.from;
+                  explains = rw order now.0;
+                  leaves = rw order now.1;
+                  within = omega (arith, is.within, ap (λ (p : Path). p.base) path);
+                }
+          ]
+
+      -- where the order has the call
+      opened_with : (old new : S) (front back : List ℕ) → ¬ (4096 < length opened)
+          → Contains olds old
+          → Explains Step (es ++ Begin c ∷ []) old (front ++ c ∷ back) new
+          → (rest : ℕ) × Leaves more (front ++ c ∷ back) rest × LeadTo Step more opened new rest
+      opened_with old new front back enough from ex =
+          let order = front ++ c ∷ back in
+          let next = opened_table in
+          let parts = leads_split _ _ _ _ _ ex.leads in
+          let mid = parts.0 in
+          let lead = f.complete old front mid from
+          (explains_front _ _ _ _ _ _ _ _ s fresh ex parts.1) in
+          let rest = lead.0 in
+          let counts : (x : ℕ) → times x order ≡ times x front + times x (c ∷ []) + times x back =
+          λ x. omega (arith, times-append x front (c ∷ back), times-cons x c back) in
+          let none : times c front ≡ 0 = omega (arith, counts c, ex.once c, times_one c) in
+          let all : (x : ℕ) → 0 < times x (c ∷ back)
+          → (slot : ℕ) × IsWaiting more (put rest t) slot x = λ x some.
+          elim (cases_lt 0 (times x (c ∷ []))) [
+            | inl here ↦ grind (arith, times_same, put_same)
+            | inr away ↦
+                let behind : 0 < times x back = omega (arith, some, away, times-cons x c back) in
+                let begun : 0 < begins x es = omega (
+                  arith,
+                  ex.begun x (omega (arith, counts x, behind)),
+                  begins_begin x c es,
+                  away,
+                ) in
+                let at = f.table.all x (begun, behind_open _ _ _ _ _ _ _ _ ex behind) in
+                let ne = taken_other _ _ _ _ _ _ takes at.1 in
+                let waits : bit_at rest at.0 ≡ 1 =
+                omega (arith, lead.1 at.0 x at.1, counts x, ex.once x, behind) in (
+                  at.0,
+                  (taken_still _ _ _ _ _ _ takes at.1, put_other _ _ _ takes.within ne ∙ waits),
+                )
+          ] in
+          let run = runs_order _ _ _ _ _ _ next.few next.apart
+          (λ x. omega (arith, counts x, ex.once x, times-cons x c back)) all parts.2 in (
+            run.0,
+            leaves_run _ _ _ _ _ _ run.0 _ next.few next.apart (leaves_put _ _ none lead.1) run.1,
+            leads_on _ _ _ _ run.0 (c ∷ back) next.few
+                (leads_put _ _ _ _ next.few enough g lead.2) run.1,
+          )
+
+      opened_complete : ¬ (4096 < length opened)
+          → AreComplete Step more (es ++ Begin c ∷ []) olds opened
+      opened_complete enough old order new from ex =
+          elim (cases_lt 0 (times c order)) [
+            | inl some ↦
+                let parts = split_times _ _ some in
+                rw parts.2 (opened_with old new parts.0 parts.1 enough from (rw parts.2 at ex))
+            | inr less ↦
+                let none : times c order ≡ 0 = omega (arith, less) in
+                let lead = f.complete old order new from (explains_without _ _ _ _ _ _ ex none) in (
+                  put lead.0 t,
+                  leaves_put _ _ none lead.1,
+                  leads_put _ _ _ _ takes.few enough g lead.2,
+                )
+          ]
+
+      -- a call begins
+      pub frontier_begin : ¬ (4096 < length opened)
+          → IsFrontier Step links more (es ++ Begin c ∷ []) olds opened
+      frontier_begin enough = grind (arith, opened_sound, opened_complete, none_same, opened_table)
+
+module _ {S : Type 0} (Step : S → ℕ → S → Type 0) (events : List Event) (olds : List S)
+    (event : Event) where
+  -- by the configurations that are left
+  advanced : (front : Front S) (result : Advance)
+      → IsFrontOf Step front (events ++ event ∷ []) olds → IsLeft front.configs.items result
+      → EndsOpen events event → AdvancesIn Step events olds event front result
+  advanced front advance.Done f left ends = (f, left, ends)
+  advanced front advance.Refused f left ends = (f, left, ends)
+  advanced front advance.ManyConfigs f left ends = absurd left
+  advanced front advance.ManyOpen f left ends = absurd left
+  advanced front advance.NoEvent f left ends = absurd left
+
+  -- the calls that were made went into the links
+  pub laid_out : (links : List Link) (configs : List (Config S)) (new : Front S) (result : Advance)
+      → IsFrontier Step links new.slots.items (events ++ event ∷ []) olds configs
+      → AreLaidIn links configs new result → EndsOpen events event
+      → AdvancesIn Step events olds event new result
+  laid_out links configs new result f laid ends = search (arith, advanced, frontier_laid)
+
+  -- the slot of a call that is over was made free
+  pub finished : (old new : Front S) (slot : ℕ) (configs : List (Config S)) (result : Advance)
+      → ((more : List (Option ℕ)) → FreesSlot old.slots.items slot more
+      → IsFrontier Step old.links.items more (events ++ event ∷ []) olds configs)
+      → EndsOpen events event → Finishes old slot configs new result
+      → AdvancesIn Step events olds event new result
+  finished old new slot configs result f ends is =
+      let there = f new.slots.items is.0 in
+      elim is.1 [
+        | inl many ↦ grind (arith, front_many)
+        | inr laid ↦ laid_out _ _ new _ there laid ends
+      ]
+
+pub begin_ends : (events : List Event) (c : ℕ) → EndsOpen events (Begin c)
+begin_ends events c x ends = absurd (begin_no_end _ _ ends)
+
+-- the call that ends has a slot
+pub slot_ends : (events : List Event) (e : Event) (slots : List (Option ℕ)) (slot c : ℕ)
+    → Ends e c → IsTable events slots → HasSlot slots slot c → EndsOpen events e
+slot_ends events e slots slot c ends table has x now =
+    rw (← ends_one _ _ _ ends now) (table.each slot c has)
+
+pub no_slot : (events : List Event) (e : Event) (slots : List (Option ℕ)) (c : ℕ) → Ends e c
+    → IsTable events slots → ((slot : ℕ) → HasSlot slots slot c → ⊥) → ¬ (EndsOpen events e)
+no_slot events e slots c ends table none is = let at = table.all c (is c ends) in none at.0 at.1
+
+-- the machine makes the calls that have slots as the history has it
+pub agrees_slots : {S : Type 0} (Made Step : S → ℕ → S → Type 0) (events : List Event)
+    (slots : List (Option ℕ)) → IsTable events slots → Agrees Made Step events
+    → HaveSameSteps Made Step slots
+agrees_slots Made Step events slots table agrees slot call has =
+    agrees call (table.each slot call has)
+
+-- the call in the slot was made in each, and ends
+pub call_ended : {S : Type 0} (Made Step : S → ℕ → S → Type 0) (events : List Event)
+    (olds : List S) (front new : Front S) (slot call : ℕ) (closed : List (Config S))
+    (result : Advance) → Agrees Made Step events → HasSlot front.slots.items slot call
+    → IsClosed Made front.slots.items front.configs.items slot closed
+    → IsFrontOf Step front events olds → Finishes front slot closed new result
+    → AdvancesIn Step events olds (End call) new result
+call_ended Made Step events olds front new slot call closed result agrees here is f =
+    finished _ _ _ _ front new _ _ _ (λ more frees. frontier_end _ _ _ _ frees f.table.few _ _ _
+    _ _ _ here f (closed_as _ _ _ (agrees_slots _ _ _ _ f.table agrees) _ _ _ is))
+    (slot_ends _ _ _ _ _ (inl refl) f.table here)
+
+-- the same slots, configurations and links
+pub front_same : {S : Type 0} (Step : S → ℕ → S → Type 0) (events : List Event) (olds : List S)
+    (old new : Front S) → IsSameFront old new → IsFrontOf Step old events olds
+    → IsFrontOf Step new events olds
+front_same {S} Step events olds old new is front = grind arith
+
+-- calls that waited lead to too many configurations
+pub many_orders : {S : Type 0} (Made Step : S → ℕ → S → Type 0) (events : List Event)
+    (olds : List S) (front : Front S) → Agrees Made Step events
+    → HasMany Made front.slots.items front.configs.items → IsFrontOf Step front events olds
+    → HasManyOrders Step events olds
+many_orders Made Step events olds front agrees many f =
+    let same = agrees_slots _ _ _ _ f.table agrees in (
+      front.links.items,
+      front.slots.items,
+      many.0,
+      many.1,
+      many.2,
+      f.table,
+      λ k has. followed_made _ _ _ _ _ _ _ f.table f.sound (made_as _ _ _ same _ _ (many.3 k has)),
+    )
+
+-- the number of a call that has a slot
+abbrev number : Option ℕ → ℕ
+number None = 0
+number (Some call) = call
+
+taken_by : (slot : Option ℕ) → (slot ≡ None → ⊥) → slot ≡ Some (number slot)
+taken_by None taken = absurd (taken refl)
+taken_by (Some call) taken = refl
+
+-- where all slots are taken and one call more begins, too many are open
+module _ (events : List Event) (slots : List (Option ℕ)) (c : ℕ) (s : IsSound events)
+    (fresh : begins c events ≡ 0) (table : IsTable events slots) (taken : AreTaken slots)
+  where
+    abbrev calls : List ℕ
+    calls = map number slots
+
+    call_at : (i : ℕ) → i < length calls → HasSlot slots i (get_or calls i 0)
+    call_at i h =
+        taken_by (get_or slots i None) (taken.1 i (omega (arith, h, length-map slots number)))
+        ∙ ap (λ n. Some n) (sym (get_or-map number slots i None))
+
+    open_at : (i : ℕ) → i < length calls → IsOpen events (get_or calls i 0)
+    open_at i h = table.each i (get_or calls i 0) (call_at i h)
+
+    new : (i : ℕ) → i < length calls → c ≡ get_or calls i 0 → ⊥
+    new i h e = omega (arith, (open_at i h).0, subst (λ y. begins y events ≡ 0) e fresh)
+
+    same : (x i j : ℕ) → i < length (c ∷ calls) → j < length (c ∷ calls)
+        → get_or (c ∷ calls) i 0 ≡ x → get_or (c ∷ calls) j 0 ≡ x → i ≡ j
+    same x zero zero h k a b = refl
+    same x zero (suc j) h k a b = absurd (new j (omega (arith, k)) (a ∙ sym b))
+    same x (suc i) zero h k a b = absurd (new i (omega (arith, h)) (b ∙ sym a))
+    same x (suc i) (suc j) h k a b =
+        ap suc (table.apart i j x (rw a at (call_at i (omega (arith, h))))
+        (rw b at (call_at j (omega (arith, k)))))
+
+    open_now : (x i : ℕ) → i < length (c ∷ calls) → get_or (c ∷ calls) i 0 ≡ x
+        → IsOpen (events ++ Begin c ∷ []) x
+    open_now x zero h e =
+        subst (λ y. IsOpen (events ++ Begin c ∷ []) y) e (open_begin_now events c s fresh)
+    open_now x (suc i) h e = open_begin_still events c x (rw e at (open_at i (omega (arith, h))))
+
+    pub many_open : HasManyOpen (events ++ Begin c ∷ [])
+    many_open = (
+      c ∷ calls,
+      omega (arith, taken.0, length-map slots number),
+      λ x. times_once x (c ∷ calls) (same x),
+      λ x h. let at = at_times x (c ∷ calls) h in open_now x at.0 at.1 at.2,
+    )

@@ -1,5 +1,5 @@
 -- Lists that are changed index by index, and orders that are read from links.
-use Rattle.histories.proofs.Words.{zero, suc, [], ◌∷◌, ◌≡◌, ◌≢◌, ℕ, ◌+◌, ◌<◌, ◌≤◌, List, ◌++◌, take, drop, append-nil, take_all, length, get_or, set, refl, sym, ◌∙◌, ap, arith, Contains, map, get_or-map, cases_eq, cases_lt, Contains-get_or, AreEach, drop_all, get_or-set_other, get_or-set_same, get_or_default, length-set, length-map, Option, None, map-id, take-append-drop, reverse, length-append, append_assoc, get_or-append, get_or-append_seam, get_or_past, length-take-le, reverse-append, take_more, Config, Link, Event, IsFollowed, IsFrontier, Path, no_path, order_at, path_more, AreLaid, Grows, IsLaid, IsLaidOut}
+use Rattle.histories.proofs.Words.{zero, suc, slice_set, [], ◌∷◌, ◌≡◌, ◌≢◌, ℕ, ◌+◌, ◌<◌, ◌≤◌, List, ◌++◌, take, drop, append-nil, take_all, length, get_or, set, refl, sym, ◌∙◌, ap, arith, Contains, map, get_or-map, cases_eq, cases_lt, Contains-get_or, AreEach, drop_all, get_or-set_other, get_or-set_same, get_or_default, length-set, length-map, Option, None, map-id, take-append-drop, reverse, length-append, append_assoc, get_or-append, get_or-append_seam, get_or_past, length-take-le, reverse-append, take_more, Config, Link, Event, IsFollowed, IsFrontier, Path, no_path, order_at, path_more, AreLaid, Grows, IsLaid, IsLaidOut}
 use Rattle.histories.specs.Frontier.{orders, read}
 use Rattle.std.proofs.lemmas.Iterator.Adapters.{YieldsList-from_vec}
 use Rattle.std.proofs.lemmas.Iterator.Consumers.{YieldsList-end}
@@ -61,6 +61,13 @@ nothing_in k has = absurd (omega (arith, has.1))
 -- the one that a list of one has
 pub only : {X : Type 0} (x k : X) → Contains (x ∷ []) k → k ≡ x
 only x k has = grind arith
+
+-- a list of one value, and the same where another is put in its stead
+pub one_of_one : {X : Type 0} (xs : List X) (x y : X) → length xs ≡ 1 → x ≡ get_or xs 0 x
+    → (xs ≡ x ∷ []) × (slice_set xs 0 y ≡ y ∷ [])
+one_of_one [] x y one is = absurd (omega (arith, one))
+one_of_one (z ∷ []) x y one is = (ap (λ v. v ∷ []) (sym is), refl)
+one_of_one (z ∷ w ∷ xs) x y one is = absurd (omega (arith, one))
 
 -- what stands in the list of the values of others
 pub contains_map_of : {X Y : Type 0} (f : X → Y) (xs : List X) (x : X) → Contains xs x
@@ -216,31 +223,18 @@ laid_out_more links mid base at calls link h is l = (
 )
 
 module _ {S : Type 0} where
-  -- with more links after it
-  pub laid_grows : (links mid more : List Link) (config laid : Config S) → Grows mid more
-      → IsLaid links mid config laid → IsLaid links more config laid
-  laid_grows links mid more config laid g l = (
+  -- with fewer links before it, and more after it
+  pub laid_within : (links mid more last : List Link) (config laid : Config S) → Grows links mid
+      → Grows more last → IsLaid mid more config laid → IsLaid links last config laid
+  laid_within links mid more last config laid g h l = (
     l.0,
     l.1,
-    grows_then _ _ _ l.2 g,
-    λ within.
-        let is = l.3 within in (
-          omega (arith, is.0, length_grows mid more g),
-          ap (λ (o : List ℕ). o ++ laid.made.items) (read_grows _ _ _ g is.0) ∙ is.1,
-        ),
-  )
-
-  -- with fewer links before it
-  pub laid_before : (links mid more : List Link) (config laid : Config S) → Grows links mid
-      → IsLaid mid more config laid → IsLaid links more config laid
-  laid_before links mid more config laid g l = (
-    l.0,
-    l.1,
-    grows_then _ _ _ g l.2,
+    grows_then _ _ _ g (grows_then _ _ _ l.2 h),
     λ within.
         let is = l.3 (omega (arith, within, length_grows links mid g)) in (
-          is.0,
-          is.1 ∙ ap (λ (o : List ℕ). o ++ config.made.items) (read_grows _ _ _ g within),
+          omega (arith, is.0, length_grows more last h),
+          ap (λ (o : List ℕ). o ++ laid.made.items) (read_grows _ _ _ h is.0)
+              ∙ (is.1 ∙ ap (λ (o : List ℕ). o ++ config.made.items) (read_grows _ _ _ g within)),
         ),
   )
 

@@ -11,5 +11,4 @@ pub mod Closing
 pub mod Frontiers
 pub mod Cutting
 pub mod Verdicts
-pub mod Advancing
 pub mod Alone

@@ -1,5 +1,5 @@
 -- What is found of a whole history.
-use Rattle.histories.proofs.Words.{◌≡◌, ℕ, zero, suc, ◌+◌, ◌-◌, ◌<◌, ◌≤◌, List, [], ◌∷◌, ◌++◌, length, take, get_or, refl, sym, ◌∙◌, subst, arith, inl, inr, Option, add-zero, take_all, cases_lt, cases_order, take-append_seam, take_more, take-append-le, slice_get-get_or, Event, Begin, End, Crash, Advance, Front, Config, Link, begins, times, IsExplained, IsHistory, MayFollow, AdvancesIn, Agrees, Ends, EndsOpen, IsAdvance, IsVerdict, IsFrontOf, IsFrontier, IsSound, order_of, VerdictsExclude}
+use Rattle.histories.proofs.Words.{◌≡◌, ℕ, zero, suc, ◌+◌, ◌-◌, ◌<◌, ◌≤◌, List, [], ◌∷◌, ◌++◌, length, take, get_or, refl, sym, ◌∙◌, subst, arith, inl, inr, Option, add-one, add-zero, take_all, cases_lt, cases_order, take-append_seam, take_more, take-append-le, slice_get-get_or, Event, Begin, End, Crash, Advance, Front, Config, Link, begins, times, IsExplained, IsHistory, MayFollow, AdvancesIn, Agrees, Ends, EndsOpen, IsAdvance, IsVerdict, IsFrontOf, IsFrontier, IsSound, order_of, VerdictsExclude}
 use Rattle.histories.specs.declared.front.Advance.TheVariants as advance
 use Rattle.histories.specs.declared.whole.Verdict.TheVariants as verdict
 use Rattle.histories.specs.Histories.{begun, IsNext}
@@ -9,22 +9,12 @@ use Rattle.histories.proofs.Running.{leads_split}
 use Rattle.histories.proofs.Frontiers.{explains_none}
 use Rattle.histories.proofs.Explaining.{explains_front, explains_open, explains_without}
 
-begun-append : (es fs : List Event) → begun (es ++ fs) ≡ begun es + begun fs
+pub begun-append : (es fs : List Event) → begun (es ++ fs) ≡ begun es + begun fs
 unfolding begun
 begun-append [] fs = omega arith
 begun-append (Begin b ∷ es) fs = omega (arith, begun-append es fs)
 begun-append (End b ∷ es) fs = begun-append es fs
 begun-append (Crash b ∷ es) fs = begun-append es fs
-
-begun_begin : (es : List Event) (c : ℕ) → begun (es ++ Begin c ∷ []) ≡ begun es + 1
-unfolding begun
-begun_begin es c = begun-append es (Begin c ∷ [])
-
-begun_end : (es : List Event) (e : Event) (c : ℕ) → Ends e c → begun (es ++ e ∷ []) ≡ begun es
-unfolding begun
-begun_end es (Begin b) c ends = absurd (begin_no_end _ _ ends)
-begun_end es (End b) c ends = omega (arith, begun-append es (End b ∷ []))
-begun_end es (Crash b) c ends = omega (arith, begun-append es (Crash b ∷ []))
 
 pub begun_none : begun [] ≡ 0
 unfolding begun
@@ -33,29 +23,18 @@ begun_none = refl
 -- how many calls have begun after one event more
 pub counts_begin : (count call : ℕ) (es : List Event) → count ≡ begun es
     → count + 1 ≡ begun (es ++ Begin call ∷ [])
-counts_begin count call es is = omega (arith, is, begun_begin es call)
+unfolding begun
+counts_begin count call es is = omega (arith, is, begun-append es (Begin call ∷ []))
 
 pub counts_end : (count call : ℕ) (es : List Event) → count ≡ begun es
     → count ≡ begun (es ++ End call ∷ [])
-counts_end count call es is = is ∙ sym (begun_end _ _ _ (inl refl))
+unfolding begun
+counts_end count call es is = omega (arith, is, begun-append es (End call ∷ []))
 
 pub counts_crash : (count call : ℕ) (es : List Event) → count ≡ begun es
     → count ≡ begun (es ++ Crash call ∷ [])
-counts_crash count call es is = is ∙ sym (begun_end _ _ _ (inr refl))
-
--- how many have begun after one event more, where a call that begins has the next number
-pub count_begin : (count call : ℕ) (es : List Event) → call ≡ count → count ≡ begun es
-    → (count + 1 ≡ begun (es ++ Begin call ∷ [])) × IsNext es (Begin call)
-count_begin count call es same is =
-    (counts_begin _ _ _ is, λ c e. let x : call ≡ c = cc in sym x ∙ (same ∙ is))
-
-pub count_end : (count call : ℕ) (es : List Event) → count ≡ begun es
-    → (count ≡ begun (es ++ End call ∷ [])) × IsNext es (End call)
-count_end count call es is = (counts_end _ _ _ is, λ c e. absurd (cc))
-
-pub count_crash : (count call : ℕ) (es : List Event) → count ≡ begun es
-    → (count ≡ begun (es ++ Crash call ∷ [])) × IsNext es (Crash call)
-count_crash count call es is = (counts_crash _ _ _ is, λ c e. absurd (cc))
+unfolding begun
+counts_crash count call es is = omega (arith, is, begun-append es (Crash call ∷ []))
 
 -- the calls that have begun have numbers below their count
 abbrev pub AreNumbered : List Event → Type 0
@@ -64,17 +43,22 @@ AreNumbered es = (c : ℕ) → 0 < begins c es → c < begun es
 pub numbered_none : AreNumbered []
 numbered_none c h = absurd (omega (arith, h, begins_none c))
 
-ends_numbered : (es : List Event) (e : Event) (b : ℕ) → Ends e b → AreNumbered es
-    → AreNumbered (es ++ e ∷ [])
-ends_numbered es e b ends n c h =
-    omega (arith, n c (omega (arith, h, begins_ends c b es e ends)), begun_end es e b ends)
-
 pub numbered_more : (es : List Event) (e : Event) → AreNumbered es → IsNext es e
     → AreNumbered (es ++ e ∷ [])
 numbered_more es (Begin b) n next c h =
-    grind (arith, cases_lt, begun_begin, begins_begin, times_same)
-numbered_more es (End b) n next c h = ends_numbered _ _ _ (inl refl) n c h
-numbered_more es (Crash b) n next c h = ends_numbered _ _ _ (inr refl) n c h
+    grind (arith, cases_lt, counts_begin (begun es) b es refl, begins_begin, times_same)
+numbered_more es (End b) n next c h =
+    omega (
+      arith,
+      n c (omega (arith, h, begins_ends c b es (End b) (inl refl))),
+      counts_end (begun es) b es refl,
+    )
+numbered_more es (Crash b) n next c h =
+    omega (
+      arith,
+      n c (omega (arith, h, begins_ends c b es (Crash b) (inr refl))),
+      counts_crash (begun es) b es refl,
+    )
 
 -- a call with the next number is new
 pub next_fresh : (es : List Event) (e : Event) → AreNumbered es → IsNext es e → (c : ℕ)
@@ -108,12 +92,6 @@ pub one_more : (es : List Event) (i : ℕ) (d : Event) → i < length es
     → take (i + 1) es ≡ take i es ++ get_or es i d ∷ []
 one_more es i d h = take_more es i d h
 
-add_one : (i : ℕ) → i + 1 ≡ suc i
-add_one i = omega arith
-
-plus_suc : (i n : ℕ) → i + suc n ≡ i + n + 1
-plus_suc i n = omega arith
-
 may_more : (es : List Event) (i : ℕ) → IsHistory es → i < length es
     → MayFollow (take i es) (get_or es i (Begin 0))
 may_more es i history h = history i (get_or es i (Begin 0)) (slice_get-get_or es i (Begin 0) h)
@@ -126,12 +104,10 @@ history_take es history (suc i) h =
     let before = history_take es history i (omega arith) in
     let may = may_more _ _ history (omega arith) in
     let next = next_of _ _ may in
-    subst (λ n. IsSound (take n es) × AreNumbered (take n es)) (add_one _)
-    (subst (λ (l : List Event). IsSound l × AreNumbered l) (sym (one_more _ _ _ (omega
-    arith))) (
+    rw (← add-one, one_more es i (Begin 0) (omega arith)) (
       sound_more _ _ before.0 (next_fresh _ _ before.1 next) (ends_of _ _ may),
       numbered_more _ _ before.1 next,
-    ))
+    )
 
 pub history_sound : (es : List Event) → IsHistory es → IsSound es × AreNumbered es
 history_sound es history =
@@ -169,10 +145,11 @@ module _ {S : Type 0} (Step : S → ℕ → S → Type 0) where
   explained_take es olds i (suc more) history h x =
       let at = i + more in
       let within : at < length es = omega arith in
+      let next : i + suc more ≡ at + 1 = omega arith in
       let before = history_take _ history at (omega arith) in
       explained_take es olds i more history (omega arith) (explained_before _ _ _ before.0
       (next_fresh _ _ before.1 (next_of _ _ (may_more _ at history within)))
-      (rw (← one_more _ at (Begin 0) within) (rw (plus_suc _ _) at x)))
+      (rw (next, one_more es at (Begin 0) within) at x))
 
   -- where no order explains the events up to an index, none explains all
   pub refused_whole : (es : List Event) (olds : List S) (i : ℕ) → i ≤ length es
@@ -205,7 +182,7 @@ module _ {S : Type 0} (Step : S → ℕ → S → Type 0) where
       omega (arith, l.2.1.1)
 
 -- an event that may follow comes next
-history_more : (es : List Event) (e : Event) → IsHistory es → MayFollow es e
+pub history_more : (es : List Event) (e : Event) → IsHistory es → MayFollow es e
     → IsHistory (es ++ e ∷ [])
 history_more es e history may index event at =
     grind (arith, stands_cases, take-append-le, stands_within, take-append_seam)

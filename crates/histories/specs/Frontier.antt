@@ -132,17 +132,26 @@ pub record IsFollowed {S : Type 0} (Step : S → ℕ → S → Type 0) (links : 
     pub leaves : Leaves slots (order_of links config) config.waiting
     pub within : config.base ≤ length links
 
--- Each configuration is that of an order that explains the history. Each such order is that of a
--- configuration in which some of the calls that wait are made after it; calls that change nothing
--- may have been made before. Each stands there once.
+-- each configuration is that of an order that explains the history
+abbrev pub AreSound : {S : Type 0} → (S → ℕ → S → Type 0) → List Link → List (Option ℕ)
+    → List Event → List S → List (Config S) → Type 0
+AreSound {S} Step links slots events olds configs =
+    (config : Config S) → Contains configs config → IsFollowed Step links slots events olds config
+
+-- Each order that explains the history is that of a configuration in which some of the calls that
+-- wait are made after it; calls that change nothing may have been made before.
+abbrev pub AreComplete : {S : Type 0} → (S → ℕ → S → Type 0) → List (Option ℕ) → List Event
+    → List S → List (Config S) → Type 0
+AreComplete {S} Step slots events olds configs =
+    (old : S) (order : List ℕ) (new : S) → Contains olds old → Explains Step events old order new
+    → (rest : ℕ) × Leaves slots order rest × LeadTo Step slots configs new rest
+
+-- The configurations are those of the orders that explain the history. Each stands there once.
 pub record IsFrontier {S : Type 0} (Step : S → ℕ → S → Type 0) (links : List Link)
     (slots : List (Option ℕ)) (events : List Event) (olds : List S) (configs : List (Config S))
     : Type 0 where
-  pub sound : (config : Config S) → Contains configs config
-      → IsFollowed Step links slots events olds config
-  pub complete : (old : S) (order : List ℕ) (new : S) → Contains olds old
-      → Explains Step events old order new
-      → (rest : ℕ) × Leaves slots order rest × LeadTo Step slots configs new rest
+  pub sound : AreSound Step links slots events olds configs
+  pub complete : AreComplete Step slots events olds configs
   pub once : AllPairs (λ a b. ¬ (IsSame a b)) configs
   pub table : IsTable events slots
 
@@ -161,7 +170,7 @@ abbrev pub HasManyOrders : {S : Type 0} → (S → ℕ → S → Type 0) → Lis
 HasManyOrders {S} Step events olds =
     (links : List Link) × (slots : List (Option ℕ)) × (many : List (Config S))
     × (4096 < length many) × AllPairs (λ a b. ¬ (IsSame a b)) many × IsTable events slots
-    × ((config : Config S) → Contains many config → IsFollowed Step links slots events olds config)
+    × AreSound Step links slots events olds many
 
 -- more calls are open than are followed
 abbrev pub HasManyOpen : List Event → Type 0

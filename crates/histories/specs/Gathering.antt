@@ -61,16 +61,19 @@ spot_of config = record {
 abbrev pub IsAt : {S : Type 0} → Config S → Spot S → Type 0
 IsAt config spot = (config.state ≡ spot.state) × (config.waiting ≡ spot.waiting)
 
+-- the spot has this state, these calls that wait, and this path
+abbrev pub IsSpot : {S : Type 0} → S → ℕ → Path → Spot S → Type 0
+IsSpot state waiting made spot =
+    (spot.state ≡ state) × (spot.waiting ≡ waiting) × (spot.made ≡ made)
+
 -- the same state, the same calls that wait, and the same that were made
 abbrev pub IsCopy : {S : Type 0} → Config S → Spot S → Type 0
-IsCopy config copy =
-    (copy.state ≡ config.state) × (copy.waiting ≡ config.waiting) × (copy.made ≡ path_of config)
+IsCopy config copy = IsSpot config.state config.waiting (path_of config) copy
 
 -- the call in this slot waits too
 abbrev pub IsOpened : {S : Type 0} → ℕ → Config S → Spot S → Type 0
 IsOpened slot config opened =
-    (opened.state ≡ config.state) × (opened.waiting ≡ put config.waiting slot)
-    × (opened.made ≡ path_of config)
+    IsSpot config.state (put config.waiting slot) (path_of config) opened
 
 -- as many, each of which is related to the one at its index
 abbrev pub AreEach : {X : Type 0} → (X → X → Type 0) → List X → List X → Type 0
@@ -96,8 +99,10 @@ pub record IsSettled {S : Type 0} (Step : S → ℕ → S → Type 0) (slots : L
 -- the call in the slot waits too, or was made, where it can be and changes nothing
 abbrev pub IsBegun : {S : Type 0} → (S → ℕ → S → Type 0) → List (Option ℕ) → ℕ → Config S → Config S
     → Type 0
-IsBegun {S} Step slots slot config begun =
-    (opened : Spot S) × IsOpened slot config opened × IsSettled Step slots opened (spot_of begun)
+IsBegun Step slots slot config begun =
+    IsSettled Step slots
+    (record { state = config.state; waiting = put config.waiting slot; made = path_of config })
+    (spot_of begun)
 
 -- the call was made in the configuration, and could leave no other state; or nothing changed
 abbrev pub IsMadeIn : {S : Type 0} → (S → ℕ → S → Type 0) → Config S → ℕ → Config S → Bool → Type 0
@@ -106,15 +111,10 @@ IsMadeIn Step old call new true =
     × (path_of new ≡ path_more (path_of old) (call ∷ [])) × (new.waiting ≡ old.waiting)
 IsMadeIn Step old call new false = new ≡ old
 
--- an order with this path has come to the spot, in one of the states
-abbrev pub IsWith : {S : Type 0} → List S → ℕ → Path → Spot S → Type 0
-IsWith states waiting made spot =
-    Contains states spot.state × (spot.waiting ≡ waiting) × (spot.made ≡ made)
-
--- the call in the slot, which waits, is made, and leaves one of the states
-abbrev pub IsNextIn : {S : Type 0} → Config S → ℕ → ℕ → List S → Spot S → Type 0
-IsNextIn config slot call states next =
-    IsWith states (cleared config.waiting slot) (path_more (path_of config) (call ∷ [])) next
+-- the call in the slot, which waits, is made, and leaves the state
+abbrev pub IsNextIn : {S : Type 0} → Config S → ℕ → ℕ → S → Spot S → Type 0
+IsNextIn config slot call state next =
+    IsSpot state (cleared config.waiting slot) (path_more (path_of config) (call ∷ [])) next
 
 -- the call in the slot waits and is made
 abbrev pub IsNextAt : {S : Type 0} → (S → ℕ → S → Type 0) → List (Option ℕ) → Config S → ℕ → Spot S
@@ -150,8 +150,8 @@ IsUnderWay {S} Step slots slot config next =
 -- the call in the slot waits, and is never made
 abbrev pub IsDropped : {S : Type 0} → ℕ → Config S → Spot S → Type 0
 IsDropped slot config dropped =
-    (bit_at config.waiting slot ≡ 1) × (dropped.state ≡ config.state)
-    × (dropped.waiting ≡ cleared config.waiting slot) × (dropped.made ≡ path_of config)
+    (bit_at config.waiting slot ≡ 1)
+    × IsSpot config.state (cleared config.waiting slot) (path_of config) dropped
 
 -- the call has a slot that is not the other one, and waits
 abbrev pub IsBeside : List (Option ℕ) → ℕ → ℕ → ℕ → ℕ → Type 0
@@ -187,9 +187,8 @@ IsMadeFirst Step slots slot call old new true =
 IsMadeFirst Step slots slot call old new false = new ≡ old
 
 -- it is true of one of these and of that
-abbrev pub FromOne : {S : Type 0} → (Config S → Spot S → Type 0) → List (Config S) → Spot S → Type 0
-FromOne {S} Fact configs spot =
-    (config : Config S) × Contains configs config × Fact config spot
+abbrev pub FromOne : {X S : Type 0} → (X → Spot S → Type 0) → List X → Spot S → Type 0
+FromOne {X} Fact values spot = (value : X) × Contains values value × Fact value spot
 
 -- the new ones are the old ones, and others of which this is true; each is there once
 pub record Adds {S : Type 0} (Fact : Spot S → Type 0) (old new : List (Config S)) : Type 0 where
@@ -274,9 +273,9 @@ IsClosedInPlace Step slots slot old new true =
     AllPairs (λ a b. ¬ (IsSame a b)) old → IsClosed Step slots old slot new
 IsClosedInPlace Step slots slot old new false = new ≡ old
 
--- an order of no calls has come to the spot from one of these states
-abbrev pub IsFirst : {S : Type 0} → List S → Spot S → Type 0
-IsFirst olds spot = IsWith olds 0 no_path spot
+-- an order of no calls has come to the spot from this state
+abbrev pub IsFirst : {S : Type 0} → S → Spot S → Type 0
+IsFirst old spot = IsSpot old 0 no_path spot
 
 -- there are these links, and others after them
 abbrev pub Grows : List Link → List Link → Type 0

@@ -59,7 +59,7 @@ fn make_state<M: Machine>(
     requires few { length slots.now ≤ 64 }
     requires within { slot < 64 }
     ensures { OnOk result (Settles (M.Step machine.now) slots.now
-        (IsNextIn config.now slot call (state ∷ [])) next.old next.new) }
+        (IsNextIn config.now slot call state) next.old next.new) }
 {
     if next.is_full() {
         return Ok(());
@@ -88,7 +88,7 @@ fn make_states<M: Machine>(
     requires few { length slots.now ≤ 64 }
     requires within { slot < 64 }
     ensures { OnOk result (Settles (M.Step machine.now) slots.now
-        (IsNextIn config.now slot call states.items) next.old next.new) }
+        (FromOne (IsNextIn config.now slot call) states.items) next.old next.new) }
 {
     for state in states {
         make_state(alloc, machine, slots, config, slot, call, state, next)?;
@@ -126,7 +126,7 @@ fn waits_beside(slots: &[Option<usize>], waiting: u64, slot: usize, at: usize) -
 
 /// Adds the configurations to which the call in the slot, which waits, leads, unless there are too
 /// many.
-#[tactic(auto, using(crate::proofs::Gathering::settles_call, crate::proofs::Gathering::settles_full, crate::proofs::Gathering::settles_no_state))]
+#[tactic(auto, using(crate::proofs::Gathering::settles_call, crate::proofs::Gathering::settles_full, crate::proofs::Gathering::settles_no_one))]
 fn make_call<M: Machine>(
     alloc: Global,
     machine: &M,
@@ -435,7 +435,7 @@ pub fn dropped_all<M: Machine>(
     ensures { IfOk result (λ dropped. Gathers (FromOne (IsDropped slot) configs.now) []
         dropped.items) }
 {
-    let mut dropped = Gathered::new(alloc);
+    let mut dropped = Gathered::of(alloc, Vec::new(alloc));
     for config in configs {
         drop_one(alloc, machine, config, slot, &mut dropped)?;
     }

@@ -143,13 +143,6 @@ impl<M: Machine> Model for Gathered<M> {
 }
 
 impl<M: Machine> Gathered<M> {
-    /// No configuration.
-    pub fn new(alloc: Global) -> Self
-        ensures { result ≡ [] }
-    {
-        Gathered::of(alloc, Vec::new(alloc))
-    }
-
     /// No configuration, with the capacity for so many.
     pub fn with_capacity(alloc: Global, count: usize) -> Result<Self, AllocError>
         ensures { IfOk result (λ gathered. gathered ≡ []) }
@@ -282,7 +275,7 @@ pub fn start<M: Machine>(
     ensures { IfOk result (λ front. (whole : M)
         → IsFrontOf (M.Step whole) front [] states.now) }
 {
-    let mut configs = Gathered::new(alloc);
+    let mut configs = Gathered::of(alloc, Vec::new(alloc));
     for from in states {
         let state = machine.copied(from)?;
         let made = Vec::new(alloc);

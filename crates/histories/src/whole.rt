@@ -29,7 +29,7 @@ pub enum Verdict<S> {
 
 /// How many calls have begun after the event, or `None` where a call begins that does not have the
 /// next number.
-#[tactic(auto, using(crate::proofs::Verdicts::count_begin, crate::proofs::Verdicts::count_crash, crate::proofs::Verdicts::count_end))]
+#[tactic(auto, using(crate::proofs::Verdicts::counts_begin, crate::proofs::Verdicts::counts_crash, crate::proofs::Verdicts::counts_end))]
 fn count_after(count: usize, event: Event) -> Option<usize>
     requires { count + 1 < 2 ^ 64 }
     ensures some { IfSome result (λ more. (events : List Event) → count ≡ begun events

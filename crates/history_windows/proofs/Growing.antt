@@ -1,7 +1,9 @@
 -- Windows that grow by events.
 use Rattle.history_windows.proofs.Words.{◌≡◌, ◌↔◌, ℕ, ◌+◌, ◌<◌, List, [], ◌∷◌, ◌++◌, length, take, refl, sym, ◌∙◌, ap, arith, inl, inr, append_assoc, append-nil, true, Event, Begin, End, Crash, Advance, Front, AdvancesIn, BeginsAnew, IsAdvance, IsMadeAlone, IsSameFront, begins, IsExplained, IsHistory, IsOpen, StandsAt, IsFrontOf, IsSound, Stop, Window, AgreesOn, GoesTo, IsWellFormed, BeginsWindow, IsStop, IsStopAt}
+use Rattle.histories.specs.Frontier.{HasManyOrders}
+use Rattle.history_windows.specs.Windows.{LeadsTooFar}
 use Rattle.histories.specs.declared.front.Advance.TheVariants as advance
-use Rattle.histories.proofs.Advancing.{front_same}
+use Rattle.histories.proofs.Frontiers.{front_same}
 use Rattle.histories.proofs.Events.{begins_none, sound_none}
 use Rattle.histories.proofs.Explaining.{explains_begin, explains_end}
 use Rattle.histories.proofs.Cutting.{begins-append}
@@ -235,6 +237,17 @@ module _ {S : Type 0} (Step : S → ℕ → S → Type 0) (olds : List S) (es : 
     stop_of : (why : Stop) → IsStopAt Step olds es at why → IsStop Step olds es at why
     stop_of why is = record { within = within; before = goes_explained _ _ _ _ g; at = is }
 
+    too_far : (all inside : List Event) → all ≡ g.is.past ++ inside
+        → HasManyOrders Step inside g.is.states → LeadsTooFar Step olds all
+    too_far all inside split many = record {
+      past = g.is.past;
+      inside = inside;
+      split = split;
+      states = g.is.states;
+      cut = g.is.cut;
+      many = many;
+    }
+
     pub stops : (result : Advance) → AdvancesIn Step g.is.inside g.is.states e new result
         → StopsBy Step olds es at result
     stops advance.Done done = tt
@@ -248,22 +261,8 @@ module _ {S : Type 0} (Step : S → ℕ → S → Type 0) (olds : List S) (es : 
         stop_of _ ((by.0, rw (← by.1) stands), rw more none)
     stops advance.ManyConfigs many =
         stop_of _ (elim many [
-          | inl before ↦ inl (record {
-            past = g.is.past;
-            inside = g.is.inside;
-            split = g.is.split;
-            states = g.is.states;
-            cut = g.is.cut;
-            many = before;
-          })
-          | inr now ↦ inr (record {
-            past = g.is.past;
-            inside = g.is.inside ++ e ∷ [];
-            split = more ∙ split_more _ _ _ _ g _ history;
-            states = g.is.states;
-            cut = g.is.cut;
-            many = now;
-          })
+          | inl before ↦ inl (too_far _ _ g.is.split before)
+          | inr now ↦ inr (too_far _ _ (more ∙ split_more _ _ _ _ g _ history) now)
         ])
     stops advance.ManyOpen many =
         stop_of _

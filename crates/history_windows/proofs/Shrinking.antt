@@ -1,5 +1,5 @@
 -- The states with which a window begins, and its calls that are left out.
-use Rattle.history_windows.proofs.Words.{◌≡◌, ◌+◌, ◌<◌, ℕ, zero, suc, Option, List, [], ◌∷◌, ◌++◌, length, get_or, refl, sym, ◌∙◌, ap, subst, arith, append-nil, Bool, true, false, take, take_all, Result, Ok, Err, IfOk, Contains, set, replicate, nil_from_length, length-append, get_or-set_other, get_or_past, get_or-replicate, length-replicate, Event, Config, Link, HasSlot, IsFrontOf, IsFrontier, IsIdle, IsExplained, IsHistory, Window, states_of, AreIdle, AreNeeded, HasCut, IsRest, IsWellFormed, events_of, is_kept, IsCut, IsWindowOf, cases_eq, cases_lt, not, Vec, slice_get-get_or, Advance, Front, AdvancesIn, IsAdvance}
+use Rattle.history_windows.proofs.Words.{◌≡◌, ◌+◌, ◌<◌, ℕ, zero, suc, Option, List, [], ◌∷◌, ◌++◌, length, get_or, refl, sym, ◌∙◌, ap, subst, arith, append-nil, Bool, true, false, take, take_all, Result, Ok, Err, IfOk, Contains, set, replicate, nil_from_length, length-append, get_or-set_other, set-get_or, set-set, get_or_past, get_or-replicate, length-replicate, Event, Config, Link, HasSlot, IsFrontOf, IsFrontier, IsIdle, IsExplained, IsHistory, Window, states_of, AreIdle, AreNeeded, HasCut, IsRest, IsWellFormed, events_of, is_kept, IsCut, IsWindowOf, cases_eq, cases_lt, not, Vec, slice_get-get_or, Advance, Front, AdvancesIn, IsAdvance}
 use Rattle.histories.proofs.Cutting.{runs_nothing}
 use Rattle.histories.proofs.Events.{begins_none}
 use Rattle.histories.proofs.Indices.{contains_map_of, contains_of_map}
@@ -60,19 +60,12 @@ left_out_is calls call h = cases (get_or calls call false) h
     cases true h = refl
     cases false h = absurd (cc)
 
--- what was written at an index, and then what was there before
-set_back : (calls : List Bool) (i : ℕ) (x d : Bool)
-    → set (set calls i x) i (get_or calls i d) ≡ calls
-set_back [] i x d = refl
-set_back (y ∷ ys) zero x d = refl
-set_back (y ∷ ys) (suc i) x d = ap (λ (l : List Bool). y ∷ l) (set_back ys i x d)
-
 module _ {S : Type 0} (Step : S → ℕ → S → Type 0) (olds : List S) (es : List Event) where
   -- the call stays
   pub rest_back : (calls : List Bool) (call : ℕ) (was : Bool) → was ≡ get_or calls call was
       → IsRest Step olds es (is_kept calls)
       → IsRest Step olds es (is_kept (set (set calls call true) call was))
-  rest_back calls call was is rest = grind (arith, set_back)
+  rest_back calls call was is rest = grind (arith, set-set, set-get_or)
 
   -- one call more is left out
   pub rest_more : (calls : List Bool) (call : ℕ) → IsIdle Step call
@@ -100,9 +93,6 @@ rest_none Step olds es n none = grind (arith, all_kept, none_left)
 
 module _ {S : Type 0} (Step : S → ℕ → S → Type 0) (olds : List S) (past window : List Event)
     (history : IsHistory (past ++ window)) where
-  pub formed_window : HasCut Step olds past → IsWellFormed window
-  formed_window cut = formed_inside _ _ history cut.1.quiet
-
   -- no order explains the window from the states with which it begins
   pub refused_window : (states given : List S) → given ≡ states → IsCut Step olds past states
       → ¬ (IsExplained Step (past ++ window) olds) → ¬ (IsExplained Step window given)
@@ -111,34 +101,13 @@ module _ {S : Type 0} (Step : S → ℕ → S → Type 0) (olds : List S) (past 
       none ((cut.same window (sound_formed _ formed) (sound_formed _ (formed_history _ history))).1
       (rw (← same) x))
 
-  pub needed_found : {E : Type 0} (states given : List S) → given ≡ states
-      → IsCut Step olds past states → (found : Result (Vec Bool) E)
-      → IfOk found (λ left_out. IsRest Step given window (is_kept left_out.items))
-      → IfOk found (λ left_out. AreNeeded Step olds past window (is_kept left_out.items))
-  needed_found states given same cut (Err e) rest = rest
-  needed_found states given same cut (Ok found) rest = grind arith
-
-  pub needed_whole : {E : Type 0} (n : ℕ) → HasCut Step olds past
-      → ¬ (IsExplained Step (past ++ window) olds) → (found : Result (Vec Bool) E)
-      → IfOk found (λ left_out. left_out.items ≡ replicate n false)
-      → IfOk found (λ left_out. AreNeeded Step olds past window (is_kept left_out.items))
-  needed_whole n cut none (Err e) all = all
-  needed_whole n cut none (Ok found) all = record {
-    states = cut.0;
-    cut = cut.1;
-    rest = rw all (rest_none _ _ _ _ (refused_window _ _ refl cut.1 none));
-  }
-
 -- the front is that of the events before an index, and one event more is tried
 module _ {M S : Type 0} (StepOf : M → S → ℕ → S → Type 0) (machine : M) (olds : List S)
     (es : List Event) (at : ℕ) (d : Event) (h : at < length es) (formed : IsWellFormed es)
     (old new : Front S) (f : IsFrontOf (StepOf machine) old (take at es) olds) where
   tried : (result : Advance) → IsAdvance StepOf machine old (get_or es at d) new result
       → AdvancesIn (StepOf machine) (take at es) olds (get_or es at d) new result
-  tried result advances =
-      advances machine (take at es) olds (agrees_same _ _) (agrees_same _ _)
-      (sound_take _ formed at (omega arith))
-      (formed at (get_or es at d) (slice_get-get_or es at d h)).0 f
+  tried result advances = grind (arith, agrees_same, sound_take, slice_get-get_or)
 
   pub tried_done : IsAdvance StepOf machine old (get_or es at d) new advance.Done
       → IsFrontOf (StepOf machine) new (take (at + 1) es) olds

@@ -61,11 +61,7 @@ formed_next es fs e formed =
     stands_seam (x ∷ es) = stands_seam es
 
 call_ends : (e : Event) (c : ℕ) → Ends e c → call_of e ≡ c
-call_ends e c ends =
-    elim ends [
-      | inl is ↦ ap call_of is
-      | inr is ↦ ap call_of is
-    ]
+call_ends e c ends = grind arith
 
 -- so are the events of some of its calls
 pub formed_rest : (kept : ℕ → Bool) (es : List Event) → IsWellFormed es

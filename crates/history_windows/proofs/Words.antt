@@ -4,7 +4,7 @@ pub use Rattle.std.proofs.Math.ListN.{replicate, set}
 pub use Rattle.std.proofs.Math.Seq.{take-append-add, take-append_seam}
 pub use Rattle.std.proofs.lemmas.Bool.{cases_eq, cases_lt, cond_both, eqb-true}
 pub use Rattle.std.proofs.lemmas.Bool.Decides.{eqb_tells}
-pub use Rattle.std.proofs.lemmas.List.{get_or-replicate, get_or-set_other, get_or_default, get_or_past, length-replicate, length-take-le, nil_from_length, take-append-drop, take-take}
+pub use Rattle.std.proofs.lemmas.List.{get_or-replicate, get_or-set_other, get_or_default, get_or_past, length-replicate, length-take-le, nil_from_length, set-get_or, set-set, take-append-drop, take-take}
 pub use Rattle.std.proofs.lemmas.List.Kept.{AllPairs-filter}
 pub use Rattle.std.proofs.lemmas.Option.{slice_get-get_or}
 pub use Rattle.std.proofs.lemmas.Result.{IfOk-weaker}

@@ -3,28 +3,23 @@ ghost use Rattle.std.specs.Prelude.{◌≡◌, ◌<◌, IfErr, IfOk, OnOk, lengt
 ghost use Rattle.histories.specs.Frontier.{IsFrontOf};
 ghost use Rattle.histories.specs.Histories.{IsExplained, IsHistory};
 ghost use Rattle.history_windows.specs.Goings.{IsMadeNext, GoesOn, HasPast, IsFrontAfter};
-ghost use Rattle.history_windows.specs.Windows.{BeginsWindow, CutsAt, IsStop, IsWindowOf};
+ghost use Rattle.history_windows.specs.Windows.{CutsAt, IsStop, IsWindowOf};
 
 use super::window::{Cut, Stop, Window};
 use histories::{Advance, Event, Front, Machine, advance, begin_anew, make_alone, start};
 use std::alloc::{AllocError, Global};
 
-/// Begins a new window after so many events, where no call is open.
-fn begin_window<M: Machine>(machine: &M, window: &mut Window<M::State>, count: usize)
-    ensures { BeginsWindow (M.Step machine.now) count window.old window.new }
-{
-    if !begin_anew(machine, &mut window.front) {
-        return;
-    }
-    window.begin = count;
-}
-
-/// Begins a new window after so many events, if the history is cut there.
+/// Begins a new window after so many events, where no call is open and the history is cut.
 fn cut_at<M: Machine>(machine: &M, window: &mut Window<M::State>, count: usize, cut: Cut)
     ensures { CutsAt (M.Step machine.now) cut count window.old window.new }
 {
     match cut {
-        Cut::WhereQuiet => begin_window(machine, window, count),
+        Cut::WhereQuiet => {
+            if !begin_anew(machine, &mut window.front) {
+                return;
+            }
+            window.begin = count;
+        }
         Cut::Never => (),
     }
 }

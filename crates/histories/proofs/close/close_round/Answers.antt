@@ -1,4 +1,4 @@
-use Rattle.histories.proofs.Words.{◌≡◌, ◌∙◌}
+use Rattle.histories.proofs.Words.{◌∙◌}
 use Rattle.histories.proofs.Closing.{goes_none, goes_pushed}
 use Rattle.histories.proofs.Gathering.{gathers_no_one, gathers_pushed}
 use Rattle.histories.proofs.Indices.{all_taken}
@@ -17,7 +17,6 @@ pub returns : goal.returns
 returns g c =
     let given = c.into_iter-config-iterator in
     let from = given.ensures.into_iter_gives in
-    let all : c.loop-config.yielded ≡ c.args.layer.items =
+    rw c.into_configs.ensures (rw (
     all_taken given.result _ c.next.new.self _ _ _ from.0 (from.1 ∙ c.args.layer.ok.0)
-    c.loop-config.yielded_by c.in-None.is c.next.ensures.steps in
-    rw c.into_configs.ensures (rw all at c.loop-config.invariant)
+    c.loop-config.yielded_by c.in-None.is c.next.ensures.steps) at c.loop-config.invariant)

@@ -1,17 +1,19 @@
 use Rattle.histories.proofs.Words.{rules, ◌≡◌, length, on_ok_weaker}
 use Rattle.histories.proofs.Closing.{goes_all}
-use Rattle.histories.proofs.Gathering.{settles_last, settles_skip, settles_slot}
+use Rattle.histories.proofs.Gathering.{settles_beside, settles_last, settles_none, settles_slot}
 use Rattle.histories.proofs.close.make_calls.Goals as goal
 
 pub loop-other-preserved-in_default : goal.loop-other-preserved-in_default
 loop-other-preserved-in_default g c =
-    settles_skip (g.M.Machine.Step c.args.machine.now) _ c.args.config _ _ _ _
-    c.in_default.ensures.none c.loop-other.invariant
+    settles_slot (g.M.Machine.Step c.args.machine.now) _ c.args.config _ _ _ _ _
+    c.loop-other.invariant (settles_none _ _ _ _
+    (λ few k next. c.in_default.ensures.none next.1.0 (next.0, next.1.1)))
 
 pub loop-other-preserved : goal.loop-other-preserved
 loop-other-preserved g c =
-    settles_slot (g.M.Machine.Step c.args.machine.now) _ c.args.config _ _ _ _ _ _
-    c.in-Some.ensures.some c.loop-other.invariant c.in_ok-make_call.ensures
+    settles_slot (g.M.Machine.Step c.args.machine.now) _ c.args.config _ _ _ _ _
+    c.loop-other.invariant
+    (settles_beside _ _ c.args.config _ _ _ _ c.in-Some.ensures.some.0 c.in_ok-make_call.ensures)
 
 pub returns : goal.returns
 returns g c =

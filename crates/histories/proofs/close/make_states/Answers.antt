@@ -1,20 +1,18 @@
-use Rattle.histories.proofs.Words.{◌≡◌, ◌∙◌}
-use Rattle.histories.proofs.Gathering.{settles_no_state, settles_states}
+use Rattle.histories.proofs.Words.{◌∙◌}
+use Rattle.histories.proofs.Gathering.{settles_no_one, settles_pushed}
 use Rattle.histories.proofs.Indices.{all_taken}
 use Rattle.histories.proofs.close.make_states.Goals as goal
 
 pub loop-state-init : goal.loop-state-init
-loop-state-init g c = settles_no_state _ _ _ _ _
+loop-state-init g c = settles_no_one _ _ _ _
 
 pub loop-state-preserved : goal.loop-state-preserved
 loop-state-preserved g c =
-    settles_states _ _ _ _ _ _ _ _ _ c.loop-state.invariant c.in_ok-make_state.ensures
+    settles_pushed _ _ _ _ _ _ _ _ c.loop-state.invariant c.in_ok-make_state.ensures
 
 pub returns : goal.returns
 returns g c =
     let given = c.into_iter-state-iterator in
     let from = given.ensures.into_iter_gives in
-    let all : c.loop-state.yielded ≡ c.args.states.items =
-    all_taken given.result _ c.next.new.self _ _ _ from.0 (from.1 ∙ c.args.states.ok.0)
-    c.loop-state.yielded_by c.in-None.is c.next.ensures.steps in
-    rw all at c.loop-state.invariant
+    rw (all_taken given.result _ c.next.new.self _ _ _ from.0 (from.1 ∙ c.args.states.ok.0)
+    c.loop-state.yielded_by c.in-None.is c.next.ensures.steps) at c.loop-state.invariant

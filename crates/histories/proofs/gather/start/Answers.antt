@@ -1,22 +1,17 @@
-use Rattle.histories.proofs.Words.{rules, ◌≤◌, length, refl, take_all}
-use Rattle.histories.proofs.Closing.{path_is}
+use Rattle.histories.proofs.Words.{rules, ◌≤◌, ℕ, List, length, subst, take_all, Gathers, IsSpot}
 use Rattle.histories.proofs.Frontiers.{frontier_first}
-use Rattle.histories.proofs.Gathering.{gathers_first, gathers_no_state}
+use Rattle.histories.proofs.Gathering.{gathers_no_one, gathers_one}
 use Rattle.histories.proofs.gather.start.Goals as goal
 
 pub loop-from-init : goal.loop-from-init
-loop-from-init g c = rw c.new-configs.ensures (gathers_no_state _ _ _)
+loop-from-init g c = rw (c.of-configs.ensures, c.new.ensures.items) (gathers_no_one _ _)
 
 pub loop-from-preserved : goal.loop-from-preserved
 loop-from-preserved g c =
-    gathers_first _ _ _
-    (record {
-      state = c.in_ok-state.state;
-      waiting = 0;
-      base = 0;
-      made = c.new-made.result;
-    }) _ _ _ c.loop-from-test.true c.from-item.is c.in_ok-state.ensures (search rules)
-    (path_is _ _ refl c.new-made.ensures.items) c.loop-from.invariant c.in_ok-add.ensures.gathers
+    gathers_one _ _ _ _ _ _ _ c.loop-from-test.true c.from-item.is c.loop-from.invariant
+    (subst (λ (l : List ℕ). Gathers (IsSpot c.from-item.result 0 (record { base = 0; calls = l }))
+    c.loop-from.configs c.add.new.gathered) c.new-made.ensures.items
+    (simp c.in_ok-state.ensures at c.in_ok-add.ensures.gathers))
 
 pub returns : goal.returns
 returns g c whole =

@@ -1,5 +1,5 @@
 use Rattle.histories.proofs.Words.{◌<◌, arith, get_or, length, get_or_default}
-use Rattle.histories.proofs.Indices.{grows_none, grows_then, laid_before, laid_grows, done_as, done_more, done_none}
+use Rattle.histories.proofs.Indices.{done_as, done_more, done_none, grows_none, grows_then, laid_within}
 use Rattle.histories.proofs.links.lay_all.Goals as goal
 
 pub loop-config-init : goal.loop-config-init
@@ -15,7 +15,7 @@ loop-config-preserved g c =
     let h : at < length now = omega (arith, c.loop-config-test.true, before.0.many) in
     let config = get_or now at c.config-item.result in (
       done_more _ _ _ at config one h (get_or_default now at c.config-item.result config h)
-          (laid_before _ _ _ config one before.1 laid) (done_as _ _ _ _ at
-          (λ x y l. laid_grows _ _ _ x y laid.2 l) before.0),
+          (laid_within _ _ _ _ config one before.1 (grows_none _) laid) (done_as _ _ _ _ at
+          (λ x y l. laid_within _ _ _ _ x y (grows_none _) laid.2 l) before.0),
       grows_then _ _ _ before.1 laid.2,
     )

@@ -1,5 +1,5 @@
 use Rattle.histories.proofs.Words.{[], ◌≤◌, length, refl, IfOk-weaker, AreTaken, FromOne, IsOpened, Settles, TakesSlot}
-use Rattle.histories.proofs.Advancing.{agrees_slots, begin_ends, frontier_begin, laid_out, many_open}
+use Rattle.histories.proofs.Frontiers.{agrees_slots, begin_ends, frontier_begin, laid_out, many_open}
 use Rattle.histories.proofs.Closing.{settles_steps}
 use Rattle.histories.proofs.Counting.{not_many}
 use Rattle.histories.proofs.Events.{table_begin}

@@ -1,7 +1,6 @@
 use Rattle.histories.proofs.Words.{inl, inr, refl, IfOk-weaker, HasSlot, FromOne, Gathers, HasMany, IsClosed, IsDropped}
-use Rattle.histories.proofs.Advancing.{agrees_slots, finished, many_as, no_slot, slot_ends}
 use Rattle.histories.proofs.Closing.{closed_as}
-use Rattle.histories.proofs.Frontiers.{frontier_crash, many_orders}
+use Rattle.histories.proofs.Frontiers.{agrees_slots, finished, frontier_crash, many_orders, no_slot, slot_ends}
 use Rattle.histories.proofs.Gathering.{gathers_through}
 use Rattle.histories.proofs.step.crash.Goals as goal
 
@@ -37,11 +36,10 @@ pub returns-in-None : goal.returns-in-None
 returns-in-None g c whole events olds before after sound fresh f =
     let Made = g.M.Machine.Step c.args.machine.now in
     let front = c.args.front.now in
-    let slots = front.slots.items in
-    let many : HasMany Made slots front.configs.items =
+    let many : HasMany Made front.slots.items front.configs.items =
     rw c.in-None.is at (rw c.deref-3.ensures.value at (rw c.replace-configs.ensures.value at
     c.in_ok-closed.ensures)) in
-    inl (many_orders _ _ _ _ _ _ f (many_as _ _ _ (agrees_slots _ _ _ _ f.table before) _ many))
+    inl (many_orders _ _ _ _ front before many f)
 
 pub close-requires-clause-taken : goal.close-requires-clause-taken
 close-requires-clause-taken g c = (

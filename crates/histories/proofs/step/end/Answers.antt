@@ -1,6 +1,5 @@
 use Rattle.histories.proofs.Words.{◌∙◌, inl, refl, IfOk-weaker, IsSameFront, HasSlot, HasMany, IsClosed}
-use Rattle.histories.proofs.Advancing.{agrees_slots, call_ended, front_same, many_as, no_slot}
-use Rattle.histories.proofs.Frontiers.{many_orders}
+use Rattle.histories.proofs.Frontiers.{call_ended, front_same, many_orders, no_slot}
 use Rattle.histories.proofs.step.end.Goals as goal
 
 pub returns-in_default : goal.returns-in_default
@@ -47,10 +46,9 @@ pub returns-in-None : goal.returns-in-None
 returns-in-None g c whole events olds before after sound fresh first =
     let Made = g.M.Machine.Step c.args.machine.now in
     let front = c.end_in_place.new.front in
-    let slots = front.slots.items in
     let f = front_same _ _ _ c.args.front.now front
     (rw c.in_default-2.is at c.in_ok-done.ensures) first in
-    let many : HasMany Made slots front.configs.items =
+    let many : HasMany Made front.slots.items front.configs.items =
     rw c.in-None.is at (rw c.deref-2.ensures.value at (rw c.replace-configs.ensures.value at
     c.in_ok-closed.ensures)) in
-    inl (many_orders _ _ _ _ _ _ f (many_as _ _ _ (agrees_slots _ _ _ _ f.table before) _ many))
+    inl (many_orders _ _ _ _ front before many f)

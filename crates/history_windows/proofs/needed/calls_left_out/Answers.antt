@@ -1,6 +1,7 @@
-use Rattle.history_windows.proofs.Words.{IfOk-weaker}
+use Rattle.history_windows.proofs.Words.{IfOk-weaker, refl}
 use Rattle.history_windows.proofs.Following.{history_past}
-use Rattle.history_windows.proofs.Shrinking.{formed_window, needed_found, needed_whole, refused_window}
+use Rattle.history_windows.proofs.Shrinking.{refused_window, rest_none}
+use Rattle.history_windows.proofs.Trying.{formed_inside}
 use Rattle.history_windows.proofs.needed.calls_left_out.Goals as goal
 
 pub states_left-requires : goal.states_left-requires
@@ -11,7 +12,7 @@ states_left-requires g c = record {
 
 pub shrink-requires : goal.shrink-requires
 shrink-requires g c = record {
-  formed = formed_window _ _ _ _ c.requires.history c.requires.cut;
+  formed = formed_inside _ _ c.requires.history c.requires.cut.1.quiet;
   idle = c.requires.idle;
   refused = refused_window _ _ _ _ c.requires.history _
       _ c.deref.ensures.value (rw c.in-Some.is at c.in_ok-left.ensures) c.requires.refused;
@@ -19,11 +20,18 @@ shrink-requires g c = record {
 
 pub returns-in-Some : goal.returns-in-Some
 returns-in-Some g c =
-    needed_found _ _ _ _ c.requires.history _ _
-    c.deref.ensures.value (rw c.in-Some.is at c.in_ok-left.ensures) _ c.shrink.ensures
+    IfOk-weaker c.shrink.result _ _ (λ left_out rest. record {
+      states = c.deref.result.now;
+      cut = rw c.deref.ensures.value (rw c.in-Some.is at c.in_ok-left.ensures);
+      rest = rest;
+    }) c.shrink.ensures
 
 pub returns-in-None : goal.returns-in-None
 returns-in-None g c =
-    needed_whole _ _ _ _ c.requires.history _ c.requires.cut c.requires.refused _
-    (IfOk-weaker c.vec.result _ _ (λ v all. all (λ y same. same))
-    c.vec.ensures.items_if_clones_equal)
+    let cut = c.requires.cut in
+    IfOk-weaker c.vec.result _ _ (λ left_out all. record {
+      states = cut.0;
+      cut = cut.1;
+      rest = rw (all (λ y same. same)) (rest_none _ _ _ _
+          (refused_window _ _ _ _ c.requires.history _ _ refl cut.1 c.requires.refused));
+    }) c.vec.ensures.items_if_clones_equal
