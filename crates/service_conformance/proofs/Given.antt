@@ -192,7 +192,8 @@ module _ (s : Service) (i : IsService s) where
 
   pub gives_node : {E : Type 0} (slot ticket id : ℕ) (result : Result Bool E) (r : RegistryState ℕ)
       → IfOk result
-      (λ so. Becomes (StandsLast s.nodes.registry (slot_entry slot ticket id)) s.nodes.registry so r)
+      (λ so. Becomes (StandsLast s.nodes.registry (slot_entry slot ticket id)) s.nodes.registry so
+      r)
       → OnErr result (r ≡ s.nodes.registry)
       → IfOk result (λ so. Becomes (GivesNode s slot ticket id) s so (with_nodes s r))
       × IsService (with_nodes s r)
@@ -226,7 +227,8 @@ module _ (s : Service) (i : IsService s) where
         becomes (with_ports side s) now s (UsedSo now used false)
         (GivesPorts s role used) (same_ports s side) i
         (λ r u.
-        let p = puts (with_ports side s) (with_used now used false) r (ports_used s side used i) u.1 u.2 in
+        let p =
+        puts (with_ports side s) (with_used now used false) r (ports_used s side used i) u.1 u.2 in
         ((side, at, u.0, p.0, p.1), p.1))
         (λ new g.
         let w = here (λ z. IsUnused (ports_at s z).registry
@@ -255,7 +257,8 @@ module _ (s : Service) (i : IsService s) where
         here (λ z. IsService (with_ports z s (with_last (ports_at s z).registry x))) (role_of d) at
         (g.0, g.1, subst IsService g.2 g.3) in
         let p = ports_only s side (with_last now x) w in
-        (with_last now x, (refl, p.is_registry))) so r) (subst IsService (sym (same_ports s side)) i)
+        (with_last now x, (refl, p.is_registry))) so r)
+        (subst IsService (sym (same_ports s side)) i)
 
   -- a port of a node that is not registered
   pub no_node : (slot ticket : ℕ) (d : PortDetails)

@@ -168,7 +168,8 @@ module _ {T U : Type 0} (p : Place T) (q : Place U) (apart : IsApart p q) (back 
     (One : RegistryState T → RegistryState T → Type 0)
     (Two : RegistryState U → RegistryState U → Type 0) (s mid t : Service)
   where
-    places_swap : Takes p One s mid → Takes q Two mid t → Exchange (Takes p One) (Takes q Two) s mid t
+    places_swap : Takes p One s mid → Takes q Two mid t
+        → Exchange (Takes p One) (Takes q Two) s mid t
     places_swap a b =
         let n = a.registry in
         let m = b.registry in

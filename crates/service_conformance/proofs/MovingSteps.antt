@@ -241,7 +241,12 @@ port_gone s mid (Some h) so = (h, refl, gone so.0 so.1)
         let t =
         ports_changed (λ r m. RemoveStep r h Default (Ok state) m) h.role s mid a e in (
           a.side,
-          record { registry = t.registry; step = (state, tt, t.step); whole = t.whole; left = t.left },
+          record {
+            registry = t.registry;
+            step = (state, tt, t.step);
+            whole = t.whole;
+            left = t.left;
+          },
         )
     gone state (inr a, e) =
         absurd (let z : ◌≡◌ {A = Result ReleaseState ContainerRemoveError} (Ok state)
