@@ -1,6 +1,6 @@
 -- Calls that overlap nothing are runs.
 use Rattle.service_conformance.proofs.Prelude.{AllByRecursion, List, None, Option, Some, [], ap, arith, length, map, range_with_len, refl, slice_get, subst, suc, sym, zero, ℕ, ◌++◌, ◌+◌, ◌<◌, ◌^◌, ◌↔◌, ◌∙◌, ◌∷◌, ◌≡◌, same_Some}
-use Rattle.service_conformance.proofs.Names.{Answered, Call, CallStep, Command, First, Gives, Handle, IsBare, IsBounded, IsBoundedRegistry, IsExplained, IsRegistry, IsService, Judged, JudgedStep, KeepsHandles, Leads, MayGive, PortDetails, RegistryState, Reply, Run, Second, Serves, ServesDeregister, ServesRelease, Service, ServiceStep, Side, State, Watched, WindowStep, added_role, answered, at_first, call, call_of, calls_alone, calls_of, cons_same, handle_for, handle_in, handle_named, judged_of, named, ports_at, quiet, quiet_state, role_at, role_of, text_of, unwatched}
+use Rattle.service_conformance.proofs.Names.{Answered, Call, CallStep, Command, First, Gives, Handle, IsBare, IsBounded, IsBoundedRegistry, IsExplained, IsRegistry, IsService, Judged, JudgedStep, KeepsHandles, Leads, MayGive, PortDetails, RegistryState, Reply, Run, Second, Serves, ServesDeregister, ServesRelease, Service, ServiceStep, Side, State, Watched, WindowStep, added_role, answered, at_first, call, call_of, calls_alone, cons_same, handle_for, handle_in, handle_named, judged_of, named, ports_at, quiet, quiet_state, role_at, role_of, text_of, unwatched}
 use Rattle.histories.specs.Laws.{in_order}
 use Rattle.histories.proofs.Alone.{calls_alone_are_runs}
 use Rattle.histories.proofs.Indices.{only}
@@ -109,11 +109,6 @@ first_serves : (s mid : Service) (handles : List (Option Handle)) (c : Command) 
 first_serves s mid handles (command.Deregister k) r = refl
 first_serves s mid handles (command.Release k) r = refl
 first_serves s mid handles _ r = refl
-
--- calls lead from one service to another, one after the other
-abbrev CallsLead : Service → List Call → Service → Type 0
-CallsLead old [] new = new ≡ old
-CallsLead old (c ∷ cs) new = (mid : Service) × CallStep c old mid × CallsLead mid cs new
 
 abbrev call_for : List (Option Handle) → Answered → Call
 call_for handles a = answered (call_of a.command (handle_named handles a.command)) a.words
@@ -231,93 +226,79 @@ words_in reported = map (λ (a : Answered). a.words) reported
 abbrev commands_in : List Answered → List Command
 commands_in reported = map (λ (a : Answered). a.command) reported
 
-there : (reported : List Answered) (old : State) → IsBare old
-    → AllGive old.service.nodes.registry.service reported → (new : Service)
-    → CallsLead old.service (calls_of old.handles reported) new
-    → (replies : List Reply) × (map text_of replies ≡ words_in reported)
-    × ((last : State) × Run old (commands_in reported) replies last)
-there [] old bare gives new leads = ([], refl, (old, refl))
-there (a ∷ reported) old bare gives new leads =
-    let found = there_step old a bare gives.0 leads.0 leads.1 in
-    let r = found.0 in
-    let step = found.1 in
-    let after = next old leads.0 a.given in
-    let rest =
-    there reported after step.bare (subst (λ n. AllGive n reported) (sym step.number) gives.1) new
-    leads.2
-    in (
-      r ∷ rest.0,
-      ap (λ (w : List ℕ). w ∷ map text_of rest.0) step.text
-          ∙ ap (λ (l : List (List ℕ)). a.words ∷ l) rest.1,
-      (rest.2.0, (after, step.step, rest.2.1)),
-    )
-
-back : (reported : List Answered) (old : State) → IsBare old
-    → AllGive old.service.nodes.registry.service reported → (replies : List Reply)
-    → map text_of replies ≡ words_in reported → (last : State)
-    → Run old (commands_in reported) replies last
-    → (new : Service) × CallsLead old.service (calls_of old.handles reported) new
-back [] old bare gives replies e last run = (old.service, refl)
-back (a ∷ reported) old bare gives [] e last run = absurd run
-back (a ∷ reported) old bare gives (r ∷ rs) e last run =
-    let both = cons_same e in
-    let mid = run.0 in
-    let next_is = back_next old a bare gives.0 r mid both.0 run.1 in
-    let after = next old (quiet mid.service) a.given in
-    let rest =
-    back reported after next_is.bare (subst (λ n. AllGive n reported) (sym next_is.number) gives.1)
-    rs
-    both.1 (quiet_state last)
-    (subst (λ s. Run s (commands_in reported) rs (quiet_state last))
-    (back_state old a bare gives.0 r mid both.0 run.1)
-    (run_quiet mid last (commands_in reported) rs run.2)) in (
-      rest.0,
-      (quiet mid.service, back_step old a bare gives.0 r mid both.0 run.1, rest.1),
-    )
-
-abbrev as_judged : List Call → List Judged
-as_judged calls = map (λ (c : Call). call c) calls
-
--- the calls from a number on lead as those of a window do, where no weak listing looks
+-- the calls from a number on are those that were reported, and lead from state to state as runs do,
+-- where no weak listing looks
 module _ (all : List Judged) where
-  leads_there : (calls : List Call) (k : ℕ)
-      → ((at : ℕ) → slice_get (as_judged calls) at ≡ slice_get all (k + at))
-      → (old : Service) (new : Watched)
-      → Leads (WindowStep 0 all) (unwatched old) (range_with_len k (length calls)) new
-      → CallsLead old calls new.service
-  leads_there [] k same old new leads = ap (λ (w : Watched). w.service) leads
-  leads_there (c ∷ calls) k same old new leads =
+  abbrev AreFrom : ℕ → List (Option Handle) → List Answered → Type 0
+  AreFrom k handles reported =
+      (at : ℕ) → slice_get (judged_of handles reported) at ≡ slice_get all (k + at)
+
+  others_from : (k : ℕ) (handles : List (Option Handle)) (a : Answered) (reported : List Answered)
+      → AreFrom k handles (a ∷ reported) → AreFrom (k + 1) (handles ++ a.given ∷ []) reported
+  others_from k handles a reported same n = same (suc n) ∙ ap (slice_get all) (omega arith)
+
+  there : (reported : List Answered) (k : ℕ) (old : State) → IsBare old
+      → AllGive old.service.nodes.registry.service reported → AreFrom k old.handles reported
+      → (new : Watched)
+      → Leads (WindowStep 0 all) (unwatched old.service) (range_with_len k (length reported)) new
+      → (replies : List Reply) × (map text_of replies ≡ words_in reported)
+      × ((last : State) × Run old (commands_in reported) replies last)
+  there [] k old bare gives same new leads = ([], refl, (old, refl))
+  there (a ∷ reported) k old bare gives same new leads =
       let step = leads.1 in
       let has = step.1 in
+      let c = call_for old.handles a in
       let at : has.0 ≡ k + 0 = omega (arith, has.1) in
       let is : step.0 ≡ call c =
       same_Some step.0 (call c) (sym has.2 ∙ (ap (slice_get all) at ∙ sym (same 0))) in
-      let made : JudgedStep k (call c) (unwatched old) leads.0 =
-      subst (λ x. JudgedStep k x (unwatched old) leads.0) is step.2 in (
-        leads.0.service,
-        made.1,
-        leads_there calls (k + 1) (λ n. same (suc n) ∙ ap (slice_get all) (omega arith))
-            leads.0.service new
-            (subst (λ (w : Watched).
-            Leads (WindowStep 0 all) w (range_with_len (k + 1) (length calls)) new) made.2
-            leads.2),
+      let made : JudgedStep k (call c) (unwatched old.service) leads.0 =
+      subst (λ x. JudgedStep k x (unwatched old.service) leads.0) is step.2 in
+      let found = there_step old a bare gives.0 leads.0.service made.1 in
+      let after = next old leads.0.service a.given in
+      let rest =
+      there reported (k + 1) after found.1.bare
+      (subst (λ n. AllGive n reported) (sym found.1.number) gives.1)
+      (others_from k old.handles a reported same) new
+      (subst (λ (w : Watched).
+      Leads (WindowStep 0 all) w (range_with_len (k + 1) (length reported)) new) made.2 leads.2)
+      in (
+        found.0 ∷ rest.0,
+        ap (λ (w : List ℕ). w ∷ map text_of rest.0) found.1.text
+            ∙ ap (λ (l : List (List ℕ)). a.words ∷ l) rest.1,
+        (rest.2.0, (after, found.1.step, rest.2.1)),
       )
 
-  leads_back : (calls : List Call) (k : ℕ)
-      → ((at : ℕ) → slice_get (as_judged calls) at ≡ slice_get all (k + at)) → (old new : Service)
-      → CallsLead old calls new
-      → Leads (WindowStep 0 all) (unwatched old) (range_with_len k (length calls)) (unwatched new)
-  leads_back [] k same old new leads = ap unwatched leads
-  leads_back (c ∷ calls) k same old new leads = (
-    unwatched leads.0,
-    (
-      call c,
-      (k, omega arith, ap (slice_get all) (omega arith) ∙ sym (same 0)),
-      (refl, leads.1, refl),
-    ),
-    leads_back calls (k + 1) (λ n. same (suc n) ∙ ap (slice_get all) (omega arith)) leads.0 new
-        leads.2,
-  )
+  back : (reported : List Answered) (k : ℕ) (old : State) → IsBare old
+      → AllGive old.service.nodes.registry.service reported → AreFrom k old.handles reported
+      → (replies : List Reply) → map text_of replies ≡ words_in reported → (last : State)
+      → Run old (commands_in reported) replies last
+      → (new : Service) × Leads (WindowStep 0 all) (unwatched old.service)
+      (range_with_len k (length reported)) (unwatched new)
+  back [] k old bare gives same replies e last run = (old.service, refl)
+  back (a ∷ reported) k old bare gives same [] e last run = absurd run
+  back (a ∷ reported) k old bare gives same (r ∷ rs) e last run =
+      let both = cons_same e in
+      let mid = run.0 in
+      let next_is = back_next old a bare gives.0 r mid both.0 run.1 in
+      let after = next old (quiet mid.service) a.given in
+      let rest =
+      back reported (k + 1) after next_is.bare
+      (subst (λ n. AllGive n reported) (sym next_is.number) gives.1)
+      (others_from k old.handles a reported same) rs both.1 (quiet_state last)
+      (subst (λ s. Run s (commands_in reported) rs (quiet_state last))
+      (back_state old a bare gives.0 r mid both.0 run.1)
+      (run_quiet mid last (commands_in reported) rs run.2)) in (
+        rest.0,
+        (
+          unwatched (quiet mid.service),
+          (
+            call (call_for old.handles a),
+            (k, omega arith, ap (slice_get all) (omega arith) ∙ sym (same 0)),
+            (refl, back_step old a bare gives.0 r mid both.0 run.1, refl),
+          ),
+          rest.1,
+        ),
+      )
 
 range_more : (a n b : ℕ) → a + n ≡ b
     → range_with_len a (suc n) ≡ range_with_len a n ++ b ∷ []
@@ -330,11 +311,6 @@ rising zero = refl
 rising (suc n) =
     ap (λ (l : List ℕ). l ++ n ∷ []) (rising n) ∙ sym (range_more 0 n n (omega arith))
 
-calls_length : (reported : List Answered) (handles : List (Option Handle))
-    → length (calls_of handles reported) ≡ length reported
-calls_length [] handles = refl
-calls_length (a ∷ reported) handles = ap suc (calls_length reported (handles ++ a.given ∷ []))
-
 same_indices : (calls : List Judged) (n : ℕ) → slice_get calls n ≡ slice_get calls (0 + n)
 same_indices calls n = (let e : n ≡ 0 + n = omega arith in ap (slice_get calls) e)
 
@@ -346,26 +322,24 @@ pub alone : (old : State) (reported : List Answered) → IsBare old
     ↔ ((replies : List Reply) × (map text_of replies ≡ words_in reported)
     × ((new : State) × Run old (commands_in reported) replies new))
 alone old reported bare gives =
-    let calls = calls_of old.handles reported in
-    let all = as_judged calls in
+    let all = judged_of old.handles reported in
     let start = unwatched old.service in
     let Step = WindowStep 0 all in
-    let order : in_order (length reported) ≡ range_with_len 0 (length calls) =
-    rising (length reported) ∙ ap (range_with_len 0) (sym (calls_length reported old.handles)) in (
+    let order = rising (length reported) in (
       λ explained.
           let from = explained.0 in
           let new = explained.2 in
           let is = only start from explained.3 in
           let leads = ((calls_alone_are_runs Step (length reported) from new explained.1).0
           explained.4).1 in
-          there reported old bare gives new.service
-          (leads_there all calls 0 (same_indices all) old.service new
+          there all reported 0 old bare gives (same_indices all) new
           (subst (λ l. Leads Step start l new) order
-          (subst (λ s. Leads Step s (in_order (length reported)) new) is leads))),
+          (subst (λ s. Leads Step s (in_order (length reported)) new) is leads)),
       λ run.
-          let found = back reported old bare gives run.0 run.1 run.2.0 run.2.1 in
-          let leads = subst (λ l. Leads Step start l (unwatched found.0)) (sym order)
-          (leads_back all calls 0 (same_indices all) old.service found.0 found.1) in (
+          let found =
+          back all reported 0 old bare gives (same_indices all) run.0 run.1 run.2.0 run.2.1 in
+          let leads =
+          subst (λ l. Leads Step start l (unwatched found.0)) (sym order) found.1 in (
             start,
             in_order (length reported),
             unwatched found.0,

@@ -1,11 +1,11 @@
 -- What calls that were seen do.
 use Rattle.service_conformance.proofs.Prelude.{All-push, All-weaker, AllocError, Contains, Contains-append_left, Contains-push, IfOk, List, None, Option, Result, Some, Vec, [], ap, arith, false, inl, inr, refl, subst, sym, true, ℕ, ◌++◌, ◌+◌, ◌<◌, ◌∙◌, ◌∷◌, ◌≡◌, ◌⊎◌, cases_lt, IfOk-weaker, All-cons, All-nil}
-use Rattle.service_conformance.proofs.Names.{AreAll, ArePossible, ArePossibleWords, AreRepliesOf, ByPort, Call, CallStep, CanServe, ChangesNothing, Command, GivesBelow, Handle, IsCovered, IsIdleCall, IsSameReply, IsService, LeadsOn, LeadsTo, LineReply, MayGiveIn, Part, Possible, PossibleReplies, Reply, SeenReply, Serves, ServesCall, ServesDead, ServesDeregister, ServesRelease, Service, ReadsReply, changes_nothing, handle_in, is_removal, named, quiet, reply_in, seen_text, text_of}
+use Rattle.service_conformance.proofs.Names.{AreAll, ArePossible, ArePossibleWords, AreRepliesOf, ByPort, Call, CallStep, CanServe, ChangesNothing, Command, GivesBelow, Handle, IsCovered, IsIdleCall, IsSameReply, IsService, LeadsOn, LeadsTo, LineReply, MayGiveIn, Part, Possible, PossibleReplies, Reply, SeenReply, Serves, ServesCall, ServesDead, Service, ReadsReply, changes_nothing, handle_in, is_removal, named, quiet, reply_in, seen_text, text_of}
 use Rattle.service_descriptions.specs.declared.replay.machine.command.Command.TheVariants as command
 use Rattle.service_descriptions.specs.declared.replay.machine.reply.Reply.TheVariants as reply
 use Rattle.service_conformance.specs.declared.conformance.possible.Part.TheVariants as part
 use Rattle.service_conformance.specs.declared.conformance.possible.Possible.TheVariants as possible
-use Rattle.service_conformance.proofs.Following.{attach_stays, deregister_none, deregister_stays, register_stays, release_none, release_stays}
+use Rattle.service_conformance.proofs.Following.{attach_stays, deregister_stays, register_stays, release_stays}
 use Rattle.service_conformance.proofs.Seen.{reported_nothing}
 use Rattle.service_conformance.proofs.Words.{same_handle, same_reply, same_step}
 
@@ -125,16 +125,6 @@ module _ (call : Call) (s : Service) where
         (a.0, a.2, below a.0 a.2, subst (λ q. LeadsOn call s q x) a.1 on))
 
 -- a reply that gives no handle and is of no removal changes nothing
-deregister_any : (s mid : Service) → quiet s ≡ s → (handle : Option Handle) (r : Reply)
-    → is_removal r ≡ false → ServesDeregister s handle r mid → quiet mid ≡ s
-deregister_any s mid rest None r stays so = deregister_none s rest r mid so
-deregister_any s mid rest (Some h) r stays so = deregister_stays s rest h r stays mid so
-
-release_any : (s mid : Service) → quiet s ≡ s → (handle : Option Handle) (r : Reply)
-    → is_removal r ≡ false → ServesRelease s handle r mid → quiet mid ≡ s
-release_any s mid rest None r stays so = release_none s rest r mid so
-release_any s mid rest (Some h) r stays so = release_stays s h rest r stays mid so
-
 dead_any : (s mid : Service) (dead : ℕ) (kept : Vec ℕ) (r : Reply) → is_removal r ≡ false
     → ServesDead s dead (ByPort kept) r mid → quiet mid ≡ s
 dead_any s mid dead kept reply.HasOwners e so = absurd (let z : true ≡ false = e in cc)
@@ -147,11 +137,11 @@ stays : (s mid : Service) (handles : List (Option Handle)) (c : Command) (r : Re
 stays s mid handles (command.Register id) r i rest none e so =
     register_stays s rest id r none mid so
 stays s mid handles (command.Deregister k) r i rest none e so =
-    deregister_any s mid rest (named handles k) r e so
+    deregister_stays s rest (named handles k) r e mid so
 stays s mid handles command.Nodes r i rest none e so = ap quiet so.1 ∙ rest
 stays s mid handles (command.Add d) r i rest none e so = attach_stays s d rest r none mid so
 stays s mid handles (command.Release k) r i rest none e so =
-    release_any s mid rest (named handles k) r e so
+    release_stays s rest (named handles k) r e mid so
 stays s mid handles (command.List role) r i rest none e so = ap quiet so.1 ∙ rest
 stays s mid handles (command.Count role) r i rest none e so = ap quiet so.1 ∙ rest
 stays s mid handles (command.Dead dead (ByPort kept)) r i rest none e so =

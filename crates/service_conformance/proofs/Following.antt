@@ -38,17 +38,14 @@ module _ (s : Service) (rest : quiet s ≡ s) where
   register_stays id reply.Full e = λ w so. by_nodes s w s.nodes.registry so.1 so.0.step.2 ∙ rest
   register_stays id _ e = λ w so. absurd so
 
-  pub deregister_none : (r : Reply) → LeadsTo (ServesDeregister s None) r s
-  deregister_none reply.NoHandle = λ w so. ap quiet so ∙ rest
-  deregister_none _ = λ w so. absurd so
-
-  pub deregister_stays : (h : Handle) (r : Reply) → is_removal r ≡ false
-      → LeadsTo (ServesDeregister s (Some h)) r s
-  deregister_stays h reply.HasOwners e = absurd (let z : true ≡ false = e in cc)
-  deregister_stays h reply.NoMoreOwners e = absurd (let z : true ≡ false = e in cc)
-  deregister_stays h reply.PortsAttached e = λ w so. ap quiet so.3 ∙ rest
-  deregister_stays h reply.NotOwned e = λ w so. ap quiet so.1 ∙ rest
-  deregister_stays h _ e = λ w so. absurd so
+  pub deregister_stays : (handle : Option Handle) (r : Reply) → is_removal r ≡ false
+      → LeadsTo (ServesDeregister s handle) r s
+  deregister_stays None reply.NoHandle e = λ w so. ap quiet so ∙ rest
+  deregister_stays (Some h) reply.HasOwners e = absurd (let z : true ≡ false = e in cc)
+  deregister_stays (Some h) reply.NoMoreOwners e = absurd (let z : true ≡ false = e in cc)
+  deregister_stays (Some h) reply.PortsAttached e = λ w so. ap quiet so.3 ∙ rest
+  deregister_stays (Some h) reply.NotOwned e = λ w so. ap quiet so.1 ∙ rest
+  deregister_stays _ _ e = λ w so. absurd so
 
 pub register_enters : (s : Service) (id : ℕ) (h : Handle)
     → CanServe (ServesRegister s id) (reply.Handle h) → (m : RegistryState ℕ)
@@ -158,25 +155,22 @@ module _ (s : Service) (d : PortDetails) where
           was_given (ports_at s side).registry (ports_at can.0 side).registry d h c.step c.kept,
         )
 
-pub release_none : (s : Service) → quiet s ≡ s → (r : Reply) → LeadsTo (ServesRelease s None) r s
-release_none s rest reply.NoHandle = λ w so. ap quiet so ∙ rest
-release_none s rest _ = λ w so. absurd so
+refused_removal : (s : Service) (h : Handle) → quiet s ≡ s → (w : Service)
+    → RemovesPort s h (Err ContainerHandleNotOwnedByContainer) w → quiet w ≡ s
+refused_removal s h rest w (inl a, e) =
+    by_ports a.side s w (ports_at s a.side).registry (ap (λ (n : Service). n.pattern) e)
+    (ap (λ (n : Service). n.nodes.registry) e) a.step.step.1 a.others
+    ∙ (same_side a.side s ∙ rest)
+refused_removal s h rest w (inr a, e) = ap quiet e ∙ rw a.2 rest
+
+pub release_stays : (s : Service) → quiet s ≡ s → (handle : Option Handle) (r : Reply)
+    → is_removal r ≡ false → LeadsTo (ServesRelease s handle) r s
+release_stays s rest None reply.NoHandle e = λ w so. ap quiet so ∙ rest
+release_stays s rest (Some h) reply.Released e = absurd (let z : true ≡ false = e in cc)
+release_stays s rest (Some h) reply.NotOwned e = λ w so. refused_removal s h rest w so
+release_stays s rest _ _ e = λ w so. absurd so
 
 module _ (s : Service) (h : Handle) where
-  refused_removal : quiet s ≡ s → (w : Service)
-      → RemovesPort s h (Err ContainerHandleNotOwnedByContainer) w → quiet w ≡ s
-  refused_removal rest w (inl a, e) =
-      by_ports a.side s w (ports_at s a.side).registry (ap (λ (n : Service). n.pattern) e)
-      (ap (λ (n : Service). n.nodes.registry) e) a.step.step.1 a.others
-      ∙ (same_side a.side s ∙ rest)
-  refused_removal rest w (inr a, e) = ap quiet e ∙ rw a.2 rest
-
-  pub release_stays : quiet s ≡ s → (r : Reply) → is_removal r ≡ false
-      → LeadsTo (ServesRelease s (Some h)) r s
-  release_stays rest reply.Released e = absurd (let z : true ≡ false = e in cc)
-  release_stays rest reply.NotOwned e = λ w so. refused_removal rest w so
-  release_stays rest _ e = λ w so. absurd so
-
   module _ (side : Side) (role : h.role ≡ role_at s.pattern side) (m : RegistryState PortDetails)
       (gone : (state : ReleaseState) (new : RegistryState PortDetails)
       → RemoveStep (ports_at s side).registry h Default (Ok state) new → new ≡ m) where

@@ -1,8 +1,10 @@
 -- What is given of a service that was in use.
-use Rattle.service_conformance.proofs.Prelude.{All, All-cons, All-head, All-nil, All-push, All-weaker, AllPairs, Bool, IfOk, List, OnErr, [], all_pairs_push, ap, arith, false, filter-append, length, length-append, refl, subst, sym, true, ℕ, ◌++◌, ◌<◌, ◌∙◌, ◌∷◌, ◌≡◌, ◌≢◌, ◌≤◌, false_from_ne_true}
-use Rattle.service_conformance.proofs.Names.{Becomes, Entry, First, GivesNode, GivesNodes, GivesPort, GivesPorts, IsBefore, IsPortRegistry, IsRegistry, IsService, IsUnused, MayStand, PortDetails, Registered, RegistryState, Role, Second, Service, Side, StandsLast, UsedSo, candidates, entries_of_node, is_of, node_of, ports_at, role_at, role_of, slot_entry, with_last, with_nodes, with_ports, with_used}
+use Rattle.service_conformance.proofs.Prelude.{All, All-cons, All-head, All-nil, All-push, All-weaker, AllPairs, Bool, IfOk, List, OnErr, [], all_pairs_push, ap, arith, false, append-nil, refl, subst, sym, true, ℕ, ◌++◌, ◌<◌, ◌∙◌, ◌∷◌, ◌≡◌, ◌≢◌, ◌≤◌, false_from_ne_true}
+use Rattle.service_conformance.proofs.Names.{Becomes, Entry, First, GivesNode, GivesNodes, GivesPort, GivesPorts, IsBefore, IsPortRegistry, IsRegistry, IsService, IsUnused, MayStand, PortDetails, Registered, RegistryState, Role, Second, Service, Side, StandsLast, UsedSo, container, entries_of_node, is_of, node_of, ports_at, role_at, role_of, slot_entry, with_last, with_nodes, with_ports, with_used}
 use Rattle.std.specs.Prelude.{Result, Ok, Err}
+use Rattle.iox2_container.proofs.Counting.{counted, counted-between}
 use Rattle.iox2_container.proofs.Gaining.{All-back, AllPairs-head, AllPairs-tail}
+use Rattle.iox2_dynamic.proofs.Keeping.{with_nodes as other_nodes}
 use Rattle.service_conformance.proofs.Sides.{one_side, ports_are}
 
 pub push_some : {X : Type 0} (xs : List X) (y : X) → xs ++ y ∷ [] ≢ []
@@ -67,12 +69,11 @@ last_is {T} s r e l same is =
 more_of : (id : ℕ) (r : RegistryState ℕ) (x : Entry ℕ)
     → entries_of_node id r ≤ entries_of_node id (with_last r x)
 more_of id r x =
-    let p : Entry ℕ → Bool = λ e. is_of (λ i. i) id e.details in
+    let p : ℕ → Bool = is_of (λ i. i) id in
     omega (
       arith,
-      ap (λ (l : List (Entry ℕ)). length l) (filter-append p r.entries (x ∷ [])),
-      length-append (candidates (is_of (λ i. i) id) r.entries)
-          (candidates (is_of (λ i. i) id) (x ∷ [])),
+      counted-between p r.entries x [],
+      ap (counted p) (append-nil r.entries),
     )
 
 registered_more : (r : RegistryState ℕ) (x : Entry ℕ) (ports : List (Entry PortDetails))
@@ -83,31 +84,17 @@ registered_more r x ports all =
     (λ e h. omega (arith, h, more_of (node_of e.details) r x)) ports all
 
 -- other nodes, where those stay registered that have ports
-pub nodes_is : (s : Service) (r : RegistryState ℕ) → IsService s → IsRegistry r
+nodes_is : (s : Service) (r : RegistryState ℕ) → IsService s → IsRegistry r
     → r.service ≡ s.nodes.registry.service → r.role ≡ s.nodes.registry.role
     → ((ports : List (Entry PortDetails)) → Registered s.nodes.registry ports
     → Registered r ports)
     → IsService (with_nodes s r)
-nodes_is s r i k number role more = record {
-  nodes_are = k;
-  role_is = role ∙ i.role_is;
-  ports_are = record { first = moved First; second = moved Second };
-}
-  where
-    moved : (side : Side)
-        → IsPortRegistry r (role_at s.pattern side) (ports_at s side).registry
-    moved side =
-        let p = ports_are s side i in
-        record {
-          is_registry = p.is_registry;
-          number_is = p.number_is ∙ sym number;
-          role_is = p.role_is;
-          is_open = p.is_open;
-          registered = more (ports_at s side).registry.entries p.registered;
-        }
+nodes_is s r i k number role more =
+    other_nodes s (container r s.nodes.touches) k number role
+    (more _ i.ports_are.first.registered) (more _ i.ports_are.second.registered) i
 
 -- other ports of one kind
-pub ports_is : (s : Service) (side : Side) (r : RegistryState PortDetails) → IsService s
+ports_is : (s : Service) (side : Side) (r : RegistryState PortDetails) → IsService s
     → IsPortRegistry s.nodes.registry (role_at s.pattern side) r
     → IsService (with_ports side s r)
 ports_is s First r i p = record {
@@ -122,13 +109,13 @@ ports_is s Second r i p = record {
 }
 
 -- and the other way round
-pub ports_only : (s : Service) (side : Side) (r : RegistryState PortDetails)
+ports_only : (s : Service) (side : Side) (r : RegistryState PortDetails)
     → IsService (with_ports side s r)
     → IsPortRegistry s.nodes.registry (role_at s.pattern side) r
 ports_only s First r i = i.ports_are.first
 ports_only s Second r i = i.ports_are.second
 
-pub ports_used : (s : Service) (side : Side) (used : ℕ) → IsService s
+ports_used : (s : Service) (side : Side) (used : ℕ) → IsService s
     → IsRegistry (with_used (ports_at s side).registry used false)
     → IsService (with_ports side s (with_used (ports_at s side).registry used false))
 ports_used s side used i k =
@@ -141,7 +128,7 @@ ports_used s side used i k =
       registered = p.registered;
     })
 
-pub port_last : (s : Service) (side : Side) (x : Entry PortDetails) → IsService s
+port_last : (s : Service) (side : Side) (x : Entry PortDetails) → IsService s
     → 0 < entries_of_node (node_of x.details) s.nodes.registry
     → IsRegistry (with_last (ports_at s side).registry x)
     → IsService (with_ports side s (with_last (ports_at s side).registry x))
@@ -174,42 +161,54 @@ becomes put old s Is Gives same i there back false r b =
     let is : put r ≡ s = ap put b.1 ∙ same in
     ((λ new g. b.0 (back new g).0 (back new g).1, is), subst IsService (sym is) i)
 
+-- where memory is refused nothing has changed
+given_by : {E T : Type 0} (Is Gives : Bool → Type 0) (Kept : T → Type 0) (result : Result Bool E)
+    (old new : T) → IfOk result Is → OnErr result (new ≡ old)
+    → ((so : Bool) → Is so → Gives so × Kept new) → Kept old → IfOk result Gives × Kept new
+given_by Is Gives Kept (Ok so) old new h e f i = f so h
+given_by Is Gives Kept (Err x) old new h e f i = (tt, subst Kept (sym e) i)
+
+-- what is put is a service
+puts : {T : Type 0} (put : RegistryState T → Service) (target r : RegistryState T)
+    → (IsRegistry target → IsService (put target)) → r ≡ target → IsRegistry r
+    → (put r ≡ put target) × IsService (put r)
+puts put target r keeps e k =
+    let is = ap put e in (is, subst IsService (sym is) (keeps (subst IsRegistry e k)))
+
 module _ (s : Service) (i : IsService s) where
   pub gives_nodes : (used : ℕ) (locked so : Bool) (r : RegistryState ℕ)
       → Becomes (UsedSo s.nodes.registry used locked) s.nodes.registry so r
       → Becomes (GivesNodes s used locked) s so (with_nodes s r) × IsService (with_nodes s r)
   gives_nodes used locked so r b =
+      let target = with_used s.nodes.registry used locked in
       becomes (with_nodes s) s.nodes.registry s (UsedSo s.nodes.registry used locked)
       (GivesNodes s used locked) refl i
       (λ r u.
-      let is = ap (λ (x : RegistryState ℕ). with_nodes s x) u.1 in
-      let kept = subst IsService (sym is)
-      (nodes_is s (with_used s.nodes.registry used locked) i
-      (subst (λ (x : RegistryState ℕ). IsRegistry x) u.1 u.2) refl refl (λ ports all. all)) in
-      ((u.0, is, kept), kept))
-      (λ new g. (
-        with_used s.nodes.registry used locked,
-        (g.0, refl, (subst IsService g.1 g.2).nodes_are),
-      )) so r b
+      let p =
+      puts (with_nodes s) target r (λ k. nodes_is s target i k refl refl (λ ports all. all)) u.1 u.2
+      in
+      ((u.0, p.0, p.1), p.1))
+      (λ new g. (target, (g.0, refl, (subst IsService g.1 g.2).nodes_are))) so r b
 
-  pub gives_node : (slot ticket id : ℕ) (so : Bool) (r : RegistryState ℕ)
-      → Becomes (StandsLast s.nodes.registry (slot_entry slot ticket id)) s.nodes.registry so r
-      → Becomes (GivesNode s slot ticket id) s so (with_nodes s r) × IsService (with_nodes s r)
-  gives_node slot ticket id so r b =
+  pub gives_node : {E : Type 0} (slot ticket id : ℕ) (result : Result Bool E) (r : RegistryState ℕ)
+      → IfOk result
+      (λ so. Becomes (StandsLast s.nodes.registry (slot_entry slot ticket id)) s.nodes.registry so
+      r)
+      → OnErr result (r ≡ s.nodes.registry)
+      → IfOk result (λ so. Becomes (GivesNode s slot ticket id) s so (with_nodes s r))
+      × IsService (with_nodes s r)
+  gives_node slot ticket id result r ok err =
       let x : Entry ℕ = slot_entry slot ticket id in
-      becomes (with_nodes s) s.nodes.registry s (StandsLast s.nodes.registry x)
+      let target = with_last s.nodes.registry x in
+      given_by _ _ (λ r. IsService (with_nodes s r)) result s.nodes.registry r ok err
+      (λ so. becomes (with_nodes s) s.nodes.registry s (StandsLast s.nodes.registry x)
       (GivesNode s slot ticket id) refl i
       (λ r u.
-      let is = ap (λ (x : RegistryState ℕ). with_nodes s x) u.0 in
-      let kept = subst IsService (sym is)
-      (nodes_is s (with_last s.nodes.registry x) i
-      (subst (λ (x : RegistryState ℕ). IsRegistry x) u.0 u.1) refl refl
-      (registered_more s.nodes.registry x)) in
-      ((is, kept), kept))
-      (λ new g. (
-        with_last s.nodes.registry x,
-        (refl, (subst IsService g.0 g.1).nodes_are),
-      )) so r b
+      let p =
+      puts (with_nodes s) target r
+      (λ k. nodes_is s target i k refl refl (registered_more s.nodes.registry x)) u.0 u.1 in
+      (p, p.1))
+      (λ new g. (target, (refl, (subst IsService g.0 g.1).nodes_are))) so r) i
 
   module _ (side : Side) where
     abbrev now : RegistryState PortDetails
@@ -228,11 +227,9 @@ module _ (s : Service) (i : IsService s) where
         becomes (with_ports side s) now s (UsedSo now used false)
         (GivesPorts s role used) (same_ports s side) i
         (λ r u.
-        let is = ap (λ (x : RegistryState PortDetails). with_ports side s x) u.1 in
-        let kept = subst IsService (sym is)
-        (ports_used s side used i (subst (λ (x : RegistryState PortDetails). IsRegistry x) u.1 u.2))
-        in
-        ((side, at, u.0, is, kept), kept))
+        let p =
+        puts (with_ports side s) (with_used now used false) r (ports_used s side used i) u.1 u.2 in
+        ((side, at, u.0, p.0, p.1), p.1))
         (λ new g.
         let w = here (λ z. IsUnused (ports_at s z).registry
         × IsService (with_ports z s (with_used (ports_at s z).registry used false))) role at
@@ -240,28 +237,28 @@ module _ (s : Service) (i : IsService s) where
         let p = ports_only s side (with_used now used false) w.1 in
         (with_used now used false, (w.0, refl, p.is_registry))) so r b
 
-    pub gives_port : (slot ticket : ℕ) (d : PortDetails) (so : Bool)
+    pub gives_port : {E : Type 0} (slot ticket : ℕ) (d : PortDetails) (result : Result Bool E)
         (r : RegistryState PortDetails) → role_of d ≡ role_at s.pattern side
         → 0 < entries_of_node (node_of d) s.nodes.registry
-        → Becomes (StandsLast now (slot_entry slot ticket d)) now so r
-        → Becomes (GivesPort s slot ticket d) s so (with_ports side s r)
+        → IfOk result (λ so. Becomes (StandsLast now (slot_entry slot ticket d)) now so r)
+        → OnErr result (r ≡ now)
+        → IfOk result (λ so. Becomes (GivesPort s slot ticket d) s so (with_ports side s r))
         × IsService (with_ports side s r)
-    gives_port slot ticket d so r at has b =
+    gives_port slot ticket d result r at has ok err =
         let x : Entry PortDetails = slot_entry slot ticket d in
-        becomes (with_ports side s) now s (StandsLast now x) (GivesPort s slot ticket d)
+        given_by _ _ (λ r. IsService (with_ports side s r)) result now r ok err
+        (λ so. becomes (with_ports side s) now s (StandsLast now x) (GivesPort s slot ticket d)
         (same_ports s side) i
         (λ r u.
-        let is = ap (λ (x : RegistryState PortDetails). with_ports side s x) u.0 in
-        let kept = subst IsService (sym is)
-        (port_last s side x i has (subst (λ (x : RegistryState PortDetails). IsRegistry x) u.0 u.1))
-        in
-        ((side, at, is, kept), kept))
+        let p = puts (with_ports side s) (with_last now x) r (port_last s side x i has) u.0 u.1 in
+        ((side, at, p.0, p.1), p.1))
         (λ new g.
         let w =
         here (λ z. IsService (with_ports z s (with_last (ports_at s z).registry x))) (role_of d) at
         (g.0, g.1, subst IsService g.2 g.3) in
         let p = ports_only s side (with_last now x) w in
-        (with_last now x, (refl, p.is_registry))) so r b
+        (with_last now x, (refl, p.is_registry))) so r)
+        (subst IsService (sym (same_ports s side)) i)
 
   -- a port of a node that is not registered
   pub no_node : (slot ticket : ℕ) (d : PortDetails)
@@ -279,13 +276,6 @@ module _ (s : Service) (i : IsService s) where
       (λ (e : Entry PortDetails). 0 < entries_of_node (node_of e.details) s.nodes.registry)
       (ports_at s g.0).registry.entries (x ∷ []) p.registered) in
       none has
-
--- what holds where memory was given, and where it was refused and nothing has changed
-pub kept_by : {A E T : Type 0} (P : A → Type 0) (Is : T → Type 0) (result : Result A E) (old new
-    : T)
-    → IfOk result P → OnErr result (new ≡ old) → ((v : A) → P v → Is new) → Is old → Is new
-kept_by P Is (Ok v) old new h e f i = f v h
-kept_by P Is (Err x) old new h e f i = subst Is (sym e) i
 
 -- a node is registered in what is the same service
 pub has_moved : (s t : Service) (node id : ℕ) → s ≡ t → node ≡ id

@@ -6,15 +6,11 @@ pub mod Removes
 pub mod Filters
 pub mod Possibles
 pub mod Sides
-pub mod Attaching
-pub mod Deregistering
-pub mod Releasing
-pub mod Listing
+pub mod Removing
 pub mod Quiet
 pub mod Following
 pub mod Words
 pub mod Dying
-pub mod DeadSteps
 pub mod Seen
 pub mod Calls
 pub mod Looking
@@ -22,10 +18,6 @@ pub mod Judged
 pub mod Alone
 pub mod Given
 pub mod WeakListings
-pub mod MovingEntries
-pub mod MovingLooks
 pub mod MovingParts
-pub mod MovingNodes
-pub mod MovingPorts
 pub mod MovingSteps
 pub mod Moving

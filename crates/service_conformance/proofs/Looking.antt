@@ -1,16 +1,29 @@
 -- What weak listings lack after they have looked.
-use Rattle.service_conformance.proofs.Prelude.{Bool, Err, List, None, Ok, OnOk, Option, Result, Some, [], ap, cases_Bool, filter, filter_map-append, get_or, inl, inr, length, not, refl, subst, sym, take, take_more, ℕ, ◌&&◌, ◌++◌, ◌+◌, ◌<◌, ◌==◌, ◌∙◌, ◌∷◌, ◌≡◌, same_Some}
-use Rattle.service_conformance.proofs.Names.{IsWatched, Look, Service, Watched, ids_in, is_among, lacking, look_after, looks_after, watched, without}
-use Rattle.std.proofs.Common.{OnErr}
+use Rattle.service_conformance.proofs.Prelude.{All, All-head, All-tail, AllByRecursion, Bool, Err, List, None, Ok, OnErr, OnOk, Option, Result, Some, [], and_parts, ap, cases_Bool, cons_option, eqb-true, false, filter, filter_map-append, filter_passes, get_or, inl, inr, length, nil_from_length, not, refl, same_Some, subst, sym, take, take_more, true, ℕ, ◌&&◌, ◌++◌, ◌+◌, ◌<◌, ◌==◌, ◌∙◌, ◌∷◌, ◌≡◌, ◌⊎◌}
+use Rattle.service_conformance.proofs.Names.{IsWatched, Look, Part, Service, Watched, ids_in, is_among, lacking, look_after, looks_after, without}
 
-filter_twice : {X : Type 0} (p : X → Bool) (xs : List X) → filter p (filter p xs) ≡ filter p xs
-filter_twice p [] = refl
-filter_twice {X} p (x ∷ xs) =
-    let rest = filter_twice p xs in
-    elim (cases_Bool (p x)) [
-      | inl t ↦ rw t (rw t (ap (λ (l : List X). x ∷ l) rest))
-      | inr f ↦ rw f rest
-    ]
+pub by_cases : (P : Type 0) (b : Bool) → (b ≡ true → P) → (b ≡ false → P) → P
+by_cases P true then_so else_so = then_so refl
+by_cases P false then_so else_so = else_so refl
+
+pub empty_of : (ids : List ℕ) → (length ids == 0) ≡ true → ids ≡ []
+empty_of ids e = nil_from_length ids (eqb-true (length ids) 0 e)
+
+-- a test that holds, or says what a later one says, changes nothing
+filter_again : {X : Type 0} (one other : X → Bool) (xs : List X)
+    → All (λ x. (one x ≡ true) ⊎ (one x ≡ other x)) xs
+    → filter other (filter one xs) ≡ filter other xs
+filter_again one other [] all = refl
+filter_again {X} one other (x ∷ xs) all =
+    let Q : X → Type 0 = λ x. (one x ≡ true) ⊎ (one x ≡ other x) in
+    let rest = filter_again one other xs (All-tail Q x xs all) in
+    by_cases _ (one x)
+    (λ t. by_cases _ (other x) (λ a. rw t (rw a (ap (λ (l : List X). x ∷ l) rest)))
+    (λ n. rw t (rw n rest)))
+    (λ f. elim (All-head Q x xs all) [
+      | inl t ↦ absurd (let z : true ≡ false = sym t ∙ f in cc)
+      | inr same ↦ (let n : other x ≡ false = sym same ∙ f in rw f (rw n rest))
+    ])
 
 -- a weak listing after these ids were there
 abbrev pub seen_of : List ℕ → Look → Look
@@ -22,11 +35,12 @@ seen_of there look = record look {
 same_seen : (there : List ℕ) (l : Look) → seen_of there (seen_of there l) ≡ seen_of there l
 same_seen there l =
     rw (
-      filter_twice (λ id. not (is_among there id)) l.unseen,
-      filter_twice (is_among there) l.lasting,
+      filter_again (λ id. not (is_among there id)) (λ id. not (is_among there id)) l.unseen
+          (λ k d h. inr refl),
+      filter_again (is_among there) (is_among there) l.lasting (λ k d h. inr refl),
     ) refl
 
-pub lacking_is : (l m : Look) → lacking l ≡ Some m → l ≡ m
+lacking_is : (l m : Look) → lacking l ≡ Some m → l ≡ m
 lacking_is l m e = elim (cases_Bool (length l.unseen == 0 && length l.lasting == 0)) [
   | inl t ↦
       (let bars : None ≡ Some m = subst (λ (o : Option Look). o ≡ Some m) (rw t refl) e in
@@ -34,43 +48,59 @@ lacking_is l m e = elim (cases_Bool (length l.unseen == 0 && length l.lasting ==
   | inr f ↦ same_Some l m (subst (λ (o : Option Look). o ≡ Some m) (rw f refl) e)
 ]
 
--- what it lacks then stays as it is
-look_twice : (there : List ℕ) (l m : Look) → look_after there l ≡ Some m
-    → look_after there m ≡ Some m
-look_twice there l m e =
-    let is : seen_of there l ≡ m = lacking_is (seen_of there l) m e in
-    let stays : seen_of there m ≡ seen_of there l =
-    ap (seen_of there) (sym is) ∙ same_seen there l in
-    ap lacking stays ∙ e
+-- a weak listing that lacks nothing lacks nothing later
+none_later : (there : List ℕ) (l : Look) → lacking l ≡ None → look_after there l ≡ None
+none_later there l e =
+    by_cases _ (length l.unseen == 0 && length l.lasting == 0) (λ t.
+    let both = and_parts (length l.unseen == 0) (length l.lasting == 0) t in
+    rw (empty_of l.unseen both.0, empty_of l.lasting both.1) refl) (λ f.
+    let bars : Some l ≡ None = subst (λ (o : Option Look). o ≡ None) (rw f refl) e in
+    absurd (cc))
 
-pub same_part : (there : List ℕ) (l m : Look) → look_after there l ≡ Some m → m.part ≡ l.part
-same_part there l m e =
-    ap (λ (x : Look). x.part) (sym (lacking_is (seen_of there l) m e))
+-- the weak listing lacks the same later, whether it looks at this service before or not
+abbrev IsPassed : Service → Service → Look → Type 0
+IsPassed mid new l =
+    seen_of (ids_in new l.part) (seen_of (ids_in mid l.part) l) ≡ seen_of (ids_in new l.part) l
+
+looks_pass : (mid new : Service) (looks : List Look) → AllByRecursion (IsPassed mid new) looks
+    → looks_after new (looks_after mid looks) ≡ looks_after new looks
+looks_pass mid new [] all = refl
+looks_pass mid new (l ∷ looks) all =
+    cases (looks_pass mid new looks all.1) (look_after (ids_in mid l.part) l) refl
+  where
+    again : looks_after new (looks_after mid looks) ≡ looks_after new looks → (o : Option Look)
+        → cons_option o (looks_after new (looks_after mid looks))
+        ≡ cons_option o (looks_after new looks)
+    again rest o = ap (cons_option o) rest
+
+    cases : looks_after new (looks_after mid looks) ≡ looks_after new looks → (o : Option Look)
+        → look_after (ids_in mid l.part) l ≡ o
+        → looks_after new (looks_after mid (l ∷ looks)) ≡ looks_after new (l ∷ looks)
+    cases rest None is =
+        let none : look_after (ids_in new l.part) l ≡ None =
+        ap lacking (sym all.0)
+        ∙ none_later (ids_in new l.part) (seen_of (ids_in mid l.part) l) is in
+        rw is (rw none rest)
+    cases rest (Some m) is =
+        let same : look_after (ids_in new m.part) m ≡ look_after (ids_in new l.part) l =
+        subst (λ (x : Look). look_after (ids_in new x.part) x ≡ look_after (ids_in new l.part) l)
+        (lacking_is (seen_of (ids_in mid l.part) l) m is) (ap lacking all.0) in
+        rw is (rw same (again rest (look_after (ids_in new l.part) l)))
 
 pub looks_twice : (s : Service) (looks : List Look)
     → looks_after s (looks_after s looks) ≡ looks_after s looks
-looks_twice s [] = refl
-looks_twice s (l ∷ looks) = cases (looks_twice s looks) (look_after (ids_in s l.part) l) refl
+looks_twice s looks = looks_pass s s looks (each looks)
   where
-    cases : looks_after s (looks_after s looks) ≡ looks_after s looks → (o : Option Look)
-        → look_after (ids_in s l.part) l ≡ o
-        → looks_after s (looks_after s (l ∷ looks)) ≡ looks_after s (l ∷ looks)
-    cases rest None e = rw e rest
-    cases rest (Some m) e =
-        let again : look_after (ids_in s m.part) m ≡ Some m =
-        subst (λ p. look_after (ids_in s p) m ≡ Some m) (sym (same_part (ids_in s l.part) l m e))
-        (look_twice (ids_in s l.part) l m e) in
-        rw e (rw again (ap (λ (x : List Look). m ∷ x) rest))
-
-pub watched_is : (s : Service) (looks : List Look) → IsWatched (watched s looks)
-watched_is s looks = looks_twice s looks
+    each : (looks : List Look) → AllByRecursion (IsPassed s s) looks
+    each [] = tt
+    each (l ∷ looks) = (same_seen (ids_in s l.part) l, each looks)
 
 -- one weak listing more
-pub looks_more : (s : Service) (a b : List Look)
+looks_more : (s : Service) (a b : List Look)
     → looks_after s (a ++ b) ≡ looks_after s a ++ looks_after s b
 looks_more s a b = filter_map-append (λ (l : Look). look_after (ids_in s l.part) l) a b
 
-pub started_is : (w : Watched) (l : Look) → IsWatched w
+started_is : (w : Watched) (l : Look) → IsWatched w
     → looks_after w.service (w.looks ++ looks_after w.service (l ∷ []))
     ≡ w.looks ++ looks_after w.service (l ∷ [])
 started_is w l is =
@@ -95,3 +125,71 @@ looks_next s looks i d left new h is before more =
     more
     ∙ (ap (λ (l : List Look). l ++ looks_after s (d ∷ [])) before
     ∙ sym (ap (looks_after s) whole ∙ looks_more s (take i looks) (d ∷ [])))
+
+-- each id is there in the service between two others as in one of them
+abbrev pub IsBetween : Service → Service → Service → Type 0
+IsBetween old mid new =
+    (p : Part) (id : ℕ)
+    → (is_among (ids_in mid p) id ≡ is_among (ids_in old p) id)
+    ⊎ (is_among (ids_in mid p) id ≡ is_among (ids_in new p) id)
+
+module _ (old mid new : Service) (between : IsBetween old mid new) where
+  filter_between : (before one other : ℕ → Bool) (ids : List ℕ)
+      → ((id : ℕ) → (one id ≡ before id) ⊎ (one id ≡ other id)) → filter before ids ≡ ids
+      → filter other (filter one ids) ≡ filter other ids
+  filter_between before one other ids either e =
+      let all : All (λ id. before id ≡ true) ids =
+      subst (All (λ id. before id ≡ true)) e (filter_passes before ids) in
+      filter_again one other ids (λ k d h. elim (either (get_or ids k d)) [
+        | inl same ↦ inl (same ∙ all k d h)
+        | inr same ↦ inr same
+      ])
+
+  seen_between : (l : Look) → seen_of (ids_in old l.part) l ≡ l → IsPassed mid new l
+  seen_between l is =
+      let p = l.part in
+      let unseen : without (ids_in new p) (without (ids_in mid p) l.unseen)
+      ≡ without (ids_in new p) l.unseen =
+      filter_between (λ id. not (is_among (ids_in old p) id))
+      (λ id. not (is_among (ids_in mid p) id)) (λ id. not (is_among (ids_in new p) id)) l.unseen
+      (λ id. elim (between p id) [ inl e ↦ inl (ap not e) | inr e ↦ inr (ap not e) ])
+      (ap (λ (x : Look). x.unseen) is) in
+      let lasting : filter (is_among (ids_in new p)) (filter (is_among (ids_in mid p)) l.lasting)
+      ≡ filter (is_among (ids_in new p)) l.lasting =
+      filter_between (is_among (ids_in old p)) (is_among (ids_in mid p)) (is_among (ids_in new p))
+      l.lasting (between p) (ap (λ (x : Look). x.lasting) is) in
+      rw (unseen, lasting) refl
+
+  all_between : (looks : List Look) → AllByRecursion (IsPassed mid new) (looks_after old looks)
+  all_between [] = tt
+  all_between (l ∷ looks) = cases (all_between looks) (look_after (ids_in old l.part) l) refl
+    where
+      cases : AllByRecursion (IsPassed mid new) (looks_after old looks) → (o : Option Look)
+          → look_after (ids_in old l.part) l ≡ o
+          → AllByRecursion (IsPassed mid new) (looks_after old (l ∷ looks))
+      cases rest None is = rw is rest
+      cases rest (Some m) is =
+          let seen : seen_of (ids_in old m.part) m ≡ m =
+          subst (λ (x : Look). seen_of (ids_in old x.part) x ≡ x)
+          (lacking_is (seen_of (ids_in old l.part) l) m is) (same_seen (ids_in old l.part) l) in
+          rw is (seen_between m seen, rest)
+
+  -- they lack the same as if they had not looked
+  pub looks_between : (looks : List Look) → looks_after old looks ≡ looks
+      → looks_after new (looks_after mid looks) ≡ looks_after new looks
+  looks_between looks e =
+      looks_pass mid new looks
+      (subst (AllByRecursion (IsPassed mid new)) e (all_between looks))
+
+-- no id came
+abbrev pub LosesIds : Service → Service → Type 0
+LosesIds old new =
+    (p : Part) (id : ℕ) → is_among (ids_in new p) id ≡ true → is_among (ids_in old p) id ≡ true
+
+pub loses_between : (old mid new : Service) → LosesIds old mid → LosesIds mid new
+    → IsBetween old mid new
+loses_between old mid new first second p id =
+    by_cases _ (is_among (ids_in mid p) id) (λ t. inl (t ∙ sym (first p id t))) (λ f.
+    by_cases _ (is_among (ids_in new p) id) (λ t.
+    let was : is_among (ids_in mid p) id ≡ true = second p id t in
+    absurd (let z : true ≡ false = sym was ∙ f in cc)) (λ n. inr (f ∙ sym n)))

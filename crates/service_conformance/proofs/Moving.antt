@@ -1,182 +1,36 @@
 -- Calls that can be made before others, by two changes of which the second is made first.
-use Rattle.service_conformance.proofs.Prelude.{IsTrue, List, ap, eq-eqb, false, inl, inr, not, refl, subst, sym, true, ℕ, ◌<◌, ◌==◌, ◌∙◌, ◌≡◌, ◌≢◌, cases_eq}
-use Rattle.service_conformance.proofs.Names.{Call, CallStep, Change, ChangesAt, Handle, HasEntry, HasNumber, HasWords, IsChange, IsOpenFor, IsService, Judged, JudgedStep, Look, MovesBefore, MovesBeforeCall, MovesBeforeChange, RegistryState, Role, Service, Watched, WindowStep, call, entries_of_node, is_last_of_ports, looks_after, node_of, role_of, watched}
-use Rattle.service_descriptions.specs.declared.replay.machine.reply.Reply.TheVariants as reply
+use Rattle.service_conformance.proofs.Prelude.{IsTrue, List, ap, arith, eq-eqb, false, ne_eqb, not, refl, subst, sym, true, ℕ, ◌<◌, ◌==◌, ◌∙◌, ◌≡◌, ◌≢◌, ◌≤◌}
+use Rattle.service_conformance.proofs.Names.{Call, CallStep, Change, ChangesAt, Entry, Handle, HasNumber, IsChange, IsService, Judged, JudgedStep, LockIfLastIndex, Look, MovesBefore, MovesBeforeCall, MovesBeforeChange, PortDetails, RegistryState, Role, Service, Unlocked, Watched, WindowStep, call, entries_of_node, has_ports_of, is_of, looks_after, watched, Default}
+use Rattle.iox2_container.proofs.Counting.{counted-InsertsOne, one_if}
 use Rattle.service_conformance.specs.declared.conformance.mover.Change.TheVariants as change
 use Rattle.service_conformance.proofs.Judged.{one_call}
-use Rattle.service_conformance.proofs.Looking.{watched_is}
-use Rattle.service_conformance.proofs.MovingLooks.{looks_between}
-use Rattle.service_conformance.proofs.MovingNodes.{GainsNode, LosesNode, node_losses_swap, NodeAddition, NodeRemoval, fewer_ports, loses_again, not_its_last, opened_before, opened_before_loss, opens_more}
-use Rattle.service_conformance.proofs.MovingParts.{Exchange, exchanged, nodes_first, nodes_stay, others_first, ports_first, with_nodes}
-use Rattle.service_conformance.proofs.MovingPorts.{GainsPort, LosesPort, port_losses_swap, PortAddition, PortRemoval, others_stay, ports_fewer}
-use Rattle.service_conformance.proofs.MovingSteps.{Does, adds_port, leaves_service, of_node, of_port, registers_node, removes_node, removes_port}
-
--- a service with the same nodes is open for the same ones
-still_open : (x s : Service) (node : ℕ) → x.nodes.registry ≡ s.nodes.registry → IsOpenFor s node
-    → IsOpenFor x node
-still_open x s node e opens =
-    subst (λ (r : RegistryState ℕ). (r.locked ≡ false) × (0 < entries_of_node node r)) (sym e)
-    opens
-
--- what a call with a change does, by its handle
-abbrev Made : (x : Change) (c : Call) → IsChange x c → Handle → Service → Service → Type 0
-Made change.NodeRemoved c is = LosesNode
-Made (change.PortRemoved role) c is = LosesPort
-Made (change.NodeRegistered id) c is = GainsNode id
-Made (change.PortAdded role node) c is = GainsPort is.0.0
-
--- the handles that it may have
-abbrev May : (x : Change) (c : Call) → IsChange x c → Handle → Type 0
-May change.NodeRemoved c is = of_node c is
-May (change.PortRemoved role) c is = of_port c role is
-May _ c is = λ h. HasWords c.words (reply.Handle h)
-
-does : (x : Change) (c : Call) (is : IsChange x c) → Does c (May x c is) (Made x c is)
-does change.NodeRemoved c is = removes_node c is
-does (change.PortRemoved role) c is = removes_port c role is
-does (change.NodeRegistered id) c is = registers_node c id is
-does (change.PortAdded role node) c is = adds_port c role node is
+use Rattle.service_conformance.proofs.Looking.{looks_between, looks_twice}
+use Rattle.service_conformance.proofs.MovingParts.{Exchange, Takes, TakesPorts, nodes_first, nodes_swap, of_nodes, others_first, ports_first, ports_swap, roles_apart}
+use Rattle.service_conformance.proofs.MovingSteps.{Addition, Fits, Made, May, NodeRemoval, PortRemoval, does, fits, has_node, leaves_service}
 
 -- what a call with one change does can be done before what one with another change did
 abbrev pub Swaps : Change → Change → Type 0
 Swaps x y =
     (c other : Call) (is : IsChange x c) (by : IsChange y other) (h k : Handle)
-    → May y other by h → May x c is k → (old mid new : Service) → IsService old
-    → Made y other by h old mid → Made x c is k mid new
-    → Exchange (Made y other by h) (Made x c is k) old mid new
+    → May y other by h → May x c is k → (old mid new : Service) → IsService old → IsService mid
+    → IsService new → Made y other by h old mid → Made x c is k mid new → Fits x mid new
+    → (w : Exchange (Made y other by h) (Made x c is k) old mid new) × Fits x old w.between
 
-pub deregister_before_deregister : Swaps change.NodeRemoved change.NodeRemoved
-deregister_before_deregister c other is by h k m n old mid new i a b =
-    node_losses_swap h k old mid new i a b
+-- a node has as many entries at least where one is not yet removed
+fewer : (h : Handle) (s t : Service) (node : ℕ) → Takes of_nodes (NodeRemoval h) s t
+    → entries_of_node node t.nodes.registry ≤ entries_of_node node s.nodes.registry
+fewer h s t node a =
+    let n : RegistryState ℕ = a.registry in
+    let left : entries_of_node node t.nodes.registry ≡ entries_of_node node n =
+    ap (λ (v : Service). entries_of_node node v.nodes.registry) a.left in
+    omega (
+      arith,
+      left,
+      counted-InsertsOne (is_of (λ (q : ℕ). q) node) n.entries s.nodes.registry.entries
+          a.step.2.0.0 a.step.2.0.2,
+    )
 
-module _ (role : Role) where
-  pub release_before_release : (to : Role) → Swaps (change.PortRemoved role) (change.PortRemoved to)
-  release_before_release to c other is by h k m n old mid new i a b =
-      port_losses_swap h k old mid new i a b
-
-  pub release_before_deregister : Swaps (change.PortRemoved role) change.NodeRemoved
-  release_before_deregister c other is by h k m n old mid new i a b =
-      let w = ports_first (NodeRemoval h) k.role (PortRemoval k b.state) old mid new a.changes
-      b.changes in
-      let before : LosesPort k old w.between = record { state = b.state; changes = w.before } in
-      let stay = nodes_stay k.role (PortRemoval k b.state) old w.between w.before in
-      exchanged w before
-      (loses_again h old mid a w.between new stay
-      (λ id last has. fewer_ports old w.between id stay
-      (ports_fewer k old w.between before id) last) w.after)
-
-  module _ (id : ℕ) where
-    pub release_before_register : Swaps (change.PortRemoved role) (change.NodeRegistered id)
-    release_before_register c other is by h k m n old mid new i a b =
-        let w = ports_first (NodeAddition id h) k.role (PortRemoval k b.state) old mid new a
-        b.changes in
-        exchanged w (record { state = b.state; changes = w.before }) w.after
-
-    pub register_before_release : Swaps (change.NodeRegistered id) (change.PortRemoved role)
-    register_before_release c other is by h k m n old mid new i a b =
-        let w = nodes_first (NodeAddition id k) h.role (PortRemoval h a.state) old mid new a.changes
-        b in
-        exchanged w w.before (record { state = a.state; changes = w.after })
-
-    pub register_before_add : (node : ℕ) → Swaps (change.NodeRegistered id)
-        (change.PortAdded role node)
-    register_before_add node c other is by h k m n old mid new i a b =
-        let d = by.0.0 in
-        let w = nodes_first (NodeAddition id k) (role_of d) (PortAddition d h) old mid new a.changes
-        b in
-        let opens : IsOpenFor (with_nodes old w.before.nodes) (node_of d) =
-        opens_more old.nodes.registry w.before.nodes id (node_of d) k w.before.step a.opens in
-        exchanged w w.before
-        (record {
-          opens = subst (λ (x : Service). IsOpenFor x (node_of d)) (sym w.before.left) opens;
-          changes = w.after;
-        })
-
-    pub add_before_register : (node : ℕ) → node ≢ id
-        → Swaps (change.PortAdded role node) (change.NodeRegistered id)
-    add_before_register node differ c other is by h k m n old mid new i a b =
-        let d = is.0.0 in
-        let w = ports_first (NodeAddition id h) (role_of d) (PortAddition d k) old mid new a
-        b.changes in
-        let opens : IsOpenFor (with_nodes old a.nodes) (node_of d) =
-        subst (λ (x : Service). IsOpenFor x (node_of d)) a.left b.opens in
-        exchanged w
-        (record {
-          opens = opened_before old.nodes.registry a.nodes id (node_of d) h a.step
-              (λ e. differ (sym is.0.3 ∙ sym e)) opens.1;
-          changes = w.before;
-        }) w.after
-
-  pub add_before_deregister : (node : ℕ) → Swaps (change.PortAdded role node) change.NodeRemoved
-  add_before_deregister node c other is by h k m n old mid new i a b =
-      let d = is.0.0 in
-      let left : RegistryState ℕ = a.changes.nodes in
-      let w = ports_first (NodeRemoval h) (role_of d) (PortAddition d k) old mid new a.changes
-      b.changes in
-      let opens : IsOpenFor (with_nodes old left) (node_of d) =
-      subst (λ (x : Service). IsOpenFor x (node_of d)) a.changes.left b.opens in
-      let before : GainsPort d k old w.between = record {
-        opens = opened_before_loss old.nodes.registry left (node_of d) h i.nodes_are a.changes.step
-            opens.1;
-        changes = w.before;
-      } in
-      let stay = nodes_stay (role_of d) (PortAddition d k) old w.between w.before in
-      let more : (id : ℕ) → is_last_of_ports id old ≡ false → HasEntry old.nodes.registry h id
-      → is_last_of_ports id w.between ≡ false =
-      λ id last has. elim (cases_eq (node_of d) id) [
-        | inl v ↦
-            not_its_last old w.between left id h i a.changes.step has
-            (subst (λ q. 0 < entries_of_node q left) v opens.1) stay
-        | inr v ↦
-            fewer_ports old w.between id stay
-            (λ t. sym (others_stay d k old w.between before id v) ∙ t) last
-      ] in
-      exchanged w before (loses_again h old mid a w.between new stay more w.after)
-
-  module _ (to : Role) (differ : role ≢ to) where
-    pub release_before_add : (node : ℕ) → Swaps (change.PortRemoved role) (change.PortAdded to node)
-    release_before_add node c other is by h k m n old mid new i a b =
-        let d = by.0.0 in
-        let w =
-        others_first (role_of d) k.role (λ e. differ (sym n.1 ∙ (sym e ∙ by.0.2)))
-        (PortAddition d h) (PortRemoval k b.state) old new mid a.changes b.changes in
-        let stay = nodes_stay k.role (PortRemoval k b.state) old w.between w.before in
-        exchanged w (record { state = b.state; changes = w.before })
-        (record {
-          opens = still_open w.between old (node_of d) stay a.opens;
-          changes = w.after;
-        })
-
-    pub add_before_release : (node : ℕ) → Swaps (change.PortAdded role node) (change.PortRemoved to)
-    add_before_release node c other is by h k m n old mid new i a b =
-        let d = is.0.0 in
-        let w =
-        others_first h.role (role_of d) (λ e. differ (sym is.0.2 ∙ (sym e ∙ m.1)))
-        (PortRemoval h a.state) (PortAddition d k) old new mid a.changes b.changes in
-        let stay = nodes_stay h.role (PortRemoval h a.state) old mid a.changes in
-        exchanged w
-        (record {
-          opens = still_open old mid (node_of d) (sym stay) b.opens;
-          changes = w.before;
-        }) (record { state = a.state; changes = w.after })
-
-    pub add_before_add : (node for : ℕ) → Swaps (change.PortAdded role node)
-        (change.PortAdded to for)
-    add_before_add node for c other is by h k m n old mid new i a b =
-        let d = is.0.0 in
-        let f = by.0.0 in
-        let w =
-        others_first (role_of f) (role_of d) (λ e. differ (sym is.0.2 ∙ (sym e ∙ by.0.2)))
-        (PortAddition f h) (PortAddition d k) old new mid a.changes b.changes in
-        let was = nodes_stay (role_of f) (PortAddition f h) old mid a.changes in
-        let stay = nodes_stay (role_of d) (PortAddition d k) old w.between w.before in
-        exchanged w
-        (record { opens = still_open old mid (node_of d) (sym was) b.opens; changes = w.before })
-        (record {
-          opens = still_open w.between old (node_of f) stay a.opens;
-          changes = w.after;
-        })
-
+-- so a call with the one change moves before one with the other
 module _ (x y : Change) (swap : Swaps x y) (c other : Call) (is : IsChange x c)
     (by : IsChange y other) where
   both_made : (old mid new : Service) → CallStep other old mid → CallStep c mid new
@@ -186,19 +40,24 @@ module _ (x y : Change) (swap : Swaps x y) (c other : Call) (is : IsChange x c)
       let two = does x c is in
       let a = one.there old mid s in
       let b = two.there mid new t in
-      let w = swap c other is by a.0 b.0 a.1 b.1 old mid new s.0 a.2 b.2 in
-      let before = two.back b.0 b.1 old w.between s.0 s.1 w.before in
-      let left = leaves_service c old w.between before in
+      let j = leaves_service other old mid s in
+      let l = leaves_service c mid new t in
+      let w =
+      swap c other is by a.0 b.0 a.1 b.1 old mid new s.0 j.0 l.0 a.2 b.2
+      (fits x c is b.0 mid new b.2 l.0) in
+      let before = two.back b.0 b.1 old w.0.between s.0 s.1 w.0.before w.1 in
+      let left = leaves_service c old w.0.between before in
       record {
-        between = w.between;
+        between = w.0.between;
         before = before;
-        after = one.back a.0 a.1 w.between new left.0 left.1 w.after;
-        first = w.first;
-        second = w.second;
+        after = one.back a.0 a.1 w.0.between new left.0 left.1 w.0.after
+            (fits y other by a.0 w.0.between new w.0.after l.0);
+        first = w.0.first;
+        second = w.0.second;
       }
 
-  pub moves : MovesBeforeCall c other
-  moves old mid new (io, so, eo) (im, sm, em) =
+  made_before : MovesBeforeCall c other
+  made_before old mid new (io, so, eo) (im, sm, em) =
       let w = both_made old.service mid.service new.service so sm in
       let same : looks_after new.service mid.looks
       ≡ looks_after new.service (looks_after w.between old.looks) =
@@ -208,14 +67,165 @@ module _ (x y : Change) (swap : Swaps x y) (c other : Call) (is : IsChange x c)
         watched w.between old.looks,
         (io, w.before, refl),
         (
-          watched_is w.between old.looks,
+          looks_twice w.between old.looks,
           w.after,
           em ∙ ap (λ (l : List Look). record { service = new.service; looks = l }) same,
         ),
       )
 
-pub not_same : (a b : ℕ) → IsTrue (not (a == b)) → a ≢ b
-not_same a b t e = (let z : false ≡ true = sym (ap not (eq-eqb a b e)) ∙ t in cc)
+moves : (x y : Change) → Swaps x y → MovesBeforeChange x y
+moves x y swap = record { moves = λ c other is by. made_before x y swap c other is by }
+
+pub deregister_before_deregister : MovesBeforeChange change.NodeRemoved change.NodeRemoved
+deregister_before_deregister =
+    moves change.NodeRemoved change.NodeRemoved (λ c other is by h k m n old mid new i j l a b f.
+    let w = nodes_swap (λ q. q ≡ Unlocked) LockIfLastIndex h k old mid new i a b in (
+      w,
+      λ id e.
+          let some : has_ports_of id new.ports ≡ true =
+          ap (λ (v : Service). has_ports_of id v.ports) b.left
+          ∙ (ap (λ (v : Service). has_ports_of id v.ports) a.left ∙ e) in
+          omega (arith, has_node new l id some, fewer h w.between new id w.after),
+    ))
+
+pub release_before_deregister : (role : Role)
+    → MovesBeforeChange (change.PortRemoved role) change.NodeRemoved
+release_before_deregister role =
+    moves (change.PortRemoved role) change.NodeRemoved
+    (λ c other is by h k m n old mid new i j l a b f.
+    (ports_first (NodeRemoval h) (PortRemoval k) old mid new a b, tt))
+
+pub release_before_release : (role to : Role)
+    → MovesBeforeChange (change.PortRemoved role) (change.PortRemoved to)
+release_before_release role to =
+    moves (change.PortRemoved role) (change.PortRemoved to)
+    (λ c other is by h k m n old mid new i j l a b f.
+    (ports_swap (λ q. Unit {0}) Default h k old mid new i a b, tt))
+
+pub release_before_register : (role : Role) (id : ℕ)
+    → MovesBeforeChange (change.PortRemoved role) (change.NodeRegistered id)
+release_before_register role id =
+    moves (change.PortRemoved role) (change.NodeRegistered id)
+    (λ c other is by h k m n old mid new i j l a b f.
+    (ports_first (Addition id h) (PortRemoval k) old mid new a b, tt))
+
+pub register_before_release : (id : ℕ) (role : Role)
+    → MovesBeforeChange (change.NodeRegistered id) (change.PortRemoved role)
+register_before_release id role =
+    moves (change.NodeRegistered id) (change.PortRemoved role)
+    (λ c other is by h k m n old mid new i j l a b f.
+    (nodes_first (Addition id k) (PortRemoval h) old mid new a b, tt))
+
+pub register_before_add : (id : ℕ) (role : Role) (node : ℕ)
+    → MovesBeforeChange (change.NodeRegistered id) (change.PortAdded role node)
+register_before_add id role node =
+    moves (change.NodeRegistered id) (change.PortAdded role node)
+    (λ c other is by h k m n old mid new i j l a b f.
+    (nodes_first (Addition id k) (Addition by.0.0 h) old mid new a b, tt))
+
+pub add_before_deregister : (role : Role) (node : ℕ)
+    → MovesBeforeChange (change.PortAdded role node) change.NodeRemoved
+add_before_deregister role node =
+    moves (change.PortAdded role node) change.NodeRemoved
+    (λ c other is by h k m n old mid new i j l a b f. (
+      ports_first (NodeRemoval h) (Addition is.0.0 k) old mid new a b,
+      omega (arith, f, fewer h old mid node a),
+    ))
+
+pub add_before_register : (role : Role) (node id : ℕ) → IsTrue (not (node == id))
+    → MovesBeforeChange (change.PortAdded role node) (change.NodeRegistered id)
+add_before_register role node id differ =
+    moves (change.PortAdded role node) (change.NodeRegistered id)
+    (λ c other is by h k m n old mid new i j l a b f.
+    let r = old.nodes.registry in
+    let s : RegistryState ℕ = a.registry in
+    let x : Entry ℕ = record { slot = h.slot; ticket = r.used; details = id } in
+    let other : node ≢ id =
+    λ e. (let z : false ≡ true = sym (ap not (eq-eqb node id e)) ∙ differ in cc) in
+    let none : one_if (is_of (λ (q : ℕ). q) node id) ≡ 0 =
+    ap one_if (ne_eqb id node (λ e. other (sym e))) in
+    let left : entries_of_node node mid.nodes.registry ≡ entries_of_node node s =
+    ap (λ (v : Service). entries_of_node node v.nodes.registry) a.left in (
+      ports_first (Addition id h) (Addition is.0.0 k) old mid new a b,
+      omega (
+        arith,
+        f,
+        left,
+        none,
+        counted-InsertsOne (is_of (λ (q : ℕ). q) node) r.entries s.entries x a.step.2.2,
+      ),
+    ))
+
+-- handles name the roles of their registries
+removed_role : (h : Handle) (r m : RegistryState PortDetails) → PortRemoval h r m → h.role ≡ r.role
+removed_role h r m step = ap (λ (q : Handle). q.role) step.2.0.1
+
+added_role : (d : PortDetails) (h : Handle) (r m : RegistryState PortDetails) → Addition d h r m
+    → h.role ≡ r.role
+added_role d h r m step = ap (λ (q : Handle). q.role) step.2.0
+
+-- a node has the entries that it had where ports changed
+same_nodes : (Step : RegistryState PortDetails → RegistryState PortDetails → Type 0)
+    (s t : Service) (node : ℕ) → TakesPorts Step s t → 0 < entries_of_node node t.nodes.registry
+    → 0 < entries_of_node node s.nodes.registry
+same_nodes Step s t node a =
+    subst (λ (r : RegistryState ℕ). 0 < entries_of_node node r)
+    (ap (λ (v : Service). v.nodes.registry) a.1.left)
+
+-- of two steps of ports of two roles the second can be made first
+module _ (One Two : RegistryState PortDetails → RegistryState PortDetails → Type 0) (h k : Handle)
+    (one : (r m : RegistryState PortDetails) → One r m → h.role ≡ r.role)
+    (two : (r m : RegistryState PortDetails) → Two r m → k.role ≡ r.role)
+    (role to : Role) (differ : role ≢ to) (m : h.role ≡ to) (n : k.role ≡ role) where
+  roles_swap : (old mid new : Service) → IsService old → IsService mid → TakesPorts One old mid
+      → TakesPorts Two mid new → Exchange (TakesPorts One) (TakesPorts Two) old mid new
+  roles_swap old mid new i j a b =
+      others_first One Two old mid new a b
+      (roles_apart One Two old mid new a b h k one two i j (λ e. differ (sym n ∙ (sym e ∙ m))))
+
+pub release_before_add : (role to : Role) (node : ℕ) → role ≢ to
+    → MovesBeforeChange (change.PortRemoved role) (change.PortAdded to node)
+release_before_add role to node differ =
+    moves (change.PortRemoved role) (change.PortAdded to node)
+    (λ c other is by h k m n old mid new i j l a b f. (
+      roles_swap (Addition by.0.0 h) (PortRemoval k) h k (added_role by.0.0 h) (removed_role k) role
+          to differ m.1 n.1 old mid new i j a b,
+      tt,
+    ))
+
+pub add_before_release : (role to : Role) (node : ℕ) → role ≢ to
+    → MovesBeforeChange (change.PortAdded role node) (change.PortRemoved to)
+add_before_release role to node differ =
+    moves (change.PortAdded role node) (change.PortRemoved to)
+    (λ c other is by h k m n old mid new i j l a b f. (
+      roles_swap (PortRemoval h) (Addition is.0.0 k) h k (removed_role h) (added_role is.0.0 k) role
+          to differ m.1 n.1 old mid new i j a b,
+      same_nodes (PortRemoval h) old mid node a f,
+    ))
+
+pub add_before_add : (role to : Role) (node for : ℕ) → role ≢ to
+    → MovesBeforeChange (change.PortAdded role node) (change.PortAdded to for)
+add_before_add role to node for differ =
+    moves (change.PortAdded role node) (change.PortAdded to for)
+    (λ c other is by h k m n old mid new i j l a b f. (
+      roles_swap (Addition by.0.0 h) (Addition is.0.0 k) h k (added_role by.0.0 h)
+          (added_role is.0.0 k) role to differ m.1 n.1 old mid new i j a b,
+      same_nodes (Addition by.0.0 h) old mid node a f,
+    ))
+
+pub ruleset movers = (
+  deregister_before_deregister,
+  release_before_deregister,
+  release_before_release,
+  release_before_register,
+  release_before_add,
+  register_before_release,
+  register_before_add,
+  add_before_deregister,
+  add_before_register,
+  add_before_release,
+  add_before_add,
+)
 
 -- calls by their numbers
 pub numbers_move : (first : ℕ) (calls : List Judged) (number other : ℕ) (one two : Change)
@@ -233,5 +243,5 @@ numbers_move first calls number other one two a b before old mid new s t =
     let second_step : JudgedStep number (call c) mid new =
     subst (λ j. JudgedStep number j mid new) (one_call first calls number (call c) t.0 is t.1) t.2
     in
-    let m = before c d a.2.2 b.2.2 old mid new first_step second_step in
+    let m = before.moves c d a.2.2 b.2.2 old mid new first_step second_step in
     (m.0, (call c, is, m.1), (call d, by, m.2))

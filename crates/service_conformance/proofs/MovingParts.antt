@@ -1,34 +1,138 @@
--- Changes of one registry of a service.
-use Rattle.service_conformance.proofs.Prelude.{ap, inl, inr, refl, subst, sym, ℕ, ◌∙◌, ◌≡◌, ◌≢◌}
-use Rattle.service_conformance.proofs.Names.{Changes, ContainerState, First, IsRegistry, OnSide, PortDetails, Ports, RegistryState, Role, Second, Service, Side, at_rest, container, first_role, is_among, listed, ports_at, quiet, role_at, second_role, with_ports_at}
+-- Changes of one registry of a service, and two of them in either order.
+use Rattle.service_conformance.proofs.Prelude.{Bool, List, Ok, [], ap, arith, length, refl, subst, sym, true, ℕ, ◌++◌, ◌||◌, ◌∙◌, ◌∷◌, ◌≡◌, inl, inr, map, ◌==◌, ◌≢◌, ◌⊎◌}
+use Rattle.service_conformance.proofs.Names.{Entry, Handle, InsertsOne, IsRegistry, RegistryState, ReleaseMode, ReleaseState, RemoveStep, handle_of, lock_after, release_state, with_left, First, IsService, PortDetails, Second, Service, Side, at_rest, is_among, port_ids, port_of, port_value, ports_at, role_at}
+use Rattle.iox2_container.proofs.CellEntries.{gains_later}
+use Rattle.iox2_container.proofs.Gaining.{length-InsertsOne}
+use Rattle.service_conformance.proofs.Removes.{kept_without}
+use Rattle.service_conformance.proofs.Looking.{by_cases, IsBetween, LosesIds, loses_between}
 use Rattle.service_conformance.specs.declared.conformance.possible.Part.TheVariants as part
-use Rattle.service_conformance.proofs.Following.{at_side, by_ports}
-use Rattle.service_conformance.proofs.MovingLooks.{IsBetween}
-use Rattle.service_conformance.proofs.Sides.{steps_at}
-use Rattle.service_conformance.proofs.Quiet.{untouching}
+use Rattle.service_conformance.proofs.Following.{at_side}
+use Rattle.service_conformance.proofs.Sides.{ports_are}
 
--- the service with other nodes
+-- the entries without the second alone
+record WithoutSecond {T : Type 0} (whole left : List (Entry T)) (first second : Entry T) : Type 0
+  where
+    pub rest : List (Entry T)
+    pub whole_has : InsertsOne rest whole second
+    pub rest_has : InsertsOne left rest first
+
+without_second : {T : Type 0} (a b c d : List (Entry T)) (x y : Entry T) → a ++ b ≡ c ++ y ∷ d
+    → WithoutSecond (a ++ x ∷ b) (c ++ d) x y
+without_second {T} [] b c d x y e = record {
+  rest = x ∷ (c ++ d);
+  whole_has =
+      gains_later (c ++ d) b y x (record { before = c; after = d; old_is = refl; new_is = e });
+  rest_has = record { before = []; after = c ++ d; old_is = refl; new_is = refl };
+}
+without_second {T} (z ∷ a) b [] d x y e =
+    let first : z ≡ y = cc in
+    let others : d ≡ a ++ b = cc in
+    rw (first, others) (record {
+      rest = a ++ x ∷ b;
+      whole_has = record { before = []; after = a ++ x ∷ b; old_is = refl; new_is = refl };
+      rest_has = record { before = a; after = b; old_is = refl; new_is = refl };
+    })
+without_second {T} (z ∷ a) b (w ∷ c) d x y e =
+    let first : z ≡ w = cc in
+    let s = without_second a b c d x y (cc) in
+    rw first (record {
+      rest = w ∷ s.rest;
+      whole_has = gains_later _ _ y w s.whole_has;
+      rest_has = gains_later _ _ x w s.rest_has;
+    })
+
+-- the registry without the second entry alone
+pub record RemovesOther {T : Type 0} (r m : RegistryState T) (first second : Handle)
+    (mode : ReleaseMode) (one two : ReleaseState) : Type 0 where
+  pub mid : RegistryState T
+  pub before : RemoveStep r second mode (Ok one) mid
+  pub after : RemoveStep mid first mode (Ok two) m
+  pub kept : IsRegistry mid
+
+module _ {T : Type 0} (r n m : RegistryState T) (first second : Handle) (mode : ReleaseMode)
+    (one two : ReleaseState) (k : IsRegistry r) (s : RemoveStep r first mode (Ok one) n)
+    (t : RemoveStep n second mode (Ok two) m) where
+  pub entries_swap : RemovesOther r m first second mode one two
+  entries_swap =
+      let x = s.0.0 in
+      let y = t.0.0 in
+      let g : InsertsOne n.entries r.entries x = s.0.2 in
+      let j : InsertsOne m.entries n.entries y = t.0.2 in
+      let w = without_second g.before g.after j.before j.after x y (sym g.old_is ∙ j.new_is) in
+      let whole : InsertsOne w.rest r.entries y =
+      subst (λ (l : List (Entry T)). InsertsOne w.rest l y) (sym g.new_is) w.whole_has in
+      let left : InsertsOne m.entries w.rest x =
+      subst (λ (l : List (Entry T)). InsertsOne l w.rest x) (sym j.old_is) w.rest_has in
+      let mid = with_left r mode w.rest in
+      let long : length w.rest ≡ length n.entries =
+      omega (
+        arith,
+        length-InsertsOne n.entries r.entries x g,
+        length-InsertsOne w.rest r.entries y whole,
+      ) in
+      let lock : mid.locked ≡ n.locked =
+      ap (λ (q : ℕ). lock_after mode (length r.entries) q r.locked) long
+      ∙ sym (ap (λ (q : RegistryState T). q.locked) s.0.3) in
+      let named : second ≡ handle_of r y =
+      t.0.1 ∙ ap (λ (q : RegistryState T). handle_of q y) s.0.3 in
+      let of_fields : RegistryState T → ℕ → Bool → RegistryState T =
+      λ q count locked.
+      record q {
+        entries = m.entries;
+        locked = lock_after mode count (length m.entries) locked;
+      } in
+      let last : m ≡ with_left mid mode m.entries =
+      t.0.3
+      ∙ (ap (λ (q : RegistryState T). of_fields q (length n.entries) n.locked) s.0.3
+      ∙ (ap (λ (q : ℕ). of_fields r q n.locked) (sym long)
+      ∙ ap (λ (q : Bool). of_fields r (length w.rest) q) (sym lock))) in
+      record {
+        mid = mid;
+        before = ((y, named, whole, refl), s.1 ∙ ap release_state (sym lock));
+        after = ((x, s.0.1, left, last), t.1);
+        kept = kept_without r mode w.rest y k whole;
+      }
+
+-- what holds of some entry of the rest holds of some entry of the whole
+module _ {T : Type 0} (some : List (Entry T) → Bool) (test : Entry T → Bool)
+    (each : (x : Entry T) (l : List (Entry T)) → some (x ∷ l) ≡ (test x || some l)) where
+  in_put : (b a : List (Entry T)) (x : Entry T) → some (b ++ a) ≡ true → some (b ++ x ∷ a) ≡ true
+  in_put [] a x e = by_cases _ (test x) (λ t. each x a ∙ rw t refl) (λ f. each x a ∙ rw f e)
+  in_put (y ∷ b) a x e =
+      by_cases _ (test y) (λ t. each y (b ++ x ∷ a) ∙ rw t refl)
+      (λ f. each y (b ++ x ∷ a) ∙ rw f (in_put b a x (rw f at (sym (each y (b ++ a)) ∙ e))))
+
+  pub in_whole : (rest whole : List (Entry T)) (x : Entry T) → InsertsOne rest whole x
+      → some rest ≡ true → some whole ≡ true
+  in_whole rest whole x g e =
+      ap some g.new_is ∙ in_put g.before g.after x (sym (ap some g.old_is) ∙ e)
+
+-- a registry of a service: where it stands, and the service with another one there
+pub record Place (T : Type 0) : Type 0 where
+  pub at : Service → RegistryState T
+  pub put : Service → RegistryState T → Service
+
 abbrev pub with_nodes : Service → RegistryState ℕ → Service
 with_nodes s nodes = at_rest s.pattern nodes s.ports.first.registry s.ports.second.registry
 
--- the registry of nodes takes a step
-pub record ChangesNodes (Step : RegistryState ℕ → RegistryState ℕ → Type 0) (s t : Service)
-    : Type 0 where
-  pub nodes : RegistryState ℕ
-  pub step : Step s.nodes.registry nodes
-  pub whole : IsRegistry nodes
-  pub left : t ≡ with_nodes s nodes
+abbrev pub of_nodes : Place ℕ
+of_nodes = record { at = λ (s : Service). s.nodes.registry; put = with_nodes }
 
--- the registry of ports of a role takes a step
-pub record ChangesPorts (role : Role)
-    (Step : RegistryState PortDetails → RegistryState PortDetails → Type 0) (s t : Service) : Type 0
-  where
-    pub side : Side
-    pub role_is : role ≡ role_at s.pattern side
-    pub ports : RegistryState PortDetails
-    pub step : Step (ports_at s side).registry ports
-    pub whole : IsRegistry ports
-    pub left : t ≡ at_side side s ports
+abbrev pub of_ports : Side → Place PortDetails
+of_ports side = record { at = λ (s : Service). (ports_at s side).registry; put = at_side side }
+
+-- the registry in a place takes a step
+pub record Takes {T : Type 0} (p : Place T) (Step : RegistryState T → RegistryState T → Type 0)
+    (s t : Service) : Type 0 where
+  pub registry : RegistryState T
+  pub step : Step (p.at s) registry
+  pub whole : IsRegistry registry
+  pub left : t ≡ p.put s registry
+
+-- the ports of one kind take a step
+abbrev pub TakesPorts : (RegistryState PortDetails → RegistryState PortDetails → Type 0) → Service
+    → Service → Type 0
+TakesPorts Step s t = (side : Side) × Takes (of_ports side) Step s t
 
 -- of two changes the second is made first
 pub record Exchange (First Second : Service → Service → Type 0) (old mid new : Service) : Type 0
@@ -51,198 +155,257 @@ exchanged w before after = record {
   second = w.second;
 }
 
-pub same_ports : (side : Side) (s : Service) (n : RegistryState ℕ)
+-- what is put in one place leaves the other as it is
+record IsApart {T U : Type 0} (p : Place T) (q : Place U) : Type 0 where
+  pub stays : (s : Service) (n : RegistryState T) → q.at (p.put s n) ≡ q.at s
+  pub swaps : (s : Service) (n : RegistryState T) (m : RegistryState U)
+      → q.put (p.put s n) m ≡ p.put (q.put s m) n
+  pub between : (s : Service) (n : RegistryState T) (m : RegistryState U)
+      → IsBetween s (p.put s n) (q.put (p.put s n) m)
+
+-- of steps in two places the second can be made first
+module _ {T U : Type 0} (p : Place T) (q : Place U) (apart : IsApart p q) (back : IsApart q p)
+    (One : RegistryState T → RegistryState T → Type 0)
+    (Two : RegistryState U → RegistryState U → Type 0) (s mid t : Service)
+  where
+    places_swap : Takes p One s mid → Takes q Two mid t
+        → Exchange (Takes p One) (Takes q Two) s mid t
+    places_swap a b =
+        let n = a.registry in
+        let m = b.registry in
+        let left : t ≡ p.put (q.put s m) n =
+        b.left ∙ (ap (λ (x : Service). q.put x m) a.left ∙ apart.swaps s n m) in
+        record {
+          between = q.put s m;
+          before =
+              record {
+                registry = m;
+                step = subst (λ (r : RegistryState U). Two r m) (ap q.at a.left ∙ apart.stays s n)
+                    b.step;
+                whole = b.whole;
+                left = refl;
+              };
+          after =
+              record {
+                registry = n;
+                step = subst (λ (r : RegistryState T). One r n) (sym (back.stays s m)) a.step;
+                whole = a.whole;
+                left = left;
+              };
+          first = subst (λ (x : Service). IsBetween s mid x) (sym b.left)
+              (subst (λ (x : Service). IsBetween s x (q.put x m)) (sym a.left)
+              (apart.between s n m));
+          second = subst (λ (x : Service). IsBetween s (q.put s m) x) (sym left)
+              (back.between s m n);
+        }
+
+-- nodes and ports
+same_ports : (side : Side) (s : Service) (n : RegistryState ℕ)
     → (ports_at (with_nodes s n) side).registry ≡ (ports_at s side).registry
 same_ports First s n = refl
 same_ports Second s n = refl
 
-same_at : (side : Side) (s : Service) (m : ContainerState PortDetails)
-    → quiet (record s { ports = with_ports_at side s.ports m }) ≡ at_side side s m.registry
-same_at First s m = refl
-same_at Second s m = refl
+nodes_between : (side : Side) (s : Service) (n : RegistryState ℕ) (m : RegistryState PortDetails)
+    → IsBetween s (with_nodes s n) (at_side side (with_nodes s n) m)
+nodes_between side s n m part.Nodes id = inr refl
+nodes_between side s n m _ id = inl refl
 
-module _ (role : Role) (Step : RegistryState PortDetails → RegistryState PortDetails → Type 0) where
-  abbrev StepOfPorts : Service → Ports → Type 0
-  StepOfPorts s ports =
-      OnSide (first_role s.pattern) (second_role s.pattern) s.ports role
-      (λ o n. Changes Step o n) ports
+ports_between : (side : Side) (s : Service) (n : RegistryState PortDetails) (m : RegistryState ℕ)
+    → IsBetween s (at_side side s n) (with_nodes (at_side side s n) m)
+ports_between side s n m part.Nodes id = inl refl
+ports_between side s n m _ id = inr refl
 
-  pub ports_changed : (s mid : Service) → StepOfPorts s mid.ports
-      → mid ≡ record s { ports = mid.ports } → ChangesPorts role Step s (quiet mid)
-  ports_changed s mid a e = record {
-    side = a.side;
-    role_is = a.role_is;
-    ports = (ports_at mid a.side).registry;
-    step = a.step.step;
-    whole = a.step.kept;
-    left = by_ports a.side s mid (ports_at mid a.side).registry
-        (ap (λ (n : Service). n.pattern) e) (ap (λ (n : Service). n.nodes.registry) e) refl
-        a.others;
-  }
+nodes_apart : (side : Side) → IsApart of_nodes (of_ports side)
+nodes_apart side = record {
+  stays = same_ports side;
+  swaps = λ s n m. refl;
+  between = nodes_between side;
+}
 
-  module _ (s t : Service) (a : ChangesPorts role Step s t) where
-    abbrev pub ports_after : Ports
-    ports_after = with_ports_at a.side s.ports (container a.ports (ports_at s a.side).touches)
+ports_apart : (side : Side) → IsApart (of_ports side) of_nodes
+ports_apart side = record {
+  stays = λ s n. refl;
+  swaps = λ s n m. refl;
+  between = ports_between side;
+}
 
-    pub ports_step : StepOfPorts s ports_after
-    ports_step =
-        let old = ports_at s a.side in
-        steps_at s.pattern a.side s.ports role (λ o n. Changes Step o n)
-        (container a.ports old.touches) a.role_is (untouching Step old a.ports a.step a.whole)
-
-    pub ports_left : quiet (record s { ports = ports_after }) ≡ t
-    ports_left = same_at a.side s (container a.ports (ports_at s a.side).touches) ∙ sym a.left
-
-    pub nodes_stay : t.nodes.registry ≡ s.nodes.registry
-    nodes_stay = ap (λ (x : Service). x.nodes.registry) a.left
-
-  -- with other nodes it takes the same step
-  pub with_other_nodes : (s : Service) (n : RegistryState ℕ) (t : Service)
-      → ChangesPorts role Step (with_nodes s n) t
-      → (x : Service) × ChangesPorts role Step s x × (t ≡ with_nodes x n)
-      × (x.nodes.registry ≡ s.nodes.registry)
-  with_other_nodes s n t a = (
-    at_side a.side s a.ports,
-    record {
-      side = a.side;
-      role_is = a.role_is;
-      ports = a.ports;
-      step = subst (λ (r : RegistryState PortDetails). Step r a.ports) (same_ports a.side s n)
-          a.step;
-      whole = a.whole;
-      left = refl;
-    },
-    a.left,
-    refl,
-  )
-
-  pub onto_other_nodes : (s : Service) (n : RegistryState ℕ) (t : Service)
-      → (a : ChangesPorts role Step s t) → ChangesPorts role Step (with_nodes s n) (with_nodes t n)
-  onto_other_nodes s n t a = record {
-    side = a.side;
-    role_is = a.role_is;
-    ports = a.ports;
-    step = subst (λ (r : RegistryState PortDetails). Step r a.ports) (sym (same_ports a.side s n))
-        a.step;
-    whole = a.whole;
-    left = ap (λ (x : Service). with_nodes x n) a.left;
-  }
-
--- nodes change first, and then ports
-nodes_then_ports : (s : Service) (n : RegistryState ℕ) (t : Service)
-    → t.nodes.registry ≡ n → IsBetween s (with_nodes s n) t
-nodes_then_ports s n t e part.Nodes id =
-    inr (ap (λ (r : RegistryState ℕ). is_among (listed r) id) (sym e))
-nodes_then_ports s n t e part.First id = inl refl
-nodes_then_ports s n t e part.Second id = inl refl
-
-ports_then_nodes : (s x : Service) (n : RegistryState ℕ) → x.nodes.registry ≡ s.nodes.registry
-    → IsBetween s x (with_nodes x n)
-ports_then_nodes s x n e part.Nodes id =
-    inl (ap (λ (r : RegistryState ℕ). is_among (listed r) id) e)
-ports_then_nodes s x n e part.First id = inr refl
-ports_then_nodes s x n e part.Second id = inr refl
-
-module _ (Nodes : RegistryState ℕ → RegistryState ℕ → Type 0) (role : Role)
-    (Step : RegistryState PortDetails → RegistryState PortDetails → Type 0) (s mid t : Service)
+module _ (Nodes : RegistryState ℕ → RegistryState ℕ → Type 0)
+    (Ports : RegistryState PortDetails → RegistryState PortDetails → Type 0) (s mid t : Service)
   where
-    pub ports_first : ChangesNodes Nodes s mid → ChangesPorts role Step mid t
-        → Exchange (ChangesNodes Nodes) (ChangesPorts role Step) s mid t
-    ports_first a b0 =
-        let n = a.nodes in
-        let b : ChangesPorts role Step (with_nodes s n) t =
-        subst (λ (x : Service). ChangesPorts role Step x t) a.left b0 in
-        let x = with_other_nodes role Step s n t b in
-        let nodes : t.nodes.registry ≡ n = ap (λ (y : Service). y.nodes.registry) x.2 in
-        record {
-          between = x.0;
-          before = x.1;
-          after =
-              record {
-                nodes = n;
-                step = subst (λ (r : RegistryState ℕ). Nodes r n) (sym x.3) a.step;
-                whole = a.whole;
-                left = x.2;
-              };
-          first = subst (λ (y : Service). IsBetween s y t) (sym a.left)
-              (nodes_then_ports s n t nodes);
-          second = subst (λ (y : Service). IsBetween s x.0 y) (sym x.2)
-              (ports_then_nodes s x.0 n x.3);
-        }
+    pub ports_first : Takes of_nodes Nodes s mid → TakesPorts Ports mid t
+        → Exchange (Takes of_nodes Nodes) (TakesPorts Ports) s mid t
+    ports_first a (side, b) =
+        let w =
+        places_swap of_nodes (of_ports side) (nodes_apart side) (ports_apart side) Nodes Ports s mid
+        t a b in
+        exchanged w (side, w.before) w.after
 
-    pub nodes_first : ChangesPorts role Step s mid → ChangesNodes Nodes mid t
-        → Exchange (ChangesPorts role Step) (ChangesNodes Nodes) s mid t
-    nodes_first a b =
-        let n = b.nodes in
-        let stay = nodes_stay role Step s mid a in
-        let after : ChangesPorts role Step (with_nodes s n) t =
-        subst (λ (x : Service). ChangesPorts role Step (with_nodes s n) x) (sym b.left)
-        (onto_other_nodes role Step s n mid a) in
-        record {
-          between = with_nodes s n;
-          before =
-              record {
-                nodes = n;
-                step = subst (λ (r : RegistryState ℕ). Nodes r n) stay b.step;
-                whole = b.whole;
-                left = refl;
-              };
-          after = after;
-          first = subst (λ (x : Service). IsBetween s mid x) (sym b.left)
-              (ports_then_nodes s mid n stay);
-          second = nodes_then_ports s n t (ap (λ (x : Service). x.nodes.registry) b.left);
-        }
+    pub nodes_first : TakesPorts Ports s mid → Takes of_nodes Nodes mid t
+        → Exchange (TakesPorts Ports) (Takes of_nodes Nodes) s mid t
+    nodes_first (side, a) b =
+        let w =
+        places_swap (of_ports side) of_nodes (ports_apart side) (nodes_apart side) Ports Nodes s mid
+        t a b in
+        exchanged w w.before (side, w.after)
 
 -- ports of two kinds
-module _ (role other : Role) (differ : role ≢ other)
-    (Step Other : RegistryState PortDetails → RegistryState PortDetails → Type 0) (s t : Service)
-  where
-    between_first : (n m : RegistryState PortDetails)
-        → IsBetween s (at_side First s n) (at_side Second (at_side First s n) m)
-    between_first n m part.Nodes id = inl refl
-    between_first n m part.First id = inr refl
-    between_first n m part.Second id = inl refl
+first_between : (s : Service) (n m : RegistryState PortDetails)
+    → IsBetween s (at_side First s n) (at_side Second (at_side First s n) m)
+first_between s n m part.First id = inr refl
+first_between s n m _ id = inl refl
 
-    between_second : (n m : RegistryState PortDetails)
-        → IsBetween s (at_side Second s n) (at_side First (at_side Second s n) m)
-    between_second n m part.Nodes id = inl refl
-    between_second n m part.First id = inl refl
-    between_second n m part.Second id = inr refl
+second_between : (s : Service) (n m : RegistryState PortDetails)
+    → IsBetween s (at_side Second s n) (at_side First (at_side Second s n) m)
+second_between s n m part.Second id = inr refl
+second_between s n m _ id = inl refl
 
-    others_at : (side at : Side) (n m : RegistryState PortDetails) → role ≡ role_at s.pattern side
-        → Step (ports_at s side).registry n → IsRegistry n
-        → other ≡ role_at (at_side side s n).pattern at
-        → Other (ports_at (at_side side s n) at).registry m → IsRegistry m
-        → t ≡ at_side at (at_side side s n) m
-        → Exchange (ChangesPorts role Step) (ChangesPorts other Other) s (at_side side s n) t
-    others_at First First n m r a u q b v e = absurd (differ (r ∙ sym q))
-    others_at Second Second n m r a u q b v e = absurd (differ (r ∙ sym q))
-    others_at First Second n m r a u q b v e = record {
-      between = at_side Second s m;
-      before = record { side = Second; role_is = q; ports = m; step = b; whole = v; left = refl };
-      after = record { side = First; role_is = r; ports = n; step = a; whole = u; left = e };
-      first = subst (λ (x : Service). IsBetween s (at_side First s n) x) (sym e)
-          (between_first n m);
-      second = subst (λ (x : Service). IsBetween s (at_side Second s m) x) (sym e)
-          (between_second m n);
-    }
-    others_at Second First n m r a u q b v e = record {
-      between = at_side First s m;
-      before = record { side = First; role_is = q; ports = m; step = b; whole = v; left = refl };
-      after = record { side = Second; role_is = r; ports = n; step = a; whole = u; left = e };
-      first = subst (λ (x : Service). IsBetween s (at_side Second s n) x) (sym e)
-          (between_second n m);
-      second = subst (λ (x : Service). IsBetween s (at_side First s m) x) (sym e)
-          (between_first m n);
-    }
+sides_apart : (side other : Side) → side ≢ other → IsApart (of_ports side) (of_ports other)
+sides_apart First First differ = absurd (differ refl)
+sides_apart First Second differ =
+    record { stays = λ s n. refl; swaps = λ s n m. refl; between = first_between }
+sides_apart Second First differ =
+    record { stays = λ s n. refl; swaps = λ s n m. refl; between = second_between }
+sides_apart Second Second differ = absurd (differ refl)
 
-    pub others_first : (mid : Service) → ChangesPorts role Step s mid
-        → ChangesPorts other Other mid t
-        → Exchange (ChangesPorts role Step) (ChangesPorts other Other) s mid t
-    others_first mid a b0 =
-        let b : ChangesPorts other Other (at_side a.side s a.ports) t =
-        subst (λ (x : Service). ChangesPorts other Other x t) a.left b0 in
-        subst (λ (x : Service). Exchange (ChangesPorts role Step) (ChangesPorts other Other) s x t)
-        (sym a.left)
-        (others_at a.side b.side a.ports b.ports a.role_is a.step a.whole b.role_is b.step b.whole
-        b.left)
+module _ (One Two : RegistryState PortDetails → RegistryState PortDetails → Type 0)
+    (s mid t : Service) (a : TakesPorts One s mid) (b : TakesPorts Two mid t) where
+  pub others_first : a.0 ≢ b.0 → Exchange (TakesPorts One) (TakesPorts Two) s mid t
+  others_first differ =
+      let w =
+      places_swap (of_ports a.0) (of_ports b.0) (sides_apart a.0 b.0 differ)
+      (sides_apart b.0 a.0 (λ e. differ (sym e))) One Two s mid t a.1 b.1 in
+      exchanged w (b.0, w.before) (a.0, w.after)
+
+  -- steps of handles of two roles are steps of two kinds of ports
+  pub roles_apart : (h k : Handle)
+      → ((r m : RegistryState PortDetails) → One r m → h.role ≡ r.role)
+      → ((r m : RegistryState PortDetails) → Two r m → k.role ≡ r.role)
+      → IsService s → IsService mid → h.role ≢ k.role → a.0 ≢ b.0
+  roles_apart h k one two i j differ e =
+      differ (one _ _ a.1.step ∙ ((ports_are s a.0 i).role_is
+      ∙ (ap (role_at s.pattern) e
+      ∙ (sym (ap (λ (x : Service). role_at x.pattern b.0) a.1.left)
+      ∙ sym (two _ _ b.1.step ∙ (ports_are mid b.0 j).role_is)))))
+
+-- the entry of a handle is removed, with an answer that may be given, and others are left
+abbrev pub Removal : {T : Type 0} → Handle → ReleaseMode → (ReleaseState → Type 0)
+    → RegistryState T → RegistryState T → Type 0
+Removal h mode May r m = (state : ReleaseState) × May state × RemoveStep r h mode (Ok state) m
+
+-- what is put in a place stands there alone; where an entry went, no id came
+record IsPlace {T : Type 0} (p : Place T) : Type 0 where
+  pub there : (s : Service) (n : RegistryState T) → p.at (p.put s n) ≡ n
+  pub again : (s : Service) (n m : RegistryState T) → p.put (p.put s n) m ≡ p.put s m
+  pub loses : (s : Service) (n : RegistryState T) (x : Entry T)
+      → InsertsOne n.entries (p.at s).entries x → LosesIds s (p.put s n)
+
+-- of two removals from one place the second can be made first
+module _ {T : Type 0} (p : Place T) (is : IsPlace p) (mode : ReleaseMode)
+    (May : ReleaseState → Type 0) where
+  loss : (h : Handle) (s t : Service) → Takes p (Removal h mode May) s t → LosesIds s t
+  loss h s t a =
+      subst (λ (x : Service). LosesIds s x) (sym a.left)
+      (is.loses s a.registry a.step.2.0.0 a.step.2.0.2)
+
+  removals_swap : (h k : Handle) (s mid t : Service) → IsRegistry (p.at s)
+      → Takes p (Removal h mode May) s mid → Takes p (Removal k mode May) mid t
+      → Exchange (Takes p (Removal h mode May)) (Takes p (Removal k mode May)) s mid t
+  removals_swap h k s mid t whole a b =
+      let n = a.registry in
+      let m = b.registry in
+      let there : p.at mid ≡ n = ap p.at a.left ∙ is.there s n in
+      let w =
+      entries_swap (p.at s) n m h k mode a.step.0 b.step.0 whole a.step.2
+      (subst (λ (r : RegistryState T). RemoveStep r k mode (Ok b.step.0) m) there b.step.2) in
+      let x = p.put s w.mid in
+      let before : Takes p (Removal k mode May) s x = record {
+        registry = w.mid;
+        step = (a.step.0, a.step.1, w.before);
+        whole = w.kept;
+        left = refl;
+      } in
+      let after : Takes p (Removal h mode May) x t = record {
+        registry = m;
+        step = (
+          b.step.0,
+          b.step.1,
+          subst (λ (r : RegistryState T). RemoveStep r h mode (Ok b.step.0) m)
+              (sym (is.there s w.mid)) w.after,
+        );
+        whole = b.whole;
+        left = b.left
+            ∙ (ap (λ (v : Service). p.put v m) a.left
+            ∙ (is.again s n m ∙ sym (is.again s w.mid m)));
+      } in
+      record {
+        between = x;
+        before = before;
+        after = after;
+        first = loses_between s mid t (loss h s mid a) (loss k mid t b);
+        second = loses_between s x t (loss k s x before) (loss h x t after);
+      }
+
+nodes_lose : (s : Service) (n : RegistryState ℕ) (x : Entry ℕ)
+    → InsertsOne n.entries s.nodes.registry.entries x → LosesIds s (with_nodes s n)
+nodes_lose s n x g part.Nodes id e =
+    in_whole (λ (l : List (Entry ℕ)). is_among (map (λ x. x.details) l) id)
+    (λ x. x.details == id) (λ x l. refl) n.entries s.nodes.registry.entries x g e
+nodes_lose s n x g _ id e = e
+
+port_lost : (r n : RegistryState PortDetails) (x : Entry PortDetails)
+    → InsertsOne n.entries r.entries x → (id : ℕ) → is_among (port_ids n) id ≡ true
+    → is_among (port_ids r) id ≡ true
+port_lost r n x g id e =
+    in_whole (λ (l : List (Entry PortDetails)). is_among (port_ids (record r { entries = l })) id)
+    (λ x. port_value (port_of x.details) == id) (λ x l. refl) n.entries r.entries x g e
+
+ports_lose : (side : Side) (s : Service) (n : RegistryState PortDetails) (x : Entry PortDetails)
+    → InsertsOne n.entries (ports_at s side).registry.entries x → LosesIds s (at_side side s n)
+ports_lose First s n x g part.First id e = port_lost s.ports.first.registry n x g id e
+ports_lose Second s n x g part.Second id e = port_lost s.ports.second.registry n x g id e
+ports_lose First s n x g _ id e = e
+ports_lose Second s n x g _ id e = e
+
+pub nodes_swap : (May : ReleaseState → Type 0) (mode : ReleaseMode) (h k : Handle)
+    (s mid t : Service) → IsService s → Takes of_nodes (Removal h mode May) s mid
+    → Takes of_nodes (Removal k mode May) mid t
+    → Exchange (Takes of_nodes (Removal h mode May)) (Takes of_nodes (Removal k mode May)) s mid t
+nodes_swap May mode h k s mid t i a b =
+    let is : IsPlace of_nodes =
+    record { there = λ s n. refl; again = λ s n m. refl; loses = nodes_lose } in
+    removals_swap of_nodes is mode May h k s mid t i.nodes_are a b
+
+pub its_ports : (side : Side) (s : Service) (n : RegistryState PortDetails)
+    → (ports_at (at_side side s n) side).registry ≡ n
+its_ports First s n = refl
+its_ports Second s n = refl
+
+put_again : (side : Side) (s : Service) (n m : RegistryState PortDetails)
+    → at_side side (at_side side s n) m ≡ at_side side s m
+put_again First s n m = refl
+put_again Second s n m = refl
+
+side_cases : (side other : Side) → (side ≡ other) ⊎ (side ≢ other)
+side_cases First First = inl refl
+side_cases First Second = inr (λ e. (cc))
+side_cases Second First = inr (λ e. (cc))
+side_cases Second Second = inl refl
+
+pub ports_swap : (May : ReleaseState → Type 0) (mode : ReleaseMode) (h k : Handle)
+    (s mid t : Service) → IsService s → TakesPorts (Removal h mode May) s mid
+    → TakesPorts (Removal k mode May) mid t
+    → Exchange (TakesPorts (Removal h mode May)) (TakesPorts (Removal k mode May)) s mid t
+ports_swap May mode h k s mid t i (side, a) (other, b) = elim (side_cases side other) [
+  | inl same ↦
+      let is : IsPlace (of_ports side) = record {
+        there = its_ports side;
+        again = put_again side;
+        loses = ports_lose side;
+      } in
+      let w =
+      removals_swap (of_ports side) is mode May h k s mid t (ports_are s side i).is_registry a
+      (subst (λ (q : Side). Takes (of_ports q) (Removal k mode May) mid t) (sym same) b) in
+      exchanged w (side, w.before) (side, w.after)
+  | inr differ ↦ others_first (Removal h mode May) (Removal k mode May) s mid t (side, a) (other, b)
+      differ
+]

@@ -1,21 +1,263 @@
--- What calls that were answered do.
-use Rattle.service_conformance.proofs.Prelude.{None, Option, Some, [], ap, refl, subst, suc, sym, zero, ℕ, ◌∙◌, ◌∷◌, ◌≡◌, same_Some}
-use Rattle.service_conformance.proofs.Names.{Call, CallStep, Command, Handle, HasWords, IsChange, IsService, LeadsOn, Reply, ReplyWord, Role, Serves, ServesDeregister, ServesRelease, Service, handle_in, handle_words, named, quiet, reply_named, text_of, word_text}
+-- What calls that were answered do, by what they change.
+use Rattle.service_conformance.proofs.Prelude.{All, All-head, All-tail, Err, List, None, Ok, Option, Result, Some, [], ap, arith, eq-eqb, eqb-true, false, false_from_ne_true, inl, inr, ltb-true, nat_eq, nat_lt, ne_eqb, or_cases, refl, same_Some, subst, suc, sym, true, zero, ℕ, Bool, ◌&&◌, ◌<◌, ◌∙◌, ◌∷◌, ◌≡◌}
+use Rattle.service_conformance.proofs.Names.{AddStep, Adds, Call, CallStep, Change, Changes, Command, ContainerHandleNotOwnedByContainer, ContainerRemoveError, Default, Entry, First, Handle, HasEntry, HasWords, InsertsOne, IsChange, IsRegistry, IsService, LockIfLastIndex, OnSide, PortDetails, Registered, RegistryState, ReleaseState, RemoveStep, RemovesPort, Reply, Role, Second, Serves, ServesAdd, ServesDeregister, ServesRegister, ServesRelease, Service, Side, Unlocked, entries_of_node, first_role, handle_in, handle_words, has_ports_of, is_last_of_ports, is_of, named, node_of, ports_at, quiet, role_at, role_of, second_role, text_of, untouched, word_text}
+use Rattle.iox2_container.proofs.Counting.{counted, counted-InsertsOne, counted-cons, one_if}
+use Rattle.iox2_container.proofs.Gaining.{All-back}
+use Rattle.iox2_dynamic.proofs.Keeping.{leaving_kept, register_kept}
+use Rattle.iox2_dynamic.proofs.Moving.{attach_kept, release_kept}
+use Rattle.iox2_dynamic.specs.Steps.{AttachStep}
 use Rattle.service_descriptions.specs.declared.replay.machine.command.Command.TheVariants as command
 use Rattle.service_descriptions.specs.declared.replay.machine.reply.Reply.TheVariants as reply
 use Rattle.service_conformance.specs.declared.conformance.mover.Change.TheVariants as change
 use Rattle.service_conformance.specs.declared.conformance.seen_reply.ReplyWord.TheVariants as word
-use Rattle.service_conformance.proofs.MovingNodes.{GainsNode, LosesNode, NodeAddition, NodeRemoval, gain_kept, gains_node, loses_node, loss_kept, nodes_after, serves_gain, serves_loss}
-use Rattle.service_conformance.proofs.MovingPorts.{GainsPort, LosesPort, add_left, added_kept, gains_port, loses_port, release_left, released_kept, serves_add, serves_release, service_after, service_with}
-use Rattle.service_conformance.proofs.Quiet.{service_quiet}
+use Rattle.service_conformance.proofs.Following.{at_side, by_ports}
+use Rattle.service_conformance.proofs.MovingParts.{Removal, Takes, TakesPorts, its_ports, of_nodes, of_ports}
+use Rattle.service_conformance.proofs.Quiet.{service_quiet, untouching}
 use Rattle.service_conformance.proofs.Seen.{is_handle, is_named, no_handle_text}
+use Rattle.service_conformance.proofs.Sides.{has_role, ports_are}
+use Rattle.service_conformance.proofs.Looking.{by_cases}
+
+-- an entry is added
+abbrev pub Addition : {T : Type 0} → T → Handle → RegistryState T → RegistryState T → Type 0
+Addition d h r m = AddStep r d (Ok h) m
+
+-- a node's entry is removed, and others are left
+abbrev pub NodeRemoval : Handle → RegistryState ℕ → RegistryState ℕ → Type 0
+NodeRemoval h = Removal h LockIfLastIndex (λ state. state ≡ Unlocked)
+
+-- a port is removed
+abbrev pub PortRemoval : Handle → RegistryState PortDetails → RegistryState PortDetails → Type 0
+PortRemoval h = Removal h Default (λ state. Unit {0})
+
+-- what a call with a change does, by its handle
+abbrev pub Made : (x : Change) (c : Call) → IsChange x c → Handle → Service → Service → Type 0
+Made change.NodeRemoved c is h = Takes of_nodes (NodeRemoval h)
+Made (change.PortRemoved role) c is h = TakesPorts (PortRemoval h)
+Made (change.NodeRegistered id) c is h = Takes of_nodes (Addition id h)
+Made (change.PortAdded role node) c is h = TakesPorts (Addition is.0.0 h)
+
+-- what has to hold besides, for a service to be left: the nodes of ports are registered
+abbrev pub Fits : Change → Service → Service → Type 0
+Fits change.NodeRemoved s t =
+    (id : ℕ) → has_ports_of id s.ports ≡ true → 0 < entries_of_node id t.nodes.registry
+Fits (change.PortAdded role node) s t = 0 < entries_of_node node s.nodes.registry
+Fits _ s t = Unit {0}
+
+-- a port of the node is among those
+port_among : (P : ℕ → Type 0) (id : ℕ) (es : List (Entry PortDetails))
+    → All (λ e. P (node_of e.details)) es → 0 < counted (is_of node_of id) es → P id
+port_among P id [] all some = absurd (omega arith)
+port_among P id (e ∷ es) all some =
+    let Q : Entry PortDetails → Type 0 = λ e. P (node_of e.details) in
+    by_cases _ (is_of node_of id e.details)
+    (λ t. subst P (eqb-true (node_of e.details) id t) (All-head Q e es all)) (λ f.
+    let none : one_if (is_of node_of id e.details) ≡ 0 = ap one_if f in
+    port_among P id es (All-tail Q e es all)
+    (omega (arith, some, none, counted-cons (is_of node_of id) e es)))
+
+-- a node that has ports is registered
+pub has_node : (s : Service) → IsService s → (id : ℕ) → has_ports_of id s.ports ≡ true
+    → 0 < entries_of_node id s.nodes.registry
+has_node s i id e =
+    let P : ℕ → Type 0 = λ id. 0 < entries_of_node id s.nodes.registry in
+    let first = counted (is_of node_of id) s.ports.first.registry.entries in
+    let second = counted (is_of node_of id) s.ports.second.registry.entries in
+    elim (or_cases (nat_lt 0 first) (nat_lt 0 second) e) [
+      | inl t ↦
+          port_among P id s.ports.first.registry.entries i.ports_are.first.registered
+          (ltb-true 0 first t)
+      | inr t ↦
+          port_among P id s.ports.second.registry.entries i.ports_are.second.registered
+          (ltb-true 0 second t)
+    ]
+
+-- what a call does fits where it leaves a service
+pub fits : (x : Change) (c : Call) (is : IsChange x c) (h : Handle) (s t : Service)
+    → Made x c is h s t → IsService t → Fits x s t
+fits change.NodeRemoved c is h s t a k = λ id e.
+    has_node t k id (ap (λ (v : Service). has_ports_of id v.ports) a.left ∙ e)
+fits (change.PortRemoved role) c is h s t a k = tt
+fits (change.NodeRegistered id) c is h s t a k = tt
+fits (change.PortAdded role node) c is h s t (side, a) k =
+    let m : RegistryState PortDetails = a.registry in
+    let x : Entry PortDetails =
+    record { slot = h.slot; ticket = (ports_at s side).registry.used; details = is.0.0 } in
+    let g : InsertsOne (ports_at s side).registry.entries m.entries x = a.step.2.2 in
+    let P : Entry PortDetails → Type 0 =
+    λ e. 0 < entries_of_node (node_of e.details) s.nodes.registry in
+    let there : (ports_at t side).registry ≡ m =
+    ap (λ (v : Service). (ports_at v side).registry) a.left ∙ its_ports side s m in
+    let all : All P m.entries =
+    subst (λ (r : RegistryState PortDetails). All P r.entries) there
+    (subst (λ (r : RegistryState ℕ). Registered r (ports_at t side).registry.entries)
+    (ap (λ (v : Service). v.nodes.registry) a.left) (ports_are t side k).registered) in
+    let one : P x =
+    All-head P x g.after (All-back P g.before (x ∷ g.after)
+    (subst (λ (l : List (Entry PortDetails)). All P l) g.new_is all)) in
+    subst (λ n. 0 < entries_of_node n s.nodes.registry) is.0.3 one
+
+not_last : (last some : Bool) → (some ≡ true → last ≡ false) → (last && some) ≡ false
+not_last false some e = refl
+not_last true false e = refl
+not_last true true e = e refl
+
+module _ (s : Service) (i : IsService s) (h : Handle) (t : Service) where
+  node_goes : Takes of_nodes (NodeRemoval h) s t → Fits change.NodeRemoved s t
+      → ServesDeregister (quiet s) (Some h) reply.HasOwners t × IsService t × (quiet t ≡ t)
+  node_goes a fits =
+      let r = s.nodes.registry in
+      let n : RegistryState ℕ = a.registry in
+      let step : RemoveStep r h LockIfLastIndex (Ok Unlocked) n =
+      subst (λ q. RemoveStep r h LockIfLastIndex (Ok q) n) a.step.1 a.step.2 in
+      let x : Entry ℕ = step.0.0 in
+      let id = x.details in
+      let has : HasEntry r h id = (x, step.0.1, refl, (n.entries, step.0.2)) in
+      let one : one_if (is_of (λ (q : ℕ). q) id id) ≡ 1 = ap one_if (eq-eqb id id refl) in
+      let more : is_last_of_ports id s ≡ false =
+      not_last (nat_eq (entries_of_node id r) 1) (has_ports_of id s.ports) (λ some.
+      let left : 0 < entries_of_node id n =
+      subst (λ (v : Service). 0 < entries_of_node id v.nodes.registry) a.left (fits id some) in
+      ne_eqb (entries_of_node id r) 1 (λ e. omega (
+        arith,
+        e,
+        left,
+        one,
+        counted-InsertsOne (is_of (λ (q : ℕ). q) id) n.entries r.entries x step.0.2,
+      ))) in
+      subst (λ (v : Service). ServesDeregister (quiet s) (Some h) reply.HasOwners v
+      × IsService v × (quiet v ≡ v)) (sym a.left) (
+        (id, has, more, untouching _ (untouched r) n step a.whole, refl),
+        leaving_kept (quiet s) (untouched n) h id has more step.0 a.whole (service_quiet s i),
+        refl,
+      )
+
+  node_comes : (id : ℕ) → Takes of_nodes (Addition id h) s t
+      → ServesRegister (quiet s) id (reply.Handle h) t × IsService t × (quiet t ≡ t)
+  node_comes id a =
+      let adds : Adds (untouched s.nodes.registry) id (Ok h) (untouched a.registry) =
+      untouching _ (untouched s.nodes.registry) a.registry a.step a.whole in
+      subst (λ (v : Service). ServesRegister (quiet s) id (reply.Handle h) v
+      × IsService v × (quiet v ≡ v)) (sym a.left) (
+        (adds, refl),
+        register_kept (quiet s) (untouched a.registry) id (Ok h) adds (service_quiet s i),
+        refl,
+      )
+
+  module _ (Step : RegistryState PortDetails → RegistryState PortDetails → Type 0) (role : Role)
+    where
+      on_side : (side : Side) (m : RegistryState PortDetails) → role ≡ role_at s.pattern side
+          → Step (ports_at s side).registry m → IsRegistry m
+          → OnSide (first_role s.pattern) (second_role s.pattern) (quiet s).ports role
+          (λ o n. Changes Step o n) (at_side side s m).ports
+      on_side First m e step k = record {
+        side = First;
+        role_is = e;
+        step = untouching Step (untouched s.ports.first.registry) m step k;
+        others = refl;
+      }
+      on_side Second m e step k = record {
+        side = Second;
+        role_is = e;
+        step = untouching Step (untouched s.ports.second.registry) m step k;
+        others = refl;
+      }
+
+  port_goes : TakesPorts (PortRemoval h) s t
+      → ServesRelease (quiet s) (Some h) reply.Released t × IsService t × (quiet t ≡ t)
+  port_goes (side, a) =
+      let at : h.role ≡ role_at s.pattern side =
+      ap (λ (q : Handle). q.role) a.step.2.0.1 ∙ (ports_are s side i).role_is in
+      let state = a.step.0 in
+      let goes =
+      on_side (λ r m. RemoveStep r h Default (Ok state) m) h.role side a.registry at a.step.2
+      a.whole in
+      subst (λ (v : Service). ServesRelease (quiet s) (Some h) reply.Released v
+      × IsService v × (quiet v ≡ v)) (sym a.left) (
+        (state, (inl goes, refl)),
+        release_kept (quiet s) s.pattern (at_side side s a.registry).ports h (Ok state) refl
+            (inl goes) (service_quiet s i),
+        refl,
+      )
+
+  port_comes : (d : PortDetails) → h.role ≡ role_of d → TakesPorts (Addition d h) s t
+      → 0 < entries_of_node (node_of d) s.nodes.registry
+      → ServesAdd (quiet s) d (reply.Handle h) t × IsService t × (quiet t ≡ t)
+  port_comes d role (side, a) some =
+      let at : role_of d ≡ role_at s.pattern side =
+      sym role ∙ (ap (λ (q : Handle). q.role) a.step.2.0 ∙ (ports_are s side i).role_is) in
+      let comes =
+      on_side (λ r m. AddStep r d (Ok h) m) (role_of d) side a.registry at a.step a.whole in
+      let is_open : s.nodes.registry.locked ≡ false =
+      false_from_ne_true s.nodes.registry.locked (λ e.
+      let none : entries_of_node (node_of d) s.nodes.registry ≡ 0 =
+      ap (counted (is_of (λ (q : ℕ). q) (node_of d))) (i.nodes_are.locked_is_empty e) in
+      omega (arith, some, none)) in
+      let attaches : AttachStep (quiet s) d (Ok h) (at_side side s a.registry) =
+      ((is_open, some), (comes, refl)) in
+      subst (λ (v : Service). ServesAdd (quiet s) d (reply.Handle h) v
+      × IsService v × (quiet v ≡ v)) (sym a.left) (
+        (has_role s.pattern side (role_of d) at, attaches),
+        attach_kept (quiet s) (at_side side s a.registry) d (Ok h) attaches (service_quiet s i),
+        refl,
+      )
+
+-- what the steps of a service do
+node_gone : (s mid : Service) (o : Option Handle) → ServesDeregister s o reply.HasOwners mid
+    → (h : Handle) × (o ≡ Some h) × Takes of_nodes (NodeRemoval h) s (quiet mid)
+node_gone s mid None so = absurd so
+node_gone s mid (Some h) so = (
+  h,
+  refl,
+  record {
+    registry = mid.nodes.registry;
+    step = (Unlocked, refl, so.3.step);
+    whole = so.3.kept;
+    left = ap quiet so.4;
+  },
+)
+
+ports_changed : (Step : RegistryState PortDetails → RegistryState PortDetails → Type 0)
+    (role : Role) (s mid : Service)
+    (a : OnSide (first_role s.pattern) (second_role s.pattern) s.ports role
+    (λ o n. Changes Step o n) mid.ports) → mid ≡ record s { ports = mid.ports }
+    → Takes (of_ports a.side) Step s (quiet mid)
+ports_changed Step role s mid a e = record {
+  registry = (ports_at mid a.side).registry;
+  step = a.step.step;
+  whole = a.step.kept;
+  left = by_ports a.side s mid (ports_at mid a.side).registry
+      (ap (λ (n : Service). n.pattern) e) (ap (λ (n : Service). n.nodes.registry) e) refl
+      a.others;
+}
+
+port_gone : (s mid : Service) (o : Option Handle) → ServesRelease s o reply.Released mid
+    → (h : Handle) × (o ≡ Some h) × TakesPorts (PortRemoval h) s (quiet mid)
+port_gone s mid None so = absurd so
+port_gone s mid (Some h) so = (h, refl, gone so.0 so.1)
+  where
+    gone : (state : ReleaseState) → RemovesPort s h (Ok state) mid
+        → TakesPorts (PortRemoval h) s (quiet mid)
+    gone state (inl a, e) =
+        let t =
+        ports_changed (λ r m. RemoveStep r h Default (Ok state) m) h.role s mid a e in (
+          a.side,
+          record {
+            registry = t.registry;
+            step = (state, tt, t.step);
+            whole = t.whole;
+            left = t.left;
+          },
+        )
+    gone state (inr a, e) =
+        absurd (let z : ◌≡◌ {A = Result ReleaseState ContainerRemoveError} (Ok state)
+        (Err ContainerHandleNotOwnedByContainer) = a.1 in cc)
 
 -- The call does this, with one of these handles, and nothing else.
-pub record Does (c : Call) (May : Handle → Type 0)
+pub record Does (c : Call) (May : Handle → Type 0) (Fits : Service → Service → Type 0)
     (Step : Handle → Service → Service → Type 0) : Type 0 where
   pub there : (old new : Service) → CallStep c old new → (h : Handle) × May h × Step h old new
   pub back : (h : Handle) → May h → (old new : Service) → IsService old → quiet old ≡ old
-      → Step h old new → CallStep c old new
+      → Step h old new → Fits old new → CallStep c old new
 
 -- a call leaves a service of which no touch is counted
 pub leaves_service : (c : Call) (old new : Service) → CallStep c old new
@@ -24,6 +266,46 @@ leaves_service c old new step =
     let on = step.2.2 in
     (subst IsService on.3 (service_quiet on.0 on.2), ap quiet (sym on.3) ∙ on.3)
 
+-- a call of this command, which names this handle, and has these words
+module _ (own : Command) (handle : Option Handle) (words : List ℕ) (May : Handle → Type 0)
+    (Fits : Service → Service → Type 0) (Step : Handle → Service → Service → Type 0) where
+  abbrev ServesOwn : Service → Reply → Service → Type 0
+  ServesOwn s r t = Serves s None (handle ∷ []) own r t
+
+  does_own : ((r : Reply) → text_of r ≡ words → (old mid : Service) → IsService old
+      → ServesOwn old r mid → (h : Handle) × May h × Step h old (quiet mid))
+      → ((h : Handle) → May h → (r : Reply) × (text_of r ≡ words)
+      × ((old new : Service) → IsService old → Step h old new → Fits old new
+      → ServesOwn (quiet old) r new × IsService new × (quiet new ≡ new)))
+      → (c : Call) → c.command ≡ own → c.handle ≡ handle → c.words ≡ Some words
+      → Does c May Fits Step
+  does_own there back c e f g =
+      let own_call : Call = record { command = own; handle = handle; words = Some words } in
+      let is : own_call ≡ c = rw (← e, ← f, ← g) refl in
+      subst (λ (c : Call). Does c May Fits Step) is (record {
+        there = λ old new step.
+            let on = step.2.2 in
+            let got = there step.2.0 step.2.1 old on.0 step.0 on.1 in
+            (got.0, got.1, subst (λ (x : Service). Step got.0 old x) on.3 got.2);
+        back = λ h may old new i rest a fits.
+            let r = back h may in
+            let leads = r.2 old new i a fits in (
+              i,
+              rest,
+              (
+                r.0,
+                r.1,
+                (
+                  new,
+                  subst (λ (s : Service). ServesOwn s r.0 new) rest leads.0,
+                  leads.1,
+                  leads.2,
+                ),
+              ),
+            );
+      })
+
+-- a reply with the words of a handle is that of one
 gave : (r : Reply) (slot ticket : ℕ) → text_of r ≡ handle_words slot ticket
     → (h : Handle) × (r ≡ reply.Handle h)
 gave r slot ticket e = cases (handle_in r) refl
@@ -32,151 +314,107 @@ gave r slot ticket e = cases (handle_in r) refl
     cases None is = absurd (no_handle_text r is slot ticket e)
     cases (Some h) is = (h, is_handle r h is)
 
--- a call that was answered with a handle leads on with one
-gives_handle : (c : Call) (old new : Service)
-    → ((slot : ℕ) × (ticket : ℕ) × (c.words ≡ Some (handle_words slot ticket)))
-    → CallStep c old new
-    → (h : Handle) × HasWords c.words (reply.Handle h) × LeadsOn c old (reply.Handle h) new
-gives_handle c old new words step =
-    let r = step.2.0 in
-    let g = gave r words.0 words.1 (subst (λ o. HasWords o r) words.2 step.2.1) in (
+named_role : (role : Role) (k : ℕ) (o : Option Handle) (h : Handle) → named (o ∷ []) k ≡ Some h
+    → ((x : Handle) × (o ≡ Some x) × (x.role ≡ role)) → h.role ≡ role
+named_role role zero o h e x =
+    let same : x.0 ≡ h = same_Some x.0 h (sym x.1 ∙ e) in
+    ap (λ (q : Handle). q.role) (sym same) ∙ x.2
+named_role role (suc k) o h e x =
+    absurd (let z : ◌≡◌ {A = Option Handle} None (Some h) = e in cc)
+
+-- the handles that a call with a change may have
+abbrev pub May : (x : Change) (c : Call) → IsChange x c → Handle → Type 0
+May change.NodeRemoved c is h = named (c.handle ∷ []) is.0.0 ≡ Some h
+May (change.PortRemoved role) c is h =
+    (named (c.handle ∷ []) is.0.0 ≡ Some h) × (h.role ≡ role)
+May (change.NodeRegistered id) c is h = HasWords c.words (reply.Handle h)
+May (change.PortAdded role node) c is h = HasWords c.words (reply.Handle h) × (h.role ≡ role)
+
+pub does : (x : Change) (c : Call) (is : IsChange x c)
+    → Does c (May x c is) (Fits x) (Made x c is)
+does change.NodeRemoved c is =
+    let o = named (c.handle ∷ []) is.0.0 in
+    does_own (command.Deregister is.0.0) c.handle (word_text word.HasOwners)
+    (May change.NodeRemoved c is) (Fits change.NodeRemoved) (Made change.NodeRemoved c is)
+    (λ r text old mid i so.
+    node_gone old mid o
+    (subst (λ q. ServesDeregister old o q mid) (is_named r word.HasOwners text) so))
+    (λ h e. (
+      reply.HasOwners,
+      refl,
+      λ old new i a fits.
+          let goes = node_goes old i h new a fits in (
+            subst (λ o. ServesDeregister (quiet old) o reply.HasOwners new) (sym e) goes.0,
+            goes.1,
+            goes.2,
+          ),
+    )) c is.0.1 refl is.1
+does (change.PortRemoved role) c is =
+    let o = named (c.handle ∷ []) is.0.0 in
+    does_own (command.Release is.0.0) c.handle (word_text word.Released)
+    (May (change.PortRemoved role) c is) (Fits (change.PortRemoved role))
+    (Made (change.PortRemoved role) c is)
+    (λ r text old mid i so.
+    let gone =
+    port_gone old mid o
+    (subst (λ q. ServesRelease old o q mid) (is_named r word.Released text) so) in
+    (gone.0, (gone.1, named_role role is.0.0 c.handle gone.0 gone.1 is.1), gone.2))
+    (λ h e. (
+      reply.Released,
+      refl,
+      λ old new i a fits.
+          let goes = port_goes old i h new a in (
+            subst (λ o. ServesRelease (quiet old) o reply.Released new) (sym e.0) goes.0,
+            goes.1,
+            goes.2,
+          ),
+    )) c is.0.1 refl is.2
+does (change.NodeRegistered id) c is =
+    let words = handle_words is.1.0 is.1.1 in
+    does_own (command.Register id) c.handle words (May (change.NodeRegistered id) c is)
+    (Fits (change.NodeRegistered id)) (Made (change.NodeRegistered id) c is)
+    (λ r text old mid i so.
+    let g = gave r is.1.0 is.1.1 text in
+    let step = subst (λ q. ServesRegister old id q mid) g.1 so in (
       g.0,
-      subst (λ x. HasWords c.words x) g.1 step.2.1,
-      subst (λ x. LeadsOn c old x new) g.1 step.2.2,
-    )
-
--- with this reply the call's own command leads to a service that is seen as the new one
-record LeavesAs (c : Call) (own : Command) (r : Reply) (old new : Service) : Type 0 where
-  pub mid : Service
-  pub serves : Serves old None (c.handle ∷ []) own r mid
-  pub kept : IsService mid
-  pub left : quiet mid ≡ new
-
--- a call of this command does this, and nothing else
-module _ (c : Call) (own : Command) (is : c.command ≡ own)
-    (Step : Handle → Service → Service → Type 0)
-  where
-    leaves : (r : Reply) (old new : Service) → LeavesAs c own r old new → LeadsOn c old r new
-    leaves r old new l = (
-      l.mid,
-      subst (λ x. Serves old None (c.handle ∷ []) x r l.mid) (sym is) l.serves,
-      l.kept,
-      l.left,
-    )
-
-    led : {May : Handle → Type 0} (r : Reply) (old new : Service)
-        → ((mid : Service) → Serves old None (c.handle ∷ []) own r mid
-        → (h : Handle) × May h × Step h old (quiet mid))
-        → LeadsOn c old r new → (h : Handle) × May h × Step h old new
-    led r old new there on =
-        let lost = there on.0 (subst (λ x. Serves old None (c.handle ∷ []) x r on.0) is on.1) in
-        (lost.0, lost.1, subst (λ (x : Service). Step lost.0 old x) on.3 lost.2)
-
-    -- where it was answered with a word
-    by_word : {May : Handle → Type 0} (w : ReplyWord) → c.words ≡ Some (word_text w)
-        → ((old mid : Service) → Serves old None (c.handle ∷ []) own (reply_named w) mid
-        → (h : Handle) × May h × Step h old (quiet mid))
-        → ((h : Handle) → May h → (old new : Service) → IsService old → Step h old new
-        → LeavesAs c own (reply_named w) old new)
-        → Does c May Step
-    by_word {May = May} w words there back = record {
-      there = λ old new step.
-          let text : text_of step.2.0 ≡ word_text w =
-          subst (λ o. HasWords o step.2.0) words step.2.1 in
-          led {May = May} (reply_named w) old new (there old)
-          (subst (λ x. LeadsOn c old x new) (is_named step.2.0 w text) step.2.2);
-      back = λ h may old new i rest a. (
-        i,
-        rest,
-        (
-          reply_named w,
-          subst (λ o. HasWords o (reply_named w)) (sym words) refl,
-          leaves (reply_named w) old new (back h may old new i a),
-        ),
-      );
-    }
-
-    -- where it was answered with a handle
-    by_given : ((slot : ℕ) × (ticket : ℕ) × (c.words ≡ Some (handle_words slot ticket)))
-        → ((h : Handle) (old mid : Service)
-        → Serves old None (c.handle ∷ []) own (reply.Handle h) mid → Step h old (quiet mid))
-        → ((h : Handle) (old new : Service) → IsService old → Step h old new
-        → LeavesAs c own (reply.Handle h) old new)
-        → Does c (λ h. HasWords c.words (reply.Handle h)) Step
-    by_given words there back = record {
-      there = λ old new step.
-          let g = gives_handle c old new words step in
-          led {May = λ h. HasWords c.words (reply.Handle h)} (reply.Handle g.0) old new
-          (λ mid so. (g.0, g.1, there g.0 old mid so)) g.2;
-      back = λ h may old new i rest a.
-          (i, rest, (reply.Handle h, may, leaves (reply.Handle h) old new (back h old new i a)));
-    }
-
-module _ (c : Call) where
-  module _ (is : IsChange change.NodeRemoved c) where
-    abbrev pub of_node : Handle → Type 0
-    of_node h = named (c.handle ∷ []) is.0.0 ≡ Some h
-
-    pub removes_node : Does c of_node LosesNode
-    removes_node =
-        by_word c (command.Deregister is.0.0) is.0.1 LosesNode word.HasOwners is.1
-        (λ old mid so. loses_node old mid (named (c.handle ∷ []) is.0.0) so)
-        (λ h e old new i a. record {
-          mid = nodes_after (NodeRemoval h) old new a.changes;
-          serves = subst
-              (λ o. ServesDeregister old o reply.HasOwners
-              (nodes_after (NodeRemoval h) old new a.changes)) (sym e) (serves_loss h old new a);
-          kept = loss_kept h old new a i;
-          left = sym a.changes.left;
-        })
-
-  module _ (role : Role) (is : IsChange (change.PortRemoved role) c) where
-    abbrev pub of_port : Handle → Type 0
-    of_port h = (named (c.handle ∷ []) is.0.0 ≡ Some h) × (h.role ≡ role)
-
-    named_role : (k : ℕ) (o : Option Handle) (h : Handle) → named (o ∷ []) k ≡ Some h
-        → ((x : Handle) × (o ≡ Some x) × (x.role ≡ role)) → h.role ≡ role
-    named_role zero o h e x =
-        let same : x.0 ≡ h = same_Some x.0 h (sym x.1 ∙ e) in
-        ap (λ (q : Handle). q.role) (sym same) ∙ x.2
-    named_role (suc k) o h e x = absurd (let z : ◌≡◌ {A = Option Handle} None (Some h) = e in cc)
-
-    pub removes_port : Does c of_port LosesPort
-    removes_port =
-        by_word c (command.Release is.0.0) is.0.1 LosesPort word.Released is.2
-        (λ old mid so.
-        let lost = loses_port old mid (named (c.handle ∷ []) is.0.0) so in
-        (lost.0, (lost.1, named_role is.0.0 c.handle lost.0 lost.1 is.1), lost.2))
-        (λ h e old new i a. record {
-          mid = service_after h old new a;
-          serves = subst
-              (λ o. ServesRelease old o reply.Released (service_after h old new a)) (sym e.0)
-              (serves_release h old new a);
-          kept = released_kept h old new a i;
-          left = release_left h old new a;
-        })
-
-  pub registers_node : (id : ℕ) → IsChange (change.NodeRegistered id) c
-      → Does c (λ h. HasWords c.words (reply.Handle h)) (GainsNode id)
-  registers_node id is =
-      by_given c (command.Register id) is.0 (GainsNode id) is.1
-      (λ h old mid so. gains_node old mid id h so)
-      (λ h old new i a. record {
-        mid = nodes_after (NodeAddition id h) old new a;
-        serves = serves_gain h old new id a;
-        kept = gain_kept h old new id a i;
-        left = sym a.left;
-      })
-
-  pub adds_port : (role : Role) (node : ℕ) (is : IsChange (change.PortAdded role node) c)
-      → Does c (λ h. HasWords c.words (reply.Handle h)) (GainsPort is.0.0)
-  adds_port role node is =
-      let d = is.0.0 in
-      by_given c (command.Add d) is.0.1 (GainsPort d) is.1
-      (λ h old mid so. gains_port old mid d h so)
-      (λ h old new i a. record {
-        mid = service_with d h old new a;
-        serves = serves_add h old new d a;
-        kept = added_kept h old new d a i;
-        left = add_left h old new d a;
-      })
+      subst (λ o. HasWords o (reply.Handle g.0)) (sym is.1.2)
+          (subst (λ q. text_of q ≡ words) g.1 text),
+      record {
+        registry = mid.nodes.registry;
+        step = step.0.step;
+        whole = step.0.kept;
+        left = ap quiet step.1;
+      },
+    ))
+    (λ h may. (
+      reply.Handle h,
+      subst (λ o. HasWords o (reply.Handle h)) is.1.2 may,
+      λ old new i a fits. node_comes old i h new id a,
+    )) c is.0 refl is.1.2
+does (change.PortAdded role node) c is =
+    let d = is.0.0 in
+    let words = handle_words is.1.0 is.1.1 in
+    does_own (command.Add d) c.handle words (May (change.PortAdded role node) c is)
+    (Fits (change.PortAdded role node)) (Made (change.PortAdded role node) c is)
+    (λ r text old mid i so.
+    let g = gave r is.1.0 is.1.1 text in
+    let step = subst (λ q. ServesAdd old d q mid) g.1 so in
+    let a = step.1.1.0 in
+    let given : g.0.role ≡ role =
+    ap (λ (q : Handle). q.role) a.step.step.2.0
+    ∙ ((ports_are old a.side i).role_is ∙ (sym a.role_is ∙ is.0.2)) in (
+      g.0,
+      (
+        subst (λ o. HasWords o (reply.Handle g.0)) (sym is.1.2)
+            (subst (λ q. text_of q ≡ words) g.1 text),
+        given,
+      ),
+      (a.side, ports_changed (Addition d g.0) (role_of d) old mid a step.1.1.1),
+    ))
+    (λ h may. (
+      reply.Handle h,
+      subst (λ o. HasWords o (reply.Handle h)) is.1.2 may.0,
+      λ old new i a fits.
+          port_comes old i h new d (may.1 ∙ sym is.0.2) a
+          (subst (λ n. 0 < entries_of_node n old.nodes.registry) (sym is.0.3) fits),
+    )) c is.0.1 refl is.1.2

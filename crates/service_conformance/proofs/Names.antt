@@ -8,7 +8,7 @@ pub use Rattle.iox2_container.specs.Changes.{Adds, Changes, Removes}
 pub use Rattle.iox2_container.specs.ContainerState.{ContainerState, container}
 pub use Rattle.iox2_container.specs.Handle.{Handle}
 pub use Rattle.iox2_container.specs.State.{Entry, IsRegistry, RegistryState, handle_of}
-pub use Rattle.iox2_container.specs.Steps.{AddStep, CalledInTurn, HasEntry, HasRoom, InsertsOne, IsFull, IsUnknownHandle, RecoverStep, Recovers, RemoveStep, TakesEntry, details_where, candidates, entries_of, is_of, listed, lock_after, marks_of, release_state, staying}
+pub use Rattle.iox2_container.specs.Steps.{AddStep, CalledInTurn, HasEntry, HasRoom, InsertsOne, IsFull, IsUnknownHandle, RecoverStep, RemoveStep, TakesEntry, details_where, candidates, entries_of, is_of, lock_after, marks_of, release_state, staying}
 pub use Rattle.iox2_container.specs.declared.container.refusal.ContainerAddFailure.{ContainerAddFailure}
 pub use Rattle.iox2_container.specs.declared.container.refusal.ContainerAddFailure.TheVariants.{IsLocked, OutOfSpace}
 pub use Rattle.iox2_container.specs.declared.container.refusal.ContainerRemoveError.{ContainerRemoveError}
@@ -20,11 +20,11 @@ pub use Rattle.iox2_container.specs.declared.container.release.ReleaseState.TheV
 pub use Rattle.iox2_container.specs.declared.container.role.Role.{Role}
 pub use Rattle.iox2_dynamic.specs.Answers.{state_of}
 pub use Rattle.iox2_dynamic.specs.Details.{node_of, port_of, role_of}
-pub use Rattle.iox2_dynamic.specs.Ports.{IsEither, IsNeither, OfRole, OnSide, Ports, RecoversBoth, RemovesFrom, has_ports_of}
+pub use Rattle.iox2_dynamic.specs.Ports.{IsEither, IsNeither, OnSide, Ports, RecoversBoth, RemovesFrom, has_ports_of}
 pub use Rattle.iox2_dynamic.specs.PortsState.{Side, of_side, other_side, side_of}
 pub use Rattle.iox2_dynamic.specs.PortsState.Side.{First, Second}
 pub use Rattle.iox2_dynamic.specs.Recoveries.{CallsCleanup, RecoversNodes, RecoversPorts, removes}
-pub use Rattle.iox2_dynamic.specs.Service.{HasRole, IsPortRegistry, IsService, LacksRole, Registered, Service, entries_of_node, first_role, role_at, second_role}
+pub use Rattle.iox2_dynamic.specs.Service.{HasRole, IsPortRegistry, IsService, Registered, Service, entries_of_node, first_role, role_at, second_role}
 pub use Rattle.iox2_dynamic.specs.Steps.{AddsPort, DeadStep, IsOpenFor, NodesAfter, RemovesPort, is_last_of_ports}
 pub use Rattle.iox2_dynamic.specs.declared.dynamic_config.answers.DeregisterNodeState.{DeregisterNodeState}
 pub use Rattle.iox2_dynamic.specs.declared.dynamic_config.cleanup.PortCleanupAction.{PortCleanupAction}
@@ -38,7 +38,7 @@ pub use Rattle.line_streams.specs.Numerals.{cons_same}
 pub use Rattle.line_streams.specs.OneWay.{listed_one, number_one}
 pub use Rattle.line_streams.specs.Spelling.{EndsNumber, OthersFit, Reads, Spelling, after, line_end, number, others_text, sequence}
 pub use Rattle.line_streams.specs.declared.phrase.LineEnd.TheVariants.{Bytes}
-pub use Rattle.service_conformance.specs.Alone.{Answered, Gives, IsBare, IsBounded, IsBoundedRegistry, added_role, calls_of, handle_named, judged_of}
+pub use Rattle.service_conformance.specs.Alone.{Answered, Gives, IsBare, IsBounded, IsBoundedRegistry, added_role, handle_named, judged_of}
 pub use Rattle.service_conformance.specs.Calls.{AreRepliesOf, Call, CallStep, ChangesNothing, GivesBelow, HasNumber, HasWords, IsIdleCall, LacksNumber, LeadsOn, ServesCall, answered, at_first, call_of, handle_for}
 pub use Rattle.service_conformance.specs.Dead.{after_dead, goes, is_kept, nodes_if, ports_after, stays, without_node, without_ports}
 pub use Rattle.service_conformance.specs.Entries.{HasAt, IsAt, IsFreePosition, MayGive, Refuses, StandsAt, entry_at, with_left}
@@ -52,7 +52,7 @@ pub use Rattle.service_conformance.specs.Movers.{ChangesAt, IsChange, MovesBefor
 pub use Rattle.service_conformance.specs.Possible.{Allows, ArePossible, IsCovered, MayGiveIn, possible_add, reply_in, reply_named, reply_of_owners, reply_of_state}
 pub use Rattle.service_conformance.specs.Quiet.{CanServe, LeadsTo, Reports, at_rest, is_removal, ports_at_rest, quiet, quiet_state, untouched}
 pub use Rattle.service_conformance.specs.Requests.{request_command}
-pub use Rattle.service_conformance.specs.Seen.{EndsWord, IsIdNumber, IsSeen, IsToLine, changes_nothing, count_words, list_words, printed_id, seen_text, word_of, word_text}
+pub use Rattle.service_conformance.specs.Seen.{EndsWord, IsToLine, changes_nothing, count_words, list_words, printed_id, seen_text, word_of, word_text}
 pub use Rattle.service_conformance.specs.ServiceFields.{service_of}
 pub use Rattle.service_conformance.specs.Sides.{part_at, ports_at, with_ports_at}
 pub use Rattle.service_conformance.specs.WatchedFields.{watched_of}
@@ -68,7 +68,7 @@ pub use Rattle.service_conformance.specs.declared.conformance.seen_reply.ReplyWo
 pub use Rattle.service_conformance.specs.declared.conformance.seen_reply.SeenReply.{SeenReply}
 pub use Rattle.service_descriptions.specs.Cleanups.{CleanedUp, Cleans, ServesDead, action_for}
 pub use Rattle.service_descriptions.specs.Handles.{KeepsHandles, named}
-pub use Rattle.service_descriptions.specs.Listings.{ServesCount, ServesList, ServesNodes}
+pub use Rattle.service_descriptions.specs.Lines.{IsId}
 pub use Rattle.service_descriptions.specs.Replies.{IsSameReply, id_word, port_word, text_of}
 pub use Rattle.service_descriptions.specs.Steps.{Run, Serves, ServesAdd, ServesDeregister, ServesRegister, ServesRelease, ServiceStep, State, handle_in}
 pub use Rattle.service_descriptions.specs.declared.replay.machine.command.Cleanup.{Cleanup}

@@ -110,9 +110,3 @@ pub has_read : {T : Type 0} (r : RegistryState T) (handle : Handle) (position : 
 has_read r handle position x d s e is =
     let same : s.0 ≡ x = sym (get_or_from_slice_get r.entries position s.0 x s.1) ∙ sym e in
     subst (HasEntry r handle) (ap (λ y. y.details) same ∙ sym is) (stands r handle position s)
-
-pub stands_within : {T : Type 0} (r : RegistryState T) (handle : Handle) (position n : ℕ)
-    (es : List (Entry T))
-    → StandsAt r handle position → es ≡ r.entries → n ≡ length es → position < n
-stands_within {T} r handle position n es s e is =
-    omega (arith, slice_get_within r.entries position s.0 s.1, ap length e)

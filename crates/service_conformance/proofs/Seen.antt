@@ -1,6 +1,6 @@
 -- What the words of replies say.
 use Rattle.service_conformance.proofs.Prelude.{All-cons, All-head, All-map, All-nil, All-tail, Bool, List, None, Option, Some, [], ap, append-nil, append_cancel_left, arith, codes, cond, decimal, decimal_injective, eq-or-lt_of_le, false, flat_map, get_or, get_or-map, inl, inr, length, length-map, map, refl, subst, suc, sym, take, take_all, true, zero, ℕ, ◌++◌, ◌+◌, ◌<◌, ◌^◌, ◌↔◌, ◌∙◌, ◌∷◌, ◌≡◌, ◌≢◌, ◌≤◌, nil_from_length, same_Some, take_more}
-use Rattle.service_conformance.proofs.Names.{Bytes, EndsNumber, EndsWord, Handle, IsIdNumber, IsToLine, OthersFit, PortDetails, Reads, Reply, ReplyWord, SeenReply, Spelling, after, apart, changes_nothing, cons_same, count_words, handle_in, handle_words, has_no_space, hexadecimal, id_word, is_removal, line_end, list_words, listed_one, number, others_text, port_of, port_value, port_word, printed_id, printed_one, reply_named, same_id, seen_text, sequence, text_of, word_of, word_text}
+use Rattle.service_conformance.proofs.Names.{Bytes, EndsNumber, EndsWord, Handle, IsId, IsToLine, OthersFit, PortDetails, Reads, Reply, ReplyWord, SeenReply, Spelling, after, apart, changes_nothing, cons_same, count_words, handle_in, handle_words, has_no_space, hexadecimal, id_word, is_removal, line_end, list_words, listed_one, number, others_text, port_of, port_value, port_word, printed_id, printed_one, reply_named, same_id, seen_text, sequence, text_of, word_of, word_text}
 use Rattle.std.proofs.Common.{◌&&◌, All, ◌==◌}
 use Rattle.line_streams.specs.Spelling.{listed}
 use Rattle.service_descriptions.specs.declared.replay.machine.reply.Reply.TheVariants as reply
@@ -23,30 +23,30 @@ space_next : (ids : List ℕ) → EndsWord (others_text 32 printed_id ids [])
 space_next [] = refl
 space_next (id ∷ ids) = refl
 
-others_fit : (ids : List ℕ) → All IsIdNumber ids → OthersFit 32 printed_id ids []
+others_fit : (ids : List ℕ) → All IsId ids → OthersFit 32 printed_id ids []
 others_fit [] a = λ rest e. cc
 others_fit (id ∷ ids) a = (
-  (All-head IsIdNumber id ids a, space_next ids),
-  others_fit ids (All-tail IsIdNumber id ids a),
+  (All-head IsId id ids a, space_next ids),
+  others_fit ids (All-tail IsId id ids a),
 )
 
-pub listed_fit : (ids : List ℕ) → All IsIdNumber ids → ids_phrase.Fits (ids, [])
+pub listed_fit : (ids : List ℕ) → All IsId ids → ids_phrase.Fits (ids, [])
 listed_fit [] a = λ rest e. cc
 listed_fit (id ∷ ids) a = others_fit (id ∷ ids) a
 
-others_small : (ids rest : List ℕ) → OthersFit 32 printed_id ids rest → All IsIdNumber ids
-others_small [] rest f = All-nil IsIdNumber
+others_small : (ids rest : List ℕ) → OthersFit 32 printed_id ids rest → All IsId ids
+others_small [] rest f = All-nil IsId
 others_small (id ∷ ids) rest f =
-    All-cons IsIdNumber id ids f.0.0 (others_small ids rest f.1)
+    All-cons IsId id ids f.0.0 (others_small ids rest f.1)
 
-pub listed_small : (ids rest : List ℕ) → ids_phrase.Fits (ids, rest) → All IsIdNumber ids
-listed_small [] rest f = All-nil IsIdNumber
+pub listed_small : (ids rest : List ℕ) → ids_phrase.Fits (ids, rest) → All IsId ids
+listed_small [] rest f = All-nil IsId
 listed_small (id ∷ ids) rest f = others_small (id ∷ ids) rest f
 
 module _ (words rest : List ℕ) (follows : words ≡ codes "list" ++ rest) where
   -- no ids follow the word
   pub no_ids : ((a : List ℕ × List ℕ) → ids_phrase.Fits a → rest ≢ ids_phrase.text a)
-      → (ids : List ℕ) → All IsIdNumber ids → list_words ids ≢ words
+      → (ids : List ℕ) → All IsId ids → list_words ids ≢ words
   no_ids never ids small e =
       never (ids, []) (listed_fit ids small)
       (sym (append_cancel_left (codes "list") (flat_map id_word ids) rest (e ∙ follows))
@@ -55,7 +55,7 @@ module _ (words rest : List ℕ) (follows : words ≡ codes "list" ++ rest) wher
   module _ (found ids left : List ℕ) (same : found ≡ ids)
       (read : Reads ids_phrase.Fits ids_phrase.text (Some (found, left)) rest) where
     -- ids follow it, and then something else
-    pub more_than_ids : (left ≡ [] → ⊥) → (others : List ℕ) → All IsIdNumber others
+    pub more_than_ids : (left ≡ [] → ⊥) → (others : List ℕ) → All IsId others
         → list_words others ≢ words
     more_than_ids some others small e =
         some ((listed_one (codes " ") 32 printed_one).same (found, left) (others, []) read.0
@@ -64,13 +64,13 @@ module _ (words rest : List ℕ) (follows : words ≡ codes "list" ++ rest) wher
         ∙ (sym (append_cancel_left (codes "list") (flat_map id_word others) rest (e ∙ follows))
         ∙ sym (listed_is others)))).1
 
-    pub ids_found : length left ≡ 0 → (list_words ids ≡ words) × All IsIdNumber ids
+    pub ids_found : length left ≡ 0 → (list_words ids ≡ words) × All IsId ids
     ids_found none = let end = nil_from_length left none in (
       ap (λ (l : List ℕ). codes "list" ++ l)
           (ap (flat_map id_word) (sym same) ∙ (sym (listed_is found)
           ∙ (ap (λ (l : List ℕ). ids_phrase.text (found, l)) (sym end) ∙ sym read.1)))
           ∙ sym follows,
-      subst (All IsIdNumber) same (listed_small found left read.0),
+      subst (All IsId) same (listed_small found left read.0),
     )
 
 -- where the phrase of a count is not read, no number has the words
@@ -110,7 +110,7 @@ module _ (words : List ℕ)
     → handle_words slot ticket ≢ words)
     (plain : (w : ReplyWord) → word_text w ≢ words)
     (counts : (n : ℕ) → n < 2 ^ 64 → count_words n ≢ words)
-    (lists : (ids : List ℕ) → All IsIdNumber ids → list_words ids ≢ words) where
+    (lists : (ids : List ℕ) → All IsId ids → list_words ids ≢ words) where
   pub none_replied : (r : Reply) → IsToLine r → text_of r ≢ words
   none_replied (reply.Handle h) i = handles h.slot h.ticket i.0 i.1
   none_replied reply.Locked i = plain word.Locked
@@ -126,7 +126,7 @@ module _ (words : List ℕ)
   none_replied (reply.Nodes ids) i = lists ids.items i
   none_replied (reply.Ports ports) i =
       let never =
-      lists (map value_of ports.items) (All-map IsIdNumber value_of ports.items i) in
+      lists (map value_of ports.items) (All-map IsId value_of ports.items i) in
       λ e. never (ap (λ (l : List ℕ). codes "list" ++ l) (sym (port_words ports.items)) ∙ e)
   none_replied (reply.Count n) i = counts n i
   none_replied _ i = absurd i
@@ -211,7 +211,7 @@ space_first (id ∷ ids) = refl
 
 -- lists with one text have the same ids at each index that was read
 pub differ_at : (xs ys : List ℕ) (i : ℕ) → i < length xs → i < length ys → take i xs ≡ take i ys
-    → IsIdNumber (get_or xs i 0) → IsIdNumber (get_or ys i 0) → get_or xs i 0 ≢ get_or ys i 0
+    → IsId (get_or xs i 0) → IsId (get_or ys i 0) → get_or xs i 0 ≢ get_or ys i 0
     → flat_map id_word xs ≢ flat_map id_word ys
 differ_at [] ys i p q t s u n e = omega (arith, p)
 differ_at (a ∷ xs) [] i p q t s u n e = omega (arith, q)
@@ -258,12 +258,12 @@ module _ {A : Type 0} (id : A → ℕ) where
       within : i < length (map id xs)
       within = rw (length-map xs id) p
 
-      pub ids_differ : IsIdNumber value → IsIdNumber (get_or ids i 0)
+      pub ids_differ : IsId value → IsId (get_or ids i 0)
           → (value ≡ get_or ids i 0 → ⊥)
           → flat_map id_word (map id xs) ≢ flat_map id_word ids
       ids_differ small other never =
           let here : get_or (map id xs) i 0 ≡ value = its_id ∙ sym has in
-          differ_at (map id xs) ids i within q same (subst IsIdNumber (sym here) small) other
+          differ_at (map id xs) ids i within q same (subst IsId (sym here) small) other
           (λ e. never (sym here ∙ e))
 
       pub ids_go_on : value ≡ get_or ids i 0 → take (i + 1) (map id xs) ≡ take (i + 1) ids

@@ -1,13 +1,9 @@
 -- Weak listings lack nothing where their replies see enough.
-use Rattle.service_conformance.proofs.Prelude.{AllByRecursion, Bool, Contains, List, [], ap, arith, false, filter, if◌then◌else◌, inl, inr, length, list_any, not, refl, subst, suc, sym, true, zero, ℕ, ◌&&◌, ◌==◌, ◌∙◌, ◌∷◌, ◌≡◌, ◌⊎◌, not-not, eqb-true, nil_from_length, Any-from_list_any, list_any-from_Any, and_parts}
+use Rattle.service_conformance.proofs.Prelude.{AllByRecursion, Bool, Contains, List, [], ap, arith, false, filter, if◌then◌else◌, inl, inr, length, list_any, not, refl, subst, suc, sym, true, zero, ℕ, ◌&&◌, ◌==◌, ◌∙◌, ◌∷◌, ◌≡◌, ◌⊎◌, not-not, eqb-true, Any-from_list_any, list_any-from_Any, and_parts}
 use Rattle.service_conformance.proofs.Names.{IsThere, Look, Part, Service, WeakListingsSeeEnough, ids_in, is_among, look_of, looks_after, looks_through, without}
 use Rattle.std.proofs.lemmas.Map.Views.{any-filter_same}
-use Rattle.service_conformance.proofs.Looking.{seen_of}
+use Rattle.service_conformance.proofs.Looking.{by_cases, empty_of, seen_of}
 use Rattle.service_conformance.proofs.Possibles.{not_both}
-
-pub by_cases : (P : Type 0) (b : Bool) → (b ≡ true → P) → (b ≡ false → P) → P
-by_cases P true then_so else_so = then_so refl
-by_cases P false then_so else_so = else_so refl
 
 -- a service at which an id is settled
 abbrev Settles : (Service → ℕ → Bool) → List Service → ℕ → Type 0
@@ -83,9 +79,6 @@ looks_none (s ∷ services) = looks_none services
 record NoneLeft (l : Look) (services : List Service) : Type 0 where
   pub unseen : left (was_there l.part) services l.unseen ≡ []
   pub lasting : left (was_away l.part) services l.lasting ≡ []
-
-pub empty_of : (ids : List ℕ) → (length ids == 0) ≡ true → ids ≡ []
-empty_of ids e = nil_from_length ids (eqb-true (length ids) 0 e)
 
 module _ (s : Service) (l : Look) where
   abbrev next : Look

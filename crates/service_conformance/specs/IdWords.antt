@@ -8,7 +8,8 @@ use Rattle.std.specs.Str.Parse.{AllDigits, IsNumeral, digits_value}
 use Rattle.iox2_ids.specs.Packing.{hexadecimal}
 use Rattle.line_streams.specs.Numerals.{cons_same}
 use Rattle.line_streams.specs.Spelling.{HasNo, OneWay}
-use Rattle.service_conformance.specs.Seen.{EndsWord, IsIdNumber, printed_id}
+use Rattle.service_conformance.specs.Seen.{EndsWord, printed_id}
+use Rattle.service_descriptions.specs.Lines.{IsId}
 
 digit_from : (c : ℕ) → digit_value c < 16 → 48 ≤ c
 digit_from c h = grind (arith, nat_tests)
@@ -20,14 +21,14 @@ digits_have_no_space (d ∷ ds) h =
     (digits_have_no_space ds h.1)
 
 -- a number is read from its digits
-id_numeral : (n : ℕ) → IsIdNumber n
+id_numeral : (n : ℕ) → IsId n
     → IsNumeral 16 (hexadecimal n) × (digits_value 16 (hexadecimal n) ≡ n)
 id_numeral n small = digits_is_IsNumeral 16 false (omega arith) (omega arith) n (omega arith)
 
-pub has_no_space : (n : ℕ) → IsIdNumber n → HasNo 32 (hexadecimal n)
+pub has_no_space : (n : ℕ) → IsId n → HasNo 32 (hexadecimal n)
 has_no_space n small = digits_have_no_space (hexadecimal n) (id_numeral n small).0.1
 
-pub same_id : (m n : ℕ) → IsIdNumber m → IsIdNumber n → hexadecimal m ≡ hexadecimal n → m ≡ n
+pub same_id : (m n : ℕ) → IsId m → IsId n → hexadecimal m ≡ hexadecimal n → m ≡ n
 same_id m n p q e =
     sym (id_numeral m p).1 ∙ (ap (digits_value 16) e ∙ (id_numeral n q).1)
 

@@ -37,9 +37,8 @@ MovesBeforeCall c other =
     → (m : Watched) × CallLeaves c old m × CallLeaves other m new
 
 -- the same of all calls with these changes
-abbrev pub MovesBeforeChange : Change → Change → Type 0
-MovesBeforeChange change by =
-    (c other : Call) → IsChange change c → IsChange by other → MovesBeforeCall c other
+pub record MovesBeforeChange (change by : Change) : Type 0 where
+  pub moves : (c other : Call) → IsChange change c → IsChange by other → MovesBeforeCall c other
 
 -- it is a call that makes the change
 abbrev pub MakesChange : Change → Judged → Type 0

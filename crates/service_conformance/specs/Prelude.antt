@@ -22,7 +22,7 @@ pub use Rattle.iox2_ids.specs.Packing.{hexadecimal}
 pub use Rattle.iox2_ids.specs.PortId.{port_value}
 pub use Rattle.line_streams.specs.Spelling.{Spelling}
 pub use Rattle.service_descriptions.specs.Handles.{KeepsHandles, named}
-pub use Rattle.service_descriptions.specs.Lines.{plain_of}
+pub use Rattle.service_descriptions.specs.Lines.{IsId, plain_of}
 pub use Rattle.service_descriptions.specs.Replies.{IsSameReply, id_word, text_of}
 pub use Rattle.service_descriptions.specs.Steps.{Run, Serves, State}
 pub use Rattle.service_descriptions.specs.declared.replay.machine.command.Cleanup.TheVariants.{ByPort}

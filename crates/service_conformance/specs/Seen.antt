@@ -1,6 +1,6 @@
 -- What the words of replies say.
 use Rattle.std.specs.Prelude.{◌++◌, ◌<◌, ◌^◌, ◌≡◌, All, Bool, List, None, Option, Some, codes, false, get_or, true, ℕ}
-use Rattle.service_conformance.specs.Prelude.{Reply, Spelling, decimal, flat_map, hexadecimal, id_word, port_of, port_value, text_of}
+use Rattle.service_conformance.specs.Prelude.{IsId, Reply, Spelling, decimal, flat_map, hexadecimal, id_word, port_of, port_value, text_of}
 use Rattle.service_descriptions.specs.declared.replay.machine.reply.Reply.TheVariants as reply
 use Rattle.service_conformance.specs.declared.conformance.seen_reply.ReplyWord.{ReplyWord}
 use Rattle.service_conformance.specs.declared.conformance.seen_reply.ReplyWord.TheVariants as word
@@ -28,22 +28,18 @@ seen_text (seen.Word w) = word_text w
 seen_text (seen.List ids) = list_words ids.items
 seen_text (seen.Count n) = count_words n
 
--- the number of an id
-abbrev pub IsIdNumber : ℕ → Type 0
-IsIdNumber id = id < 2 ^ 128
-
 -- its numbers are of 64 bits, and its ids of 128
 abbrev pub IsSeen : SeenReply → Type 0
 IsSeen (seen.Handle slot ticket) = (slot < 2 ^ 64) × (ticket < 2 ^ 64)
 IsSeen (seen.Word w) = Unit {0}
-IsSeen (seen.List ids) = All IsIdNumber ids.items
+IsSeen (seen.List ids) = All IsId ids.items
 IsSeen (seen.Count n) = n < 2 ^ 64
 
 -- The reply is one to a command that has a line, with numbers of 64 bits and ids of 128.
 abbrev pub IsToLine : Reply → Type 0
 IsToLine (reply.Handle handle) = (handle.slot < 2 ^ 64) × (handle.ticket < 2 ^ 64)
-IsToLine (reply.Nodes ids) = All IsIdNumber ids.items
-IsToLine (reply.Ports ports) = All (λ d. IsIdNumber (port_value (port_of d))) ports.items
+IsToLine (reply.Nodes ids) = All IsId ids.items
+IsToLine (reply.Ports ports) = All (λ d. IsId (port_value (port_of d))) ports.items
 IsToLine (reply.Count n) = n < 2 ^ 64
 IsToLine reply.Verified = ⊥
 IsToLine (reply.Refused fault) = ⊥
@@ -87,6 +83,6 @@ EndsWord rest = get_or rest 0 32 ≡ 32
 -- an id, as it prints, up to a space or the end
 abbrev pub printed_id : Spelling ℕ
 printed_id = record {
-  Fits = λ front. IsIdNumber front.0 × EndsWord front.1;
+  Fits = λ front. IsId front.0 × EndsWord front.1;
   text = λ front. hexadecimal front.0 ++ front.1;
 }

@@ -57,6 +57,7 @@ fn differ(role: Role, other: Role) -> bool
 impl Change {
     /// Whether a call with this change, wherever it can be made right after one with the other
     /// change, can be made right before it, and both leave the same. A no says nothing.
+    #[tactic(auto, using(crate::proofs::Moving::movers))]
     pub(super) fn moves_before(self, other: Change) -> bool
         ensures { IsTrue result → MovesBeforeChange self other }
     {

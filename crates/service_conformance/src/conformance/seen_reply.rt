@@ -1,9 +1,10 @@
 //! Replies that were seen, by what their words say.
 ghost use Rattle.std.specs.Prelude.{◌≡◌, ◌≢◌, ◌<◌, ◌^◌, ℕ, List, All, IfNone, IfOk, IfSome, IsTrue, true};
-ghost use Rattle.service_conformance.specs.Seen.{IsIdNumber, IsSeen, IsToLine, changes_nothing, count_words};
+ghost use Rattle.service_conformance.specs.Seen.{IsSeen, IsToLine, changes_nothing, count_words};
 ghost use Rattle.service_conformance.specs.Seen.{list_words, seen_text, word_text};
 ghost use Rattle.service_conformance.specs.Words.{handle_words};
 ghost use Rattle.service_descriptions.specs.declared.replay.machine.reply.Reply.{Reply as OneReply};
+ghost use Rattle.service_descriptions.specs.Lines.{IsId};
 ghost use Rattle.service_descriptions.specs.Replies.{text_of};
 
 use super::id_word::PrintedId;
@@ -149,9 +150,9 @@ fn count_in(words: &[u8]) -> Option<usize>
 /// The ids in the words of a list.
 fn ids_in(alloc: Global, words: &[u8]) -> Result<Option<Vec<u128>>, AllocError>
     ensures some { IfOk result (λ found. IfSome found (λ ids.
-        (list_words ids.items ≡ words.now) × All IsIdNumber ids.items)) }
+        (list_words ids.items ≡ words.now) × All IsId ids.items)) }
     ensures none { IfOk result (λ found. IfNone found
-        ((ids : List ℕ) → All IsIdNumber ids → list_words ids ≢ words.now)) }
+        ((ids : List ℕ) → All IsId ids → list_words ids ≢ words.now)) }
 {
     let Some(rest) = after_word(words, b"list") else {
         return Ok(None);

@@ -68,8 +68,38 @@ fn has_left_in(
     first.has_left(dead, kept) || second.has_left(dead, kept)
 }
 
+/// The pattern, and how many first and second ports there may be.
+fn capacities_in(settings: &MessagingPatternSettings) -> (PatternKind, usize, usize)
+    ensures { capacities_in settings.now ≡
+        record { pattern = result.0; first = result.1; second = result.2 } }
+{
+    match settings {
+        MessagingPatternSettings::PublishSubscribe(s) => (
+            PatternKind::PublishSubscribe,
+            s.number_of_publishers,
+            s.number_of_subscribers,
+        ),
+        MessagingPatternSettings::Event(s) => (
+            PatternKind::Event,
+            s.number_of_listeners,
+            s.number_of_notifiers,
+        ),
+        MessagingPatternSettings::RequestResponse(s) => (
+            PatternKind::RequestResponse,
+            s.number_of_servers,
+            s.number_of_clients,
+        ),
+        MessagingPatternSettings::Blackboard(s) => (
+            PatternKind::Blackboard,
+            s.number_of_readers,
+            s.number_of_writers,
+        ),
+    }
+}
+
 impl ServiceCheck {
     /// A new service.
+    #[tactic(auto, using(iox2_dynamic::proofs::Making::fresh_is_service))]
     pub fn new(
         alloc: Global,
         settings: &MessagingPatternSettings,
@@ -81,63 +111,7 @@ impl ServiceCheck {
         ensures kept { IsService result }
         ensures rest { quiet result ≡ result }
     {
-        match settings {
-            MessagingPatternSettings::PublishSubscribe(s) => {
-                let (first, second) = (s.number_of_publishers, s.number_of_subscribers);
-                Self::of(
-                    alloc,
-                    PatternKind::PublishSubscribe,
-                    first,
-                    second,
-                    max_nodes,
-                    number,
-                )
-            }
-            MessagingPatternSettings::Event(s) => {
-                let (first, second) = (s.number_of_listeners, s.number_of_notifiers);
-                Self::of(alloc, PatternKind::Event, first, second, max_nodes, number)
-            }
-            MessagingPatternSettings::RequestResponse(s) => {
-                let (first, second) = (s.number_of_servers, s.number_of_clients);
-                Self::of(
-                    alloc,
-                    PatternKind::RequestResponse,
-                    first,
-                    second,
-                    max_nodes,
-                    number,
-                )
-            }
-            MessagingPatternSettings::Blackboard(s) => {
-                let (first, second) = (s.number_of_readers, s.number_of_writers);
-                Self::of(
-                    alloc,
-                    PatternKind::Blackboard,
-                    first,
-                    second,
-                    max_nodes,
-                    number,
-                )
-            }
-        }
-    }
-
-    /// A new service of a pattern with so many first and second ports.
-    #[tactic(auto, using(iox2_dynamic::proofs::Making::fresh_is_service))]
-    fn of(
-        alloc: Global,
-        pattern: PatternKind,
-        first: usize,
-        second: usize,
-        max_nodes: usize,
-        number: u64,
-    ) -> Self
-        ensures new { result ≡ fresh_service
-            (record { pattern = pattern; first = first; second = second }) max_nodes number
-            (2 ^ 64 - 1) }
-        ensures kept { IsService result }
-        ensures rest { quiet result ≡ result }
-    {
+        let (pattern, first, second) = capacities_in(settings);
         let roles = pattern.port_roles();
         ServiceCheck {
             pattern,
@@ -187,20 +161,13 @@ impl ServiceCheck {
         if first { &self.first } else { &self.second }
     }
 
-    /// Whether some port has the node.
-    fn has_ports(&self, node: &UniqueNodeId) -> bool
-        ensures { result ≡ has_ports_of node.now self.now.ports }
-    {
-        has_ports_in(&self.first, &self.second, node)
-    }
-
     /// Whether some port has the node, and the node has one entry. Most nodes that leave have no
     /// port any more, and then their entries need not be counted.
     #[inline(always)]
     fn is_last_of_ports(&self, node: &UniqueNodeId) -> bool
         ensures { result ≡ is_last_of_ports node.now self.now }
     {
-        self.has_ports(node) && self.nodes.count(node) == 1
+        has_ports_in(&self.first, &self.second, node) && self.nodes.count(node) == 1
     }
 
     /// The pattern.

@@ -103,7 +103,7 @@ impl ServiceCheck {
     }
 
     /// The replies that removing a dead node may have, where the ports of these values stay.
-    #[tactic(auto, using(crate::proofs::DeadSteps::dead_possible))]
+    #[tactic(auto, using(crate::proofs::Dying::dead_possible))]
     fn possible_dead(&self, dead: &UniqueNodeId, kept: &Vec<u128>) -> Possible
         ensures { ArePossible self.now (ServesDead self.now dead.now (cleanup.ByPort kept.now))
             result }

@@ -1,6 +1,6 @@
 use Rattle.service_conformance.proofs.Prelude.{sym, ◌∙◌, ◌≡◌}
 use Rattle.service_conformance.proofs.Names.{role_at, side_of}
-use Rattle.service_conformance.proofs.Releasing.{released, unknown}
+use Rattle.service_conformance.proofs.Removing.{released, unreleased}
 use Rattle.service_conformance.proofs.conformance.service_check.ServiceCheck.possible_release.Goals.{In-Some-side}
 use Rattle.service_conformance.proofs.conformance.service_check.ServiceCheck.possible_release.Goals as goal
 
@@ -11,7 +11,7 @@ role_is c = rw c.kind-kind.ensures.pattern at (sym c.role.ensures ∙ c.in-Some-
 pub returns-in_default-get : goal.returns-in_default-get
 returns-in_default-get c =
     rw c.in-Some.is
-    (unknown c.args.self.now _ _ (role_is (goal.at.returns-in_default-get c).In-Some-side)
+    (unreleased c.args.self.now _ _ (role_is (goal.at.returns-in_default-get c).In-Some-side)
     c.kind-kind.ensures.kept (rw c.ports.ensures.ports at c.in_default-get.ensures.none))
 
 pub returns : goal.returns
