@@ -1,10 +1,12 @@
 -- All that is found stands in one line each.
-use Rattle.std.proofs.Common.{rules, arith, ◌≡◌, ◌∙◌, ◌++◌, ◌&&◌, if◌then◌else◌, Bool, true, false, List, [], ◌∷◌, ℕ, Option, Some, None, option_map, map, ap, refl, inl, inr}
-use Rattle.std.proofs.lemmas.List.Elements.{All-cons, All-nil}
+use Rattle.std.proofs.Common.{arith, ◌≡◌, ◌++◌, ◌&&◌, if◌then◌else◌, Bool, true, false, List, [], ℕ, Option, Some, None, option_map, map, get_or, refl, inl, inr, subst}
+use Rattle.std.specs.List.{All}
+use Rattle.std.proofs.lemmas.List.{get_or-map, length-map}
+use Rattle.std.proofs.lemmas.List.Elements.{All-append, All-cons, All-map, All-nil, All-same}
 use Rattle.std.proofs.lemmas.List.Sorted.{All-permutation}
 use Rattle.config_report.specs.Contradictions.{Contradiction, Side, contradiction_note, positioned_note, side_note}
-use Rattle.config_report.specs.Findings.{Checks, AreInLine, is_in_line, key_in_line, IsNoFile, error_behind}
-use Rattle.config_report.specs.Notes.{has_no_control, in_line, Note, Topic, fault, unknown, note, note_in, topic_note, finding_view}
+use Rattle.config_report.specs.Findings.{Checks, AreInLine, is_in_line, key_in_line, IsNoFile, error_behind, topics_in}
+use Rattle.config_report.specs.Notes.{has_no_control, in_line, Note, Topic, fault, unknown, note, note_in, topic_note, topic_position, finding_view}
 use Rattle.config_report.specs.declared.contradiction.Effect.{Effect}
 use Rattle.config_report.specs.declared.finding.Finding.{Finding}
 use Rattle.config_report.specs.declared.finding.Findings.{Findings}
@@ -48,36 +50,25 @@ positioned_of : (bytes : List ℕ) (one : Side) (other : Option Side) (effect : 
 positioned_of bytes one None effect = grind (arith, side_of)
 positioned_of bytes one (Some other) effect = grind (arith, choose_note, side_of)
 
-abbrev Lined : Finding → Type 0
-Lined f = is_in_line (finding_view f) ≡ true
+abbrev InLine : Note → Type 0
+InLine n = is_in_line n ≡ true
 
--- each of some notes is in line
-abbrev LinedNotes : List Note → Type 0
-LinedNotes [] = Unit {0}
-LinedNotes (n ∷ ns) = (is_in_line n ≡ true) × LinedNotes ns
+-- what is said of a file is in line
+notes_of : (bytes : List ℕ) (ts : List Topic) (cs : List Contradiction)
+    → All InLine (map (note_in bytes) ts ++ map (contradiction_note bytes) cs)
+notes_of bytes ts cs =
+    All-append InLine _ _
+    (All-map InLine (note_in bytes) ts
+    (λ k d inside. let t = get_or ts k d in topic_of (topic_position bytes t) t))
+    (All-map InLine (contradiction_note bytes) cs
+    (λ k d inside. let c = get_or cs k d in positioned_of bytes c.one c.other c.effect))
 
-contradictions_lined : (bytes : List ℕ) (cs : List Contradiction)
-    → LinedNotes (map (contradiction_note bytes) cs)
-contradictions_lined bytes [] = tt
-contradictions_lined bytes (c ∷ cs) = grind (arith, positioned_of, contradictions_lined bytes cs)
-
-topics_lined : (bytes : List ℕ) (ts : List Topic) (more : List Note) → LinedNotes more
-    → LinedNotes (map (note_in bytes) ts ++ more)
-topics_lined bytes [] more h = grind arith
-topics_lined bytes (t ∷ ts) more h = grind (arith, topic_of, topics_lined bytes ts more h)
-
-all_of : (fs : List Finding) (ns : List Note) → LinedNotes ns → map finding_view fs ≡ ns
+-- so is what is found where that is said
+found_of : (fs : List Finding) (ns : List Note) → map finding_view fs ≡ ns → All InLine ns
     → AreInLine fs
-all_of [] ns h e = All-nil Lined
-all_of (f ∷ fs) [] h e = cc
-all_of (f ∷ fs) (n ∷ ns) (is, more) e =
-    let same : finding_view f ≡ n = cc in
-    let others : map finding_view fs ≡ ns = cc in
-    All-cons Lined f fs (ap (λ m. is_in_line m) same ∙ is) (all_of fs ns more others)
-
-one_of : (fs : List Finding) (n : Note) → is_in_line n ≡ true → map finding_view fs ≡ n ∷ []
-    → AreInLine fs
-one_of fs n h e = all_of fs (n ∷ []) (h, tt) e
+found_of fs ns e all k d inside =
+    subst InLine (get_or-map finding_view fs k d (finding_view d) inside)
+    (All-same InLine _ ns e all k (finding_view d) (rw length-map inside))
 
 -- what is said of bytes that are no file of settings
 error_of : (bytes : List ℕ) (said : Note) (n : ℕ) (words : List ℕ)
@@ -91,6 +82,10 @@ no_file_of bytes said (inr (inr (n, words, within, text, unparsed, is))) = grind
 
 pub checks_in_line : (bytes : List ℕ) (found : Findings) → Checks bytes found
     → AreInLine found.list.items
-checks_in_line bytes found (inl h) = search (rules, one_of, no_file_of)
+checks_in_line bytes found (inl h) =
+    found_of _ _ h.list
+    (All-cons InLine h.said [] (no_file_of bytes h.said h.no_file) (All-nil InLine))
 checks_in_line bytes found (inr h) =
-    search (rules, All-permutation, all_of, topics_lined, contradictions_lined)
+    let (made, same, order) = h.list in
+    All-permutation (λ f. InLine (finding_view f)) made _ order.same
+    (found_of made _ same (notes_of bytes (topics_in h.default h.file) _))

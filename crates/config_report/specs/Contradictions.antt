@@ -17,8 +17,7 @@ use Rattle.config_report.specs.declared.contradiction.Contradiction.{Contradicti
 use Rattle.config_report.specs.declared.contradiction.Effect.{Effect}
 use Rattle.config_report.specs.declared.contradiction.Effect.TheVariants.{UnsentEvent, ManyRoots, SameNames, LongNames, SmallBuffer, UselessLimit}
 use Rattle.config_report.specs.declared.contradiction.Side.{Side as HeldSide}
-use Rattle.config_report.specs.declared.contradictions.Limit.{Limit}
-use Rattle.config_report.specs.declared.contradictions.NotifierEvent.{NotifierEvent}
+use Rattle.config_report.specs.declared.contradictions.Candidate.{Candidate}
 use Rattle.config_report.specs.declared.contradictions.Suffix.{Suffix}
 use Rattle.config_report.specs.declared.finding.Severity.TheVariants.{Warning}
 use Rattle.toml_positions.specs.declared.position.Position.{Position}
@@ -52,6 +51,11 @@ contradiction_view c = record {
 abbrev pub where_so : Bool → Side → Option Side → Effect → List Contradiction
 where_so holds one other effect =
     if holds then record { one = one; other = other; effect = effect } ∷ [] else []
+
+-- the same of a candidate
+abbrev pub candidate_view : Candidate → List Contradiction
+candidate_view c =
+    where_so c.holds (side_view c.found.one) (other_view c.found.other) c.found.effect
 
 -- the path does not begin with `/`
 abbrev pub is_relative : List ℕ → Bool
@@ -118,23 +122,22 @@ history_contradictions p =
     ))
     SmallBuffer
 
--- the events that report what happens to a notifier, by their keys
-abbrev pub notifier_events_of : Event → List (List ℕ × Option ℕ)
-notifier_events_of e =
-    (codes "notifier-created-event", e.notifier_created_event)
-    ∷ (codes "notifier-dropped-event", e.notifier_dropped_event)
-    ∷ (codes "notifier-dead-event", e.notifier_dead_event)
-    ∷ []
-
-abbrev pub notifier_event_view : NotifierEvent → List ℕ × Option ℕ
-notifier_event_view e = (e.key.now, e.number)
-
 -- the event is set, and is above the greatest one
 abbrev pub unsent_event : ℕ → List ℕ × Option ℕ → List Contradiction
 unsent_event greatest (key, None) = []
 unsent_event greatest (key, Some n) =
     where_so (nat_lt greatest n) (section.Event, key, number n)
     (Some (section.Event, codes "event-id-max-value", number greatest)) UnsentEvent
+
+-- the events that report what happens to a notifier
+abbrev pub event_contradictions : Event → List Contradiction
+event_contradictions e =
+    flat_map (unsent_event e.event_id_max_value) (
+    (codes "notifier-created-event", e.notifier_created_event)
+    ∷ (codes "notifier-dropped-event", e.notifier_dropped_event)
+    ∷ (codes "notifier-dead-event", e.notifier_dead_event)
+    ∷ []
+    )
 
 -- the limits without which a pattern cannot be used, by their tables and keys
 abbrev pub limits_of : Defaults → List (Section × List ℕ × ℕ)
@@ -173,9 +176,6 @@ limits_of d =
     ∷ (section.Blackboard, codes "max-nodes", d.blackboard.max_nodes)
     ∷ []
 
-abbrev pub limit_view : Limit → Section × List ℕ × ℕ
-limit_view l = (l.section, l.key.now, l.value)
-
 -- the limit is 0
 abbrev pub useless_limit : Section × List ℕ × ℕ → List Contradiction
 useless_limit (s, key, value) = where_so (nat_eq value 0) (s, key, number value) None UselessLimit
@@ -191,17 +191,12 @@ global_contradictions g =
 abbrev pub default_contradictions : Defaults → List Contradiction
 default_contradictions d =
     history_contradictions d.publish_subscribe
-    ++ (flat_map (unsent_event d.event.event_id_max_value) (notifier_events_of d.event)
-    ++ flat_map useless_limit (limits_of d))
+    ++ (event_contradictions d.event ++ flat_map useless_limit (limits_of d))
 
--- all settings of a configuration that contradict each other
-abbrev pub contradictions_of : Config → List Contradiction
-contradictions_of c = global_contradictions c.global ++ default_contradictions c.defaults
-
--- the same of the settings of a file, which one with faults does not have
+-- all settings of a configuration that contradict each other; a file with faults has none
 abbrev pub contradictions_in : Option Config → List Contradiction
 contradictions_in None = []
-contradictions_in (Some c) = contradictions_of c
+contradictions_in (Some c) = global_contradictions c.global ++ default_contradictions c.defaults
 
 -- what it leads to, in words
 abbrev pub effect_text : Effect → List ℕ

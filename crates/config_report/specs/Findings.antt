@@ -133,12 +133,9 @@ pub record FindsNoFile (bytes : List ℕ) (found : Findings) : Type 0 where
 abbrev pub Checks : List ℕ → Findings → Type 0
 Checks bytes found = FindsNoFile bytes found ⊎ FindsInFile bytes found
 
--- a line, and a line for each finding
-abbrev pub note_line : Note → List ℕ
-note_line n = note_text n ++ codes "\n"
-
+-- a line for each finding
 abbrev pub lines_of : List Finding → List ℕ
-lines_of list = flat_map note_line (map finding_view list)
+lines_of list = flat_map (λ n. note_text n ++ codes "\n") (map finding_view list)
 
 -- a key has no control character, if there is one
 abbrev pub key_in_line : Option (List ℕ) → Bool

@@ -109,9 +109,9 @@ directories_text c =
 abbrev pub kind_view : FileKind → List ℕ × List ℕ
 kind_view f = (f.name.now, f.suffix.now)
 
--- the kinds of services' files
-abbrev pub service_files_of : Service → List (List ℕ × List ℕ)
-service_files_of service =
+-- the kinds of services' and of nodes' files
+abbrev pub kinds_of : Service → Node → List (List ℕ × List ℕ)
+kinds_of service node =
     (codes "static configuration", service.static_config_storage_suffix)
     ∷ (codes "dynamic configuration", service.dynamic_config_storage_suffix)
     ∷ (codes "data segments", service.data_segment_suffix)
@@ -119,12 +119,7 @@ service_files_of service =
     ∷ (codes "event connections", service.event_connection_suffix)
     ∷ (codes "blackboard management", service.blackboard_mgmt_suffix)
     ∷ (codes "blackboard data", service.blackboard_data_suffix)
-    ∷ []
-
--- the kinds of nodes' files
-abbrev pub node_files_of : Node → List (List ℕ × List ℕ)
-node_files_of node =
-    (codes "node monitors", node.monitor_suffix)
+    ∷ (codes "node monitors", node.monitor_suffix)
     ∷ (codes "node details", node.static_config_suffix)
     ∷ (codes "service tags", node.service_tag_suffix)
     ∷ (codes "port tags", node.port_tag_suffix)
@@ -139,8 +134,7 @@ file_line prefix file = named_line file.0 (prefix ++ (codes "*" ++ file.1))
 abbrev pub files_text : Config → List ℕ
 files_text c =
     codes "\nfiles, with * for what the configuration does not fix\n"
-    ++ (flat_map (file_line c.global.prefix) (service_files_of c.global.service)
-    ++ flat_map (file_line c.global.prefix) (node_files_of c.global.node))
+    ++ flat_map (file_line c.global.prefix) (kinds_of c.global.service c.global.node)
 
 -- how many chunks a port needs, where 64 bits have the number
 abbrev pub need_text : Option ℕ → List ℕ
@@ -160,12 +154,6 @@ IsNeedLine port limits ports line =
     × ReportsGreatest (all_limits ports limits) all × (line ≡ need_line port one ports all)
 
 -- how many chunks the ports of each kind need
-abbrev pub needs_text : List ℕ → List ℕ → List ℕ → List ℕ
-needs_text publishers clients servers =
-    codes "\nchunks that a port needs at these limits, and all ports of its kind\n"
-    ++ (publishers ++ (clients ++ (servers
-    ++ codes "  event, blackboard      none: their ports send no messages\n")))
-
 abbrev pub IsNeedsText : Defaults → List ℕ → Type 0
 IsNeedsText d text =
     (publishers : List ℕ) × (clients : List ℕ) × (servers : List ℕ)
@@ -173,7 +161,10 @@ IsNeedsText d text =
     publishers
     × IsNeedLine (codes "client") (request_limits_of d) d.request_response.max_clients clients
     × IsNeedLine (codes "server") (response_limits_of d) d.request_response.max_servers servers
-    × (text ≡ needs_text publishers clients servers)
+    × (text
+    ≡ codes "\nchunks that a port needs at these limits, and all ports of its kind\n"
+    ++ (publishers ++ (clients ++ (servers
+    ++ codes "  event, blackboard      none: their ports send no messages\n"))))
 
 -- all settings, each beside its default where it differs from that
 abbrev pub IsSettingsText : Config → Config → List ℕ → Type 0

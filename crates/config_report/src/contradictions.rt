@@ -2,12 +2,11 @@
 ghost use Rattle.std.specs.Prelude.{◌≡◌, ◌++◌, IfOk, OnOk, flat_map, map};
 ghost use Rattle.std.specs.Prelude.{option_copied};
 ghost use Rattle.iox2_config_file.specs.Values.{number, text};
-ghost use Rattle.config_report.specs.Contradictions.{contradiction_view, contradictions_in};
-ghost use Rattle.config_report.specs.Contradictions.{default_contradictions, global_contradictions};
-ghost use Rattle.config_report.specs.Contradictions.{has_small_buffer};
-ghost use Rattle.config_report.specs.Contradictions.{history_contradictions, is_long, is_relative};
-ghost use Rattle.config_report.specs.Contradictions.{limit_view, limits_of, long_name};
-ghost use Rattle.config_report.specs.Contradictions.{notifier_event_view, notifier_events_of};
+ghost use Rattle.config_report.specs.Contradictions.{candidate_view, contradiction_view};
+ghost use Rattle.config_report.specs.Contradictions.{contradictions_in, default_contradictions};
+ghost use Rattle.config_report.specs.Contradictions.{event_contradictions, global_contradictions};
+ghost use Rattle.config_report.specs.Contradictions.{has_small_buffer, history_contradictions};
+ghost use Rattle.config_report.specs.Contradictions.{is_long, is_relative, limits_of, long_name};
 ghost use Rattle.config_report.specs.Contradictions.{other_view, root_contradictions, same_suffix};
 ghost use Rattle.config_report.specs.Contradictions.{side_view, suffix_contradictions, suffix_side};
 ghost use Rattle.config_report.specs.Contradictions.{suffix_view, suffixes_of, unsent_event};
@@ -28,19 +27,11 @@ struct Suffix<'a> {
     suffix: &'a FileName,
 }
 
-/// An event that reports what happens to a notifier, if it is set.
+/// A contradiction, and whether it is one.
 #[derive(Clone, Copy)]
-struct NotifierEvent {
-    key: &'static str,
-    number: Option<usize>,
-}
-
-/// A limit without which a pattern cannot be used.
-#[derive(Clone, Copy)]
-struct Limit {
-    section: Section,
-    key: &'static str,
-    value: usize,
+struct Candidate<'a> {
+    holds: bool,
+    found: Contradiction<'a>,
 }
 
 /// A setting that is a number.
@@ -198,100 +189,89 @@ fn has_small_buffer(settings: &PublishSubscribe) -> bool
         && settings.subscriber_max_buffer_size < settings.publisher_history_size
 }
 
-/// Adds a history that is larger than a subscriber's buffer, which may not overflow.
-fn add_history(
-    list: &mut Vec<Contradiction<'_>>,
-    settings: &PublishSubscribe,
-) -> Result<(), AllocError>
-    ensures { OnOk result (map contradiction_view list.new.items
-        ≡ map contradiction_view list.old.items ++ history_contradictions settings.now) }
+/// A history that is larger than a subscriber's buffer, which may not overflow.
+fn history<'a>(settings: &PublishSubscribe) -> Candidate<'a>
+    ensures { candidate_view result ≡ history_contradictions settings.now }
 {
     let history = settings.publisher_history_size;
     let buffer = settings.subscriber_max_buffer_size;
     let table = Section::PublishSubscribe;
-    add_where(
-        list,
-        has_small_buffer(settings),
-        number_of(table, "publisher-history-size", history),
-        Some(number_of(table, "subscriber-max-buffer-size", buffer)),
-        Effect::SmallBuffer,
-    )
+    Candidate {
+        holds: has_small_buffer(settings),
+        found: Contradiction {
+            one: number_of(table, "publisher-history-size", history),
+            other: Some(number_of(table, "subscriber-max-buffer-size", buffer)),
+            effect: Effect::SmallBuffer,
+        },
+    }
+}
+
+/// An event that is set and above the greatest one.
+fn event<'a>(greatest: usize, key: &'static str, event: Option<usize>) -> Candidate<'a>
+    ensures { candidate_view result ≡ unsent_event greatest (key.now, event) }
+{
+    let number = event.unwrap_or(0);
+    Candidate {
+        holds: greatest < number,
+        found: Contradiction {
+            one: number_of(Section::Event, key, number),
+            other: Some(number_of(Section::Event, "event-id-max-value", greatest)),
+            effect: Effect::UnsentEvent,
+        },
+    }
 }
 
 /// The events that report what happens to a notifier.
-fn notifier_events(settings: &Event) -> [NotifierEvent; 3]
-    ensures { map notifier_event_view result ≡ notifier_events_of settings.now }
+fn events<'a>(settings: &Event) -> [Candidate<'a>; 3]
+    ensures { flat_map candidate_view result ≡ event_contradictions settings.now }
 {
+    let greatest = settings.event_id_max_value;
     [
-        NotifierEvent {
-            key: "notifier-created-event",
-            number: settings.notifier_created_event,
-        },
-        NotifierEvent {
-            key: "notifier-dropped-event",
-            number: settings.notifier_dropped_event,
-        },
-        NotifierEvent {
-            key: "notifier-dead-event",
-            number: settings.notifier_dead_event,
-        },
+        event(
+            greatest,
+            "notifier-created-event",
+            settings.notifier_created_event,
+        ),
+        event(
+            greatest,
+            "notifier-dropped-event",
+            settings.notifier_dropped_event,
+        ),
+        event(
+            greatest,
+            "notifier-dead-event",
+            settings.notifier_dead_event,
+        ),
     ]
 }
 
-/// Adds an event that is set and above the greatest one.
-fn add_event(
-    list: &mut Vec<Contradiction<'_>>,
-    greatest: usize,
-    event: NotifierEvent,
-) -> Result<(), AllocError>
-    ensures { OnOk result (map contradiction_view list.new.items
-        ≡ map contradiction_view list.old.items
-        ++ unsent_event greatest (notifier_event_view event)) }
-{
-    let Some(number) = event.number else {
-        return Ok(());
-    };
-    let beside = Some(number_of(Section::Event, "event-id-max-value", greatest));
-    let side = number_of(Section::Event, event.key, number);
-    add_where(list, greatest < number, side, beside, Effect::UnsentEvent)
-}
-
-/// Adds each of some events that is set and above the greatest one.
-fn add_events(
-    list: &mut Vec<Contradiction<'_>>,
-    greatest: usize,
-    events: &[NotifierEvent],
-) -> Result<(), AllocError>
-    ensures { OnOk result (map contradiction_view list.new.items
-        ≡ map contradiction_view list.old.items
-        ++ flat_map (unsent_event greatest) (map notifier_event_view events.now)) }
-{
-    for event in events {
-        add_event(list, greatest, *event)?;
-    }
-    Ok(())
-}
-
-/// Limits, each a table, a key of it, and the value.
-macro_rules! limit_rows {
+/// Limits that are 0, each by a table, a key of it, and the value.
+macro_rules! useless_limits {
     ($($section:ident, $key:literal, $value:expr;)*) => {
-        [$(Limit {
-            section: Section::$section,
-            key: $key,
-            value: $value,
+        [$(Candidate {
+            holds: $value == 0,
+            found: Contradiction {
+                one: Side {
+                    section: Section::$section,
+                    key: $key,
+                    value: SettingValue::Number($value),
+                },
+                other: None,
+                effect: Effect::UselessLimit,
+            },
         }),*]
     };
 }
 
 /// The limits without which a pattern cannot be used.
-fn limits(settings: &Defaults) -> [Limit; 16]
-    ensures { map limit_view result ≡ limits_of settings.now }
+fn limits<'a>(settings: &Defaults) -> [Candidate<'a>; 16]
+    ensures { flat_map candidate_view result ≡ flat_map useless_limit (limits_of settings.now) }
 {
     let samples = &settings.publish_subscribe;
     let event = &settings.event;
     let request = &settings.request_response;
     let board = &settings.blackboard;
-    limit_rows!(
+    useless_limits!(
         PublishSubscribe, "max-subscribers", samples.max_subscribers;
         PublishSubscribe, "max-publishers", samples.max_publishers;
         PublishSubscribe, "max-nodes", samples.max_nodes;
@@ -312,15 +292,17 @@ fn limits(settings: &Defaults) -> [Limit; 16]
     )
 }
 
-/// Adds each of some limits that is 0.
-fn add_limits(list: &mut Vec<Contradiction<'_>>, limits: &[Limit]) -> Result<(), AllocError>
+/// Adds each of some candidates that is a contradiction.
+fn add_all<'a>(
+    list: &mut Vec<Contradiction<'a>>,
+    candidates: &[Candidate<'a>],
+) -> Result<(), AllocError>
     ensures { OnOk result (map contradiction_view list.new.items
-        ≡ map contradiction_view list.old.items
-        ++ flat_map useless_limit (map limit_view limits.now)) }
+        ≡ map contradiction_view list.old.items ++ flat_map candidate_view candidates.now) }
 {
-    for limit in limits {
-        let side = number_of(limit.section, limit.key, limit.value);
-        add_where(list, limit.value == 0, side, None, Effect::UselessLimit)?;
+    for candidate in candidates {
+        let Contradiction { one, other, effect } = candidate.found;
+        add_where(list, candidate.holds, one, other, effect)?;
     }
     Ok(())
 }
@@ -340,14 +322,16 @@ fn add_global<'a>(
 }
 
 /// Adds all settings of services that contradict each other.
-fn add_defaults(list: &mut Vec<Contradiction<'_>>, defaults: &Defaults) -> Result<(), AllocError>
+fn add_defaults<'a>(
+    list: &mut Vec<Contradiction<'a>>,
+    defaults: &Defaults,
+) -> Result<(), AllocError>
     ensures { OnOk result (map contradiction_view list.new.items
         ≡ map contradiction_view list.old.items ++ default_contradictions defaults.now) }
 {
-    let event = &defaults.event;
-    add_history(list, &defaults.publish_subscribe)?;
-    add_events(list, event.event_id_max_value, &notifier_events(event))?;
-    add_limits(list, &limits(defaults))
+    add_all(list, &[history(&defaults.publish_subscribe)])?;
+    add_all(list, &events(&defaults.event))?;
+    add_all(list, &limits(defaults))
 }
 
 /// All settings that contradict each other, if there are settings.

@@ -5,12 +5,12 @@ ghost use Rattle.iox2_config_file.specs.Read.{sections};
 ghost use Rattle.iox2_config_file.specs.Settings.{settings_in};
 ghost use Rattle.iox2_config_file.specs.Write.{value_view};
 ghost use Rattle.config_report.specs.Text.{Adds, SettingsGive, TablesGive, IsSettingLine};
-ghost use Rattle.config_report.specs.Text.{IsReportOver, usual_line, marked_line, named_line};
-ghost use Rattle.config_report.specs.Text.{directory_text, directories_text, file_line, files_text};
-ghost use Rattle.config_report.specs.Text.{kind_view, service_files_of, node_files_of};
+ghost use Rattle.config_report.specs.Text.{IsReportOver, usual_line, marked_line};
+ghost use Rattle.config_report.specs.Text.{directory_text, directories_text, named_line};
+ghost use Rattle.config_report.specs.Text.{file_line, files_text, kind_view, kinds_of};
 ghost use Rattle.config_report.specs.Text.{sample_limits_of, request_limits_of};
 ghost use Rattle.config_report.specs.Text.{all_limits, response_limits_of};
-ghost use Rattle.config_report.specs.Text.{need_line, need_text, IsNeedLine, IsNeedsText};
+ghost use Rattle.config_report.specs.Text.{need_text, IsNeedLine, IsNeedsText};
 ghost use Rattle.iox2_static.specs.Chunks.{ReportsGreatest};
 ghost use Rattle.std.specs.Duration.{as_nanos};
 ghost use Rattle.iox2_config_file.specs.Values.{duration};
@@ -180,6 +180,14 @@ fn write_directory(
     }
 }
 
+/// Appends a name, filled with spaces to 22 characters, and what stands beside it.
+fn write_named(out: &mut String, name: &str, text: &str) -> Result<(), AllocError>
+    ensures { OnOk result
+        (string_bytes out.new ≡ string_bytes out.old ++ named_line name.now text.now) }
+{
+    write!(out, "  {name:<22} {text}\n")
+}
+
 /// A kind of files.
 #[derive(Clone, Copy)]
 struct FileKind<'a> {
@@ -189,61 +197,37 @@ struct FileKind<'a> {
     suffix: &'a FileName,
 }
 
-/// A kind of files with this name and this suffix.
-fn kind<'a>(name: &'static str, suffix: &'a FileName) -> FileKind<'a>
-    ensures { kind_view result ≡ (name.now, suffix.now) }
-{
-    FileKind { name, suffix }
+/// Kinds of files, each with what they are and how their names end.
+macro_rules! kinds_of {
+    ($($name:literal, $suffix:expr;)*) => {
+        [$(FileKind {
+            name: $name,
+            suffix: &$suffix,
+        }),*]
+    };
 }
 
-/// The kinds of services' files.
-fn service_files(service: &Service) -> [FileKind<'_>; 7]
-    ensures { map kind_view result ≡ service_files_of service.now }
+/// The kinds of services' and of nodes' files.
+fn kinds<'a>(service: &'a Service, node: &'a Node) -> [FileKind<'a>; 12]
+    ensures { map kind_view result ≡ kinds_of service.now node.now }
 {
-    [
-        kind(
-            "static configuration",
-            &service.static_config_storage_suffix,
-        ),
-        kind(
-            "dynamic configuration",
-            &service.dynamic_config_storage_suffix,
-        ),
-        kind("data segments", &service.data_segment_suffix),
-        kind("connections", &service.connection_suffix),
-        kind("event connections", &service.event_connection_suffix),
-        kind("blackboard management", &service.blackboard_mgmt_suffix),
-        kind("blackboard data", &service.blackboard_data_suffix),
-    ]
+    kinds_of!(
+        "static configuration", service.static_config_storage_suffix;
+        "dynamic configuration", service.dynamic_config_storage_suffix;
+        "data segments", service.data_segment_suffix;
+        "connections", service.connection_suffix;
+        "event connections", service.event_connection_suffix;
+        "blackboard management", service.blackboard_mgmt_suffix;
+        "blackboard data", service.blackboard_data_suffix;
+        "node monitors", node.monitor_suffix;
+        "node details", node.static_config_suffix;
+        "service tags", node.service_tag_suffix;
+        "port tags", node.port_tag_suffix;
+        "global management", node.global_mgmt_suffix;
+    )
 }
 
-/// The kinds of nodes' files.
-fn node_files(node: &Node) -> [FileKind<'_>; 5]
-    ensures { map kind_view result ≡ node_files_of node.now }
-{
-    [
-        kind("node monitors", &node.monitor_suffix),
-        kind("node details", &node.static_config_suffix),
-        kind("service tags", &node.service_tag_suffix),
-        kind("port tags", &node.port_tag_suffix),
-        kind("global management", &node.global_mgmt_suffix),
-    ]
-}
-
-/// Appends the names of files.
-fn write_files(out: &mut String, config: &Config) -> Result<(), AllocError>
-    ensures { OnOk result (string_bytes out.new ≡ string_bytes out.old ++ files_text config.now) }
-{
-    let prefix = &config.global.prefix;
-    write!(
-        out,
-        "\nfiles, with * for what the configuration does not fix\n"
-    )?;
-    write_kinds(out, prefix, &service_files(&config.global.service))?;
-    write_kinds(out, prefix, &node_files(&config.global.node))
-}
-
-/// Appends a line for each kind of files.
+/// Appends a line for each kind of files: how their names begin and end.
 fn write_kinds(
     out: &mut String,
     prefix: &FileName,
@@ -253,26 +237,22 @@ fn write_kinds(
         ≡ string_bytes out.old ++ flat_map (file_line prefix.now) (map kind_view kinds.now)) }
 {
     for kind in kinds {
-        write_kind(out, prefix, kind)?;
+        let FileKind { name, suffix } = *kind;
+        write!(out, "  {name:<22} {prefix}*{suffix}\n")?;
     }
     Ok(())
 }
 
-/// Appends how the names of files of a kind begin and end.
-fn write_kind(out: &mut String, prefix: &FileName, kind: &FileKind<'_>) -> Result<(), AllocError>
-    ensures { OnOk result (string_bytes out.new
-        ≡ string_bytes out.old ++ file_line prefix.now (kind_view kind.now)) }
+/// Appends the names of files.
+fn write_files(out: &mut String, config: &Config) -> Result<(), AllocError>
+    ensures { OnOk result (string_bytes out.new ≡ string_bytes out.old ++ files_text config.now) }
 {
-    let FileKind { name, suffix } = *kind;
-    write!(out, "  {name:<22} {prefix}*{suffix}\n")
-}
-
-/// Appends a name, filled with spaces to 22 characters, and what stands beside it.
-fn write_named(out: &mut String, name: &str, text: &str) -> Result<(), AllocError>
-    ensures { OnOk result
-        (string_bytes out.new ≡ string_bytes out.old ++ named_line name.now text.now) }
-{
-    write!(out, "  {name:<22} {text}\n")
+    let kinds = kinds(&config.global.service, &config.global.node);
+    write!(
+        out,
+        "\nfiles, with * for what the configuration does not fix\n"
+    )?;
+    write_kinds(out, &config.global.prefix, &kinds)
 }
 
 /// How many samples of a publisher can be in use at once.
@@ -370,22 +350,7 @@ fn write_need(
         × (string_bytes out.new ≡ string_bytes out.old ++ line)
         × IsNeedLine port.now limits ports line) }
 {
-    let all = of_all(one, ports);
-    write_line(out, port, one, ports, all)
-}
-
-/// Appends how many chunks a port of one kind needs, and so many of them together.
-fn write_line(
-    out: &mut String,
-    port: &str,
-    one: Option<usize>,
-    ports: usize,
-    all: Option<usize>,
-) -> Result<(), AllocError>
-    ensures { OnOk result (string_bytes out.new
-        ≡ string_bytes out.old ++ need_line port.now one ports all) }
-{
+    let all = Chunks(of_all(one, ports));
     let one = Chunks(one);
-    let all = Chunks(all);
     write!(out, "  {port:<22} {one}, all {ports} together {all}\n")
 }

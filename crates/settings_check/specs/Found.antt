@@ -118,15 +118,11 @@ findings_seen file text findings = record {
   valid = valid_in file text findings.config;
 }
 
--- that a file cannot be read
-abbrev pub unread_seen : List ℕ → FileError → Seen
-unread_seen file why = record { said = []; unread = (file, why) ∷ []; valid = [] }
-
 -- what is found in a file for which this is given
 abbrev pub IsSeenIn : List ℕ → Result (List ℕ) FileError → Seen → Type 0
 IsSeenIn file (Ok bytes) seen =
     (findings : Findings) × Checks bytes findings × (seen ≡ findings_seen file bytes findings)
-IsSeenIn file (Err why) seen = seen ≡ unread_seen file why
+IsSeenIn file (Err why) seen = seen ≡ record { said = []; unread = (file, why) ∷ []; valid = [] }
 
 -- what is found in a file, read by its name or from the standard input
 abbrev pub IsFound : (List ℕ → Result (List ℕ) FileError → Type 0) → List ℕ → List ℕ → Seen

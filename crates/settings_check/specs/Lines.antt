@@ -40,17 +40,10 @@ style_of Text coloured = if coloured then style.Coloured else style.Plain
 abbrev pub text_of : Said → List ℕ
 text_of (file, note) = printable (file ++ (gap note.position ++ note_text note))
 
--- the line of a finding for a person
-abbrev pub text_line : Said → List ℕ
-text_line said = text_of said ++ codes "\n"
-
--- what switches the colour of a finding on, and off: these are the only commands to a terminal
+-- what switches the colour of a finding on
 abbrev pub colour_of : Severity → List ℕ
 colour_of Error = 27 ∷ codes "[31m"
 colour_of Warning = 27 ∷ codes "[33m"
-
-abbrev pub coloured_line : Said → List ℕ
-coloured_line said = colour_of said.1.severity ++ (text_of said ++ (27 ∷ codes "[0m\n"))
 
 -- a number of JSON, a text, or null
 abbrev pub number_data : Option ℕ → Data
@@ -71,15 +64,12 @@ note_data (file, note) =
     (member (codes "message") (string note.message)
     (member (codes "severity") (string (severity_text note.severity)) no_members))))))
 
--- the line of a finding for a program: an object of JSON
-abbrev pub json_line : Said → List ℕ
-json_line said = compact_text (note_data said) ++ codes "\n"
-
--- the line of a finding
+-- the line of a finding: for a person, also with its colour switched on and off, which are the only
+-- commands to a terminal, or for a program, an object of JSON
 abbrev pub line_in : Style → Said → List ℕ
-line_in style.Plain said = text_line said
-line_in style.Coloured said = coloured_line said
-line_in style.Json said = json_line said
+line_in style.Plain said = text_of said ++ codes "\n"
+line_in style.Coloured said = colour_of said.1.severity ++ (text_of said ++ (27 ∷ codes "[0m\n"))
+line_in style.Json said = compact_text (note_data said) ++ codes "\n"
 
 -- the lines of some findings
 abbrev pub lines_in : Style → List Said → List ℕ

@@ -26,15 +26,10 @@ kind_schema kind.Backpressure = codes "\"enum\": [\"RetryUntilDelivered\", \"Dis
 kind_schema kind.Allocation = codes "\"enum\": [\"BestFit\", \"PowerOfTwo\", \"Static\"]"
 kind_schema kind.Duration = codes "\"allOf\": [{\"$ref\": \"#/definitions/duration\"}]"
 
--- the value is a table of a table
-abbrev pub reference : Section → List ℕ → List ℕ
-reference s key =
-    codes "\"allOf\": [{\"$ref\": \"#/definitions/"
-    ++ (prefix_of s ++ (key ++ codes ".\"}]"))
-
 -- what the value of a key may be: of a table the definition of that table
 abbrev pub schema_of : Kind → Section → List ℕ → List ℕ
-schema_of kind.Table s key = reference s key
+schema_of kind.Table s key =
+    codes "\"allOf\": [{\"$ref\": \"#/definitions/" ++ (prefix_of s ++ (key ++ codes ".\"}]"))
 schema_of other s key = kind_schema other
 
 abbrev pub value_schema : Section → Row → List ℕ
@@ -71,11 +66,9 @@ abbrev pub HasObject : Section → List ℕ → List ℕ → Type 0
 HasObject s old new = (rows : List Row) × IsTable s rows × (new ≡ old ++ object_schema s rows)
 
 -- the name of a table, and the table
-abbrev pub name_of : Section → List ℕ
-name_of s = codes "  \"" ++ (prefix_of s ++ codes "\": {\n")
-
 abbrev pub definition_of : Section → List Row → List ℕ
-definition_of s rows = name_of s ++ (object_schema s rows ++ codes "},\n")
+definition_of s rows =
+    (codes "  \"" ++ (prefix_of s ++ codes "\": {\n")) ++ (object_schema s rows ++ codes "},\n")
 
 abbrev pub IsDefinition : Section → List ℕ → Type 0
 IsDefinition s text = (rows : List Row) × IsTable s rows × (text ≡ definition_of s rows)

@@ -1,12 +1,12 @@
 //! The JSON Schema of files of settings.
-ghost use Rattle.std.specs.Prelude.{◌≡◌, ◌++◌, ℕ, List, true, IfOk, OnOk, string_bytes};
-ghost use Rattle.settings_check.specs.Schema.{kind_schema, reference, value_schema, property};
-ghost use Rattle.settings_check.specs.Schema.{comma_if, properties, name_of, HasObject, IsDefinition};
-ghost use Rattle.settings_check.specs.Schema.{IsSchema};
+ghost use Rattle.std.specs.Prelude.{◌≡◌, ◌++◌, ℕ, List, Some, true, IfOk, OnOk, string_bytes};
+ghost use Rattle.settings_check.specs.Schema.{kind_schema, value_schema, property, comma_if};
+ghost use Rattle.settings_check.specs.Schema.{properties, HasObject, IsDefinition, IsSchema};
 ghost use Rattle.iox2_config_file.specs.Write.{InTurn};
 
 use iox2_config_file::{Kind, Row, SECTIONS, Section, rows};
 use std::alloc::{AllocError, Global};
+use std::fmt;
 
 /// What stands before all tables.
 const HEAD: &str = "{
@@ -52,44 +52,28 @@ fn kind_schema(kind: Kind) -> &'static str
     }
 }
 
-/// Appends that the value of a key is a table.
-fn write_reference(out: &mut String, section: Section, key: &str) -> Result<(), AllocError>
-    ensures { OnOk result
-        (string_bytes out.new ≡ string_bytes out.old ++ reference section key.now) }
-{
-    let prefix = section.prefix();
-    write!(
-        out,
-        "\"allOf\": [{{\"$ref\": \"#/definitions/{prefix}{key}.\"}}]"
-    )
-}
+/// What the value of a key of a table may be.
+#[derive(Clone, Copy)]
+struct ValueSchema<'a>(Section, &'a Row);
 
-/// Appends what the value of a key may be.
-fn write_kind(out: &mut String, section: Section, row: &Row) -> Result<(), AllocError>
-    ensures { OnOk result
-        (string_bytes out.new ≡ string_bytes out.old ++ value_schema section row.now) }
-{
-    match row.kind {
-        Kind::Table => write_reference(out, section, row.key),
-        kind => out.push_str(kind_schema(kind)),
+impl fmt::Display for ValueSchema<'_> {
+    ghost output = { λ schema. Some (value_schema schema.0 schema.1.now) };
+
+    fn fmt<W: fmt::Write>(&self, f: &mut fmt::Formatter<W>) -> fmt::Result {
+        let ValueSchema(section, row) = *self;
+        let prefix = section.prefix();
+        let key = row.key;
+        match row.kind {
+            Kind::Table => write!(
+                f,
+                "\"allOf\": [{{\"$ref\": \"#/definitions/{prefix}{key}.\"}}]"
+            ),
+            kind => f.write_str(kind_schema(kind)),
+        }
     }
 }
 
-/// Appends a key, with what it means and what its value may be.
-fn write_property(out: &mut String, section: Section, row: &Row) -> Result<(), AllocError>
-    ensures { OnOk result
-        (string_bytes out.new ≡ string_bytes out.old ++ property section row.now) }
-{
-    write!(
-        out,
-        "    \"{}\": {{\"description\": \"{}\", ",
-        row.key, row.about
-    )?;
-    write_kind(out, section, row)?;
-    out.push_str("}")
-}
-
-/// Appends a key behind the others.
+/// Appends a key behind the others, with what it means and what its value may be.
 fn write_next(
     out: &mut String,
     section: Section,
@@ -99,10 +83,14 @@ fn write_next(
     ensures { OnOk result (string_bytes out.new
         ≡ string_bytes out.old ++ (comma_if is_first ++ property section row.now)) }
 {
-    if !is_first {
-        out.push_str(",\n")?;
-    }
-    write_property(out, section, row)
+    let comma = if is_first { "" } else { ",\n" };
+    let key = row.key;
+    let about = row.about;
+    let schema = ValueSchema(section, row);
+    write!(
+        out,
+        "{comma}    \"{key}\": {{\"description\": \"{about}\", {schema}}}"
+    )
 }
 
 /// Appends the keys of a table.
@@ -131,21 +119,14 @@ fn write_object(out: &mut String, section: Section) -> Result<(), AllocError>
     Ok(())
 }
 
-/// Appends the name of a table.
-fn write_name(out: &mut String, section: Section) -> Result<(), AllocError>
-    ensures { OnOk result (string_bytes out.new ≡ string_bytes out.old ++ name_of section) }
-{
-    let prefix = section.prefix();
-    write!(out, "  \"{prefix}\": {{\n")
-}
-
 /// Appends a table by its name.
 #[tactic(auto, using(crate::proofs::Lists::three))]
 fn write_definition(out: &mut String, section: Section) -> Result<(), AllocError>
     ensures { OnOk result ((text : List ℕ)
         × (string_bytes out.new ≡ string_bytes out.old ++ text) × IsDefinition section text) }
 {
-    write_name(out, section)?;
+    let prefix = section.prefix();
+    write!(out, "  \"{prefix}\": {{\n")?;
     write_object(out, section)?;
     out.push_str("},\n")?;
     Ok(())
