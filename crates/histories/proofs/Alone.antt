@@ -197,11 +197,10 @@ pub made_alone : {M S : Type 0} (Step : M → S → ℕ → S → Type 0) (machi
     (slice_set configs 0 made) × (0 < length (slice_set configs 0 made))
 made_alone {M} {S} Step machine links slots configs config made c empty one is m whole events olds
     agrees sound fresh f =
-    let parts = one_of_one _ _ _ one is in
-    subst (λ (l : List (Config S)).
-    IsFrontier (Step whole) links slots (events ++ Begin c ∷ End c ∷ []) olds l × (0 < length l))
-    (sym parts.1) (
-      frontier_alone _ _ _ _ sound fresh f.table empty _ _ _ _ (all_as _ _ (made.state ∷ [])
+    let parts = one_of_one configs config made one is in
+    rw parts.1 (
+      frontier_alone (Step whole) slots events c sound fresh f.table empty links olds config made
+          (all_as _ _ (made.state ∷ [])
           (λ new. agrees c (open_begin_now _ _ sound fresh) config.state new) m.0) m.1
           (rw parts.0 at f),
       omega arith,

@@ -66,13 +66,8 @@ pub bit_cases : (set slot : ℕ) → (bit_at set slot ≡ 0) ⊎ (bit_at set slo
 bit_cases set slot =
     elim (cases_eq (bit_at set slot) 0) [
       | inl none ↦ inl none
-      | inr some ↦ inr (one_of (bit_at set slot) (bit_at-lt set slot) some)
+      | inr some ↦ inr (omega (arith, bit_at-lt set slot, some))
     ]
-  where
-    one_of : (n : ℕ) → n < 2 → n ≢ 0 → n ≡ 1
-    one_of zero h ne = absurd (ne refl)
-    one_of (suc zero) h ne = refl
-    one_of (suc (suc n)) h ne = absurd (omega arith)
 
 -- a slot that is not in the set
 pub bit_none : (set slot : ℕ) → (bit_at set slot ≡ 1 → ⊥) → bit_at set slot ≡ 0

@@ -46,18 +46,6 @@ module _ {S : Type 0} (Step : S → ℕ → S → Type 0) (slots : List (Option 
       )
 
   -- where calls that change nothing were made, the others lead to the same
-  leads_covered : (new : List (Config S)) (from : Spot S) (known : Config S) (calls : List ℕ)
-      (s : S) (fewer rest : ℕ) → length slots ≤ 64 → Contains new known
-      → known.state ≡ from.state → IsLighter Step slots known.waiting from.waiting
-      → Runs Step slots from.state from.waiting calls s fewer
-      → IsLighter Step slots fewer rest → LeadTo Step slots new s rest
-  leads_covered new from known calls s fewer rest few has same light run more =
-      let less = runs_lighter _ _ _ _ _ _ _ _ few light run in (
-        known,
-        has,
-        (less.0, less.1, rw same less.2, lighter_then _ _ _ _ _ less.3 more),
-      )
-
   pub leads_sought : (Found : Spot S → Type 0) (old new : List (Config S)) (from : Spot S)
       (calls : List ℕ) (s : S) (fewer rest : ℕ) → length slots ≤ 64 → ¬ (4096 < length new)
       → Settles Step slots Found old new → Found from
@@ -65,7 +53,11 @@ module _ {S : Type 0} (Step : S → ℕ → S → Type 0) (slots : List (Option 
       → IsLighter Step slots fewer rest → LeadTo Step slots new s rest
   leads_sought Found old new from calls s fewer rest few short g found run light =
       let one = g.complete short from found in
-      leads_covered _ from one.0 _ _ _ _ few one.1 one.2 one.3 run light
+      let less = runs_lighter _ _ _ _ _ _ _ _ few one.3 run in (
+        one.0,
+        one.1,
+        (less.0, less.1, rw one.2 less.2, lighter_then _ _ _ _ _ less.3 light),
+      )
 
   -- more calls are made
   made_then : (configs : List (Config S)) (from one : Spot S) (calls : List ℕ)
@@ -95,13 +87,8 @@ module _ {S : Type 0} (Step : S → ℕ → S → Type 0) (slots : List (Option 
     under_way = λ k has. (k, has, ([], (refl, refl), path_none _));
     complete = λ few new rest l over. inr l;
     short = λ k has. omega (arith, ones_most k.waiting (length slots));
-    once = λ i j d less h. absurd (omega arith);
+    once = none_same;
   }
-
-  made_done : (configs : List (Config S)) (config : Config S) (copy : Spot S) → IsCopy config copy
-      → IsMadeFrom Step slots configs (spot_of config) → IsMadeFrom Step slots configs copy
-  made_done configs config copy is m =
-      made_then _ (spot_of config) _ _ (is.0, is.1) (is.2 ∙ path_none _) m
 
   made_next : (configs : List (Config S)) (config : Config S) (next : Spot S)
       → IsNext Step slots config next → IsMadeFrom Step slots configs (spot_of config)
@@ -240,7 +227,8 @@ module _ {S : Type 0} (Step : S → ℕ → S → Type 0) (slots : List (Option 
           elim (f.adds.sound k has) [
             | inl before ↦ cl.sound k before
             | inr found ↦ (
-              made_done _ found.0 _ found.2.1 (cl.under_way found.0 found.1),
+              made_then _ (spot_of found.0) _ [] (found.2.1.0, found.2.1.1)
+                  (found.2.1.2 ∙ path_none _) (cl.under_way found.0 found.1),
               ap (λ w. bit_at w slot) found.2.1.1 ∙ found.2.0,
             )
           ];

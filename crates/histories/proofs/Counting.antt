@@ -1,5 +1,5 @@
 -- How often a number stands in a list, and what is true of all pairs of a list.
-use Rattle.histories.proofs.Words.{◌≤◌, length-append, ◌-◌, ◌≡◌, ◌≢◌, ℕ, zero, suc, ◌+◌, ◌<◌, List, [], ◌∷◌, ◌++◌, length, take, drop, get_or, refl, ◌∙◌, ap, arith, inl, inr, eq-eqb, remove, split_at, eqb_tells, AllPairs, get_or-append, get_or-append_right, get_or-append_seam, cases_lt, get_or-append-add}
+use Rattle.histories.proofs.Words.{◌≤◌, length-append, ◌-◌, ◌≡◌, ◌≢◌, ℕ, zero, suc, ◌+◌, ◌<◌, List, [], ◌∷◌, ◌++◌, length, take, drop, get_or, refl, ◌∙◌, ap, arith, inl, inr, eq-eqb, split_at, eqb_tells, AllPairs, get_or-append, get_or-append_right, get_or-append_seam, cases_lt, get_or-append-add}
 use Rattle.histories.specs.Histories.{times}
 
 -- a number of which none is more than zero
@@ -36,23 +36,12 @@ times_other c x ne = grind (arith, eqb_tells)
 pub times_same : (c x : ℕ) → 0 < times c (x ∷ []) → x ≡ c
 times_same c x h = grind (arith, eqb_tells, times_other)
 
-pub times-remove : (c : ℕ) (xs : List ℕ) (i d : ℕ) → i < length xs
-    → times c xs ≡ times c (remove xs i) + times c (get_or xs i d ∷ [])
-times-remove c xs i d h =
-    let x = get_or xs i d in
-    let whole : times c xs ≡ times c (take i xs ++ x ∷ drop (suc i) xs) =
-    ap (times c) (split_at xs i d h) in
-    omega (
-      arith,
-      whole,
-      times-append c (take i xs) (x ∷ drop (suc i) xs),
-      times-append c (take i xs) (drop (suc i) xs),
-      times-cons c x (drop (suc i) xs),
-    )
-
 -- what stands at an index stands in the list
 pub times_at : (xs : List ℕ) (i d : ℕ) → i < length xs → 0 < times (get_or xs i d) xs
-times_at xs i d h = omega (arith, times-remove (get_or xs i d) xs i d h, times_one (get_or xs i d))
+times_at [] i d h = absurd (omega arith)
+times_at (x ∷ xs) zero d h = omega (arith, times-cons x x xs, times_one x)
+times_at (x ∷ xs) (suc i) d h =
+    omega (arith, times-cons (get_or xs i d) x xs, times_at xs i d (omega (arith, h)))
 
 -- what stands in the list stands at an index
 pub at_times : (c : ℕ) (xs : List ℕ) → 0 < times c xs
@@ -120,11 +109,8 @@ pub all_pairs_behind : (P : ℕ → ℕ → Type 0) (xs ys : List ℕ) (x y : �
     → AllPairs P (xs ++ x ∷ ys) → 0 < times y ys → P x y
 all_pairs_behind P xs ys x y all h =
     let at = at_times _ _ h in
-    let first : get_or (xs ++ x ∷ ys) (length xs) 0 ≡ x = get_or-append_seam xs x ys 0 in
-    let second : get_or (xs ++ x ∷ ys) (length xs + suc at.0) 0 ≡ y =
-    get_or-append-add xs (x ∷ ys) (suc at.0) 0 ∙ at.2 in
-    rw (← second) (rw first at (all (length xs) (length xs + suc at.0) 0 (omega arith)
-    (omega (arith, at.1, length-append xs (x ∷ ys)))))
+    rw at.2 at (all_pairs_back P xs (x ∷ ys) all 0 (suc at.0) 0 (omega arith)
+    (omega (arith, at.1)))
 
 -- what is true of all pairs of two lists, and across them, is true of those of both
 pub all_pairs_join : (P : ℕ → ℕ → Type 0) (xs ys : List ℕ) → AllPairs P xs → AllPairs P ys

@@ -4,7 +4,7 @@ use Rattle.histories.proofs.Counting.{times-cons, times_at, times_none, times_sa
 use Rattle.histories.proofs.Indices.{contains_map_of, contains_of_map, each_from, each_to}
 use Rattle.histories.proofs.Events.{ends_within, stands_within, begins-append, begins_stands, ends_either, ends_left, stands_begins, stands_either, stands_right, answered_ended, begins_none, answered_left, answered_right, over_left, over_right}
 use Rattle.histories.proofs.Running.{leads_join, leads_split}
-use Rattle.histories.proofs.Frontiers.{frontier_fresh}
+use Rattle.histories.proofs.Frontiers.{frontier_fresh, table_none}
 pub use Rattle.histories.proofs.Events.{begins-append}
 
 -- a call of the first part is over when one of the second begins
@@ -185,12 +185,7 @@ module _ {S : Type 0} (Step : S → ℕ → S → Type 0) where
   fresh_anew links slots configs unlinked few empty once u =
       let state_of : Config S → S = λ config. config.state in
       frontier_fresh Step links slots (map state_of configs) unlinked
-      (record {
-        each = λ slot call has. absurd (empty slot call has);
-        all = λ call is. absurd (omega (arith, is.0, begins_none call));
-        apart = λ one other call a b. absurd (empty one call a);
-        few = few;
-      }) (λ k has.
+      (table_none Step slots few empty) (λ k has.
       let from = each_from IsUnlinked configs unlinked k u has in (
         rw from.2.0 (contains_map_of state_of configs from.0 from.1),
         from.2.2,

@@ -36,10 +36,6 @@ module _ {S : Type 0} (Step : S → ℕ → S → Type 0) where
     leaves_freed order rest leaves slot call has =
         leaves slot call (freed_before _ _ _ _ _ frees has).1
 
-    lighter_freed : (fewer rest : ℕ) → IsLighter Step slots fewer rest
-        → IsLighter Step more fewer rest
-    lighter_freed fewer rest l slot call has = l slot call (freed_before _ _ _ _ _ frees has).1
-
     -- the same leads on without the slot
     leads_freed : (configs : List (Config S)) (new : S) (rest : ℕ)
         → ((k : Config S) → Contains configs k → bit_at k.waiting t ≡ 0)
@@ -56,7 +52,7 @@ module _ {S : Type 0} (Step : S → ℕ → S → Type 0) where
                 let ne : s ≢ t = λ e. absurd
                 (omega (arith, some, gone k l.1, ap (λ x. bit_at k.waiting x) e)) in
                 (ne, frees.others s ne ∙ has)) l.2.2,
-            lighter_freed _ _ l.2.3,
+            λ s call has. l.2.3 s call (freed_before _ _ _ _ _ frees has).1,
           ),
         )
 
@@ -108,10 +104,8 @@ module _ {S : Type 0} (Step : S → ℕ → S → Type 0) where
                 ap (λ (p : Path). order_at links p) drop.1.2 in record {
                   old = is.old;
                   from = is.from;
-                  explains = rw order (subst
-                      (λ x. Explains Step (es ++ Crash c ∷ []) is.old (order_of links from) x)
-                      (sym drop.1.0) (explains_end _ _ _ _ _ _ _
-                      (inr refl) (λ is_end. absurd (cc)) is.explains));
+                  explains = rw (order, drop.1.0) (explains_end _ _ _ _ _ _ _
+                      (inr refl) (λ is_end. absurd (cc)) is.explains);
                   leaves = λ slot call has. grind (arith, freed_before, cleared_other, slot_64);
                   within = omega (arith, is.within, ap (λ (p : Path). p.base) drop.1.2);
                 }
@@ -234,14 +228,17 @@ module _ {S : Type 0} (Step : S → ℕ → S → Type 0) where
     table = table;
   }
 
-  pub table_none : IsTable [] []
-  table_none = grind (arith, slot_within, begins_none)
+  pub table_none : (slots : List (Option ℕ)) → length slots ≤ 64
+      → ((slot call : ℕ) → HasSlot slots slot call → ⊥) → IsTable [] slots
+  table_none slots few empty = grind (arith, begins_none)
 
   -- before any event
   pub frontier_first : (links : List Link) (olds : List S) (configs : List (Config S))
       → Gathers (FromOne IsFirst olds) [] configs → IsFrontier Step links [] [] olds configs
   frontier_first links olds configs g =
-      frontier_fresh _ _ _ _ table_none
+      frontier_fresh _ _ _ _
+      (table_none [] (omega arith)
+      (λ slot call has. absurd (omega (arith, slot_within [] slot call has))))
       (λ k has. elim (g.adds.sound k has) [
         | inl none ↦ absurd (nothing_in _ none)
         | inr found ↦ (rw found.2.0 found.1, found.2.2)

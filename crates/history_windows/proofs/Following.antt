@@ -1,5 +1,5 @@
 -- Windows that go on event by event.
-use Rattle.history_windows.proofs.Words.{◌≡◌, ℕ, ◌+◌, ◌-◌, ◌<◌, ◌≤◌, List, [], ◌∷◌, ◌++◌, length, take, get_or, refl, sym, ◌∙◌, ap, arith, append_assoc, take_all, true, Some, length-take-le, take-take, take-append_seam, slice_get-get_or, Event, Begin, End, Advance, Front, IsAdvance, IsSameFront, IsExplained, IsHistory, StandsAt, IsFrontOf, Cut, Window, GoesTo, IsMadeNext, CutsAt, IsStop}
+use Rattle.history_windows.proofs.Words.{◌≡◌, ℕ, ◌+◌, ◌-◌, ◌<◌, ◌≤◌, List, [], ◌∷◌, ◌++◌, length, take, get_or, refl, sym, ◌∙◌, ap, arith, append_assoc, take_all, true, Some, length-take-le, take-take, take-append_seam, get_or_from_slice_get, slice_get-get_or, Event, Begin, End, Advance, Front, IsAdvance, IsSameFront, IsExplained, IsHistory, StandsAt, IsFrontOf, Cut, Window, GoesTo, IsMadeNext, CutsAt, IsStop}
 use Rattle.histories.specs.declared.front.Advance.TheVariants as advance
 use Rattle.histories.proofs.Events.{stands_within}
 use Rattle.histories.proofs.Verdicts.{explained_take, one_more}
@@ -12,12 +12,8 @@ use Rattle.history_windows.proofs.Joins.{stands_take}
 pub take_stands : (es : List Event) (at : ℕ) (e : Event) → StandsAt es at e
     → take (at + 1) es ≡ take at es ++ e ∷ []
 take_stands es at e stands =
-    let h : at < length es = stands_within _ at e stands in
-    let same : Some (get_or es at e) ≡ Some e = sym (slice_get-get_or es at e h) ∙ stands in
-    one_more _ at e h ∙ ap (λ (x : Event). take at es ++ x ∷ []) (some_same same)
-  where
-    some_same : {x y : Event} → Some x ≡ Some y → x ≡ y
-    some_same p = cc
+    one_more _ at e (stands_within _ at e stands)
+    ∙ ap (λ (x : Event). take at es ++ x ∷ []) (get_or_from_slice_get es at e e stands)
 
 pub take_both : (es : List Event) (at : ℕ) (e f : Event) → StandsAt es at e
     → StandsAt es (at + 1) f → take (at + 2) es ≡ take at es ++ e ∷ f ∷ []

@@ -1,5 +1,5 @@
 -- Histories in which each call begins once, and one that is open ends.
-use Rattle.history_windows.proofs.Words.{◌≡◌, ℕ, zero, suc, ◌+◌, ◌≤◌, Bool, true, List, [], ◌∷◌, ◌++◌, length, length-append, take, get_or, refl, sym, ◌∙◌, ap, subst, arith, inl, inr, take_all, take-append-add, take-append_seam, slice_get-get_or, Event, Begin, EndsOpen, Ends, IsQuiet, begins, IsHistory, IsOpen, MayFollow, StandsAt, IsSound, IsWellFormed, call_of, events_of}
+use Rattle.history_windows.proofs.Words.{◌≡◌, ℕ, zero, suc, ◌+◌, ◌≤◌, Bool, true, List, [], ◌∷◌, ◌++◌, length, length-append, add-one, take, get_or, refl, sym, ◌∙◌, ap, subst, arith, inl, inr, take_all, take-append-add, take-append_seam, slice_get-get_or, Event, Begin, EndsOpen, Ends, IsQuiet, begins, IsHistory, IsOpen, MayFollow, StandsAt, IsSound, IsWellFormed, call_of, events_of}
 use Rattle.histories.proofs.Cutting.{begins-append}
 use Rattle.histories.proofs.Events.{begins_none, sound_none, stands_right, stands_within}
 use Rattle.histories.proofs.Verdicts.{AreNumbered, ends_of, history_take, next_fresh, next_of, one_more, sound_more}
@@ -35,11 +35,9 @@ pub sound_take : (es : List Event) → IsWellFormed es → (i : ℕ) → i ≤ l
 sound_take es formed zero h = sound_none
 sound_take es formed (suc i) h =
     let e = get_or es i (Begin 0) in
-    let next : i + 1 ≡ suc i = omega arith in
-    let whole : take (suc i) es ≡ take i es ++ e ∷ [] =
-    ap (λ n. take n es) (sym next) ∙ one_more _ _ _ (omega arith) in
     let this = formed i e (slice_get-get_or es i (Begin 0) (omega arith)) in
-    rw whole (sound_more _ _ (sound_take es formed i (omega arith)) this.0 this.1)
+    rw (← add-one, one_more es i (Begin 0) (omega arith))
+    (sound_more _ _ (sound_take es formed i (omega arith)) this.0 this.1)
 
 pub sound_formed : (es : List Event) → IsWellFormed es → IsSound es
 sound_formed es formed =

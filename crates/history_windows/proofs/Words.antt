@@ -1,12 +1,12 @@
 -- The words of specs and of std that proofs use.
-pub use Rattle.std.proofs.Common.{Bool, Err, IfOk, List, Ok, Option, Result, Some, [], ap, append-nil, append_assoc, arith, drop, eqb, false, get_or, inl, inr, length, length-append, refl, subst, suc, sym, take, take_all, true, zero, ℕ, ◌++◌, ◌+◌, ◌-◌, ◌<◌, ◌↔◌, ◌∙◌, ◌∷◌, ◌≡◌, ◌≤◌, ◌⊎◌}
+pub use Rattle.std.proofs.Common.{Bool, Err, IfOk, List, Ok, Option, Result, Some, [], add-one, ap, append-nil, append_assoc, arith, drop, eqb, false, get_or, inl, inr, length, length-append, refl, subst, suc, sym, take, take_all, true, zero, ℕ, ◌++◌, ◌+◌, ◌-◌, ◌<◌, ◌↔◌, ◌∙◌, ◌∷◌, ◌≡◌, ◌≤◌, ◌⊎◌}
 pub use Rattle.std.proofs.Math.ListN.{replicate, set}
 pub use Rattle.std.proofs.Math.Seq.{take-append-add, take-append_seam}
-pub use Rattle.std.proofs.lemmas.Bool.{cases_eq, cases_lt, cond_both, eqb-true}
+pub use Rattle.std.proofs.lemmas.Bool.{cases_eq, cases_lt, cond_both, eqb-true, not-false}
 pub use Rattle.std.proofs.lemmas.Bool.Decides.{eqb_tells}
 pub use Rattle.std.proofs.lemmas.List.{get_or-replicate, get_or-set_other, get_or_default, get_or_past, length-replicate, length-take-le, nil_from_length, set-get_or, set-set, take-append-drop, take-take}
 pub use Rattle.std.proofs.lemmas.List.Kept.{AllPairs-filter}
-pub use Rattle.std.proofs.lemmas.Option.{slice_get-get_or}
+pub use Rattle.std.proofs.lemmas.Option.{get_or_from_slice_get, slice_get-get_or}
 pub use Rattle.std.proofs.lemmas.Result.{IfOk-weaker}
 pub use Rattle.std.specs.Global.{Vec}
 pub use Rattle.std.specs.List.{Contains}

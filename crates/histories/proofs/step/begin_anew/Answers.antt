@@ -1,4 +1,4 @@
-use Rattle.histories.proofs.Words.{rules, ◌≡◌, [], List, length, map, refl, subst, sym, Config, IsFrontier, AreEach, IsUnlinked}
+use Rattle.histories.proofs.Words.{rules, ◌≡◌, length, map, refl, AreEach, IsUnlinked}
 use Rattle.histories.proofs.Indices.{put_back}
 use Rattle.histories.proofs.step.begin_anew.Goals as goal
 use Rattle.histories.proofs.Cutting.{fresh_anew, quiet_empty, split_anew}
@@ -6,7 +6,6 @@ use Rattle.histories.proofs.Cutting.{fresh_anew, quiet_empty, split_anew}
 pub returns : goal.returns
 returns g c whole events olds sound f =
     let Step = g.M.Machine.Step whole in
-    let left = c.clear.new.self.items in
     let front = c.args.front.now in
     let slots = front.slots.items in
     let configs = front.configs.items in
@@ -19,9 +18,7 @@ returns g c whole events olds sound f =
       quiet,
       (
         map (λ k. k.state) configs,
-        subst (λ (l : List (Config g.row.M-State.Denot)). IsFrontier Step left slots []
-            (map (λ k. k.state) configs) l) (sym (put_back _ _ _ is.0 long))
-            (fresh_anew _ _ _ _ _ f.table.few empty f.once is),
+        rw (put_back _ _ _ is.0 long) (fresh_anew Step _ _ _ _ f.table.few empty f.once is),
         λ rest after all. split_anew _ _ _ _ _ _ sound quiet empty f _ after all,
       ),
     )

@@ -1,4 +1,4 @@
-use Rattle.histories.proofs.Words.{List, inr, subst, AllPairs, Config, IsSame, AreLaidIn, IsClosed}
+use Rattle.histories.proofs.Words.{List, inr, AllPairs, Config, IsSame, IsClosed}
 use Rattle.histories.proofs.Indices.{put_back}
 use Rattle.histories.proofs.step.end_in_place.Goals as goal
 
@@ -17,9 +17,8 @@ returns g c =
       is,
       (
         rw laid.0 c.free.ensures,
-        inr (subst (λ (l : List (Config g.row.M-State.Denot)). AreLaidIn front.links.items l
-            c.lay.new.front c.in_ok-done.done) (put_back _ _ _
+        inr (rw (put_back closed configs front.configs.len
             (rw c.deref_mut.ensures.value at c.close_in_place.auto.configs)
-            front.configs.ok.0) laid.1),
+            front.configs.ok.0) at laid.1),
       ),
     )

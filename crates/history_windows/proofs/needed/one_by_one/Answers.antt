@@ -1,13 +1,10 @@
-use Rattle.history_windows.proofs.Words.{Bool, List, sym, subst, IsRest, is_kept}
 use Rattle.history_windows.proofs.Shrinking.{rest_none}
 use Rattle.history_windows.proofs.needed.one_by_one.Goals as goal
 
 pub loop-event-init : goal.loop-event-init
 loop-event-init g c =
-    subst (λ (l : List Bool).
-    IsRest (g.M.Machine.Step c.args.machine.now) c.args.states.now c.args.events.now (is_kept l))
-    (sym (c.in_ok-left_out.ensures.items_if_clones_equal (λ y same. same))) (rest_none _ _ _ _
-    c.requires.refused)
+    rw (c.in_ok-left_out.ensures.items_if_clones_equal (λ y same. same))
+    (rest_none _ _ _ _ c.requires.refused)
 
 pub loop-event-preserved : goal.loop-event-preserved
 loop-event-preserved g c = c.in_ok-leave_out_begun.ensures c.loop-event.invariant
