@@ -91,14 +91,11 @@ pub record HasDescription (base : Config) (d : Description) (bytes : List ℕ) :
 abbrev pub IsDescription : Config → List ℕ → Type 0
 IsDescription base bytes = (d : Description) × HasDescription base d bytes
 
--- the bytes are a description, or nothing
-abbrev pub IsDescriptionOrNothing : Config → List ℕ → Type 0
-IsDescriptionOrNothing base bytes = IsDescription base bytes ⊎ (bytes ≡ [])
-
--- what is left of the bytes begins with the first line that no description has there
+-- what is left of the bytes begins with the first line that no description has there, where what is
+-- whole is a description, or nothing
 abbrev pub StopsReading : Config → List ℕ → List ℕ → Type 0
 StopsReading base left bytes =
-    Stops (IsDescriptionOrNothing base) (IsDescription base) left bytes
+    Stops (λ b. IsDescription base b ⊎ (b ≡ [])) (IsDescription base) left bytes
 
 -- what stands before the first newline
 abbrev pub line_of : List ℕ → List ℕ

@@ -83,10 +83,7 @@ AreSegments segments (RequestResponse request response) d =
 AreSegments segments Event d = segments ≡ None ∷ None ∷ []
 AreSegments segments (Blackboard key) d = segments ≡ None ∷ None ∷ []
 
--- the ending of a word for this many things
-abbrev pub plural : ℕ → List ℕ
-plural n = cond (nat_eq n 1) [] (codes "s")
-
 -- a number of things
 abbrev pub counted_text : Counted → List ℕ
-counted_text c = decimal c.number ++ 32 ∷ (c.name.now ++ plural c.number)
+counted_text c =
+    decimal c.number ++ 32 ∷ (c.name.now ++ cond (nat_eq c.number 1) [] (codes "s"))

@@ -226,16 +226,6 @@ HasOpener prefix (Some opener) rest bytes =
 abbrev pub opener_line : List ℕ → Form (Option MessageTypeDetails)
 opener_line prefix = at_once (HasOpener prefix)
 
--- the lines of a message in turn
-abbrev pub message_lines : List ℕ
-    → Form (TypeDetailParts × (TypeDetailParts
-    × (TypeDetailParts × (ℕ × Option MessageTypeDetails))))
-message_lines prefix =
-    sequence (type_line (prefix ++ codes "header "))
-    (sequence (type_line (prefix ++ codes "user-header "))
-    (then (payload_line prefix) (λ t. t.variant)
-    (λ variant. sequence (elements_line prefix variant) (opener_line prefix))))
-
 -- the opener's types are those of the service but for their alignments
 abbrev pub aligned : MessageTypeDetails → MessageTypeDetails → MessageTypeDetails
 aligned service opener = record {
@@ -258,7 +248,12 @@ message_of (header, (user_header, (payload, (elements, opener)))) =
 
 -- the lines of a message
 abbrev pub message : List ℕ → Form Message
-message prefix = made (message_lines prefix) message_of
+message prefix =
+    made (sequence (type_line (prefix ++ codes "header "))
+    (sequence (type_line (prefix ++ codes "user-header "))
+    (then (payload_line prefix) (λ t. t.variant)
+    (λ variant. sequence (elements_line prefix variant) (opener_line prefix)))))
+    message_of
 
 -- what the lines of this pattern say of messages and keys
 abbrev pub exchange : PatternKind → Form Exchange
@@ -363,10 +358,6 @@ pub record HasService (kind : PatternKind) (name rest bytes : List ℕ) : Type 0
 -- the hash text is that of the pattern and the name
 abbrev pub IsHashed : Service → Type 0
 IsHashed s = s.hash ≡ sha1_text (hash_input s.kind s.name)
-
--- no pattern begins the line
-abbrev pub HasNoPattern : List ℕ → Type 0
-HasNoPattern line = (kind : PatternKind) (name : List ℕ) → ¬ (line ≡ pattern_word kind ++ 32 ∷ name)
 
 -- the line names a service as those of the system itself are named
 abbrev pub IsInternal : List ℕ → Type 0

@@ -159,11 +159,6 @@ abbrev pub AreSettings : List Value → List Assignment → List Value → Type 
 AreSettings defaults sets values =
     IsDistinct nat_eq (map (λ set. set.index) sets) × (values ≡ assigned defaults sets)
 
--- the bytes begin with the lines of settings of these names, of which the values are made
-abbrev pub HasSettings : List (List ℕ) → List Value → List Value → List ℕ → List ℕ → Type 0
-HasSettings names defaults =
-    HasMany (codes "set ") (GivesSetting names defaults) (AreSettings defaults)
-
 -- the text gives one of the settings, which no line before has set,
 -- and that alone has got the value and is marked as set
 pub record Sets (names : List (List ℕ)) (old : List Value) (given : List Bool) (text : List ℕ)
@@ -197,6 +192,7 @@ IsNotSet names values given text InternalName = ⊥
 -- which the configuration is the one below it but for those settings
 abbrev pub HasConfiguration : Config → PatternKind → Config → List ℕ → List ℕ → Type 0
 HasConfiguration base kind c rest bytes =
-    HasSettings (setting_names kind) (setting_values kind base.defaults)
+    let defaults = setting_values kind base.defaults in
+    HasMany (codes "set ") (GivesSetting (setting_names kind) defaults) (AreSettings defaults)
     (setting_values kind c.defaults) rest bytes
     × (record c { defaults = restored kind base.defaults c.defaults } ≡ base)

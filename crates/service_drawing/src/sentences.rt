@@ -49,35 +49,7 @@ pub(crate) struct Row<'a> {
     pub(crate) types: Option<(&'a TypeDetail, Option<&'a TypeDetail>)>,
 }
 
-impl<'a> Row<'a> {
-    /// The part with this letter and name, of the first type.
-    fn part(
-        letter: &'static str,
-        class: &'static str,
-        name: &'static str,
-        span: &'a Range<usize>,
-        types: (&'a TypeDetail, Option<&'a TypeDetail>),
-    ) -> Self {
-        Row {
-            letter,
-            class,
-            name,
-            span,
-            types: Some(types),
-        }
-    }
-
-    /// Bytes at which nothing lies.
-    fn padding(letter: &'static str, span: &'a Range<usize>) -> Self {
-        Row {
-            letter,
-            class: "empty",
-            name: "padding",
-            span,
-            types: None,
-        }
-    }
-
+impl Row<'_> {
     /// Whether it is shown: padding without bytes is not.
     pub(crate) fn is_shown(&self) -> bool {
         self.types.is_some() || !self.span.is_empty()
@@ -91,19 +63,33 @@ pub(crate) fn rows<'a>(message: &'a Message, layout: &'a MessageLayout) -> [Row<
     let header = (&types.header, opener.map(|o| &o.header));
     let user_header = (&types.user_header, opener.map(|o| &o.user_header));
     let payload = (&types.payload, opener.map(|o| &o.payload));
+    let part = |letter, class, name, span, types| Row {
+        letter,
+        class,
+        name,
+        span,
+        types: Some(types),
+    };
+    let padding = |letter, span| Row {
+        letter,
+        class: "empty",
+        name: "padding",
+        span,
+        types: None,
+    };
     [
-        Row::part("H", "header", "header", &layout.header, header),
-        Row::padding(".", &layout.first_gap),
-        Row::part(
+        part("H", "header", "header", &layout.header, header),
+        padding(".", &layout.first_gap),
+        part(
             "U",
             "user-header",
             "user header",
             &layout.user_header,
             user_header,
         ),
-        Row::padding(".", &layout.second_gap),
-        Row::part("", "payload", "payload", &layout.payload, payload),
-        Row::padding("-", &layout.spare),
+        padding(".", &layout.second_gap),
+        part("", "payload", "payload", &layout.payload, payload),
+        padding("-", &layout.spare),
     ]
 }
 

@@ -4,8 +4,7 @@ ghost use Rattle.std.specs.Prelude.{IfOk, IfErr, MatchOption, MatchResult};
 ghost use Rattle.std.specs.List.{starts_with};
 ghost use Rattle.iox2_config.specs.declared.hash.input.PatternKind.{PatternKind};
 ghost use Rattle.iox2_config.specs.Hashing.{pattern_word};
-ghost use Rattle.service_drawing.specs.Lines.{IsHashed, MayBeNamed, HasService};
-ghost use Rattle.service_drawing.specs.Lines.{HasNoPattern, IsNoService};
+ghost use Rattle.service_drawing.specs.Lines.{IsHashed, MayBeNamed, HasService, IsNoService};
 ghost use Rattle.service_drawing.specs.Descriptions.{IsServiceReason};
 
 use super::cause::{Expected, Reason};
@@ -17,7 +16,8 @@ use std::str;
 
 /// The pattern that begins the line, and the name after it.
 fn pattern_in(line: &[u8]) -> Option<(PatternKind, &[u8])>
-    ensures { MatchOption result (HasNoPattern line.now)
+    ensures { MatchOption result
+        ((kind : PatternKind) (name : List ℕ) → ¬ (line.now ≡ pattern_word kind ++ 32 ∷ name))
         (λ found. line.now ≡ pattern_word found.0 ++ 32 ∷ found.1.now) }
 {
     for kind in PatternKind::ALL {
