@@ -1,5 +1,5 @@
-use Rattle.service_conformance.proofs.Prelude.{refl, rules, sym, ◌<◌, ◌∙◌, ◌≡◌}
-use Rattle.service_conformance.proofs.Names.{First, Second, entries_of_node, node_of, role_at, role_of, service_of, side_of}
+use Rattle.service_conformance.proofs.Prelude.{refl, rules, sym, ◌∙◌, ◌≡◌}
+use Rattle.service_conformance.proofs.Names.{First, Second, node_of, role_at, role_of, service_of, side_of}
 use Rattle.service_conformance.proofs.Given.{gives_port, has_moved, no_node}
 use Rattle.service_conformance.proofs.conformance.service_check.ServiceCheck.give_port.Goals.{In-Some}
 use Rattle.service_conformance.proofs.conformance.service_check.ServiceCheck.give_port.Goals as goal
@@ -23,18 +23,15 @@ role_is : (c : In-Some)
     → role_of c.args.details ≡ role_at c.self.inside.pattern (side_of c.in-Some.first)
 role_is c = sym c.role.ensures ∙ c.in-Some.ensures.some
 
-has : (c : In-Some)
-    → 0 < entries_of_node (node_of c.args.details) (service_of c.self.inside).nodes.registry
-has c =
-    has_moved c.args.self.now (service_of c.self.inside) c.node_id.result (node_of c.args.details)
-    (sym c.self.view_is) c.node_id.ensures (c.has_node.ensures.yes (search rules))
-
 pub invariant_of-self : goal.invariant_of-self
 invariant_of-self c =
     let p = (goal.at.invariant_of-self c).In-Some in
     (gives_port (service_of c.self.inside) c.self.invariant First c.args.slot c.args.ticket
     c.args.details c.give_entry.result c.give_entry.new.self
-    (rw c.if-first.true at (role_is p)) (has p) c.give_entry.ensures.gives
+    (rw c.if-first.true at (role_is p))
+    (has_moved c.args.self.now (service_of c.self.inside) c.node_id.result (node_of c.args.details)
+    (sym c.self.view_is) c.node_id.ensures (c.has_node.ensures.yes (search rules)))
+    c.give_entry.ensures.gives
     c.give_entry.ensures.err).1
 
 pub returns-then-first-clause-gives : goal.returns-then-first-clause-gives
@@ -43,7 +40,10 @@ returns-then-first-clause-gives c =
     rw (← c.self.view_is)
     (gives_port (service_of c.self.inside) c.self.invariant First c.args.slot c.args.ticket
     c.args.details c.give_entry.result c.give_entry.new.self
-    (rw c.if-first.true at (role_is p)) (has p) c.give_entry.ensures.gives
+    (rw c.if-first.true at (role_is p))
+    (has_moved c.args.self.now (service_of c.self.inside) c.node_id.result (node_of c.args.details)
+    (sym c.self.view_is) c.node_id.ensures (c.has_node.ensures.yes (search rules)))
+    c.give_entry.ensures.gives
     c.give_entry.ensures.err).0
 
 pub returns-then-first-clause-kept : goal.returns-then-first-clause-kept
@@ -54,7 +54,10 @@ invariant_of-self-2 c =
     let p = (goal.at.invariant_of-self-2 c).In-Some in
     (gives_port (service_of c.self.inside) c.self.invariant Second c.args.slot c.args.ticket
     c.args.details c.give_entry-2.result c.give_entry-2.new.self
-    (rw c.if-first.false at (role_is p)) (has p) c.give_entry-2.ensures.gives
+    (rw c.if-first.false at (role_is p))
+    (has_moved c.args.self.now (service_of c.self.inside) c.node_id.result (node_of c.args.details)
+    (sym c.self.view_is) c.node_id.ensures (c.has_node.ensures.yes (search rules)))
+    c.give_entry-2.ensures.gives
     c.give_entry-2.ensures.err).1
 
 pub returns-clause-gives : goal.returns-clause-gives
@@ -63,7 +66,10 @@ returns-clause-gives c =
     rw (← c.self.view_is)
     (gives_port (service_of c.self.inside) c.self.invariant Second c.args.slot c.args.ticket
     c.args.details c.give_entry-2.result c.give_entry-2.new.self
-    (rw c.if-first.false at (role_is p)) (has p) c.give_entry-2.ensures.gives
+    (rw c.if-first.false at (role_is p))
+    (has_moved c.args.self.now (service_of c.self.inside) c.node_id.result (node_of c.args.details)
+    (sym c.self.view_is) c.node_id.ensures (c.has_node.ensures.yes (search rules)))
+    c.give_entry-2.ensures.gives
     c.give_entry-2.ensures.err).0
 
 pub returns-clause-kept : goal.returns-clause-kept
