@@ -3,11 +3,12 @@ use Rattle.std.proofs.Common.{◌≡◌, ◌≢◌, ◌⊎◌, ℕ, ◌+◌, ◌
 use Rattle.std.proofs.Math.Seq.{take-append_seam, take-length}
 use Rattle.std.specs.Prelude.{slice_get, sum_by}
 use Rattle.std.specs.List.{slice_set}
-use Rattle.std.proofs.lemmas.Bool.{cases_eq}
+use Rattle.std.proofs.lemmas.Bool.{cases_Bool, cases_eq}
 use Rattle.std.proofs.lemmas.List.{length-append, length-set}
 use Rattle.std.proofs.lemmas.List.Elements.{All-nil, All-push, All-set, All-weaker}
 use Rattle.std.proofs.lemmas.List.Sums.{sum_by-set, sum_by_push}
 use Rattle.std.proofs.lemmas.Option.{get_or_from_slice_get, same_Some, slice_get_within}
+use Rattle.std.proofs.lemmas.Slice.Eq.{bytes_eq-Decides}
 use Rattle.histories.specs.Histories.{IsOpen}
 use Rattle.iox2_container.proofs.ListEdits.{get_set_other}
 use Rattle.log_lines.specs.Commands.{Begun, NamedCommand}
@@ -23,15 +24,14 @@ use Rattle.history_logs.specs.Logs.{calls_in}
 use Rattle.history_logs.specs.Reading.{Crashes, GoesOn, HaveOneNumber, IsSane, Log, Sets}
 use Rattle.history_logs.specs.Seen.{Begins, HasHandles, Service, called, started, unseen, with_alone, with_crash, with_end}
 use Rattle.history_logs.proofs.AtIndex.{all_get, get_push, get_same}
-use Rattle.history_logs.proofs.Callers.{other_bytes, same_bytes}
 use Rattle.history_logs.proofs.Orderly.{begun_of, open_alone, open_crashed, open_ended, orderly_alone, orderly_crash, orderly_end, orderly_new, orderly_started}
 
 cases_name : (a b : List ℕ) → (a ≡ b) ⊎ (a ≢ b)
-cases_name a b = cases (bytes_eq a b) refl
-  where
-    cases : (t : Bool) → bytes_eq a b ≡ t → (a ≡ b) ⊎ (a ≢ b)
-    cases true e = inl (same_bytes a b e)
-    cases false e = inr (other_bytes a b e)
+cases_name a b =
+    elim (cases_Bool (bytes_eq a b)) as (λ _. (a ≡ b) ⊎ (a ≢ b)) [
+      | inl e ↦ inl ((bytes_eq-Decides a b).0 e)
+      | inr ne ↦ inr (λ same. let e = (bytes_eq-Decides a b).1 same in absurd (cc))
+    ]
 
 -- where what was open on a service stays open, it does on all
 opened_set : (ss : List Service) (at : ℕ) (s t : Service) → slice_get ss at ≡ Some s → (b m : ℕ)

@@ -1,10 +1,11 @@
 //! The callers of a log.
-ghost use Rattle.std.specs.Prelude.{◌≡◌, ◌↔◌, ℕ, List, None, Some, IfNone, IfSome, IsFalse, IsTrue, OnOk};
-ghost use Rattle.history_logs.specs.Fields.{HasName, IsOn, IsUnknown, callers_of};
+ghost use Rattle.std.specs.Prelude.{◌≡◌, ◌↔◌, ℕ, List, None, IfNone, IfSome, IsFalse, IsTrue, OnOk};
+ghost use Rattle.history_logs.specs.Fields.{IsOn, callers_of};
 ghost use Rattle.history_logs.specs.Reading.{MayBegin, NoneCalls, RefusesBegin, Sets};
 
 use super::verdict::Expected;
 use std::alloc::{AllocError, Global};
+use std::collections::BTreeMap;
 
 /// What a caller does.
 #[derive(Clone, Copy, Debug, PartialEq, Eq)]
@@ -17,35 +18,18 @@ pub(super) enum CallerState {
     Dead,
 }
 
-/// A caller that has begun a call.
-#[derive(Drop)]
-pub(super) struct Caller {
-    pub(super) name: Vec<u8>,
-    pub(super) state: CallerState,
-}
-
-/// The index of the caller of this name.
-fn position_of(known: &[Caller], name: &[u8]) -> Option<usize>
-    ensures some { IfSome result (HasName known.now name.now) }
-    ensures none { IfNone result (IsUnknown known.now name.now) }
-{
-    known
-        .iter()
-        .position(|caller| caller.name.as_slice() == name)
-}
-
-/// The callers that have begun calls.
+/// The callers that have begun calls, by their names.
 #[derive(Drop)]
 pub(super) struct Callers {
-    pub(super) known: Vec<Caller>,
+    pub(super) states: BTreeMap<Vec<u8>, CallerState>,
 }
 
 /// Whether a call on the service at this index is open.
-fn is_on(state: Option<CallerState>, at: usize) -> bool
+fn is_on(state: CallerState, at: usize) -> bool
     ensures { IsTrue result ↔ IsOn at state }
 {
     match state {
-        Some(CallerState::Calls(on, _)) => on == at,
+        CallerState::Calls(on, _) => on == at,
         _ => false,
     }
 }
@@ -56,7 +40,7 @@ impl Callers {
         ensures { (name : List ℕ) → callers_of result name ≡ None }
     {
         Callers {
-            known: Vec::new(alloc),
+            states: BTreeMap::new(alloc),
         }
     }
 
@@ -64,19 +48,7 @@ impl Callers {
     pub(super) fn state_of(&self, name: &[u8]) -> Option<CallerState>
         ensures { result ≡ callers_of self.now name.now }
     {
-        match position_of(&self.known, name) {
-            Some(at) => Some(self.known[at].state),
-            None => None,
-        }
-    }
-
-    /// Whether the caller has a call open on the service at this index.
-    fn is_open_on(&self, caller: &Caller, at: usize) -> bool
-        ensures yes { IsTrue result → IsOn at (callers_of self.now caller.now.name.items) }
-        ensures no { IsFalse result → IsOn at (Some caller.now.state)
-            → ¬ (IsOn at (callers_of self.now caller.now.name.items)) }
-    {
-        is_on(Some(caller.state), at) && is_on(self.state_of(&caller.name), at)
+        self.states.get(name).copied()
     }
 
     /// Whether a caller has a call open on the service at this index.
@@ -84,7 +56,7 @@ impl Callers {
         ensures yes { IsTrue result → ¬ (NoneCalls (callers_of self.now) at) }
         ensures no { IsFalse result → NoneCalls (callers_of self.now) at }
     {
-        self.known.iter().any(|caller| self.is_open_on(caller, at))
+        self.states.values().any(|state| is_on(*state, at))
     }
 
     /// The caller does this from now on.
@@ -97,12 +69,12 @@ impl Callers {
         ensures { OnOk result
             (Sets (callers_of self.old) name.now state (callers_of self.new)) }
     {
-        if let Some(at) = position_of(&self.known, name) {
-            self.known[at].state = state;
+        if let Some(known) = self.states.get_mut(name) {
+            *known = state;
             return Ok(());
         }
         let name = Vec::from_slice(alloc, name)?;
-        self.known.push(Caller { name, state })?;
+        self.states.insert(name, state)?;
         Ok(())
     }
 }

@@ -1,13 +1,13 @@
 use Rattle.std.proofs.Common.{rules, tests}
-use Rattle.std.specs.Bool.{⊤}
-use Rattle.std.proofs.lemmas.Iterator.{YieldsList-from_slice, cases_from_any}
-use Rattle.history_logs.proofs.Callers.{IsElsewhere, none_on}
+use Rattle.std.proofs.lemmas.Iterator.{cases_from_any}
+use Rattle.std.proofs.lemmas.Iterator.Consumers.{YieldsList-from_rest}
+use Rattle.history_logs.specs.Fields.{IsOn}
+use Rattle.history_logs.proofs.Callers.{says_calls}
 use Rattle.history_logs.proofs.logs.callers.Callers.has_open_on.Goals as goal
 
-pub returns-clause-no : goal.returns-clause-no
-returns-clause-no c =
-    let known = c.args.self.now.known.items in
-    none_on _ known c.args.at c.any.result
-    (cases_from_any _ _ c.any.result (λ d. ⊤) (IsElsewhere known c.args.at) c.any.ensures.ran
-    (YieldsList-from_slice known cc) (λ x q k. search (rules, tests))
-    (λ x q k. search (rules, tests)))
+pub returns-whole : goal.returns-whole
+returns-whole c =
+    says_calls c.args.self.now.states c.args.at c.any.result c.values.ensures.ordered
+    (cases_from_any _ _ c.any.result (IsOn c.args.at) (λ s. ¬ (IsOn c.args.at s))
+    c.any.ensures.ran (YieldsList-from_rest _ c.values.ensures.rest)
+    (λ x q k. search (rules, tests)) (λ x q k. search (rules, tests)))
