@@ -1,7 +1,9 @@
 -- What settles of all services while a log is read.
 use Rattle.std.proofs.Common.{◌≡◌, ◌≢◌, ℕ, ◌+◌, ◌<◌, ◌≤◌, true, List, [], ◌∷◌, ◌++◌, All, Option, Some, None, get_or, get_or-set_other, get_or-set_same, length, refl, sym, ◌∙◌, ap, subst, arith, inl, inr, slice_get, take, take_all, sum}
-use Rattle.std.specs.Prelude.{◌==◌, sum_by}
+use Rattle.std.specs.BTreeMap.{BTreeMap}
+use Rattle.std.specs.Prelude.{◌==◌, eqb, sum_by}
 use Rattle.std.specs.List.{slice_set}
+use Rattle.std.specs.Set.{distinct_count}
 use Rattle.std.proofs.lemmas.Bool.{cases_lt}
 use Rattle.std.proofs.lemmas.List.{get_or_default, length-set}
 use Rattle.std.proofs.lemmas.List.Elements.{All-nil, Contains-push}
@@ -19,16 +21,17 @@ use Rattle.service_conformance.specs.Looks.{Watched, unwatched}
 use Rattle.history_logs.specs.Good.{IsAbove, IsOrderly, IsReadTo, Takes}
 use Rattle.history_logs.specs.Judging.{end_verdict}
 use Rattle.history_logs.specs.Logs.{IsSeenRightly, Judged, StepOf, news, services_in}
-use Rattle.history_logs.specs.Reading.{HaveOneNumber, IsSane, Log}
+use Rattle.history_logs.specs.Fields.{AreNumbers, numbers_in}
+use Rattle.history_logs.specs.Reading.{IsSane, Log}
 use Rattle.history_logs.specs.Seen.{Service}
 use Rattle.history_logs.specs.Settling.{AreRightShort, AreSameFronts, GoesShort, HasShort, HaveShort, IsRightShort, IsShortAbove, StayAll, Stays}
 use Rattle.history_logs.specs.Shortened.{AreShort, IsShort, IsShortLog, front_at}
 use Rattle.history_logs.proofs.Above.{above_more, read_whole}
 use Rattle.history_logs.proofs.AtIndex.{all_get, all_of}
 use Rattle.history_logs.proofs.Judgements.{judged_conforms}
-use Rattle.history_logs.proofs.Named.{map_same, same_count, set_back}
+use Rattle.history_logs.proofs.Named.{map_same, same_numbers, set_back}
 use Rattle.history_logs.proofs.Settled.{events_split}
-use Rattle.history_logs.proofs.ShortLogs.{found_at, goes_line, numbers_same, short_put, short_sane}
+use Rattle.history_logs.proofs.ShortLogs.{found_at, goes_line, short_put, short_sane}
 
 -- where no call was seen, nothing was
 explained_none : (s : Service) → IsOrderly s → length s.calls ≡ 0 → IsSeenRightly s
@@ -76,18 +79,18 @@ pub front_is : (xs : List (Option (Front Watched))) (at : ℕ) (f : Option (Fron
 front_is xs at f h is = get_or_default xs at None f h ∙ sym is
 
 -- the services have the numbers that they had
-pub alike_stays : (live new : List Service) (fronts next : List (Option (Front Watched)))
-    → HaveShort live fronts → StayAll live fronts new next → HaveOneNumber live
-    → HaveOneNumber new
-alike_stays live new fronts next h stay one =
-    let has = λ (v : Service). v.line.number ≡ one.0 in (
-      one.0,
-      all_of has new (λ i t here.
-          let f = found_at h.0 new next i t (stay h.0 h.1 h.2) here in
-          let was = numbers_same h.0 live fronts i f.0 h.2 f.1 in
-          ap (λ (v : Service). v.line.number) f.2.is
-          ∙ (sym was.2 ∙ all_get has live i was.0 one.1 was.1)),
-    )
+short_numbers : (services live : List Service) (fronts : List (Option (Front Watched)))
+    → AreShort services live fronts → numbers_in live ≡ numbers_in services
+short_numbers services live fronts a =
+    map_same (λ (s : Service). s.line.number) services live a.0
+    (λ at s t there here. ap (λ (x : Service). x.line.number) (a.2 at s t there here).is)
+
+pub numbers_stay : (m : BTreeMap ℕ ℕ) (live new : List Service)
+    (fronts next : List (Option (Front Watched))) → HaveShort live fronts
+    → StayAll live fronts new next → AreNumbers m live → AreNumbers m new
+numbers_stay m live new fronts next h stay =
+    same_numbers m live new (short_numbers h.0 new next (stay h.0 h.1 h.2)
+    ∙ sym (short_numbers h.0 live fronts h.2))
 
 -- one service settles
 module _ (old live : List Service) (fronts mid : List (Option (Front Watched))) (at : ℕ)
@@ -257,5 +260,5 @@ module _ (bytes : List ℕ) (live : Log) (fronts : List (Option (Front Watched))
             (sum_by (λ (s : Service). length s.commands) live.services) (services_in live.services)
             read_short (right h.log.services h.above.kept.orderly h.short.services)
             (calls_same h.log.services live.services fronts h.short.services)
-            (same_count h.log.services live.services h.short.services.0
-            (λ at s t e f. ap (λ (x : Service). x.line.number) (h.short.services.2 at s t e f).is))
+            (ap (distinct_count eqb)
+            (short_numbers h.log.services live.services fronts h.short.services))

@@ -1,6 +1,7 @@
 -- What holds of all that is read holds after one line more.
 use Rattle.std.proofs.Common.{◌≡◌, ◌≢◌, ◌⊎◌, ℕ, ◌+◌, ◌<◌, ◌≤◌, List, [], ◌∷◌, ◌++◌, All, Bool, bytes_eq, true, false, Option, Some, None, length, refl, sym, ◌∙◌, ap, subst, arith, inl, inr, take, take_all}
 use Rattle.std.proofs.Math.Seq.{take-append_seam, take-length}
+use Rattle.std.specs.BTreeMap.{BTreeMap}
 use Rattle.std.specs.Prelude.{slice_get, sum_by}
 use Rattle.std.specs.List.{slice_set}
 use Rattle.std.proofs.lemmas.Bool.{cases_Bool, cases_eq}
@@ -21,9 +22,11 @@ use Rattle.history_logs.specs.declared.logs.callers.CallerState.{CallerState}
 use Rattle.history_logs.specs.declared.logs.callers.CallerState.TheVariants as caller
 use Rattle.history_logs.specs.Good.{IsKept, IsOpenOn, IsOrderly, TakesLine}
 use Rattle.history_logs.specs.Logs.{calls_in}
-use Rattle.history_logs.specs.Reading.{Crashes, GoesOn, HaveOneNumber, IsSane, Log, Sets}
+use Rattle.history_logs.specs.Fields.{AreNumbers}
+use Rattle.history_logs.specs.Reading.{Crashes, GoesOn, IsSane, Log, Sets}
 use Rattle.history_logs.specs.Seen.{Begins, HasHandles, Service, called, started, unseen, with_alone, with_crash, with_end}
 use Rattle.history_logs.proofs.AtIndex.{all_get, get_push, get_same}
+use Rattle.history_logs.proofs.Named.{numbers_set, same_numbers}
 use Rattle.history_logs.proofs.Orderly.{begun_of, open_alone, open_crashed, open_ended, orderly_alone, orderly_crash, orderly_end, orderly_new, orderly_started}
 
 cases_name : (a b : List ℕ) → (a ≡ b) ⊎ (a ≢ b)
@@ -357,39 +360,32 @@ sum_moves ss new (stays x) = omega arith
 sum_moves ss new (sets x at s t there line less) = sum_set ss at s t there less
 sum_moves ss new (adds x t none) = omega (arith, sum_by_push calls_of ss t)
 
--- where one of the services is another one with the same line, they have one number still
-pub alike_set : (ss : List Service) (at : ℕ) (s t : Service) → slice_get ss at ≡ Some s
-    → t.line ≡ s.line → HaveOneNumber ss → HaveOneNumber (slice_set ss at t)
-alike_set ss at s t there line one =
-    let has = λ (v : Service). v.line.number ≡ one.0 in (
-      one.0,
-      All-set has ss at t
-          (ap (λ (l : ServiceLine). l.number) line ∙ all_get has ss at s one.1 there) one.1,
-    )
-
 -- the services that were there have their numbers still
-alike_moves : (ss new : List Service) → Moves ss new
-    → (length ss ≤ length new) × (HaveOneNumber ss → HaveOneNumber (take (length ss) new))
-alike_moves ss new (stays x) =
-    (omega arith, subst HaveOneNumber (sym (take-length ss)))
-alike_moves ss new (sets x at s t there line less) =
+numbers_moves : (m : BTreeMap ℕ ℕ) (ss new : List Service) → Moves ss new → AreNumbers m ss
+    → (length ss ≤ length new) × (length new ≤ length ss + 1)
+    × AreNumbers m (take (length ss) new)
+numbers_moves m ss new (stays x) are =
+    (omega arith, omega arith, subst (AreNumbers m) (sym (take-length ss)) are)
+numbers_moves m ss new (sets x at s t there line less) are =
     let long : length (slice_set ss at t) ≡ length ss = length-set ss at t in (
       omega arith,
-      λ one.
-          subst HaveOneNumber
-          (sym (take_all (length ss) (slice_set ss at t) (omega arith)))
-          (alike_set ss at s t there line one),
+      omega arith,
+      subst (AreNumbers m) (sym (take_all (length ss) (slice_set ss at t) (omega arith)))
+          (same_numbers m ss (slice_set ss at t) (numbers_set ss at s t there line) are),
     )
-alike_moves ss new (adds x t none) = (
-  omega (arith, length-append ss (t ∷ [])),
-  subst HaveOneNumber (sym (take-append_seam ss (t ∷ []))),
-)
+numbers_moves m ss new (adds x t none) are =
+    let long = length-append ss (t ∷ []) in (
+      omega arith,
+      omega arith,
+      subst (AreNumbers m) (sym (take-append_seam ss (t ∷ []))) are,
+    )
 
-pub alike_line : (old new : Log) (k : ℕ) (text : List ℕ) → TakesLine old k text None new
-    → (length old.services ≤ length new.services)
-    × (HaveOneNumber old.services → HaveOneNumber (take (length old.services) new.services))
-alike_line old new k text t =
-    alike_moves old.services new.services (moves_step old new k t.0 t.3)
+pub numbers_line : (m : BTreeMap ℕ ℕ) (old new : Log) (k : ℕ) (text : List ℕ)
+    → TakesLine old k text None new → AreNumbers m old.services
+    → (length old.services ≤ length new.services) × (length new.services ≤ length old.services + 1)
+    × AreNumbers m (take (length old.services) new.services)
+numbers_line m old new k text t =
+    numbers_moves m old.services new.services (moves_step old new k t.0 t.3)
 
 pub few_step : (old new : Log) (k : ℕ) (l : Line) → GoesOn old k l new
     → calls_in new ≤ calls_in old + 1

@@ -1,15 +1,24 @@
 -- Services that are named.
-use Rattle.std.proofs.Common.{◌≡◌, ◌≢◌, ℕ, zero, suc, ◌+◌, ◌<◌, ◌≤◌, ◌-◌, List, [], ◌∷◌, Bool, true, false, ◌||◌, Option, Some, None, IfNone, IfSome, add-one, cond, drop, drop-cons, eqb, get_or, length, length-drop, map, refl, sym, ◌∙◌, ap, subst, arith, eq-eqb, inl, inr, ne_eqb, take, take_all, All}
-use Rattle.std.specs.Prelude.{slice_get}
-use Rattle.std.specs.List.{list_any, slice_set}
-use Rattle.std.specs.Option.{is_some}
+use Rattle.std.proofs.Common.{◌≡◌, ◌≢◌, ℕ, zero, suc, ◌+◌, ◌<◌, ◌≤◌, ◌-◌, ◌==◌, List, [], ◌∷◌, ◌++◌, Bool, true, false, ◌||◌, Option, Some, None, IfNone, IfSome, MatchOption, All, cond, if◌then◌else◌, eqb, get_or, length, map, refl, sym, ◌∙◌, ap, subst, arith, eq-eqb, inl, inr, ne_eqb, slice_get, take, take_all}
+use Rattle.std.proofs.Math.Seq.{take-suc}
+use Rattle.std.specs.BTreeMap.{BTreeMap, IsOrdered, UpdatesBy, get, keys}
+use Rattle.std.specs.Cmp.{nat_eq_equiv, unsigned_ties}
+use Rattle.std.specs.List.{IsDistinct, list_any, slice_set}
+use Rattle.std.specs.Map.{lookup}
+use Rattle.std.specs.Option.{is_some, option_map, option_or}
+use Rattle.std.specs.Ordering.{eq_by_cmp, is_eq, nat_cmp}
 use Rattle.std.specs.Set.{unique_keys}
-use Rattle.std.proofs.lemmas.Bool.{cases_order}
-use Rattle.std.proofs.lemmas.List.Elements.{All-append, All-head, All-tail}
-use Rattle.std.proofs.lemmas.List.{get_or-take, length-take-le, take-append-drop}
+use Rattle.std.proofs.lemmas.Bool.{cases_eq, cases_order}
+use Rattle.std.proofs.lemmas.Bool.Decides.{Decides-eqb}
+use Rattle.std.proofs.lemmas.List.Elements.{All-cons, All-head, All-nil, All-tail}
+use Rattle.std.proofs.lemmas.List.{length-map, length-take-le, map-append}
+use Rattle.std.proofs.lemmas.Map.Keys.{IsDistinct-from_sorted}
+use Rattle.std.proofs.lemmas.Map.Made.{is_some-lookup, length-from_keys}
 use Rattle.std.proofs.lemmas.Option.{same_Some, slice_get_within}
+use Rattle.service_descriptions.specs.declared.replay.lines.service_line.ServiceLine.{ServiceLine}
+use Rattle.history_logs.specs.Fields.{AreNumbers, last_of, numbers_in}
 use Rattle.history_logs.specs.Logs.{services_in}
-use Rattle.history_logs.specs.Reading.{HaveNumber, HaveOneNumber, IsNamed, IsNew, IsNewBehind}
+use Rattle.history_logs.specs.Reading.{HaveNumber, IsNamed, IsNameless, IsNew, IsNewBehind}
 use Rattle.history_logs.specs.Seen.{Service}
 use Rattle.history_logs.proofs.AtIndex.{all_get, get_within}
 
@@ -49,120 +58,189 @@ pub one_named : (number : Option ℕ) (ss : List Service) (at bt : ℕ) (s t : S
 one_named number ss at bt s t p q =
     same_Some s t (sym p.there ∙ (ap (slice_get ss) (one_index number ss at bt s t p q) ∙ q.there))
 
--- where all have one number, the last one is named
-pub last_named : (ss : List Service) → 0 < length ss → HaveOneNumber ss
-    → (s : Service) × IsNamed None ss (length ss - 1) s
-last_named ss some one =
-    let s = get_within ss (length ss - 1) (omega arith) in
-    let own = number_at one.0 ss (length ss - 1) s.0 one.1 s.1 in (
-      s.0,
-      record {
-        there = s.1;
-        named = inr (refl, subst (λ n. HaveNumber n ss) (sym own) one.1);
-        last = λ later t less there. absurd (omega (arith, slice_get_within ss later t there));
-      },
+-- what is found of a number
+abbrev IsLast : ℕ → List Service → ℕ → Type 0
+IsLast number services at =
+    (s : Service) × (slice_get services at ≡ Some s) × (s.line.number ≡ number)
+    × IsNewBehind number services at
+
+is_last : (number : ℕ) (ss : List Service)
+    → MatchOption (last_of (numbers_in ss) number) (IsNew number ss) (IsLast number ss)
+is_last number [] = All-nil (λ (s : Service). s.line.number ≢ number)
+is_last number (s ∷ ss) = cases (last_of (numbers_in ss) number) (is_last number ss)
+  where
+    first : IsNew number ss → (b : Bool) → (number == s.line.number) ≡ b
+        → MatchOption (if b then Some 0 else None) (IsNew number (s ∷ ss)) (IsLast number (s ∷ ss))
+    first new true e = (s, refl, sym ((Decides-eqb number s.line.number).0 e), behind)
+      where
+        behind : (later : ℕ) (t : Service) → 0 < later → slice_get (s ∷ ss) later ≡ Some t
+            → t.line.number ≢ number
+        behind zero t h there = absurd (omega arith)
+        behind (suc later) t h there =
+            all_get (λ (x : Service). x.line.number ≢ number) ss later t new there
+    first new false e =
+        All-cons (λ (x : Service). x.line.number ≢ number) s ss
+        (λ same. let yes = (Decides-eqb number s.line.number).1 (sym same) in absurd (cc)) new
+
+    cases : (found : Option ℕ) → MatchOption found (IsNew number ss) (IsLast number ss)
+        → MatchOption
+        (option_or (option_map suc found) (if number == s.line.number then Some 0 else None))
+        (IsNew number (s ∷ ss)) (IsLast number (s ∷ ss))
+    cases None new = first new (number == s.line.number) refl
+    cases (Some at) last = (last.0, last.1, last.2, behind)
+      where
+        behind : (later : ℕ) (t : Service) → suc at < later → slice_get (s ∷ ss) later ≡ Some t
+            → t.line.number ≢ number
+        behind zero t h there = absurd (omega arith)
+        behind (suc later) t h there = last.3 later t (omega arith) there
+
+pub last_found : (number : ℕ) (ss : List Service) (found : Option ℕ)
+    → found ≡ last_of (numbers_in ss) number
+    → IfSome found (IsLast number ss) × IfNone found (IsNew number ss)
+last_found number ss found is =
+    cases found
+    (subst (λ o. MatchOption o (IsNew number ss) (IsLast number ss)) (sym is) (is_last number ss))
+  where
+    cases : (o : Option ℕ) → MatchOption o (IsNew number ss) (IsLast number ss)
+        → IfSome o (IsLast number ss) × IfNone o (IsNew number ss)
+    cases None new = (tt, new)
+    cases (Some at) last = (last, tt)
+
+any_last : (ns : List ℕ) (q : ℕ) → is_some (last_of ns q) ≡ list_any (eqb q) ns
+any_last [] q = refl
+any_last (n ∷ ns) q =
+    cases (last_of ns q) (q == n) ∙ ap (λ b. (q == n) || b) (any_last ns q)
+  where
+    cases : (found : Option ℕ) (b : Bool)
+        → is_some (option_or (option_map suc found) (if b then Some 0 else None))
+        ≡ (b || is_some found)
+    cases None true = refl
+    cases None false = refl
+    cases (Some at) true = refl
+    cases (Some at) false = refl
+
+-- as many services are there as numbers
+ties : eq_by_cmp nat_cmp ≡ eqb
+ties i a b = sym (unsigned_ties a b) i
+
+pub count_numbers : (m : BTreeMap ℕ ℕ) (ss : List Service) → IsOrdered nat_cmp m
+    → AreNumbers m ss → length m.entries ≡ services_in ss
+count_numbers m ss ordered are =
+    sym (length-map m.entries (λ (e : ℕ × ℕ). e.0))
+    ∙ length-from_keys nat_eq_equiv (keys m) (numbers_in ss)
+    (subst (λ e. IsDistinct e (keys m)) ties (IsDistinct-from_sorted nat_cmp (keys m) ordered))
+    (λ q. ap (λ (e : ℕ → ℕ → Bool). list_any (e q) (keys m)) (sym ties)
+    ∙ (sym (is_some-lookup (eq_by_cmp nat_cmp q) m.entries)
+    ∙ (ap is_some (are q) ∙ any_last (numbers_in ss) q)))
+
+-- where there is one number, all have it
+one_number : (m : BTreeMap ℕ ℕ) (ss : List Service) → AreNumbers m ss
+    → length m.entries ≡ 1 → (number : ℕ) × HaveNumber number ss
+one_number m ss are one = cases m.entries one are
+  where
+    cases : (es : List (ℕ × ℕ)) → length es ≡ 1
+        → ((q : ℕ) → lookup (λ k. is_eq (nat_cmp q k)) es ≡ last_of (numbers_in ss) q)
+        → (number : ℕ) × HaveNumber number ss
+    cases [] long found = absurd (omega arith)
+    cases (e ∷ f ∷ es) long found = absurd (omega arith)
+    cases (e ∷ []) long found = (
+      e.0,
+      λ i s h.
+          let q = (get_or ss i s).line.number in
+          elim (cases_eq q e.0) as (λ _. q ≡ e.0) [
+            | inl same ↦ same
+            | inr ne ↦
+                let apart : is_eq (nat_cmp q e.0) ≡ false =
+                sym (unsigned_ties q e.0) ∙ ne_eqb q e.0 ne in
+                let new : IsNew q ss =
+                subst (λ o. MatchOption o (IsNew q ss) (IsLast q ss))
+                (sym (found q) ∙ ap (λ b. cond b (Some e.1) None) apart) (is_last q ss) in
+                absurd (new i s h refl)
+          ],
     )
 
--- those below an index have one number, and the others that of the first one
-pub all_alike : (ss : List Service) (known number : ℕ) (d : Service) → known ≤ length ss
-    → d ≡ get_or ss 0 d → number ≡ number_of d
-    → HaveNumber number (take (length ss - known) (drop known ss))
-    → HaveOneNumber (take known ss) → HaveOneNumber ss
-all_alike ss known number d within is own rest one =
-    let has = λ (x : Service). number_of x ≡ number in
-    let long = length-take-le known ss within in
-    let left : All has (take known ss) =
-    λ i x h.
-    let first = one.1 0 d (omega arith) in
-    let at : get_or (take known ss) 0 d ≡ d = get_or-take known ss 0 d (omega arith) ∙ sym is in
-    one.1 i x h ∙ (sym first ∙ (ap number_of at ∙ sym own)) in
-    let right : All has (drop known ss) =
-    subst (All has)
-    (take_all (length ss - known) (drop known ss) (omega (arith, length-drop known ss))) rest in (
-      number,
-      subst (All has) (take-append-drop known ss)
-          (All-append has (take known ss) (drop known ss) left right),
+-- and the other way round
+one_service : (number : ℕ) (s : Service) (ss : List Service) → HaveNumber number (s ∷ ss)
+    → services_in (s ∷ ss) ≡ 1
+one_service number s [] have = refl
+one_service number s (t ∷ ss) have =
+    let rest = All-tail (λ (x : Service). x.line.number ≡ number) s (t ∷ ss) have in
+    let same : eqb s.line.number t.line.number ≡ true = eq-eqb s.line.number t.line.number
+    (All-head (λ (x : Service). x.line.number ≡ number) s (t ∷ ss) have
+    ∙ sym (All-head (λ (x : Service). x.line.number ≡ number) t ss rest)) in
+    rw same (one_service number t ss rest)
+
+last_push : (ns : List ℕ) (n q : ℕ)
+    → last_of (ns ++ n ∷ []) q ≡ cond (q == n) (Some (length ns)) (last_of ns q)
+last_push [] n q = refl
+last_push (m ∷ ns) n q =
+    ap (λ (o : Option ℕ). option_or (option_map suc o) (if q == m then Some 0 else None)) (last_push ns n q)
+    ∙ cases (q == n) (last_of ns q)
+  where
+    cases : (b : Bool) (found : Option ℕ)
+        → option_or (option_map suc (cond b (Some (length ns)) found)) (if q == m then Some 0 else None)
+        ≡ cond b (Some (suc (length ns))) (option_or (option_map suc found) (if q == m then Some 0 else None))
+    cases true found = refl
+    cases false found = refl
+
+-- one service more
+pub numbers_push : (old new : BTreeMap ℕ ℕ) (ss : List Service) (t : Service) → AreNumbers old ss
+    → UpdatesBy nat_cmp (nat_cmp t.line.number) old new (Some (length ss))
+    → AreNumbers new (ss ++ t ∷ [])
+numbers_push old new ss t are puts q =
+    let here : is_eq (nat_cmp t.line.number q) ≡ (q == t.line.number) =
+    sym (unsigned_ties t.line.number q) ∙ nat_eq_equiv.symm t.line.number q in
+    let old_at = are q in
+    let long = length-map ss (λ (s : Service). s.line.number) in
+    let last = last_push (numbers_in ss) t.line.number q in
+    let all = ap (λ ns. last_of ns q) (map-append (λ (s : Service). s.line.number) ss (t ∷ [])) in
+    let found = puts.0 q in cc
+
+-- the services, the last of which is new
+pub numbers_added : (old new : BTreeMap ℕ ℕ) (ss : List Service) (known number : ℕ) (d : Service)
+    → known < length ss → length ss ≤ known + 1 → d ≡ get_or ss known d
+    → number ≡ d.line.number → AreNumbers old (take known ss)
+    → UpdatesBy nat_cmp (nat_cmp number) old new (Some known) → AreNumbers new ss
+numbers_added old new ss known number d within one is own are puts =
+    let long : length (take known ss) ≡ known = length-take-le known ss (omega arith) in
+    let all : take known ss ++ d ∷ [] ≡ ss =
+    ap (λ (x : Service). take known ss ++ x ∷ []) is
+    ∙ (sym (take-suc ss known d within) ∙ take_all (suc known) ss (omega arith)) in
+    subst (AreNumbers new) all
+    (numbers_push old new (take known ss) d are
+    (subst (λ n. UpdatesBy nat_cmp (nat_cmp n) old new (Some (length (take known ss)))) own
+    (subst (λ n. UpdatesBy nat_cmp (nat_cmp number) old new (Some n)) (sym long) puts)))
+
+-- where they have one number, all services are one
+pub none_named : (ss : List Service) → ¬ (services_in ss ≡ 1) → IsNameless None ss
+none_named [] more at s named = let bars = named.there in absurd (cc)
+none_named (t ∷ ss) more at s named =
+    elim named.named as (λ _. ⊥) [
+      | inl same ↦ absurd (cc)
+      | inr all ↦ more (one_service s.line.number t ss all.1)
+    ]
+
+-- where there is one number, the last service is named
+pub last_named : (m : BTreeMap ℕ ℕ) (ss : List Service) → IsOrdered nat_cmp m → AreNumbers m ss
+    → length m.entries ≡ 1 → (0 < length ss) × ((s : Service) × IsNamed None ss (length ss - 1) s)
+last_named m [] ordered are single = absurd (omega (arith, count_numbers m [] ordered are))
+last_named m (t ∷ ss) ordered are single =
+    let all = t ∷ ss in
+    let one = one_number m all are single in
+    let last = length all - 1 in
+    let s = get_within all last (omega arith) in
+    let own = all_get (λ (x : Service). x.line.number ≡ one.0) all last s.0 one.1 s.1 in (
+      omega arith,
+      (
+        s.0,
+        record {
+          there = s.1;
+          named = inr (refl, subst (λ n. HaveNumber n all) (sym own) one.1);
+          last = λ later u less there.
+              absurd (omega (arith, slice_get_within all later u there));
+        },
+      ),
     )
-
-drop_one : (xs : List Service) (at : ℕ) (d : Service) → at < length xs → d ≡ get_or xs at d
-    → drop at xs ≡ d ∷ drop (at + 1) xs
-drop_one xs at d h is =
-    drop-cons xs at d h
-    ∙ (ap (λ (x : Service). x ∷ drop (suc at) xs) (sym is)
-    ∙ ap (λ (n : ℕ). d ∷ drop n xs) (sym (add-one at)))
-
--- how many services there are, with one more above the others
-module _ (d : Service) where
-  abbrev numbers : List Service → List ℕ
-  numbers ss = map (λ (s : Service). s.line.number) ss
-
-  is_new : (ss : List Service) → IsNew (number_of d) ss
-      → list_any (eqb (number_of d)) (numbers ss) ≡ false
-  is_new [] new = refl
-  is_new (s ∷ ss) new =
-      let other : eqb (number_of d) (number_of s) ≡ false =
-      ne_eqb (number_of d) (number_of s)
-      (λ e. All-head (λ (x : Service). number_of x ≢ number_of d) s ss new (sym e)) in
-      rw other (is_new ss (All-tail (λ (x : Service). number_of x ≢ number_of d) s ss new))
-
-  is_known : (ss : List Service) (at : ℕ) (t : Service) → slice_get ss at ≡ Some t
-      → number_of t ≡ number_of d → list_any (eqb (number_of d)) (numbers ss) ≡ true
-  is_known [] at t there same = absurd (cc)
-  is_known (s ∷ ss) zero t there same =
-      let own : eqb (number_of d) (number_of s) ≡ true =
-      eq-eqb (number_of d) (number_of s) (sym same ∙ ap number_of (sym (same_Some s t there))) in
-      rw own refl
-  is_known (s ∷ ss) (suc at) t there same =
-      cases (eqb (number_of d) (number_of s)) (is_known ss at t there same)
-    where
-      cases : (b : Bool) → list_any (eqb (number_of d)) (numbers ss) ≡ true
-          → (b || list_any (eqb (number_of d)) (numbers ss)) ≡ true
-      cases true rest = refl
-      cases false rest = rest
-
-  pub count_new : (ss : List Service) → IsNew (number_of d) ss
-      → services_in (d ∷ ss) ≡ services_in ss + 1
-  count_new ss new = rw (is_new ss new) (omega arith)
-
-  pub count_known : (ss : List Service) → (at : ℕ) × (t : Service) × (slice_get ss at ≡ Some t)
-      × (number_of t ≡ number_of d) → services_in (d ∷ ss) ≡ services_in ss
-  count_known ss k = rw (is_known ss k.0 k.1 k.2 k.3) refl
-
--- the services behind an index
-abbrev pub behind : List Service → ℕ → List Service
-behind xs at = take (length xs - (at + 1)) (drop (at + 1) xs)
-
-behind_is : (xs : List Service) (at : ℕ) → behind xs at ≡ drop (at + 1) xs
-behind_is xs at =
-    take_all (length xs - (at + 1)) (drop (at + 1) xs) (omega (arith, length-drop (at + 1) xs))
-
--- one service less is left, which is another if none behind it has its number
-pub count_left : (xs : List Service) (at count number : ℕ) (d : Service) (found : Option ℕ)
-    (known : Bool) → at < length xs → d ≡ get_or xs at d → number ≡ number_of d
-    → is_some found ≡ known
-    → IfSome found (λ i. (t : Service) × (slice_get (behind xs at) i ≡ Some t)
-    × (number_of t ≡ number) × IsNewBehind number (behind xs at) i)
-    → IfNone found (IsNew number (behind xs at))
-    → count + services_in (drop at xs) ≡ services_in xs
-    → count + cond known 0 1 + services_in (drop (at + 1) xs) ≡ services_in xs
-count_left xs at count number d None known h is own says some none so =
-    let new = subst (IsNew (number_of d)) (behind_is xs at)
-    (subst (λ n. IsNew n (behind xs at)) own none) in
-    let no : known ≡ false = sym says in
-    rw no (omega (
-      arith,
-      count_new d (drop (at + 1) xs) new,
-      ap services_in (drop_one xs at d h is),
-    ))
-count_left xs at count number d (Some i) known h is own says some none so =
-    let there = subst (λ (l : List Service). slice_get l i ≡ Some some.0) (behind_is xs at)
-    some.1 in
-    let no : known ≡ true = sym says in
-    rw no (omega (
-      arith,
-      count_known d (drop (at + 1) xs) (i, some.0, there, some.2 ∙ own),
-      ap services_in (drop_one xs at d h is),
-    ))
 
 -- there is one, where there is any
 pub some_service : (ss : List Service) → 0 < length ss → 0 < services_in ss
@@ -197,8 +275,16 @@ map_same {Y} f (s ∷ ss) (t ∷ ts) long same =
     let rest = map_same f ss ts (omega arith) (λ at a b e g. same (suc at) a b e g) in
     ap (λ (y : Y). y ∷ map f ts) (same 0 s t refl refl) ∙ ap (λ (ys : List Y). f s ∷ ys) rest
 
-pub same_count : (ss ts : List Service) → length ts ≡ length ss
-    → ((at : ℕ) (s t : Service) → slice_get ss at ≡ Some s → slice_get ts at ≡ Some t
-    → number_of t ≡ number_of s) → services_in ts ≡ services_in ss
-same_count ss ts long same =
-    ap (λ (ns : List ℕ). length (unique_keys eqb ns)) (map_same number_of ss ts long same)
+pub same_numbers : (m : BTreeMap ℕ ℕ) (ss ts : List Service) → numbers_in ts ≡ numbers_in ss
+    → AreNumbers m ss → AreNumbers m ts
+same_numbers m ss ts same are number = are number ∙ ap (λ ns. last_of ns number) (sym same)
+
+-- another service with the same line is in the place of one
+pub numbers_set : (ss : List Service) (at : ℕ) (s t : Service) → slice_get ss at ≡ Some s
+    → t.line ≡ s.line → numbers_in (slice_set ss at t) ≡ numbers_in ss
+numbers_set [] at s t there line = absurd (cc)
+numbers_set (x ∷ ss) zero s t there line =
+    ap (λ (l : ServiceLine). l.number ∷ numbers_in ss)
+    (line ∙ ap (λ (y : Service). y.line) (sym (same_Some x s there)))
+numbers_set (x ∷ ss) (suc at) s t there line =
+    ap (λ ns. x.line.number ∷ ns) (numbers_set ss at s t there line)

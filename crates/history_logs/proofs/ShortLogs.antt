@@ -90,7 +90,7 @@ short_push services live fronts new short a = (
 )
 
 -- the number of a service is kept at each index
-pub numbers_same : (services live : List Service) (fronts : List (Option (Front Watched))) (at : ℕ)
+numbers_same : (services live : List Service) (fronts : List (Option (Front Watched))) (at : ℕ)
     (x : Service) → AreShort services live fronts → slice_get services at ≡ Some x
     → (y : Service) × (slice_get live at ≡ Some y) × (y.line.number ≡ x.line.number)
 numbers_same services live fronts at x a there =

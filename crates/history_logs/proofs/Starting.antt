@@ -84,14 +84,13 @@ some_calls s some none = omega (arith, ap length none)
 
 -- the same, where its number is looked up
 pub gives_first : (old new : Log) (k : ℕ) (number : Option ℕ) (what : State) (at : ℕ)
-    (ss : List Service) (x d t : Service) (has yes : Bool) → ss ≡ old.services
-    → ((s : Service) × IsNamed number ss at s) → x ≡ get_or old.services at x
+    (x d t : Service) (has yes : Bool)
+    → ((s : Service) × IsNamed number old.services at s) → x ≡ get_or old.services at x
     → d ≡ get_or old.services at d → (IsTrue has ↔ (0 < length x.calls)) → has ≡ false
     → old.waits ≡ None → Starts d what yes t
     → new ≡ record old { services = slice_set old.services at t }
     → Does old k (given number what) (expected_if yes) new
-gives_first old new k number what at ss x d t has may same named one other says not none st is =
-    let n = subst (λ (l : List Service). (s : Service) × IsNamed number l at s) same named in
+gives_first old new k number what at x d t has may n one other says not none st is =
     let within = slice_get_within old.services at n.0 n.1.there in
     let few = subst (λ (s : Service). s.calls ≡ [])
     (same_item old.services at x d within one other) (no_calls x has says not) in

@@ -1,15 +1,17 @@
 -- What the fields of what is read tell.
-use Rattle.std.specs.BTreeMap.{get_by}
+use Rattle.std.specs.BTreeMap.{BTreeMap, get, get_by}
 use Rattle.std.specs.Cmp.Lexicographic.{slice_cmp}
+use Rattle.std.specs.Option.{option_map, option_or}
 use Rattle.std.specs.Ordering.{nat_cmp}
-use Rattle.std.specs.Prelude.{◌≡◌, ℕ, List, Option, Some, None, IsTrue}
+use Rattle.std.specs.Prelude.{◌≡◌, ◌==◌, ℕ, suc, List, [], ◌∷◌, Option, Some, None, if◌then◌else◌, map}
 use Rattle.log_lines.specs.declared.command.LogCommand.{LogCommand}
 use Rattle.log_lines.specs.Commands.{NamedCommand, named}
 use Rattle.history_logs.specs.declared.logs.callers.CallerState.{CallerState}
 use Rattle.history_logs.specs.declared.logs.callers.CallerState.TheVariants as caller
 use Rattle.history_logs.specs.declared.logs.callers.Callers.{Callers}
 use Rattle.history_logs.specs.declared.logs.reading.Reading.{Reading}
-use Rattle.history_logs.specs.Reading.{HaveOneNumber, IsSane, Log}
+use Rattle.history_logs.specs.Reading.{IsSane, Log}
+use Rattle.history_logs.specs.Seen.{Service}
 
 -- what the callers do that they tell
 abbrev pub callers_of : Callers → List ℕ → Option CallerState
@@ -32,7 +34,22 @@ log_of r = record {
   waits = waits_in r.waits;
 }
 
--- what was read is sane, and where it says that the services have one number, they have
+-- the index of the last of the numbers that is this one
+abbrev pub last_of : List ℕ → ℕ → Option ℕ
+last_of [] number = None
+last_of (n ∷ numbers) number =
+    option_or (option_map suc (last_of numbers number)) (if number == n then Some 0 else None)
+
+-- the numbers of the services
+abbrev pub numbers_in : List Service → List ℕ
+numbers_in services = map (λ (s : Service). s.line.number) services
+
+-- each number of the services is there, with the index of the last one that has it, and no other
+abbrev pub AreNumbers : BTreeMap ℕ ℕ → List Service → Type 0
+AreNumbers numbers services =
+    (number : ℕ) → get nat_cmp numbers number ≡ last_of (numbers_in services) number
+
+-- what was read is sane, and its services have its numbers
 pub record IsReady (r : Reading) : Type 0 where
   pub sane : IsSane (log_of r)
-  pub alike : IsTrue r.are_alike → HaveOneNumber r.services.items
+  pub numbers : AreNumbers r.numbers r.services.items

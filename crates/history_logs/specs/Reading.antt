@@ -33,10 +33,6 @@ IsNew number services = All (λ (s : Service). s.line.number ≢ number) service
 abbrev pub HaveNumber : ℕ → List Service → Type 0
 HaveNumber number services = All (λ (s : Service). s.line.number ≡ number) services
 
--- they have one number
-abbrev pub HaveOneNumber : List Service → Type 0
-HaveOneNumber services = (number : ℕ) × HaveNumber number services
-
 -- none of them that stands behind the index has this number
 abbrev pub IsNewBehind : ℕ → List Service → ℕ → Type 0
 IsNewBehind number services at =

@@ -1,5 +1,6 @@
 //! Checks of logs.
 ghost use Rattle.std.specs.Prelude.{◌≡◌, ◌<◌, ◌^◌, IfOk, length, sum_by};
+ghost use Rattle.history_logs.specs.Fields.{AreNumbers};
 ghost use Rattle.history_logs.specs.Good.{IsReadTo};
 ghost use Rattle.history_logs.specs.Judging.{end_verdict};
 ghost use Rattle.history_logs.specs.Logs.{Judged};
@@ -25,10 +26,9 @@ mod verdict;
 use conforming::find_conforming;
 use judging::judge_services;
 pub use log_lines::LogForm;
-use named::count_services;
 use ordering::order_services;
 pub use progress::{Counts, NoProgress, Progress};
-use reading::read_log;
+use reading::{Reading, read_log};
 use report::{append_orders, append_report};
 use service::LogService;
 use std::alloc::{AllocError, Global};
@@ -47,13 +47,15 @@ fn count_calls(services: &[LogService]) -> usize
 }
 
 /// The verdict where orders explain all that was seen of the services.
-fn end_verdict(services: &[LogService], bad: Option<(usize, Expected)>) -> Verdict
-    requires { sum_by (λ (s : Service). length s.commands) services.now < 2 ^ 64 }
-    ensures { result ≡ end_verdict services.now bad }
+fn end_verdict(reading: &Reading, bad: Option<(usize, Expected)>) -> Verdict
+    requires few { sum_by (λ (s : Service). length s.commands) reading.now.services.items
+        < 2 ^ 64 }
+    requires numbers { AreNumbers reading.now.numbers reading.now.services.items }
+    ensures { result ≡ end_verdict reading.now.services.items bad }
 {
     match bad {
         Some((line, expected)) => Verdict::BadLine(line, expected),
-        None => Verdict::Conforms(count_calls(services), count_services(services)),
+        None => Verdict::Conforms(count_calls(&reading.services), reading.count_services()),
     }
 }
 
@@ -61,17 +63,18 @@ fn end_verdict(services: &[LogService], bad: Option<(usize, Expected)>) -> Verdi
 fn judge(
     alloc: Global,
     log: &[u8],
-    services: &[LogService],
+    reading: &Reading,
     bad: Option<(usize, Expected)>,
 ) -> Result<Verdict, AllocError>
-    requires { IsReadTo log.now services.now bad }
+    requires read { IsReadTo log.now reading.now.services.items bad }
+    requires numbers { AreNumbers reading.now.numbers reading.now.services.items }
     ensures { IfOk result (Judged log.now) }
 {
     // For the proof: no more calls were read than the log has bytes.
     let _fits = log.len();
-    match judge_services(alloc, log, services)? {
+    match judge_services(alloc, log, &reading.services)? {
         Some(verdict) => Ok(verdict),
-        None => Ok(end_verdict(services, bad)),
+        None => Ok(end_verdict(reading, bad)),
     }
 }
 
@@ -88,7 +91,7 @@ fn check_with<P: Progress>(
         return Ok(verdict);
     }
     let (reading, bad) = read_log(alloc, log, progress)?;
-    judge(alloc, log, &reading.services, bad)
+    judge(alloc, log, &reading, bad)
 }
 
 /// Judges a log of services.
@@ -156,19 +159,20 @@ pub fn report_log(alloc: Global, log: &[u8]) -> Result<(Verdict, Vec<u8>), Alloc
 fn order_read(
     alloc: Global,
     log: &[u8],
-    services: &[LogService],
+    reading: &Reading,
     bad: Option<(usize, Expected)>,
 ) -> Result<(Verdict, Vec<Order>), AllocError>
-    requires { IsReadTo log.now services.now bad }
+    requires read { IsReadTo log.now reading.now.services.items bad }
+    requires numbers { AreNumbers reading.now.numbers reading.now.services.items }
     ensures judged { IfOk result (λ found. Judged log.now found.0) }
     ensures orders { IfOk result (λ found. HasOrders log.now found.0 found.1.items) }
 {
     // For the proof: no more calls were read than the log has bytes.
     let _fits = log.len();
-    match order_services(alloc, log, services)? {
+    match order_services(alloc, log, &reading.services)? {
         Ok(orders) => match bad {
             Some((line, expected)) => Ok((Verdict::BadLine(line, expected), Vec::new(alloc))),
-            None => Ok((end_verdict(services, None), orders)),
+            None => Ok((end_verdict(reading, None), orders)),
         },
         Err(verdict) => Ok((verdict, Vec::new(alloc))),
     }
@@ -185,21 +189,22 @@ pub fn order_log(alloc: Global, log: &[u8]) -> Result<(Verdict, Vec<Order>), All
     ensures orders { IfOk result (λ found. HasOrders log.now found.0 found.1.items) }
 {
     let (reading, bad) = read_log(alloc, log, &mut NoProgress)?;
-    order_read(alloc, log, &reading.services, bad)
+    order_read(alloc, log, &reading, bad)
 }
 
 /// Judges what was read of a log: the verdict, and the text that reports it with the orders.
 fn witness_read(
     alloc: Global,
     log: &[u8],
-    services: &[LogService],
+    reading: &Reading,
     bad: Option<(usize, Expected)>,
 ) -> Result<(Verdict, Vec<u8>), AllocError>
-    requires { IsReadTo log.now services.now bad }
+    requires read { IsReadTo log.now reading.now.services.items bad }
+    requires numbers { AreNumbers reading.now.numbers reading.now.services.items }
     ensures judged { IfOk result (λ found. Judged log.now found.0) }
     ensures text { IfOk result (λ found. IsWitness log.now found.0 found.1.items) }
 {
-    let (verdict, orders) = order_read(alloc, log, services, bad)?;
+    let (verdict, orders) = order_read(alloc, log, reading, bad)?;
     let mut text = Vec::new(alloc);
     append_report(&verdict, &mut text)?;
     append_orders(&orders, &mut text)?;
@@ -215,5 +220,5 @@ pub fn witness_log(alloc: Global, log: &[u8]) -> Result<(Verdict, Vec<u8>), Allo
     ensures text { IfOk result (λ found. IsWitness log.now found.0 found.1.items) }
 {
     let (reading, bad) = read_log(alloc, log, &mut NoProgress)?;
-    witness_read(alloc, log, &reading.services, bad)
+    witness_read(alloc, log, &reading, bad)
 }

@@ -15,8 +15,8 @@ use line_streams::before_byte;
 use service_conformance::conformance::WatchedService;
 use std::alloc::{AllocError, Global};
 
-/// Services settle once in so many lines, or in as many as events were left the last time, if these
-/// were more. So the cost of a line does not grow with the events that are left.
+/// Services settle once in so many lines, or in as many as there are services, or as events were
+/// left the last time, if these are more. So the cost of a line does not grow with either.
 const LINES_A_SETTLING: usize = 4096;
 
 /// Each of so many services has a front, or none yet.
@@ -82,7 +82,8 @@ fn settle_at(
         return Ok(true);
     }
     let is_explained = settle_all(alloc, services, fronts)?;
-    *due = line.saturating_add(LINES_A_SETTLING.max(count_kept(services)));
+    let many = services.len().max(count_kept(services));
+    *due = line.saturating_add(LINES_A_SETTLING.max(many));
     Ok(is_explained)
 }
 
@@ -143,5 +144,5 @@ pub(super) fn find_conforming<P: Progress>(
     if !are_explained(alloc, &reading.services, &mut fronts)? {
         return Ok(None);
     }
-    Ok(Some(end_verdict(&reading.services, None)))
+    Ok(Some(end_verdict(&reading, None)))
 }

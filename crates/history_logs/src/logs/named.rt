@@ -1,88 +1,72 @@
 //! The services that lines name by their numbers.
-ghost use Rattle.std.specs.Prelude.{◌≡◌, ◌≤◌, None, Some, IfNone, IfSome, IsFalse, IsTrue, length, slice_get, take};
+ghost use Rattle.std.specs.Prelude.{◌≡◌, ◌+◌, ◌≤◌, None, Some, OnOk, IfNone, IfSome, length, slice_get, take};
+ghost use Rattle.history_logs.specs.Fields.{AreNumbers};
 ghost use Rattle.history_logs.specs.Logs.{services_in};
-ghost use Rattle.history_logs.specs.Reading.{HaveNumber, HaveOneNumber, IsNameless, IsNamed, IsNew, IsNewBehind};
+ghost use Rattle.history_logs.specs.Reading.{IsNamed, IsNameless, IsNew, IsNewBehind};
 ghost use Rattle.history_logs.specs.Seen.{Service};
 
-use super::service::LogService;
+use super::reading::Reading;
+use std::alloc::AllocError;
 
-/// The index of the last service with this number.
-pub(super) fn position_of(services: &[LogService], number: u64) -> Option<usize>
-    ensures some { IfSome result (λ at. (s : Service) × (slice_get services.now at ≡ Some s)
-        × (s.line.number ≡ number) × IsNewBehind number services.now at) }
-    ensures none { IfNone result (IsNew number services.now) }
-{
-    services
-        .iter()
-        .rposition(|service| service.line().number == number)
-}
+impl Reading {
+    /// How many services there are, of which one that began anew is one.
+    pub(super) fn count_services(&self) -> usize
+        requires { AreNumbers self.now.numbers self.now.services.items }
+        ensures { result ≡ services_in self.now.services.items }
+    {
+        self.numbers.len()
+    }
 
-/// Whether each service has this number.
-fn have_number(services: &[LogService], number: u64) -> bool
-    ensures yes { IsTrue result → HaveNumber number services.now }
-    ensures no { IsFalse result → ¬ (HaveNumber number services.now) }
-{
-    services
-        .iter()
-        .all(|service| service.line().number == number)
-}
+    /// The index of the last service with this number.
+    pub(super) fn position_of(&self, number: u64) -> Option<usize>
+        requires { AreNumbers self.now.numbers self.now.services.items }
+        ensures some { IfSome result (λ at. (s : Service)
+            × (slice_get self.now.services.items at ≡ Some s) × (s.line.number ≡ number)
+            × IsNewBehind number self.now.services.items at) }
+        ensures none { IfNone result (IsNew number self.now.services.items) }
+    {
+        self.numbers.get(&number).copied()
+    }
 
-/// How many services there are, of which one that began anew is one.
-pub(super) fn count_services(services: &[LogService]) -> usize
-    ensures { result ≡ services_in services.now }
-{
-    let mut count = 0usize;
-    for at in 0..services.len() {
-        let number = services[at].line().number;
-        if position_of(&services[at + 1..], number).is_none() {
-            count += 1;
+    /// The index of the last service, where all have one number.
+    fn only_service(&self) -> Option<usize>
+        requires { AreNumbers self.now.numbers self.now.services.items }
+        ensures some { IfSome result (λ at.
+            (s : Service) × IsNamed None self.now.services.items at s) }
+        ensures none { IfNone result (IsNameless None self.now.services.items) }
+    {
+        if self.numbers.len() == 1 {
+            return Some(self.services.len() - 1);
+        }
+        None
+    }
+
+    /// The index of the service that a call is on, before which this number stands, or none.
+    #[inline(always)]
+    pub(super) fn service_named(&self, number: Option<u64>) -> Option<usize>
+        requires { AreNumbers self.now.numbers self.now.services.items }
+        ensures some { IfSome result (λ at.
+            (s : Service) × IsNamed number self.now.services.items at s) }
+        ensures none { IfNone result (IsNameless number self.now.services.items) }
+    {
+        match number {
+            Some(number) => self.position_of(number),
+            None => self.only_service(),
         }
     }
-    count
-}
 
-/// Whether all services have one number, where those below this index have.
-#[inline(always)]
-pub(super) fn stay_alike(services: &[LogService], known: usize) -> bool
-    requires { known ≤ length services.now }
-    ensures { IsTrue result → HaveOneNumber (take known services.now) → HaveOneNumber services.now }
-{
-    if known == services.len() {
-        return true;
-    }
-    have_number(&services[known..], services[0].line().number)
-}
-
-/// The index of the last service, where all have one number.
-fn only_service(services: &[LogService], are_alike: bool) -> Option<usize>
-    requires { IsTrue are_alike → HaveOneNumber services.now }
-    ensures some { IfSome result (λ at. (s : Service) × IsNamed None services.now at s) }
-    ensures none { IfNone result (IsNameless None services.now) }
-{
-    if services.is_empty() {
-        return None;
-    }
-    let last = services.len() - 1;
-    if are_alike || have_number(services, services[last].line().number) {
-        return Some(last);
-    }
-    None
-}
-
-/// The index of the service that a call is on, before which this number stands, or none. A yes says
-/// that all services have one number.
-#[inline(always)]
-pub(super) fn service_named(
-    services: &[LogService],
-    are_alike: bool,
-    number: Option<u64>,
-) -> Option<usize>
-    requires { IsTrue are_alike → HaveOneNumber services.now }
-    ensures some { IfSome result (λ at. (s : Service) × IsNamed number services.now at s) }
-    ensures none { IfNone result (IsNameless number services.now) }
-{
-    match number {
-        Some(number) => position_of(services, number),
-        None => only_service(services, are_alike),
+    /// Where a service stands behind so many, it is the last one that has its number.
+    pub(super) fn add_number(&mut self, known: usize) -> Result<(), AllocError>
+        requires known { known ≤ length self.old.services.items }
+        requires one { length self.old.services.items ≤ known + 1 }
+        requires numbers { AreNumbers self.old.numbers (take known self.old.services.items) }
+        ensures numbers { OnOk result (AreNumbers self.new.numbers self.new.services.items) }
+        ensures same { self.new ≡ record self.old { numbers = self.new.numbers } }
+    {
+        if known < self.services.len() {
+            self.numbers
+                .insert(self.services[known].line().number, known)?;
+        }
+        Ok(())
     }
 }

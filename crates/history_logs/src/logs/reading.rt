@@ -1,22 +1,21 @@
 //! Reading a log line by line. A call alone is read in one function, since to copy a call costs as
 //! much as to read it. Other lines are read out of line, so that it does not pay for their locals.
-ghost use Rattle.std.specs.Prelude.{◌≡◌, ◌≢◌, ◌<◌, ℕ, List, [], None, Some, IfNone, IfOk, IfSome, IsTrue, length, slice_get};
+ghost use Rattle.std.specs.Prelude.{◌≡◌, ◌≢◌, ◌<◌, ℕ, List, [], None, Some, IfNone, IfOk, IfSome, IsTrue, OnOk, length, slice_get};
 ghost use Rattle.log_lines.specs.Commands.{begun_in, named as named_command};
 ghost use Rattle.log_lines.specs.Lines.Line.{service as service_line, call as call_line};
 ghost use Rattle.log_lines.specs.Lines.Line.{begin as begin_line, end as end_line, crash as crash_line};
 ghost use Rattle.log_lines.specs.Lines.Line.{given as given_line};
 ghost use Rattle.log_lines.specs.States.{state_seen};
-ghost use Rattle.history_logs.specs.Fields.{IsReady, callers_of, log_of};
+ghost use Rattle.history_logs.specs.Fields.{AreNumbers, IsReady, callers_of, log_of};
 ghost use Rattle.log_lines.specs.Lines.{IsLine, Line, line_seen, line_text};
 ghost use Rattle.history_logs.specs.Good.{GivesAnew, IsReadTo, SaysIn, Takes, TakesLine};
 ghost use Rattle.history_logs.specs.Good.{TakesNext, is_service};
 ghost use Rattle.history_logs.specs.Logs.{EndsInReturn, IsMissing, IsWrong, LacksReply};
 ghost use Rattle.history_logs.specs.Progress.{AddsCounts};
-ghost use Rattle.history_logs.specs.Reading.{Does, HaveOneNumber};
+ghost use Rattle.history_logs.specs.Reading.{Does};
 ghost use Rattle.history_logs.specs.Seen.{Service};
 
 use super::callers::{CallerState, Callers, refuses_begin};
-use super::named::{position_of, service_named, stay_alike};
 use super::progress::Progress;
 use super::service::LogService;
 use super::verdict::Expected;
@@ -27,15 +26,16 @@ use log_lines::{
 use service_conformance::conformance::{SeenReply, read_reply};
 use service_descriptions::replay::ServiceLine;
 use std::alloc::{AllocError, Global};
+use std::collections::BTreeMap;
 
 /// What was read of a log.
 #[derive(Drop)]
 pub(super) struct Reading {
     /// The services, and what was seen of each.
     pub(super) services: Vec<LogService>,
-    /// Whether all services have one number. Without this, a line that names none would look at
-    /// each service.
-    pub(super) are_alike: bool,
+    /// Their numbers, each with the index of the last service that has it. Without these, a line
+    /// would look at each service for the one that it names.
+    pub(super) numbers: BTreeMap<u64, usize>,
     /// The callers.
     pub(super) callers: Callers,
     /// The index of the service of the call alone that waits for its reply, and its command.
@@ -84,11 +84,11 @@ impl Reading {
         ensures services { result.services.items ≡ [] }
         ensures callers { (name : List ℕ) → callers_of result.callers name ≡ None }
         ensures waits { (log_of result).waits ≡ None }
-        ensures alike { HaveOneNumber result.services.items }
+        ensures numbers { AreNumbers result.numbers result.services.items }
     {
         Reading {
             services: Vec::new(alloc),
-            are_alike: true,
+            numbers: BTreeMap::new(alloc),
             callers: Callers::new(alloc),
             waits: None,
         }
@@ -97,11 +97,13 @@ impl Reading {
     /// A service. Returns what is expected instead, if it may not come.
     #[inline(never)]
     fn service(&mut self, alloc: Global, line: ServiceLine) -> Result<Option<Expected>, AllocError>
-        requires { (log_of self.old).waits ≡ None }
-        ensures { IfOk result (λ found. (k : ℕ)
+        requires waits { (log_of self.old).waits ≡ None }
+        requires ready { IsReady self.old }
+        ensures does { IfOk result (λ found. (k : ℕ)
             → Does (log_of self.old) k (service_line line) found (log_of self.new)) }
+        ensures numbers { self.new.numbers ≡ self.old.numbers }
     {
-        if position_of(&self.services, line.number).is_some() {
+        if self.position_of(line.number).is_some() {
             return Ok(Some(Expected::Call));
         }
         self.services.push(LogService::new(alloc, line))?;
@@ -119,9 +121,10 @@ impl Reading {
         requires within { at < length self.old.services.items }
         requires calls { (s : Service) → slice_get self.old.services.items at ≡ Some s
             → 0 < length s.calls }
-        ensures { IfOk result (λ found. (s : Service)
+        ensures does { IfOk result (λ found. (s : Service)
             → slice_get self.old.services.items at ≡ Some s
             → GivesAnew (log_of self.old) at s (state_seen given) found (log_of self.new)) }
+        ensures numbers { self.new.numbers ≡ self.old.numbers }
     {
         if self.callers.has_open_on(at) {
             return Ok(Some(Expected::State));
@@ -145,10 +148,11 @@ impl Reading {
     ) -> Result<Option<Expected>, AllocError>
         requires waits { (log_of self.old).waits ≡ None }
         requires ready { IsReady self.old }
-        ensures { IfOk result (λ found. (k : ℕ) → Does (log_of self.old) k
+        ensures does { IfOk result (λ found. (k : ℕ) → Does (log_of self.old) k
             (given_line number (state_seen given)) found (log_of self.new)) }
+        ensures numbers { self.new.numbers ≡ self.old.numbers }
     {
-        let Some(at) = service_named(&self.services, self.are_alike, number) else {
+        let Some(at) = self.service_named(number) else {
             return Ok(Some(Expected::Call));
         };
         if self.services[at].has_calls() {
@@ -168,9 +172,10 @@ impl Reading {
         requires ready { IsReady self.old }
         ensures does { (k : ℕ) → Does (log_of self.old) k
             (call_line number (named_command command)) result (log_of self.new) }
-        ensures alike { IsTrue self.new.are_alike → HaveOneNumber self.new.services.items }
+        ensures numbers { self.new.numbers ≡ self.old.numbers }
+        ensures services { self.new.services ≡ self.old.services }
     {
-        let Some(at) = service_named(&self.services, self.are_alike, number) else {
+        let Some(at) = self.service_named(number) else {
             return Some(Expected::Call);
         };
         self.waits = Some((at, command));
@@ -189,10 +194,11 @@ impl Reading {
     ) -> Result<Option<Expected>, AllocError>
         requires waits { (log_of self.old).waits ≡ None }
         requires ready { IsReady self.old }
-        ensures { IfOk result (λ found. Does (log_of self.old) line
+        ensures does { IfOk result (λ found. Does (log_of self.old) line
             (begin_line number caller.now (begun_in begun)) found (log_of self.new)) }
+        ensures numbers { self.new.numbers ≡ self.old.numbers }
     {
-        let Some(at) = service_named(&self.services, self.are_alike, number) else {
+        let Some(at) = self.service_named(number) else {
             return Ok(Some(Expected::Call));
         };
         if let Some(expected) = refuses_begin(self.callers.state_of(caller)) {
@@ -216,8 +222,9 @@ impl Reading {
     ) -> Result<Option<Expected>, AllocError>
         requires waits { (log_of self.old).waits ≡ None }
         requires ready { IsReady self.old }
-        ensures { IfOk result (λ found. Does (log_of self.old) line
+        ensures does { IfOk result (λ found. Does (log_of self.old) line
             (end_line caller.now words.now) found (log_of self.new)) }
+        ensures numbers { self.new.numbers ≡ self.old.numbers }
     {
         match self.callers.state_of(caller) {
             None => Ok(Some(Expected::OpenCall)),
@@ -244,8 +251,9 @@ impl Reading {
     ) -> Result<Option<Expected>, AllocError>
         requires waits { (log_of self.old).waits ≡ None }
         requires ready { IsReady self.old }
-        ensures { IfOk result (λ found. Does (log_of self.old) line
+        ensures does { IfOk result (λ found. Does (log_of self.old) line
             (crash_line caller.now) found (log_of self.new)) }
+        ensures numbers { self.new.numbers ≡ self.old.numbers }
     {
         match self.callers.state_of(caller) {
             None => Ok(Some(Expected::KnownCaller)),
@@ -273,8 +281,9 @@ impl Reading {
     ) -> Result<Option<Expected>, AllocError>
         requires waits { (log_of self.old).waits ≡ None }
         requires ready { IsReady self.old }
-        ensures { IfOk result (λ found.
+        ensures does { IfOk result (λ found.
             Does (log_of self.old) line (line_seen read.entry) found (log_of self.new)) }
+        ensures numbers { self.new.numbers ≡ self.old.numbers }
     {
         match read {
             LogLine::Service(service) => self.service(alloc, service),
@@ -315,8 +324,7 @@ impl Reading {
         requires ready { IsReady self.old }
         ensures takes { IfOk result (λ found.
             TakesNext (log_of self.old) line text.now found (log_of self.new)) }
-        ensures alike { IfOk result (λ found. IfNone found
-            (IsTrue self.new.are_alike → HaveOneNumber self.new.services.items)) }
+        ensures numbers { OnOk result (AreNumbers self.new.numbers self.new.services.items) }
     {
         let Some(read) = read_log_line(alloc, text)? else {
             return Ok(Some(self.expected(text)));
@@ -324,9 +332,9 @@ impl Reading {
         if self.services.is_empty() && !is_service(&read) {
             return Ok(Some(Expected::Service));
         }
-        let (known, were_alike) = (self.services.len(), self.are_alike);
+        let known = self.services.len();
         let Some(expected) = self.take(alloc, read, line)? else {
-            self.are_alike = were_alike && stay_alike(&self.services, known);
+            self.add_number(known)?;
             return Ok(None);
         };
         Ok(Some(expected))
@@ -345,8 +353,7 @@ impl Reading {
         requires ready { IsReady self.old }
         ensures takes { IfOk result (λ found.
             TakesNext (log_of self.old) line text.now found (log_of self.new)) }
-        ensures alike { IfOk result (λ found. IfNone found
-            (IsTrue self.new.are_alike → HaveOneNumber self.new.services.items)) }
+        ensures numbers { OnOk result (AreNumbers self.new.numbers self.new.services.items) }
     {
         if self.services.is_empty() || !may_be_command(text) {
             return self.other(alloc, text, line);
@@ -370,8 +377,7 @@ impl Reading {
         requires { IsReady self.old }
         ensures takes { IfOk result (λ found.
             TakesLine (log_of self.old) line text.now found (log_of self.new)) }
-        ensures alike { IfOk result (λ found. IfNone found
-            (IsTrue self.new.are_alike → HaveOneNumber self.new.services.items)) }
+        ensures numbers { OnOk result (AreNumbers self.new.numbers self.new.services.items) }
     {
         // To take a call that is not there costs as much as to take one.
         if self.waits.is_none() {
@@ -401,8 +407,7 @@ impl Reading {
         requires { IsReady self.old }
         ensures read { IfOk result (λ found.
             Takes (log_of self.old) line text.now found (log_of self.new)) }
-        ensures alike { IfOk result (λ found. IfNone found
-            (IsTrue self.new.are_alike → HaveOneNumber self.new.services.items)) }
+        ensures numbers { OnOk result (AreNumbers self.new.numbers self.new.services.items) }
     {
         if is_note(text) {
             return Ok(None);
@@ -441,6 +446,7 @@ pub(super) fn read_log<P: Progress>(
     progress: &mut P,
 ) -> Result<(Reading, Option<(usize, Expected)>), AllocError>
     ensures read { IfOk result (λ found. IsReadTo log.now found.0.services.items found.1) }
+    ensures numbers { IfOk result (λ found. AreNumbers found.0.numbers found.0.services.items) }
     ensures progress { AddsCounts (P.contents progress.old) (P.contents progress.new) }
 {
     let mut reading = Reading::new(alloc);

@@ -73,7 +73,7 @@ fn verdict_on<P: Progress>(
 {
     if with_orders {
         let (reading, bad) = read_log(alloc, log, progress)?;
-        let (verdict, text) = witness_read(alloc, log, &reading.services, bad)?;
+        let (verdict, text) = witness_read(alloc, log, &reading, bad)?;
         return Ok(Judgement { verdict, text });
     }
     let (verdict, text) = report_with(alloc, log, progress)?;

@@ -2,14 +2,14 @@ use Rattle.std.proofs.Common.{rules, ap, ◌≡◌, ◌+◌, ◌<◌, ◌^◌, L
 use Rattle.histories.specs.declared.front.Front.{Front}
 use Rattle.histories.proofs.Indices.{put_back}
 use Rattle.service_conformance.specs.Looks.{Watched}
-use Rattle.history_logs.specs.Fields.{callers_of, log_of, waits_in}
+use Rattle.history_logs.specs.Fields.{AreNumbers, callers_of, log_of, waits_in}
 use Rattle.history_logs.specs.Judging.{end_verdict}
 use Rattle.history_logs.specs.Logs.{Judged}
-use Rattle.history_logs.specs.Reading.{HaveOneNumber, Log}
+use Rattle.history_logs.specs.Reading.{Log}
 use Rattle.history_logs.specs.Seen.{Service}
 use Rattle.history_logs.specs.Settling.{AreRightShort, HaveShort, IsShortAbove, StayAll}
 use Rattle.history_logs.proofs.Above.{above_new}
-use Rattle.history_logs.proofs.Conforming.{above_sane, above_short, alike_stays, few_short, judged_short, no_more, short_more, short_none, short_stays}
+use Rattle.history_logs.proofs.Conforming.{above_sane, above_short, few_short, judged_short, no_more, numbers_stay, short_more, short_none, short_stays}
 use Rattle.history_logs.proofs.Counts.{counts_more, no_counts}
 use Rattle.history_logs.proofs.logs.conforming.find_conforming.Goals as goal
 
@@ -23,13 +23,13 @@ loop-text-init g c =
           (short_none bytes log read.services read.waits
           (above_new bytes log read.services read.callers read.waits)),
       no_counts (g.P.Progress.contents c.args.progress.now),
-      λ _. read.alike,
+      read.numbers,
     )
 
 pub read-requires : goal.read-requires
 read-requires g c = record {
   sane = above_sane _ (log_of c.loop-text.reading) _ _ _ c.loop-text.invariant.0;
-  alike = c.loop-text.invariant.2;
+  numbers = c.loop-text.invariant.2;
 }
 
 pub settle_at-requires : goal.settle_at-requires
@@ -77,17 +77,16 @@ loop-text-preserved g c =
           c.in-Some.after.now (c.loop-text.line + 1)) put
           (short_stays _ read fronts _ (c.loop-text.line + 1) more new next refl refl stay),
       counts_more _ _ _ c.loop-text.invariant.1 c.count.ensures,
-      λ is. subst HaveOneNumber put
-          (alike_stays read.services new.services fronts next
+      subst (AreNumbers c.read.new.self.numbers) put
+          (numbers_stay c.read.new.self.numbers read.services new.services fronts next
           (above_short _ read fronts _ (c.loop-text.line + 1) more)
-          stay ((rw c.in-None.is at c.in_ok-read.ensures.alike) is)),
+          stay c.in_ok-read.ensures.numbers),
     )
 
-pub end_verdict-requires : goal.end_verdict-requires
-end_verdict-requires g c =
+pub end_verdict-requires-clause-few : goal.end_verdict-requires-clause-few
+end_verdict-requires-clause-few g c =
     let few = few_short _ (log_of c.loop-text.reading) _ _ _ c.loop-text.invariant.0 in
-    subst (λ (l : List Service). sum_by (λ (s : Service). length s.commands) l < 2 ^ 64)
-    (sym c.deref-2.ensures.value) (omega arith)
+    omega arith
 
 pub returns-clause-judged : goal.returns-clause-judged
 returns-clause-judged g c =
@@ -97,7 +96,5 @@ returns-clause-judged g c =
     subst (λ (l : List Service). AreRightShort l fronts) c.deref.ensures.value
     (c.in_ok-are_explained.ensures (search rules)) in
     subst (Judged c.args.log.now) (sym c.end_verdict.ensures)
-    (subst (λ (l : List Service). Judged c.args.log.now (end_verdict l None))
-    (sym c.deref-2.ensures.value)
     (judged_short _ live fronts _ _ c.loop-text.invariant.0 (no_more _ c.if-not-is_empty.ensures)
-    (search rules) (search rules) right))
+    (search rules) (search rules) right)

@@ -1,7 +1,6 @@
-use Rattle.std.proofs.Common.{IsTrue, length}
-use Rattle.history_logs.specs.Fields.{log_of}
+use Rattle.std.proofs.Common.{length}
+use Rattle.history_logs.specs.Fields.{AreNumbers, log_of}
 use Rattle.history_logs.specs.Progress.{AddsCounts}
-use Rattle.history_logs.specs.Reading.{HaveOneNumber}
 use Rattle.history_logs.specs.Settling.{IsShortAbove}
 use Rattle.history_logs.proofs.logs.conforming.find_conforming.Given as goal
 
@@ -9,7 +8,7 @@ abbrev pub invariant-loop-text : goal.invariant-loop-text
 invariant-loop-text g l =
     IsShortAbove l.fn.log (log_of l.reading) l.fronts.items l.rest l.line
     × AddsCounts (g.P.Progress.contents l.fn.progress) (g.P.Progress.contents l.progress)
-    × (IsTrue l.reading.are_alike → HaveOneNumber l.reading.services.items)
+    × AreNumbers l.reading.numbers l.reading.services.items
 
 abbrev pub decreases-loop-text : goal.decreases-loop-text
 decreases-loop-text g l = length l.rest

@@ -10,7 +10,7 @@ loop-text-init g c = (
   above_new _ (log_of c.new-reading.result) c.new-reading.ensures.services
       c.new-reading.ensures.callers c.new-reading.ensures.waits,
   no_counts (g.P.Progress.contents c.args.progress.now),
-  λ _. c.new-reading.ensures.alike,
+  c.new-reading.ensures.numbers,
 )
 
 pub returns-in-Some-2-clause-read : goal.returns-in-Some-2-clause-read
@@ -26,7 +26,7 @@ loop-text-preserved g c = (
       c.loop-text.invariant.0 (search rules) (search rules)
       (rw c.in_default-2.is at c.in_ok-expected.ensures.read),
   counts_more _ _ _ c.loop-text.invariant.1 c.count.ensures,
-  rw c.in_default-2.is at c.in_ok-expected.ensures.alike,
+  c.in_ok-expected.ensures.numbers,
 )
 
 pub returns-then-not-is_empty-clause-read : goal.returns-then-not-is_empty-clause-read
@@ -37,5 +37,5 @@ returns-then-not-is_empty-clause-read g c =
 pub read-requires : goal.read-requires
 read-requires g c = record {
   sane = sane_of (log_of c.loop-text.reading) c.loop-text.invariant.0.kept;
-  alike = c.loop-text.invariant.2;
+  numbers = c.loop-text.invariant.2;
 }

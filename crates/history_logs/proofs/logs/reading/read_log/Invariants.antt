@@ -1,15 +1,14 @@
-use Rattle.std.proofs.Common.{IsTrue, length}
-use Rattle.history_logs.specs.Fields.{log_of}
+use Rattle.std.proofs.Common.{length}
+use Rattle.history_logs.specs.Fields.{AreNumbers, log_of}
 use Rattle.history_logs.specs.Good.{IsAbove}
 use Rattle.history_logs.specs.Progress.{AddsCounts}
-use Rattle.history_logs.specs.Reading.{HaveOneNumber}
 use Rattle.history_logs.proofs.logs.reading.read_log.Given as goal
 
 abbrev pub invariant-loop-text : goal.invariant-loop-text
 invariant-loop-text g l =
     IsAbove l.fn.log (log_of l.reading) l.rest l.line
     × AddsCounts (g.P.Progress.contents l.fn.progress) (g.P.Progress.contents l.progress)
-    × (IsTrue l.reading.are_alike → HaveOneNumber l.reading.services.items)
+    × AreNumbers l.reading.numbers l.reading.services.items
 
 abbrev pub decreases-loop-text : goal.decreases-loop-text
 decreases-loop-text g l = length l.rest

@@ -7,8 +7,8 @@ use Rattle.history_logs.specs.Fields.{callers_of}
 use Rattle.history_logs.specs.Reading.{Crashes}
 use Rattle.history_logs.proofs.logs.reading.Reading.crash.Goals as goal
 
-pub returns-in_ok-set-in-Some-Calls : goal.returns-in_ok-set-in-Some-Calls
-returns-in_ok-set-in-Some-Calls c =
+pub returns-in_ok-set-in-Some-Calls-clause-does : goal.returns-in_ok-set-in-Some-Calls-clause-does
+returns-in_ok-set-in-Some-Calls-clause-does c =
     let arm = c.in-Some-Calls in
     let services = c.args.self.now.services.items in
     let does : callers_of c.args.self.now.callers c.args.caller.now

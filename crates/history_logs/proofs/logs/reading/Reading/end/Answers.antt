@@ -5,8 +5,8 @@ use Rattle.history_logs.specs.declared.logs.callers.CallerState.TheVariants.{Cal
 use Rattle.history_logs.specs.Fields.{callers_of}
 use Rattle.history_logs.proofs.logs.reading.Reading.end.Goals as goal
 
-pub returns-in_ok-set-in-Some-Calls : goal.returns-in_ok-set-in-Some-Calls
-returns-in_ok-set-in-Some-Calls c =
+pub returns-in_ok-set-in-Some-Calls-clause-does : goal.returns-in_ok-set-in-Some-Calls-clause-does
+returns-in_ok-set-in-Some-Calls-clause-does c =
     let arm = c.in-Some-Calls in
     let reply = c.in-Some.reply in
     let services = c.args.self.now.services.items in

@@ -8,8 +8,8 @@ use Rattle.history_logs.specs.Seen.{Service, unseen}
 use Rattle.history_logs.proofs.Starting.{gives_anew, some_calls}
 use Rattle.history_logs.proofs.logs.reading.Reading.give_anew.Goals as goal
 
-pub returns-then-not-branch : goal.returns-then-not-branch
-returns-then-not-branch c s there =
+pub returns-then-not-branch-clause-does : goal.returns-then-not-branch-clause-does
+returns-then-not-branch-clause-does c s there =
     let d = c.index.result.now in
     let same : d ≡ s =
     c.index.ensures ∙ get_or_from_slice_get c.args.self.now.services.items c.args.at s d there in
@@ -21,8 +21,8 @@ returns-then-not-branch c s there =
     (subst (λ (x : Service). Starts x (state_seen c.args.given) false c.give.new.self) made
     (rw bars at c.in_ok-give.ensures)) (λ e. absurd (cc)) (λ e. refl)
 
-pub returns : goal.returns
-returns c s there =
+pub returns-clause-does : goal.returns-clause-does
+returns-clause-does c s there =
     let d = c.index.result.now in
     let same : d ≡ s =
     c.index.ensures ∙ get_or_from_slice_get c.args.self.now.services.items c.args.at s d there in

@@ -5,7 +5,7 @@ use Rattle.log_lines.specs.declared.command.LogCommand.{LogCommand}
 use Rattle.log_lines.specs.Commands.{named}
 use Rattle.history_logs.specs.Fields.{log_of, waits_in}
 use Rattle.history_logs.specs.Seen.{Service}
-use Rattle.history_logs.proofs.Kept.{alike_set}
+use Rattle.history_logs.proofs.Named.{numbers_set, same_numbers}
 use Rattle.history_logs.proofs.Refused.{ok_next, replied}
 use Rattle.history_logs.proofs.logs.reading.Reading.go.Goals as goal
 
@@ -32,8 +32,8 @@ returns-clause-takes c =
       waits = None;
     }) c.in_ok-alone-in-Some-take.ensures)
 
-pub returns-clause-alike : goal.returns-clause-alike
-returns-clause-alike c one =
+pub returns-clause-numbers : goal.returns-clause-numbers
+returns-clause-numbers c =
     let at = c.in-Some-take.at in
     let command = c.in-Some-take.command in
     let old = c.args.self.now in
@@ -44,8 +44,9 @@ returns-clause-alike c one =
     slice_get-get_or services at d
     (c.requires.sane.waits at (named command) (ap waits_in own))
     ∙ ap Some (sym c.index_mut.ensures.value) in
-    alike_set services at d c.alone.new.self there
-    (ap (λ (s : Service). s.line) c.in_ok-alone-in-Some-take.ensures) (c.requires.alike one)
+    same_numbers old.numbers services (slice_set services at c.alone.new.self)
+    (numbers_set services at d c.alone.new.self there
+    (ap (λ (s : Service). s.line) c.in_ok-alone-in-Some-take.ensures)) c.requires.numbers
 
 pub returns-then-is_none-clause-takes : goal.returns-then-is_none-clause-takes
 returns-then-is_none-clause-takes c =

@@ -1,13 +1,12 @@
 use Rattle.std.proofs.Common.{rules, ◌≡◌, IsTrue, List, None, Some, arith, length, true, false, refl, subst, sym, take}
 use Rattle.log_lines.specs.Lines.{IsLine, line_seen, line_text}
-use Rattle.history_logs.specs.Fields.{log_of}
-use Rattle.history_logs.specs.Good.{is_service}
-use Rattle.history_logs.specs.Reading.{HaveOneNumber}
+use Rattle.history_logs.specs.declared.logs.reading.Reading.{Reading}
+use Rattle.history_logs.specs.Fields.{AreNumbers, log_of}
+use Rattle.history_logs.specs.Good.{TakesNext, is_service}
 use Rattle.history_logs.specs.Seen.{Service}
-use Rattle.history_logs.proofs.Kept.{alike_line}
+use Rattle.history_logs.proofs.Kept.{numbers_line}
 use Rattle.history_logs.proofs.Refused.{nil_of, taken, wrong_first}
 use Rattle.history_logs.proofs.logs.reading.Reading.other.Goals.{else-is_empty-via-then-is_empty+else-not-is_service, else-is_empty-via-else-is_empty}
-use Rattle.history_logs.proofs.logs.reading.Reading.other.Goals.{else-were_alike, then-were_alike}
 use Rattle.history_logs.proofs.logs.reading.Reading.other.Goals as goal
 
 pub returns-then-not-is_service-clause-takes : goal.returns-then-not-is_service-clause-takes
@@ -25,15 +24,17 @@ returns-in_default-2-clause-takes c =
     let l = line_seen c.in-Some.read in
     let p : IsLine l = search rules in
     let is : c.args.text.now ≡ line_text l = search rules in
-    taken (log_of c.args.self.now) (log_of c.take.new.self) c.args.line c.args.text.now l None p is
+    subst (λ (r : Reading). TakesNext (log_of c.args.self.now) c.args.line c.args.text.now None
+    (log_of r)) (sym c.add_number.ensures.same)
+    (taken (log_of c.args.self.now) (log_of c.take.new.self) c.args.line c.args.text.now l None p is
     (λ empty. elim c.else-is_empty.branch as (λ _. is_service l ≡ true) [
       | else-is_empty-via-then-is_empty+else-not-is_service w ↦ search rules
       | else-is_empty-via-else-is_empty w ↦ search rules
     ])
-    (rw c.in_default-2.is at c.in_ok-expected.ensures)
+    (rw c.in_default-2.is at c.in_ok-expected.ensures.does))
 
-pub returns-in_default-2-clause-alike : goal.returns-in_default-2-clause-alike
-returns-in_default-2-clause-alike c =
+pub add_number-requires : goal.add_number-requires
+add_number-requires c =
     let l = line_seen c.in-Some.read in
     let p : IsLine l = search rules in
     let is : c.args.text.now ≡ line_text l = search rules in
@@ -43,22 +44,18 @@ returns-in_default-2-clause-alike c =
       | else-is_empty-via-then-is_empty+else-not-is_service w ↦ search rules
       | else-is_empty-via-else-is_empty w ↦ search rules
     ])
-    (rw c.in_default-2.is at c.in_ok-expected.ensures) in
+    (rw c.in_default-2.is at c.in_ok-expected.ensures.does) in
+    let old = c.args.self.now in
     let new = c.take.new.self.services.items in
-    let more = alike_line (log_of c.args.self.now) (log_of c.take.new.self) c.args.line
-    c.args.text.now takes in
-    let long : c.len-known.result ≡ length c.args.self.now.services.items = omega arith in
-    elim c.if-were_alike.branch
-    as (λ _. IsTrue c.if-were_alike.self → HaveOneNumber new) [
-      | then-were_alike w ↦ λ yes.
-          subst HaveOneNumber w.deref.ensures.value
-          (w.stay_alike-self.ensures (rw w.self-is at yes)
-          (subst (λ (l : List Service). HaveOneNumber (take c.len-known.result l))
-          (sym w.deref.ensures.value)
-          (subst (λ n. HaveOneNumber (take n new)) (sym long)
-          (more.1 (c.requires.ready.alike w.if-were_alike.true)))))
-      | else-were_alike w ↦ λ yes. let off = w.self-is in absurd (cc)
-    ]
+    let more = numbers_line old.numbers (log_of old) (log_of c.take.new.self) c.args.line
+    c.args.text.now takes c.requires.ready.numbers in
+    let long : c.len-known.result ≡ length old.services.items = omega arith in
+    record {
+      known = omega (arith, more.0);
+      one = omega (arith, more.1);
+      numbers = subst (λ m. AreNumbers m (take c.len-known.result new)) (sym c.take.ensures.numbers)
+          (subst (λ n. AreNumbers old.numbers (take n new)) (sym long) more.2);
+    }
 
 pub returns-clause-takes : goal.returns-clause-takes
 returns-clause-takes c =
@@ -71,4 +68,4 @@ returns-clause-takes c =
       | else-is_empty-via-then-is_empty+else-not-is_service w ↦ search rules
       | else-is_empty-via-else-is_empty w ↦ search rules
     ])
-    (rw c.in-Some-2.is at c.in_ok-expected.ensures)
+    (rw c.in-Some-2.is at c.in_ok-expected.ensures.does)
