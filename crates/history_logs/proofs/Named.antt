@@ -174,12 +174,15 @@ last_push : (ns : List ℕ) (n q : ℕ)
     → last_of (ns ++ n ∷ []) q ≡ cond (q == n) (Some (length ns)) (last_of ns q)
 last_push [] n q = refl
 last_push (m ∷ ns) n q =
-    ap (λ (o : Option ℕ). option_or (option_map suc o) (if q == m then Some 0 else None)) (last_push ns n q)
+    ap (λ (o : Option ℕ). option_or (option_map suc o) (if q == m then Some 0 else None))
+    (last_push ns n q)
     ∙ cases (q == n) (last_of ns q)
   where
     cases : (b : Bool) (found : Option ℕ)
-        → option_or (option_map suc (cond b (Some (length ns)) found)) (if q == m then Some 0 else None)
-        ≡ cond b (Some (suc (length ns))) (option_or (option_map suc found) (if q == m then Some 0 else None))
+        → option_or (option_map suc (cond b (Some (length ns)) found))
+        (if q == m then Some 0 else None)
+        ≡ cond b (Some (suc (length ns)))
+        (option_or (option_map suc found) (if q == m then Some 0 else None))
     cases true found = refl
     cases false found = refl
 

@@ -15,7 +15,8 @@ pub returns-in-Begin-clause-does : goal.returns-in-Begin-clause-does
 returns-in-Begin-clause-does c =
     let arm = c.in-Begin in
     ok_is _ _ _ (line_seen c.args.read)
-    (begin arm.number arm.caller.now (begun_in arm.begun)) _ (ap line_seen arm.is) c.begin.ensures.does
+    (begin arm.number arm.caller.now (begun_in arm.begun)) _ (ap line_seen arm.is)
+    c.begin.ensures.does
 
 pub returns-in-End-clause-does : goal.returns-in-End-clause-does
 returns-in-End-clause-does c =
