@@ -55,7 +55,8 @@ impl Reading {
         }
     }
 
-    /// Where a service stands behind so many, it is the last one that has its number.
+    /// Notes the number of the service behind the first ones, if there is one: of those with this
+    /// number it is the last.
     pub(super) fn add_number(&mut self, known: usize) -> Result<(), AllocError>
         requires known { known ≤ length self.old.services.items }
         requires one { length self.old.services.items ≤ known + 1 }
