@@ -1,5 +1,5 @@
 -- Sets of slots.
-use Rattle.histories.proofs.Words.{◌≡◌, ◌≢◌, ℕ, zero, suc, ◌<◌, ◌≤◌, ◌⊎◌, List, length, ◌*◌, ◌^◌, ◌%◌, ◌-◌, refl, sym, ◌∙◌, arith, inl, inr, Option, bit_at, bit_not, w64, cases_eq, cases_lt, get_or_past, bit_at-lt, bit_at_above, bit_at_and, bit_at_clear_other, bit_at_clear_same, bit_at_set_other, bit_at_set_same, same_from_bits, and_assoc, and_comm, HasSlot}
+use Rattle.histories.proofs.Words.{◌≡◌, ◌≢◌, ℕ, zero, suc, ◌<◌, ◌≤◌, ◌⊎◌, List, length, ◌*◌, ◌^◌, ◌%◌, ◌-◌, sym, ◌∙◌, arith, inl, inr, Option, bit_at, bit_not, w64, cases_eq, cases_lt, get_or_past, bit_at-lt, bit_at_above, bit_at_and, bit_at_clear_other, bit_at_clear_same, bit_at_set_other, bit_at_set_same, same_from_bits, and_assoc, and_comm, HasSlot}
 use Rattle.histories.specs.Frontier.{cleared, put}
 use Rattle.histories.proofs.Indices.{less_of}
 use Rattle.histories.specs.Gathering.{ones}

@@ -1,5 +1,5 @@
 -- How often a number stands in a list, and what is true of all pairs of a list.
-use Rattle.histories.proofs.Words.{◌≤◌, length-append, ◌-◌, ◌≡◌, ◌≢◌, ℕ, zero, suc, ◌+◌, ◌<◌, List, [], ◌∷◌, ◌++◌, length, take, drop, get_or, refl, ◌∙◌, ap, arith, inl, inr, eq-eqb, split_at, eqb_tells, AllPairs, get_or-append, get_or-append_right, get_or-append_seam, cases_lt, get_or-append-add}
+use Rattle.histories.proofs.Words.{◌≤◌, length-append, ◌≡◌, ◌≢◌, ℕ, zero, suc, ◌+◌, ◌<◌, List, [], ◌∷◌, ◌++◌, length, take, drop, get_or, refl, arith, inl, inr, eq-eqb, split_at, eqb_tells, AllPairs, get_or-append, get_or-append_right, cases_lt, get_or-append-add}
 use Rattle.histories.specs.Histories.{times}
 
 -- a number of which none is more than zero

@@ -2,7 +2,7 @@
 use Rattle.histories.proofs.Words.{◌≡◌, ℕ, suc, ◌+◌, ◌<◌, List, [], ◌∷◌, ◌++◌, refl, sym, ap, arith, inl, inr, ◌↔◌, Option, zero, ◌≤◌, ◌⊎◌, length, get_or, ◌∙◌, AllPairs, map, cases_lt, cases_eq, Event, Begin, End, Crash, begins, times, IsOver, EndsAt, Explains, HasEnded, IsExplained, IsSound, HasSlot, IsFrontier, IsSame, IsTable, Runs, order_of, IsQuiet, Config, Link, AreEach, IsUnlinked}
 use Rattle.histories.proofs.Counting.{times-cons, times_at, times_none, times_same, all_pairs_behind, times-append, all_pairs_back, all_pairs_front, all_pairs_join}
 use Rattle.histories.proofs.Indices.{contains_map_of, contains_of_map, each_from, each_to}
-use Rattle.histories.proofs.Events.{ends_within, stands_within, begins-append, begins_stands, ends_either, ends_left, stands_begins, stands_either, stands_right, answered_ended, begins_none, answered_left, answered_right, over_left, over_right}
+use Rattle.histories.proofs.Events.{ends_within, stands_within, begins-append, begins_stands, ends_either, ends_left, stands_begins, stands_either, stands_right, answered_ended, answered_left, answered_right, over_left, over_right}
 use Rattle.histories.proofs.Running.{leads_join, leads_split}
 use Rattle.histories.proofs.Frontiers.{frontier_fresh, table_none}
 pub use Rattle.histories.proofs.Events.{begins-append}

@@ -1,8 +1,8 @@
 -- One event more.
-use Rattle.histories.proofs.Words.{eq-eqb, Some, false, ◌≡◌, ◌≢◌, ℕ, zero, suc, ◌+◌, ◌<◌, ◌⊎◌, List, [], ◌∷◌, ◌++◌, length, cond, refl, ap, arith, inl, inr, ◌∙◌, Option, cases_eq, eqb_tells, slice_get_within, FreesSlot, TakesSlot, Event, Begin, End, Crash, EndsAt, HasEnded, IsAnswered, IsOpen, IsOver, StandsAt, Ends, IsSound, HasSlot, IsTable}
+use Rattle.histories.proofs.Words.{map, get_or, get_or-map, length-map, sym, subst, None, suc, HasManyOpen, AreTaken, eq-eqb, Some, false, ◌≡◌, ◌≢◌, ℕ, zero, suc, ◌+◌, ◌<◌, ◌⊎◌, List, [], ◌∷◌, ◌++◌, length, cond, refl, ap, arith, inl, inr, ◌∙◌, Option, cases_eq, eqb_tells, slice_get_within, FreesSlot, TakesSlot, Event, Begin, End, Crash, EndsAt, HasEnded, IsAnswered, IsOpen, IsOver, StandsAt, Ends, IsSound, HasSlot, IsTable}
 use Rattle.histories.proofs.Bits.{slot_once}
 use Rattle.histories.specs.Histories.{begins, times}
-use Rattle.histories.proofs.Counting.{times_one, times_other}
+use Rattle.histories.proofs.Counting.{at_times, times_once, times_one, times_other}
 
 pub begins-append : (c : ℕ) (es fs : List Event) → begins c (es ++ fs) ≡ begins c es + begins c fs
 unfolding begins
@@ -306,3 +306,53 @@ table_end es slots new e c t ends table here frees = record {
   apart = λ one other call a b. grind (arith, freed_before);
   few = omega (arith, frees.few, table.few);
 }
+
+-- the number of a call that has a slot
+abbrev number : Option ℕ → ℕ
+number None = 0
+number (Some call) = call
+
+taken_by : (slot : Option ℕ) → (slot ≡ None → ⊥) → slot ≡ Some (number slot)
+taken_by None taken = absurd (taken refl)
+taken_by (Some call) taken = refl
+
+-- where all slots are taken and one call more begins, too many are open
+module _ (events : List Event) (slots : List (Option ℕ)) (c : ℕ) (s : IsSound events)
+    (fresh : begins c events ≡ 0) (table : IsTable events slots) (taken : AreTaken slots)
+  where
+    abbrev calls : List ℕ
+    calls = map number slots
+
+    call_at : (i : ℕ) → i < length calls → HasSlot slots i (get_or calls i 0)
+    call_at i h =
+        taken_by (get_or slots i None) (taken.1 i (omega (arith, h, length-map slots number)))
+        ∙ ap (λ n. Some n) (sym (get_or-map number slots i None))
+
+    open_at : (i : ℕ) → i < length calls → IsOpen events (get_or calls i 0)
+    open_at i h = table.each i (get_or calls i 0) (call_at i h)
+
+    new : (i : ℕ) → i < length calls → c ≡ get_or calls i 0 → ⊥
+    new i h e = omega (arith, (open_at i h).0, subst (λ y. begins y events ≡ 0) e fresh)
+
+    same : (x i j : ℕ) → i < length (c ∷ calls) → j < length (c ∷ calls)
+        → get_or (c ∷ calls) i 0 ≡ x → get_or (c ∷ calls) j 0 ≡ x → i ≡ j
+    same x zero zero h k a b = refl
+    same x zero (suc j) h k a b = absurd (new j (omega (arith, k)) (a ∙ sym b))
+    same x (suc i) zero h k a b = absurd (new i (omega (arith, h)) (b ∙ sym a))
+    same x (suc i) (suc j) h k a b =
+        ap suc (table.apart i j x (rw a at (call_at i (omega (arith, h))))
+        (rw b at (call_at j (omega (arith, k)))))
+
+    open_now : (x i : ℕ) → i < length (c ∷ calls) → get_or (c ∷ calls) i 0 ≡ x
+        → IsOpen (events ++ Begin c ∷ []) x
+    open_now x zero h e =
+        subst (λ y. IsOpen (events ++ Begin c ∷ []) y) e (open_begin_now events c s fresh)
+    open_now x (suc i) h e = open_begin_still events c x (rw e at (open_at i (omega (arith, h))))
+
+    pub many_open : HasManyOpen (events ++ Begin c ∷ [])
+    many_open = (
+      c ∷ calls,
+      omega (arith, taken.0, length-map slots number),
+      λ x. times_once x (c ∷ calls) (same x),
+      λ x h. let at = at_times x (c ∷ calls) h in open_now x at.0 at.1 at.2,
+    )

@@ -1,8 +1,8 @@
 -- The configurations after one event more, and what an event does to a front.
-use Rattle.histories.proofs.Words.{◌≡◌, ◌≢◌, ℕ, ◌<◌, ◌≤◌, List, [], ◌∷◌, ◌++◌, length, refl, sym, ◌∙◌, ap, subst, arith, inl, inr, Option, AllPairs, bit_at, Contains, Config, Link, Event, End, Crash, times, AreSound, Explains, Ends, HasManyOrders, HasSlot, IsFollowed, IsFrontier, IsLighter, IsSame, IsTable, LeadTo, Leaves, Path, cleared, no_path, order_at, order_of, path_of, FreesSlot, FromOne, Gathers, HasMany, IsClosed, IsDropped, IsFirst, IsMadeFrom, Spot, spot_of, map, get_or-map, length-map, zero, ◌+◌, get_or, suc, Some, None, cases_lt, Begin, begins, AreComplete, IsOpen, IsSound, IsWaiting, Runs, path_more, put, HasManyOpen, IsFrontOf, IsOpened, Settles, TakesSlot, AreLaidIn, AreTaken, Finishes, IsLeft, Advance, Front, AdvancesIn, Agrees, EndsOpen, IsSameFront}
+use Rattle.histories.proofs.Words.{◌≡◌, ◌≢◌, ℕ, ◌<◌, ◌≤◌, List, [], ◌∷◌, ◌++◌, length, refl, sym, ◌∙◌, ap, arith, inl, inr, Option, AllPairs, bit_at, Contains, Config, Link, Event, End, Crash, times, AreSound, Explains, Ends, HasManyOrders, HasSlot, IsFollowed, IsFrontier, IsLighter, IsSame, IsTable, LeadTo, Leaves, Path, cleared, no_path, order_at, order_of, path_of, FreesSlot, FromOne, Gathers, HasMany, IsClosed, IsDropped, IsFirst, IsMadeFrom, Spot, spot_of, ◌+◌, cases_lt, Begin, begins, AreComplete, IsSound, IsWaiting, Runs, path_more, put, IsFrontOf, IsOpened, Settles, TakesSlot, AreLaidIn, Finishes, IsLeft, Advance, Front, AdvancesIn, Agrees, EndsOpen, IsSameFront}
 use Rattle.histories.proofs.Bits.{bit_cases, cleared_other, cleared_same, slot_64, slot_within, cleared_put, put_other, put_same}
-use Rattle.histories.proofs.Counting.{not_some, times_none, no_times, split_times, times-append, times-cons, times_one, times_same, at_times, times_once}
-use Rattle.histories.proofs.Events.{answered_now, begins_none, freed_before, table_end, begins_begin, table_begin, taken_cases, taken_other, taken_still, begin_no_end, ends_one, open_begin_now, open_begin_still}
+use Rattle.histories.proofs.Counting.{not_some, times_none, no_times, split_times, times-append, times-cons, times_one, times_same}
+use Rattle.histories.proofs.Events.{answered_now, begins_none, freed_before, table_end, begins_begin, table_begin, taken_cases, taken_other, taken_still, begin_no_end, ends_one}
 use Rattle.histories.proofs.Running.{lighter_cleared, runs_fewer, runs_in, runs_without, lighter_without, leads_split, leaves_run, runs_lighter, runs_order, runs_then}
 use Rattle.histories.proofs.Explaining.{explains_end, explains_open, explains_run, behind_open, explains_begin, explains_front, explains_without}
 use Rattle.histories.proofs.Closing.{leads_found, leads_kept, none_same, HaveSameSteps, closed_as, leads_sought, made_as}
@@ -475,54 +475,4 @@ many_orders Made Step events olds front agrees many f =
       many.2,
       f.table,
       λ k has. followed_made _ _ _ _ _ _ _ f.table f.sound (made_as _ _ _ same _ _ (many.3 k has)),
-    )
-
--- the number of a call that has a slot
-abbrev number : Option ℕ → ℕ
-number None = 0
-number (Some call) = call
-
-taken_by : (slot : Option ℕ) → (slot ≡ None → ⊥) → slot ≡ Some (number slot)
-taken_by None taken = absurd (taken refl)
-taken_by (Some call) taken = refl
-
--- where all slots are taken and one call more begins, too many are open
-module _ (events : List Event) (slots : List (Option ℕ)) (c : ℕ) (s : IsSound events)
-    (fresh : begins c events ≡ 0) (table : IsTable events slots) (taken : AreTaken slots)
-  where
-    abbrev calls : List ℕ
-    calls = map number slots
-
-    call_at : (i : ℕ) → i < length calls → HasSlot slots i (get_or calls i 0)
-    call_at i h =
-        taken_by (get_or slots i None) (taken.1 i (omega (arith, h, length-map slots number)))
-        ∙ ap (λ n. Some n) (sym (get_or-map number slots i None))
-
-    open_at : (i : ℕ) → i < length calls → IsOpen events (get_or calls i 0)
-    open_at i h = table.each i (get_or calls i 0) (call_at i h)
-
-    new : (i : ℕ) → i < length calls → c ≡ get_or calls i 0 → ⊥
-    new i h e = omega (arith, (open_at i h).0, subst (λ y. begins y events ≡ 0) e fresh)
-
-    same : (x i j : ℕ) → i < length (c ∷ calls) → j < length (c ∷ calls)
-        → get_or (c ∷ calls) i 0 ≡ x → get_or (c ∷ calls) j 0 ≡ x → i ≡ j
-    same x zero zero h k a b = refl
-    same x zero (suc j) h k a b = absurd (new j (omega (arith, k)) (a ∙ sym b))
-    same x (suc i) zero h k a b = absurd (new i (omega (arith, h)) (b ∙ sym a))
-    same x (suc i) (suc j) h k a b =
-        ap suc (table.apart i j x (rw a at (call_at i (omega (arith, h))))
-        (rw b at (call_at j (omega (arith, k)))))
-
-    open_now : (x i : ℕ) → i < length (c ∷ calls) → get_or (c ∷ calls) i 0 ≡ x
-        → IsOpen (events ++ Begin c ∷ []) x
-    open_now x zero h e =
-        subst (λ y. IsOpen (events ++ Begin c ∷ []) y) e (open_begin_now events c s fresh)
-    open_now x (suc i) h e = open_begin_still events c x (rw e at (open_at i (omega (arith, h))))
-
-    pub many_open : HasManyOpen (events ++ Begin c ∷ [])
-    many_open = (
-      c ∷ calls,
-      omega (arith, taken.0, length-map slots number),
-      λ x. times_once x (c ∷ calls) (same x),
-      λ x h. let at = at_times x (c ∷ calls) h in open_now x at.0 at.1 at.2,
     )

@@ -1,5 +1,5 @@
 -- What is found of a whole history.
-use Rattle.histories.proofs.Words.{◌≡◌, ℕ, zero, suc, ◌+◌, ◌-◌, ◌<◌, ◌≤◌, List, [], ◌∷◌, ◌++◌, length, take, get_or, refl, sym, ◌∙◌, subst, arith, inl, inr, Option, add-one, add-zero, take_all, cases_lt, cases_order, take-append_seam, take_more, take-append-le, slice_get-get_or, Event, Begin, End, Crash, Advance, Front, Config, Link, begins, times, IsExplained, IsHistory, MayFollow, AdvancesIn, Agrees, Ends, EndsOpen, IsAdvance, IsVerdict, IsFrontOf, IsFrontier, IsSound, order_of, VerdictsExclude}
+use Rattle.histories.proofs.Words.{◌≡◌, ℕ, zero, suc, ◌+◌, ◌-◌, ◌<◌, ◌≤◌, List, [], ◌∷◌, ◌++◌, length, take, get_or, refl, sym, ◌∙◌, arith, inl, inr, Option, add-one, add-zero, take_all, cases_lt, cases_order, take-append_seam, take_more, take-append-le, slice_get-get_or, Event, Begin, End, Crash, Advance, Front, Config, Link, begins, times, IsExplained, IsHistory, MayFollow, AdvancesIn, Agrees, EndsOpen, IsAdvance, IsVerdict, IsFrontOf, IsFrontier, IsSound, order_of, VerdictsExclude}
 use Rattle.histories.specs.declared.front.Advance.TheVariants as advance
 use Rattle.histories.specs.declared.whole.Verdict.TheVariants as verdict
 use Rattle.histories.specs.Histories.{begun, IsNext}

@@ -1,8 +1,8 @@
 use Rattle.histories.proofs.Words.{[], ◌≤◌, length, refl, IfOk-weaker, AreTaken, FromOne, IsOpened, Settles, TakesSlot}
-use Rattle.histories.proofs.Frontiers.{agrees_slots, begin_ends, frontier_begin, laid_out, many_open}
+use Rattle.histories.proofs.Frontiers.{agrees_slots, begin_ends, frontier_begin, laid_out}
 use Rattle.histories.proofs.Closing.{settles_steps}
 use Rattle.histories.proofs.Counting.{not_many}
-use Rattle.histories.proofs.Events.{table_begin}
+use Rattle.histories.proofs.Events.{many_open, table_begin}
 use Rattle.histories.proofs.step.begin.Goals as goal
 
 pub returns : goal.returns
