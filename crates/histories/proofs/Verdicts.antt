@@ -1,8 +1,6 @@
--- What is found of a whole history.
-use Rattle.histories.proofs.Words.{◌≡◌, ℕ, zero, suc, ◌+◌, ◌-◌, ◌<◌, ◌≤◌, List, [], ◌∷◌, ◌++◌, length, take, get_or, refl, sym, ◌∙◌, arith, inl, inr, Option, add-one, add-zero, take_all, cases_lt, cases_order, take-append_seam, take_more, take-append-le, slice_get-get_or, Event, Begin, End, Crash, Advance, Front, Config, Link, begins, times, IsExplained, IsHistory, MayFollow, AdvancesIn, Agrees, EndsOpen, IsAdvance, IsVerdict, IsFrontOf, IsFrontier, IsSound, order_of, VerdictsExclude}
-use Rattle.histories.specs.declared.front.Advance.TheVariants as advance
-use Rattle.histories.specs.declared.whole.Verdict.TheVariants as verdict
-use Rattle.histories.specs.Histories.{begun, IsNext}
+-- Histories event by event, and what their frontiers decide.
+use Rattle.histories.proofs.Words.{◌≡◌, ℕ, zero, suc, ◌+◌, ◌-◌, ◌<◌, ◌≤◌, List, [], ◌∷◌, ◌++◌, length, take, get_or, refl, sym, ◌∙◌, arith, inl, inr, Option, add-one, add-zero, take_all, cases_lt, take-append_seam, take_more, take-append-le, slice_get-get_or, Event, Begin, End, Crash, Config, Link, begins, times, IsExplained, IsHistory, MayFollow, Agrees, EndsOpen, IsFrontier, IsSound, order_of}
+use Rattle.histories.specs.Histories.{begun}
 use Rattle.histories.proofs.Counting.{not_some, split_times, times_same}
 use Rattle.histories.proofs.Events.{begin_no_end, begins_begin, begins_ends, begins_none, ends_one, sound_begin, sound_end, sound_none, stands_cases, stands_within}
 use Rattle.histories.proofs.Running.{leads_split}
@@ -35,6 +33,10 @@ pub counts_crash : (count call : ℕ) (es : List Event) → count ≡ begun es
     → count ≡ begun (es ++ Crash call ∷ [])
 unfolding begun
 counts_crash count call es is = omega (arith, is, begun-append es (Crash call ∷ []))
+
+-- a call that begins has the next number
+abbrev pub IsNext : List Event → Event → Type 0
+IsNext events event = (call : ℕ) → event ≡ Begin call → call ≡ begun events
 
 -- the calls that have begun have numbers below their count
 abbrev pub AreNumbered : List Event → Type 0
@@ -70,12 +72,6 @@ pub sound_more : (es : List Event) (e : Event) → IsSound es
 sound_more es (Begin c) s fresh ends = sound_begin _ _ s (fresh c refl)
 sound_more es (End c) s fresh ends = sound_end _ _ _ (inl refl) s (ends c (inl refl)).0
 sound_more es (Crash c) s fresh ends = sound_end _ _ _ (inr refl) s (ends c (inr refl)).0
-
--- the event may follow
-pub may_of : (es : List Event) (e : Event) → IsNext es e → EndsOpen es e → MayFollow es e
-may_of es (Begin c) next ends = next c refl
-may_of es (End c) next ends = ends c (inl refl)
-may_of es (Crash c) next ends = ends c (inr refl)
 
 pub next_of : (es : List Event) (e : Event) → MayFollow es e → IsNext es e
 next_of es (Begin c) may b is = let same : c ≡ b = cc in sym same ∙ may
@@ -187,98 +183,6 @@ pub history_more : (es : List Event) (e : Event) → IsHistory es → MayFollow 
 history_more es e history may index event at =
     grind (arith, stands_cases, take-append-le, stands_within, take-append_seam)
 
--- the front is that of the events before an index, which are a history
-pub record IsJudged {S : Type 0} (Step : S → ℕ → S → Type 0) (front : Front S)
-    (events : List Event) (olds : List S) (count at : ℕ) : Type 0 where
-  pub front_of : IsFrontOf Step front (take at events) olds
-  pub some : 0 < length front.configs.items
-  pub history : IsHistory (take at events)
-  pub counts : count ≡ begun (take at events)
-  pub most : count ≤ at
-
-pub judged_begin : {S : Type 0} (Step : S → ℕ → S → Type 0) (front : Front S)
-    (events : List Event) (olds : List S) → 0 < length olds → IsFrontOf Step front [] olds
-    → IsJudged Step front events olds 0 0
-judged_begin Step front events olds some f = record {
-  front_of = f;
-  some = frontier_some _ _ _ _ _ some f;
-  history = λ index event at. absurd (cc);
-  counts = sym begun_none;
-  most = omega arith;
-}
-
-pub judged_end : {S : Type 0} (Step : S → ℕ → S → Type 0) (front : Front S) (events : List Event)
-    (olds : List S) (count at : ℕ) → length events ≤ at → IsJudged Step front events olds count at
-    → IsVerdict Step olds events (verdict.Explained front)
-judged_end Step front events olds count at h j = grind (arith, take_all)
-
 pub agrees_same : {S : Type 0} (Step : S → ℕ → S → Type 0) (events : List Event)
     → Agrees Step Step events
 agrees_same Step events call is old new = (λ x. x, λ x. x)
-
--- one event more
-module _ {M S : Type 0} (StepOf : M → S → ℕ → S → Type 0) (machine : M) (old new : Front S)
-    (events : List Event) (olds : List S) (count at more : ℕ) (d : Event) (h : at < length events)
-    (j : IsJudged (StepOf machine) old events olds count at)
-    (next : (es : List Event) → count ≡ begun es
-    → (more ≡ begun (es ++ get_or events at d ∷ [])) × IsNext es (get_or events at d))
-  where
-    abbrev Step : S → ℕ → S → Type 0
-    Step = StepOf machine
-
-    abbrev es : List Event
-    es = take at events
-
-    abbrev e : Event
-    e = get_or events at d
-
-    -- what an event has shown, by what it did
-    abbrev pub Shows : Advance → Type 0
-    Shows advance.Done = more ≤ count + 1 → IsJudged Step new events olds more (at + 1)
-    Shows advance.Refused = IsVerdict Step olds events (verdict.Refused at)
-    Shows advance.ManyConfigs = IsVerdict Step olds events (verdict.ManyConfigs at)
-    Shows advance.ManyOpen = IsVerdict Step olds events (verdict.ManyOpen at)
-    Shows advance.NoEvent = IsVerdict Step olds events (verdict.NoHistory at)
-
-    whole : take (at + 1) events ≡ es ++ e ∷ []
-    whole = one_more _ at d h
-
-    shown : (result : Advance) → AdvancesIn Step es olds e new result → Shows result
-    shown advance.Done a = grind (arith, whole, history_more, may_of)
-    shown advance.Refused a =
-        let refused : ¬ (IsExplained Step (take (at + 1) events) olds) =
-        rw whole (frontier_refused _ _ _ _ _ _ a.0 a.1) in (
-          h,
-          frontier_explained _ _ _ _ _ _ j.front_of j.some,
-          refused,
-          refused_whole _ _ _ _ (omega (arith, h)) refused,
-        )
-    shown advance.ManyConfigs a = grind (arith, whole)
-    shown advance.ManyOpen a = (h, rw whole a)
-    shown advance.NoEvent a = (e, slice_get-get_or events at d h, λ may. a (ends_of _ _ may))
-
-    pub judged : (result : Advance) → IsAdvance StepOf machine old e new result → Shows result
-    judged result advances = grind (arith, history_sound, shown, agrees_same, next_fresh)
-
-module _ {S : Type 0} (Step : S → ℕ → S → Type 0) where
-  -- an order explains no less than what is refused earlier
-  not_before : (olds : List S) (events : List Event) (index other : ℕ) → IsHistory events
-      → index < other → IsVerdict Step olds events (verdict.Refused index)
-      → IsVerdict Step olds events (verdict.Refused other) → ⊥
-  not_before olds events index other history less a b =
-      a.2 (explained_take _ _ _ _ _ history (omega (arith, less, b.0))
-      (rw (back index other less) at b.1))
-    where
-      back : (index other : ℕ) → index < other → other ≡ index + 1 + (other - (index + 1))
-      back index other less = omega (arith, less)
-
-  -- verdicts exclude each other
-  pub verdicts_exclude : VerdictsExclude Step
-  verdicts_exclude olds events front index other history = (
-    λ a b. b.3 history (frontier_explained _ _ _ _ _ _ a.0 a.1),
-    λ a b. elim (cases_order index other) [
-      | inl same ↦ same
-      | inr (inl less) ↦ absurd (not_before _ _ _ _ history less a b)
-      | inr (inr more) ↦ absurd (not_before _ _ _ _ history more b a)
-    ],
-  )

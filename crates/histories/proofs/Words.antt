@@ -13,11 +13,11 @@ pub use Rattle.std.proofs.lemmas.Option.{slice_get-get_or, slice_get_within}
 pub use Rattle.std.proofs.lemmas.Result.{IfOk-weaker, on_ok_weaker}
 pub use Rattle.std.specs.Int.{bit_at, bit_not, w64}
 pub use Rattle.std.specs.List.{Contains, remove}
-pub use Rattle.histories.specs.Advances.{AdvancesIn, Agrees, Ends, EndsOpen, IsAdvance, IsQuiet, IsSameFront, IsVerdict}
+pub use Rattle.histories.specs.Advances.{AdvancesIn, Agrees, Ends, EndsOpen, IsAdvance, IsQuiet, IsSameFront}
 pub use Rattle.histories.specs.Frontier.{AreComplete, AreSound, HasManyOpen, HasManyOrders, HasSlot, IsFollowed, IsFrontOf, IsFrontier, IsIdle, IsLighter, IsSame, IsSound, IsTable, IsWaiting, LeadTo, Leaves, MovesBefore, Path, Runs, cleared, no_path, order_at, order_of, path_more, path_of, put, read}
 pub use Rattle.histories.specs.Gathering.{Adds, AreChained, AreEach, AreLaid, AreLaidIn, AreLinked, AreOther, AreTaken, ComesFirst, Finishes, FreesSlot, FromOne, Gathers, GoesFrom, GoesOn, Grows, HasMany, IsBegun, IsBeside, IsClosed, IsClosing, IsCopy, IsDone, IsDropped, IsFirst, IsKnown, IsLaid, IsLaidOut, IsLeft, IsMadeFirst, IsMadeFrom, IsMadeIn, IsNextAt, IsNextBeside, IsNextIn, IsOpened, IsSettled, IsSpot, IsUnderWay, IsUnlinked, MovesFirst, Settles, Spot, TakesSlot, WaitsInNone, chain_at, chain_of, ones, spot_of}
 pub use Rattle.histories.specs.Histories.{AreAll, EndsAt, Explains, HasEnded, IsAnswered, IsExplained, IsHistory, IsOpen, IsOver, Leads, MayFollow, StandsAt, begins, times}
-pub use Rattle.histories.specs.Laws.{CallsAloneAreRuns, VerdictsExclude}
+pub use Rattle.histories.specs.Laws.{CallsAloneAreRuns}
 pub use Rattle.histories.specs.declared.event.Event.{Event}
 pub use Rattle.histories.specs.declared.event.Event.TheVariants.{Begin, Crash, End}
 pub use Rattle.histories.specs.declared.front.Advance.{Advance}

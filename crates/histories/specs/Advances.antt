@@ -1,16 +1,14 @@
 -- What events do to a front, where it begins anew, and what a search finds.
-use Rattle.std.specs.Prelude.{◌≡◌, ℕ, ◌<◌, ◌⊎◌, ◌↔◌, AllPairs, List, [], ◌∷◌, ◌++◌, length, Bool, true, false, Option, Some, None, ◌+◌, take}
+use Rattle.std.specs.Prelude.{◌≡◌, ℕ, ◌<◌, ◌⊎◌, ◌↔◌, AllPairs, List, [], ◌∷◌, ◌++◌, length, Bool, true, false, Option, Some, None}
 use Rattle.histories.specs.declared.event.Event.{Event}
 use Rattle.histories.specs.declared.event.Event.TheVariants.{Begin, End, Crash}
 use Rattle.histories.specs.declared.front.Advance.{Advance}
 use Rattle.histories.specs.declared.front.Advance.TheVariants as advance
 use Rattle.histories.specs.declared.front.Config.{Config}
 use Rattle.histories.specs.declared.front.Front.{Front}
-use Rattle.histories.specs.Histories.{IsOpen, begins, HasEnded, IsExplained, IsHistory, MayFollow, StandsAt}
+use Rattle.histories.specs.Histories.{IsOpen, begins, HasEnded, IsExplained}
 use Rattle.histories.specs.Frontier.{HasManyOpen, HasManyOrders, IsFrontOf, IsSame, IsSound}
 use Rattle.histories.specs.Gathering.{Finishes, IsClosed}
-use Rattle.histories.specs.declared.whole.Verdict.{Verdict}
-use Rattle.histories.specs.declared.whole.Verdict.TheVariants as verdict
 
 -- of the calls that are open, the machine makes each as the history has it
 abbrev pub Agrees : {S : Type 0} → (S → ℕ → S → Type 0) → (S → ℕ → S → Type 0) → List Event → Type 0
@@ -103,26 +101,3 @@ BeginsAnew {S} Step old new false =
     (new ≡ old)
     × ((events : List Event) (olds : List S) → IsFrontOf Step old events olds
     → (call : ℕ) × IsOpen events call)
-
--- Explained: the configurations are those of the orders that explain the history, and there is one.
--- Refused: an order explains the events before this index, and none those up to it, nor all.
--- ManyConfigs: orders that explain the events before this index, or those up to it, lead to more
--- than 4,096 configurations.
--- ManyOpen: more than 64 calls are open after the events up to this index.
--- NoHistory: the event at this index may not follow those before it.
-abbrev pub IsVerdict : {S : Type 0} → (S → ℕ → S → Type 0) → List S → List Event → Verdict S
-    → Type 0
-IsVerdict Step olds events (verdict.Explained front) =
-    IsFrontOf Step front events olds × (0 < length front.configs.items) × IsHistory events
-IsVerdict Step olds events (verdict.Refused index) =
-    (index < length events) × IsExplained Step (take index events) olds
-    × (¬ (IsExplained Step (take (index + 1) events) olds))
-    × (IsHistory events → ¬ (IsExplained Step events olds))
-IsVerdict Step olds events (verdict.ManyConfigs index) =
-    (index < length events)
-    × (HasManyOrders Step (take index events) olds
-    ⊎ HasManyOrders Step (take (index + 1) events) olds)
-IsVerdict Step olds events (verdict.ManyOpen index) =
-    (index < length events) × HasManyOpen (take (index + 1) events)
-IsVerdict Step olds events (verdict.NoHistory index) =
-    (event : Event) × StandsAt events index event × (¬ (MayFollow (take index events) event))

@@ -82,10 +82,6 @@ MayFollow events (Begin call) = call ≡ begun events
 MayFollow events (End call) = IsOpen events call
 MayFollow events (Crash call) = IsOpen events call
 
--- a call that begins has the next number
-abbrev pub IsNext : List Event → Event → Type 0
-IsNext events event = (call : ℕ) → event ≡ Begin call → call ≡ begun events
-
 -- each event may follow those before it
 abbrev pub IsHistory : List Event → Type 0
 IsHistory events =

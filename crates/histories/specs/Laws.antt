@@ -2,19 +2,7 @@
 use Rattle.std.specs.Prelude.{◌≡◌, ℕ, ◌↔◌, zero, suc, List, [], ◌∷◌, ◌++◌}
 use Rattle.histories.specs.declared.event.Event.{Event}
 use Rattle.histories.specs.declared.event.Event.TheVariants.{Begin, End}
-use Rattle.histories.specs.declared.front.Front.{Front}
-use Rattle.histories.specs.declared.whole.Verdict.TheVariants as verdict
-use Rattle.histories.specs.Histories.{Explains, IsHistory, Leads}
-use Rattle.histories.specs.Advances.{IsVerdict}
-
--- A history that is explained is not refused, and it is refused at one index.
-abbrev pub VerdictsExclude : {S : Type 0} → (S → ℕ → S → Type 0) → Type 0
-VerdictsExclude {S} Step =
-    (olds : List S) (events : List Event) (front : Front S) (index other : ℕ) → IsHistory events
-    → (IsVerdict Step olds events (verdict.Explained front)
-    → IsVerdict Step olds events (verdict.Refused index) → ⊥)
-    × (IsVerdict Step olds events (verdict.Refused index)
-    → IsVerdict Step olds events (verdict.Refused other) → index ≡ other)
+use Rattle.histories.specs.Histories.{Explains, Leads}
 
 -- so many calls, each of which ends before the next one begins
 unfoldable pub calls_alone : ℕ → List Event

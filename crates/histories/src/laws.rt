@@ -1,12 +1,7 @@
 //! What holds of all histories.
-ghost use Rattle.histories.specs.Laws.{CallsAloneAreRuns, VerdictsExclude};
+ghost use Rattle.histories.specs.Laws.{CallsAloneAreRuns};
 
 use super::machine::Machine;
-
-/// A history that is explained is not refused, and it is refused at one event.
-pub fn verdicts_exclude<M: Machine>(_machine: &M)
-    ensures { VerdictsExclude (M.Step _machine.now) }
-{}
 
 /// Calls that overlap nothing are a run: one order alone explains them, that in which they were
 /// made, and it leads where they lead one after the other.

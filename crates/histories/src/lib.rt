@@ -12,7 +12,6 @@ mod machine;
 mod settle;
 mod slots;
 mod step;
-mod whole;
 
 pub use event::Event;
 pub use front::{Advance, Config, Front, Link, MAX_CONFIGS, MAX_OPEN};
@@ -21,4 +20,3 @@ pub use left::Left;
 pub use links::order_up_to;
 pub use machine::Machine;
 pub use step::{advance, begin_anew, make_alone};
-pub use whole::{Verdict, judge};

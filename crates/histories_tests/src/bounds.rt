@@ -1,7 +1,7 @@
 //! The bounds of the search.
 use super::register::Access;
 use super::worked::{Found, judged};
-use histories::{Event, MAX_OPEN};
+use histories::{Advance, Event, MAX_OPEN};
 use std::alloc::{AllocError, Global};
 use std::test::Fail;
 
@@ -24,6 +24,6 @@ fn calls_that_are_open(rt: HostRuntime) -> Result<(), Fail> {
     assert_eq!(rt; writes(alloc, 1)?, Found::Left(1));
     assert_eq!(rt; writes(alloc, 4)?, Found::Left(8));
     assert_eq!(rt; writes(alloc, 10)?, Found::Left(512));
-    assert_eq!(rt; writes(alloc, MAX_OPEN + 1)?, Found::ManyOpen(MAX_OPEN));
+    assert_eq!(rt; writes(alloc, MAX_OPEN + 1)?, Found::Stopped(MAX_OPEN, Advance::ManyOpen));
     Ok(())
 }

@@ -1,8 +1,8 @@
--- Windows that go on event by event.
-use Rattle.history_windows.proofs.Words.{◌≡◌, ℕ, ◌+◌, ◌-◌, ◌<◌, ◌≤◌, List, [], ◌∷◌, ◌++◌, length, take, get_or, refl, sym, ◌∙◌, ap, arith, append_assoc, take_all, true, Some, length-take-le, take-take, take-append_seam, get_or_from_slice_get, slice_get-get_or, Event, Begin, End, Advance, Front, IsAdvance, IsSameFront, IsExplained, IsHistory, StandsAt, IsFrontOf, Cut, Window, GoesTo, IsMadeNext, CutsAt, IsStop}
+-- Windows that go on event by event, and verdicts.
+use Rattle.history_windows.proofs.Words.{VerdictsExclude, cases_order, ◌≡◌, ℕ, ◌+◌, ◌<◌, ◌≤◌, inl, inr, List, [], ◌∷◌, ◌++◌, length, take, get_or, refl, sym, ◌∙◌, ap, arith, append_assoc, take_all, true, length-take-le, take-take, take-append_seam, get_or_from_slice_get, slice_get-get_or, Event, Begin, End, Advance, Front, IsAdvance, IsSameFront, IsExplained, IsHistory, StandsAt, IsFrontOf, Cut, Window, GoesTo, IsMadeNext, CutsAt, IsStop}
 use Rattle.histories.specs.declared.front.Advance.TheVariants as advance
 use Rattle.histories.proofs.Events.{stands_within}
-use Rattle.histories.proofs.Verdicts.{explained_take, one_more}
+use Rattle.histories.proofs.Verdicts.{one_more, refused_whole}
 use Rattle.history_windows.specs.declared.window.Cut.TheVariants as cut
 use Rattle.history_windows.specs.declared.window.Stop.TheVariants as stop
 use Rattle.history_windows.proofs.Growing.{Passes, StopsBy, advance_same, advances_in, agrees_on, formed_more, goes_begin, goes_more, goes_window, passes_alone, passes_one, stops}
@@ -27,15 +27,29 @@ take_both es at e f one other =
 pub history_front : (es : List Event) (k : ℕ) → IsHistory es → IsHistory (take k es)
 history_front es k history index event at = grind (arith, stands_take, take-take)
 
-module _ {S : Type 0} (Step : S → ℕ → S → Type 0) (olds : List S) (es : List Event) (k : ℕ) where
-  -- where an order explains the first events, none of them is refused
-  pub not_refused : (at : ℕ) → IsHistory es → IsExplained Step (take k es) olds
-      → IsStop Step olds (take k es) at stop.Refused → ⊥
-  not_refused at history x s =
-      let front = take k es in
-      let within : at < length front = s.within in
-      s.at.1 (explained_take _ _ _ _ _ (history_front _ _ history) (omega arith)
-      (rw (← take_all (at + 1 + (length front - (at + 1))) front (omega arith)) at x))
+-- where an order explains the events, none of them is refused
+module _ {S : Type 0} (Step : S → ℕ → S → Type 0) (olds : List S) (es : List Event)
+    (history : IsHistory es) where
+  pub not_refused : (at : ℕ) → IsExplained Step es olds → IsStop Step olds es at stop.Refused → ⊥
+  not_refused at x s = refused_whole _ _ _ _ (omega (arith, s.within)) s.at.1 history x
+
+  not_before : (index other : ℕ) → index < other → IsStop Step olds es index stop.Refused
+      → IsStop Step olds es other stop.Refused → ⊥
+  not_before index other less a b =
+      refused_whole Step (take other es) olds (index + 1)
+      (omega (arith, less, length-take-le other es (omega (arith, b.within))))
+      (rw (take-take (index + 1) other es (omega (arith, less))) a.at.1)
+      (history_front es other history) b.before
+
+pub verdicts_exclude : {S : Type 0} (Step : S → ℕ → S → Type 0) → VerdictsExclude Step
+verdicts_exclude Step olds es end window last index other history = (
+  λ a b. not_refused _ _ _ history _ a.0 b.0,
+  λ a b. elim (cases_order index other) [
+    | inl same ↦ same
+    | inr (inl less) ↦ absurd (not_before _ _ _ history _ _ less a.0 b.0)
+    | inr (inr more) ↦ absurd (not_before _ _ _ history _ _ more b.0 a.0)
+  ],
+)
 
 pub history_past : (past window : List Event) → IsHistory (past ++ window) → IsHistory past
 history_past past window history = rw (← take-append_seam past window) (history_front _ _ history)

@@ -1,5 +1,5 @@
 -- The states with which a window begins, and its calls that are left out.
-use Rattle.history_windows.proofs.Words.{◌≡◌, ◌+◌, ◌<◌, ℕ, zero, suc, Option, List, [], ◌∷◌, ◌++◌, length, get_or, refl, sym, ◌∙◌, ap, subst, arith, append-nil, Bool, true, false, take, take_all, Result, Ok, Err, IfOk, Contains, set, replicate, nil_from_length, length-append, get_or-set_other, set-get_or, set-set, get_or_past, get_or-replicate, length-replicate, Event, Config, Link, HasSlot, IsFrontOf, IsFrontier, IsIdle, IsExplained, IsHistory, Window, states_of, AreIdle, AreNeeded, HasCut, IsRest, IsWellFormed, events_of, is_kept, IsCut, IsWindowOf, cases_eq, cases_lt, not-false, Vec, slice_get-get_or, Advance, Front, AdvancesIn, IsAdvance}
+use Rattle.history_windows.proofs.Words.{◌≡◌, ◌+◌, ◌<◌, ℕ, Option, List, [], ◌∷◌, ◌++◌, length, get_or, refl, sym, ◌∙◌, ap, subst, arith, append-nil, Bool, true, false, take, take_all, Contains, set, replicate, nil_from_length, length-append, get_or-set_other, set-get_or, set-set, get_or_past, get_or-replicate, length-replicate, Event, Config, Link, HasSlot, IsFrontOf, IsFrontier, IsIdle, IsExplained, IsHistory, Window, states_of, AreIdle, IsRest, IsWellFormed, events_of, is_kept, IsCut, IsWindowOf, cases_eq, cases_lt, not-false, slice_get-get_or, Advance, Front, AdvancesIn, IsAdvance}
 use Rattle.histories.proofs.Cutting.{runs_nothing}
 use Rattle.histories.proofs.Events.{begins_none}
 use Rattle.histories.proofs.Indices.{contains_map_of, contains_of_map}

@@ -1,5 +1,5 @@
 -- Histories in which each call begins once, and one that is open ends.
-use Rattle.history_windows.proofs.Words.{◌≡◌, ℕ, zero, suc, ◌+◌, ◌≤◌, Bool, true, List, [], ◌∷◌, ◌++◌, length, length-append, add-one, take, get_or, refl, sym, ◌∙◌, ap, subst, arith, inl, inr, take_all, take-append-add, take-append_seam, slice_get-get_or, Event, Begin, EndsOpen, Ends, IsQuiet, begins, IsHistory, IsOpen, MayFollow, StandsAt, IsSound, IsWellFormed, call_of, events_of}
+use Rattle.history_windows.proofs.Words.{◌≡◌, ℕ, zero, suc, ◌≤◌, Bool, true, List, [], ◌∷◌, ◌++◌, length, length-append, add-one, take, get_or, refl, ◌∙◌, ap, subst, arith, take_all, take-append-add, take-append_seam, slice_get-get_or, Event, Begin, EndsOpen, Ends, IsQuiet, begins, IsHistory, IsOpen, MayFollow, StandsAt, IsSound, IsWellFormed, call_of, events_of}
 use Rattle.histories.proofs.Cutting.{begins-append}
 use Rattle.histories.proofs.Events.{begins_none, sound_none, stands_right, stands_within}
 use Rattle.histories.proofs.Verdicts.{AreNumbered, ends_of, history_take, next_fresh, next_of, one_more, sound_more}

@@ -6,7 +6,7 @@ use Rattle.histories.specs.declared.event.Event.TheVariants.{End}
 use Rattle.histories.specs.declared.front.Config.{Config}
 use Rattle.histories.specs.declared.front.Front.{Front}
 use Rattle.histories.specs.Advances.{BeginsAnew, IsQuiet}
-use Rattle.histories.specs.Histories.{Explains, IsExplained, StandsAt}
+use Rattle.histories.specs.Histories.{Explains, IsExplained, IsHistory, StandsAt}
 use Rattle.histories.specs.Frontier.{HasManyOpen, HasManyOrders, IsFrontOf, IsSound, order_of}
 use Rattle.history_windows.specs.declared.window.Cut.{Cut}
 use Rattle.history_windows.specs.declared.window.Cut.TheVariants as cut
@@ -80,6 +80,16 @@ IsVerdict Step olds events (verdict.ManyConfigs index) =
     IsStop Step olds events index stop.ManyConfigs
 IsVerdict Step olds events (verdict.ManyOpen index) =
     IsStop Step olds events index stop.ManyOpen
+
+-- A history that is explained is not refused, and it is refused at one index.
+abbrev pub VerdictsExclude : {S : Type 0} → (S → ℕ → S → Type 0) → Type 0
+VerdictsExclude {S} Step =
+    (olds : List S) (events : List Event) (end window last : Window S) (index other : ℕ)
+    → IsHistory events
+    → (IsVerdict Step olds events (verdict.Explained end)
+    → IsVerdict Step olds events (verdict.Refused index window) → ⊥)
+    × (IsVerdict Step olds events (verdict.Refused index window)
+    → IsVerdict Step olds events (verdict.Refused other last) → index ≡ other)
 
 -- where orders explain the history, the configurations of the window are those of all that do: no
 -- call is before the window

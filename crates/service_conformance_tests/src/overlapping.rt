@@ -1,6 +1,6 @@
 //! Histories of calls that overlapped, with what becomes of them.
 
-use histories::{Event, Verdict, judge};
+use histories::{Advance, Event, MAX_OPEN, advance, start};
 use iox2_container::container::{ContainerHandle, Role};
 use iox2_dynamic::dynamic_config::MessagingPatternSettings;
 use iox2_dynamic::dynamic_config::event::DynamicConfigSettings;
@@ -288,13 +288,18 @@ fn judged(alloc: Global, calls: &[JudgedCall], events: &[Event]) -> Result<Found
     };
     let service = ServiceCheck::new(alloc, &settings, 3, 7);
     let states = [WatchedService::new(alloc, &service)?];
-    match judge(alloc, &machine, &states, events)? {
-        Verdict::Explained(front) => Ok(Found::Left(front.configs.len())),
-        Verdict::Refused(at) => Ok(Found::Refused(at)),
-        Verdict::ManyConfigs(_) => Ok(Found::Other),
-        Verdict::ManyOpen(_) => Ok(Found::Other),
-        Verdict::NoHistory(_) => Ok(Found::Other),
+    let mut front = start(alloc, &machine, &states)?;
+    for at in 0..events.len() {
+        if front.slots.len() > MAX_OPEN {
+            return Ok(Found::Other);
+        }
+        match advance(alloc, &machine, &mut front, events[at])? {
+            Advance::Done => (),
+            Advance::Refused => return Ok(Found::Refused(at)),
+            _ => return Ok(Found::Other),
+        }
     }
+    Ok(Found::Left(front.configs.len()))
 }
 
 /// What becomes of the history of a row.
