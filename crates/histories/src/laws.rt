@@ -1,5 +1,7 @@
 //! What holds of all histories.
 ghost use Rattle.histories.specs.Laws.{CallsAloneAreRuns};
+ghost use Rattle.histories.specs.Needed.{OrdersExplainTheRest, RefusedRestsRefuse};
+ghost use Rattle.histories.specs.Windows.{VerdictsExclude};
 
 use super::machine::Machine;
 
@@ -8,4 +10,16 @@ use super::machine::Machine;
 #[tactic(auto, using(crate::proofs::Alone::calls_alone_are_runs))]
 pub fn calls_alone_are_runs<M: Machine>(_machine: &M)
     ensures { CallsAloneAreRuns (M.Step _machine.now) }
+{}
+
+/// A history that is explained is not refused, and it is refused at one event.
+pub fn verdicts_exclude<M: Machine>(_machine: &M)
+    ensures { VerdictsExclude (M.Step _machine.now) }
+{}
+
+/// An order that explains all events, without calls that change nothing, explains those of the
+/// other calls. So where no order explains these, none explains all.
+pub fn rests_decide<M: Machine>(_machine: &M)
+    ensures orders { OrdersExplainTheRest (M.Step _machine.now) }
+    ensures refused { RefusedRestsRefuse (M.Step _machine.now) }
 {}

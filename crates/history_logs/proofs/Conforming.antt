@@ -15,7 +15,7 @@ use Rattle.histories.specs.declared.front.Front.{Front}
 use Rattle.histories.specs.Histories.{IsExplained, begun}
 use Rattle.histories.proofs.Events.{begins_none}
 use Rattle.histories.proofs.Frontiers.{explains_none}
-use Rattle.history_windows.proofs.Growing.{goes_explained}
+use Rattle.histories.proofs.Growing.{goes_explained}
 use Rattle.line_streams.specs.Spelling.{HasNo}
 use Rattle.service_conformance.specs.Looks.{Watched, unwatched}
 use Rattle.history_logs.specs.Good.{IsAbove, IsOrderly, IsReadTo, Takes}

@@ -7,13 +7,13 @@ use Rattle.std.proofs.lemmas.Option.{get_or_from_slice_get, same_Some, slice_get
 use Rattle.histories.specs.declared.event.Event.{Event}
 use Rattle.histories.specs.Histories.{IsExplained}
 use Rattle.histories.proofs.Verdicts.{explained_take}
-use Rattle.history_windows.specs.declared.window.Stop.{Stop}
-use Rattle.history_windows.specs.declared.window.Stop.TheVariants as stop
-use Rattle.history_windows.specs.declared.window.Verdict.{Verdict as WindowVerdict}
-use Rattle.history_windows.specs.declared.window.Cut.{Cut}
-use Rattle.history_windows.specs.declared.window.Cut.TheVariants as cut
-use Rattle.history_windows.specs.declared.window.Window.{Window}
-use Rattle.history_windows.specs.Windows.{IsStop, IsVerdict, IsWhole}
+use Rattle.histories.specs.declared.window.Stop.{Stop}
+use Rattle.histories.specs.declared.window.Stop.TheVariants as stop
+use Rattle.histories.specs.declared.window.Verdict.{Verdict as WindowVerdict}
+use Rattle.histories.specs.declared.window.Cut.{Cut}
+use Rattle.histories.specs.declared.window.Cut.TheVariants as cut
+use Rattle.histories.specs.declared.window.Window.{Window}
+use Rattle.histories.specs.Windows.{IsStop, IsVerdict, IsWhole}
 use Rattle.service_conformance.specs.Judged.{Judged, WindowStep}
 use Rattle.service_conformance.specs.Looks.{Watched}
 use Rattle.history_logs.specs.declared.logs.verdict.Verdict.{Verdict}

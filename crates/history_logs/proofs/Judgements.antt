@@ -1,8 +1,8 @@
 -- What logs are judged to be.
 use Rattle.std.proofs.Common.{◌≡◌, ℕ, ◌<◌, ◌≤◌, All, Contains, List, Option, Some, None, length, sum_by, refl, sym, ◌∙◌, ap, subst}
 use Rattle.std.proofs.lemmas.List.Elements.{All-weaker}
-use Rattle.history_windows.specs.declared.window.Stop.{Stop}
-use Rattle.history_windows.specs.declared.window.Stop.TheVariants as stop
+use Rattle.histories.specs.declared.window.Stop.{Stop}
+use Rattle.histories.specs.declared.window.Stop.TheVariants as stop
 use Rattle.history_logs.specs.declared.logs.verdict.Expected.{Expected}
 use Rattle.history_logs.specs.declared.logs.verdict.Refusal.{Refusal}
 use Rattle.history_logs.specs.declared.logs.verdict.Verdict.{Verdict}

@@ -13,13 +13,13 @@ use Rattle.histories.specs.declared.event.Event.TheVariants.{Begin, End}
 use Rattle.histories.specs.Frontier.{IsIdle}
 use Rattle.histories.specs.Histories.{IsExplained, IsHistory, StandsAt, begins}
 use Rattle.histories.proofs.Verdicts.{one_more}
-use Rattle.history_windows.specs.declared.window.Stop.TheVariants as stop
-use Rattle.history_windows.specs.declared.window.Window.{Window}
-use Rattle.history_windows.specs.Needed.{AreIdle, AreNeeded, HasCut, call_of, events_of, is_kept}
-use Rattle.history_windows.specs.Windows.{IsCut, IsStop, IsWindowOf}
-use Rattle.history_windows.proofs.Following.{history_front}
-use Rattle.history_windows.proofs.Leaving.{explained_of}
-use Rattle.history_windows.proofs.Trying.{formed_history, formed_inside, sound_formed}
+use Rattle.histories.specs.declared.window.Stop.TheVariants as stop
+use Rattle.histories.specs.declared.window.Window.{Window}
+use Rattle.histories.specs.Needed.{AreIdle, AreNeeded, HasCut, call_of, events_of, is_kept}
+use Rattle.histories.specs.Windows.{IsCut, IsStop, IsWindowOf}
+use Rattle.histories.proofs.Following.{history_front}
+use Rattle.histories.proofs.Leaving.{explained_of}
+use Rattle.histories.proofs.Trying.{formed_history, formed_inside, sound_formed}
 use Rattle.service_conformance.specs.Judged.{IsIdleJudged, Judged, JudgedStep, WindowStep}
 use Rattle.service_conformance.specs.Looks.{Watched}
 use Rattle.history_logs.specs.Good.{IsOrderly}

@@ -6,9 +6,9 @@ use Rattle.std.proofs.lemmas.List.{get_or_default}
 use Rattle.std.proofs.lemmas.Option.{slice_get-get_or}
 use Rattle.histories.specs.Frontier.{IsFrontOf}
 use Rattle.histories.proofs.Counting.{times_at}
-use Rattle.history_windows.specs.declared.window.Window.{Window}
-use Rattle.history_windows.specs.Windows.{IsFirstOrder, IsOrder}
-use Rattle.history_windows.proofs.Ordering.{first_explains}
+use Rattle.histories.specs.declared.window.Window.{Window}
+use Rattle.histories.specs.Windows.{IsFirstOrder, IsOrder}
+use Rattle.histories.proofs.Ordering.{first_explains}
 use Rattle.service_conformance.specs.Looks.{Watched}
 use Rattle.history_logs.specs.declared.logs.verdict.Order.{Order}
 use Rattle.history_logs.specs.declared.logs.verdict.Verdict.{Verdict}

@@ -7,9 +7,9 @@ use Rattle.histories.specs.declared.event.Event.{Event}
 use Rattle.histories.specs.declared.event.Event.TheVariants.{Begin, Crash, End}
 use Rattle.histories.specs.Histories.{StandsAt, begins}
 use Rattle.histories.proofs.Cutting.{begins-append}
-use Rattle.history_windows.specs.declared.window.Stop.TheVariants as stop
-use Rattle.history_windows.specs.declared.window.Window.{Window}
-use Rattle.history_windows.specs.Windows.{IsStop, IsWindowOf}
+use Rattle.histories.specs.declared.window.Stop.TheVariants as stop
+use Rattle.histories.specs.declared.window.Window.{Window}
+use Rattle.histories.specs.Windows.{IsStop, IsWindowOf}
 use Rattle.log_lines.specs.Lines.{IsLine, Line, line_text}
 use Rattle.service_conformance.specs.Judged.{Judged}
 use Rattle.service_conformance.specs.Looks.{Watched}

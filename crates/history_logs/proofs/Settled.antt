@@ -11,10 +11,10 @@ use Rattle.histories.specs.Frontier.{HasSlot, IsSound}
 use Rattle.histories.specs.Histories.{HasEnded, IsHistory, IsOpen, MayFollow, begins, begun}
 use Rattle.histories.proofs.Cutting.{begins-append}
 use Rattle.histories.proofs.Verdicts.{begun_none, counts_begin, counts_crash, counts_end, one_more}
-use Rattle.history_windows.specs.Goings.{AgreesOn, IsFrontAfter}
-use Rattle.history_windows.proofs.Following.{history_front}
-use Rattle.history_windows.proofs.Goings.{no_slot, slot_open}
-use Rattle.history_windows.proofs.Joins.{ended_right, open_parts, open_whole}
+use Rattle.histories.specs.Goings.{AgreesOn, IsFrontAfter}
+use Rattle.histories.proofs.Following.{history_front}
+use Rattle.histories.proofs.Goings.{no_slot, slot_open}
+use Rattle.histories.proofs.Joins.{ended_right, open_parts, open_whole}
 use Rattle.iox2_dynamic.specs.Service as dynamic
 use Rattle.service_conformance.specs.Judged.{Judged, WindowStep}
 use Rattle.service_conformance.specs.Looks.{Watched, unwatched}

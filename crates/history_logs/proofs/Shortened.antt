@@ -8,7 +8,7 @@ use Rattle.histories.specs.declared.event.Event.TheVariants.{Begin, End}
 use Rattle.histories.specs.declared.front.Front.{Front}
 use Rattle.histories.specs.Histories.{HasEnded, begun}
 use Rattle.histories.proofs.Events.{ended_still}
-use Rattle.history_windows.specs.Goings.{IsFrontAfter}
+use Rattle.histories.specs.Goings.{IsFrontAfter}
 use Rattle.iox2_container.specs.declared.container.role.Role.{Role}
 use Rattle.iox2_dynamic.specs.Service as dynamic
 use Rattle.log_lines.specs.Commands.{NamedCommand}

@@ -12,8 +12,8 @@ use Rattle.histories.proofs.Events.{over_ended}
 use Rattle.histories.proofs.Explaining.{explains_end}
 use Rattle.histories.proofs.Running.{leads_push}
 use Rattle.histories.proofs.Verdicts.{one_more}
-use Rattle.history_windows.specs.declared.window.Stop.TheVariants as stop
-use Rattle.history_windows.specs.Windows.{IsStop}
+use Rattle.histories.specs.declared.window.Stop.TheVariants as stop
+use Rattle.histories.specs.Windows.{IsStop}
 use Rattle.log_lines.specs.Lines.{IsLine, Line, line_text}
 use Rattle.service_conformance.specs.declared.conformance.possible.Part.{Part}
 use Rattle.service_conformance.specs.Judged.{Judged, JudgedStep, words_of}

@@ -6,13 +6,13 @@ use Rattle.histories.specs.declared.event.Event.{Event}
 use Rattle.histories.specs.declared.event.Event.TheVariants.{Begin, End}
 use Rattle.histories.specs.Frontier.{HasSlot, IsFrontOf}
 use Rattle.histories.specs.Histories.{StandsAt}
-use Rattle.history_windows.specs.declared.window.Cut.{Cut}
-use Rattle.history_windows.specs.declared.window.Cut.TheVariants as cut
-use Rattle.history_windows.specs.declared.window.Verdict.{Verdict as FoundOf}
-use Rattle.history_windows.specs.declared.window.Verdict.TheVariants as found
-use Rattle.history_windows.specs.declared.window.Stop.TheVariants as stop
-use Rattle.history_windows.specs.declared.window.Window.{Window}
-use Rattle.history_windows.specs.Windows.{IsWindowOf}
+use Rattle.histories.specs.declared.window.Cut.{Cut}
+use Rattle.histories.specs.declared.window.Cut.TheVariants as cut
+use Rattle.histories.specs.declared.window.Verdict.{Verdict as FoundOf}
+use Rattle.histories.specs.declared.window.Verdict.TheVariants as found
+use Rattle.histories.specs.declared.window.Stop.TheVariants as stop
+use Rattle.histories.specs.declared.window.Window.{Window}
+use Rattle.histories.specs.Windows.{IsWindowOf}
 use Rattle.service_conformance.specs.Judged.{Judged, words_of}
 use Rattle.service_conformance.specs.Looks.{Watched}
 use Rattle.history_logs.specs.declared.logs.verdict.Expected.{Expected}

@@ -8,11 +8,11 @@ use Rattle.histories.specs.declared.event.Event.TheVariants.{Begin, Crash, End}
 use Rattle.histories.specs.declared.front.Config.{Config}
 use Rattle.histories.specs.Frontier.{HasSlot}
 use Rattle.histories.specs.Histories.{IsExplained, StandsAt}
-use Rattle.history_windows.specs.declared.window.Stop.{Stop}
-use Rattle.history_windows.specs.declared.window.Stop.TheVariants as stop
-use Rattle.history_windows.specs.declared.window.Window.{Window}
-use Rattle.history_windows.specs.Needed.{AreNeeded, events_of}
-use Rattle.history_windows.specs.Windows.{IsStop, IsWindowOf}
+use Rattle.histories.specs.declared.window.Stop.{Stop}
+use Rattle.histories.specs.declared.window.Stop.TheVariants as stop
+use Rattle.histories.specs.declared.window.Window.{Window}
+use Rattle.histories.specs.Needed.{AreNeeded, events_of}
+use Rattle.histories.specs.Windows.{IsStop, IsWindowOf}
 use Rattle.iox2_container.specs.Steps.{listed}
 use Rattle.line_streams.specs.Spelling.{HasNo}
 use Rattle.log_lines.specs.declared.form.LogForm.{LogForm}

@@ -4,7 +4,7 @@ use Rattle.histories.specs.declared.event.Event.{Event}
 use Rattle.histories.specs.declared.event.Event.TheVariants.{Begin}
 use Rattle.histories.specs.declared.front.Front.{Front}
 use Rattle.histories.specs.Histories.{HasEnded, StandsAt, begins, begun}
-use Rattle.history_windows.specs.Goings.{IsFrontAfter}
+use Rattle.histories.specs.Goings.{IsFrontAfter}
 use Rattle.service_conformance.specs.Judged.{Judged, WindowStep}
 use Rattle.service_conformance.specs.Looks.{Watched}
 use Rattle.history_logs.specs.Good.{IsAbove, IsOrderly}

@@ -3,10 +3,10 @@ ghost use Rattle.std.specs.Prelude.{◌≡◌, ◌+◌, ◌<◌, ◌≤◌, ◌�
 ghost use Rattle.std.specs.Prelude.{All, Some, length, slice_get, take};
 ghost use Rattle.std.specs.Int.{bit_at};
 ghost use Rattle.std.specs.List.{AllZip};
-ghost use Rattle.history_windows.specs.declared.window.Stop.TheVariants as stop;
+ghost use Rattle.histories.specs.declared.window.Stop.TheVariants as stop;
 ghost use Rattle.histories.specs.declared.event.Event.TheVariants as event;
 ghost use Rattle.histories.specs.Histories.{StandsAt};
-ghost use Rattle.history_windows.specs.Windows.{IsStop, IsVerdict, IsWindowOf};
+ghost use Rattle.histories.specs.Windows.{IsStop, IsVerdict, IsWindowOf};
 ghost use Rattle.log_lines.specs.Lines.{IsLine, Line, line_seen, line_text};
 ghost use Rattle.service_conformance.specs.Judged.{Judged};
 ghost use Rattle.history_logs.specs.Good.{IsOrderly};
@@ -19,8 +19,7 @@ ghost use Rattle.history_logs.specs.EventLines.{Answers, HasEventLines, IsComman
 use super::needed::{first_states, lines_needed};
 use super::service::LogService;
 use super::verdict::{Configuration, Refusal, Verdict};
-use histories::{Config, Event, Machine};
-use history_windows::{Cut, Verdict as Found, Window, judge_windows};
+use histories::{Config, Cut, Event, Machine, Verdict as Found, Window, judge_windows};
 use line_streams::{after_word, before_byte};
 use log_lines::{LogLine, is_note, read_log_line};
 use service_conformance::conformance::{Calls, WatchedService, possible_replies};

@@ -5,17 +5,16 @@ ghost use Rattle.std.specs.List.{flat_map};
 ghost use Rattle.histories.specs.declared.event.Event.TheVariants.{Begin, End};
 ghost use Rattle.histories.specs.Frontier.{IsIdle};
 ghost use Rattle.histories.specs.Histories.{StandsAt};
-ghost use Rattle.history_windows.specs.declared.window.Stop.TheVariants as stop;
-ghost use Rattle.history_windows.specs.Needed.{AreIdle, HasCut, events_of, is_kept};
-ghost use Rattle.history_windows.specs.Windows.{IsStop};
+ghost use Rattle.histories.specs.declared.window.Stop.TheVariants as stop;
+ghost use Rattle.histories.specs.Needed.{AreIdle, HasCut, events_of, is_kept};
+ghost use Rattle.histories.specs.Windows.{IsStop};
 ghost use Rattle.service_conformance.specs.Judged.{WindowStep};
 ghost use Rattle.history_logs.specs.Good.{IsOrderly};
 ghost use Rattle.history_logs.specs.Judging.{BeginBelow};
 ghost use Rattle.history_logs.specs.Logs.{AreNeededLines, StepOf, line_begun, lines_begun, news};
 
 use super::service::LogService;
-use histories::{Event, Machine};
-use history_windows::{calls_left_out, is_kept};
+use histories::{Event, Machine, calls_left_out, is_kept};
 use service_conformance::conformance::{Calls, JudgedCall, WatchedService};
 use std::alloc::{AllocError, Global};
 

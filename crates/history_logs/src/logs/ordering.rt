@@ -11,7 +11,7 @@ ghost use Rattle.history_logs.specs.EventLines.{HasEventLines};
 use super::judging::{earlier, explore};
 use super::service::LogService;
 use super::verdict::{Order, Verdict};
-use history_windows::{Cut, Window, order_in};
+use histories::{Cut, Window, order_in};
 use service_conformance::conformance::WatchedService;
 use std::alloc::{AllocError, Global};
 

@@ -9,8 +9,7 @@ ghost use Rattle.history_logs.specs.Settling.{IsRightShort, MayFollowAt, Stays};
 
 use super::needed::first_states;
 use super::service::LogService;
-use histories::{Event, Front};
-use history_windows::{first_front, go_on};
+use histories::{Event, Front, first_front, go_on};
 use service_conformance::conformance::{Calls, WatchedService};
 use std::alloc::{AllocError, Global};
 

@@ -3,7 +3,7 @@ use Rattle.std.specs.List.{dedup}
 use Rattle.std.proofs.lemmas.List.Filters.{dedup_is}
 use Rattle.std.proofs.lemmas.Option.{slice_get-get_or}
 use Rattle.histories.specs.declared.event.Event.{Event}
-use Rattle.history_windows.specs.Needed.{events_of, is_kept}
+use Rattle.histories.specs.Needed.{events_of, is_kept}
 use Rattle.history_logs.specs.Logs.{line_begun}
 use Rattle.history_logs.proofs.Needing.{lines_more}
 use Rattle.history_logs.proofs.logs.needed.lines_begun.Goals as goal

@@ -1,6 +1,6 @@
 use Rattle.std.proofs.Common.{List, ◌∙◌, ap, arith, length, subst, sym}
 use Rattle.service_conformance.specs.Judged.{Judged, WindowStep}
-use Rattle.history_windows.specs.Needed.{AreIdle}
+use Rattle.histories.specs.Needed.{AreIdle}
 use Rattle.history_logs.proofs.LinesAt.{if_ok}
 use Rattle.history_logs.proofs.Needing.{given_below, given_cut, given_history, given_lines, given_refused}
 use Rattle.history_logs.proofs.logs.needed.lines_needed.Goals as goal

@@ -2,7 +2,7 @@ use Rattle.std.proofs.Common.{◌≡◌, ◌∙◌, [], List, subst}
 use Rattle.service_conformance.specs.declared.conformance.calls.Calls.{Calls}
 use Rattle.service_conformance.specs.Judged.{WindowStep}
 use Rattle.service_conformance.specs.Looks.{Watched}
-use Rattle.history_windows.specs.Goings.{IsFrontAfter}
+use Rattle.histories.specs.Goings.{IsFrontAfter}
 use Rattle.history_logs.specs.Logs.{news}
 use Rattle.history_logs.proofs.LinesAt.{if_ok}
 use Rattle.history_logs.proofs.Settled.{began}

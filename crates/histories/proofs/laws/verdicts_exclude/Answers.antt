@@ -1,0 +1,5 @@
+use Rattle.histories.proofs.Following.{verdicts_exclude}
+use Rattle.histories.proofs.laws.verdicts_exclude.Goals as goal
+
+pub returns : goal.returns
+returns g c = verdicts_exclude _

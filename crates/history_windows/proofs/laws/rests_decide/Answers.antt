@@ -1,8 +1,0 @@
-use Rattle.history_windows.proofs.Leaving.{explains_rest, refused_rest}
-use Rattle.history_windows.proofs.laws.rests_decide.Goals as goal
-
-pub returns-clause-orders : goal.returns-clause-orders
-returns-clause-orders g c = explains_rest _
-
-pub returns-clause-refused : goal.returns-clause-refused
-returns-clause-refused g c = refused_rest _

@@ -1,6 +1,0 @@
-use Rattle.history_windows.proofs.Words.{IsRest, is_kept}
-use Rattle.history_windows.proofs.needed.one_by_one.Given as goal
-
-abbrev pub invariant-loop-event : goal.invariant-loop-event
-invariant-loop-event g l =
-    IsRest (g.M.Machine.Step l.machine) l.states l.events (is_kept l.left_out.items)

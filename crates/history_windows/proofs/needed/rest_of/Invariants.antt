@@ -1,5 +1,0 @@
-use Rattle.history_windows.proofs.Words.{◌≡◌, take, events_of, is_kept}
-use Rattle.history_windows.proofs.needed.rest_of.Given as goal
-
-abbrev pub invariant-loop-event : goal.invariant-loop-event
-invariant-loop-event l = l.rest.items ≡ events_of (is_kept l.left_out) (take l.event-index l.events)

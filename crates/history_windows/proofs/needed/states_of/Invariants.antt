@@ -1,5 +1,0 @@
-use Rattle.history_windows.proofs.Words.{◌≡◌, states_of}
-use Rattle.history_windows.proofs.needed.states_of.Given as goal
-
-abbrev pub invariant-loop-config : goal.invariant-loop-config
-invariant-loop-config g l = l.states.items ≡ states_of l.yielded
