@@ -25,14 +25,7 @@ of_command _ p = absurd p
 
 of_weak : (r : Role) → HasWord (begun_text (weak r))
 of_weak role.Node = (form.WeakNodes, refl)
-of_weak role.Publisher = (form.WeakList, refl)
-of_weak role.Subscriber = (form.WeakList, refl)
-of_weak role.Listener = (form.WeakList, refl)
-of_weak role.Notifier = (form.WeakList, refl)
-of_weak role.Server = (form.WeakList, refl)
-of_weak role.Client = (form.WeakList, refl)
-of_weak role.Reader = (form.WeakList, refl)
-of_weak role.Writer = (form.WeakList, refl)
+of_weak _ = (form.WeakList, refl)
 
 of_begun : (b : Begun) → HasBegun b → HasWord (begun_text b)
 of_begun (does (numbered c)) p = of_command c p

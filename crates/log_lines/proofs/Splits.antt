@@ -1,6 +1,7 @@
 -- Each line begins with letters and digits, and what follows them says which line it is.
 use Rattle.std.proofs.Common.{◌≡◌, ◌≢◌, ◌⊎◌, ℕ, ◌<◌, ◌≤◌, ◌^◌, Bool, true, false, List, [], ◌∷◌, ◌++◌, Option, Some, None, codes, get_or, decimal, refl, sym, ◌∙◌, ap, arith, append_assoc, inl, inr}
 use Rattle.std.specs.Prelude.{◌==◌, IsTrue, if◌then◌else◌}
+use Rattle.std.specs.Char.{is_ascii_alphanumeric}
 use Rattle.std.proofs.lemmas.Bool.{ne_eqb}
 use Rattle.service_descriptions.specs.declared.replay.machine.command.Cleanup.TheVariants.{ByPort}
 use Rattle.service_descriptions.specs.declared.replay.machine.command.Command.{Command}
@@ -70,14 +71,14 @@ is_of {text} {front} {back} comes =
     record { front = front; back = back; comes = comes; is = refl }
 
 -- one that begins with a word of letters
-starts : (front back : List ℕ) → IsTrue (are_letters front) → ¬ (IsNameByte (mark back))
-    → HasKind (front ++ back) (class front back)
-starts front back letters ends = record {
-  front = front;
-  back = back;
-  comes = record { whole = refl; letters = letters; ends = ends };
-  is = refl;
-}
+starts : (front back : List ℕ) → IsTrue (are_letters front)
+    → is_ascii_alphanumeric (mark back) ≡ false → HasKind (front ++ back) (class front back)
+starts front back letters other =
+    let ends : ¬ (IsNameByte (mark back)) =
+    λ e. absurd (let z : true ≡ false = sym e ∙ other in cc) in
+    let comes : Comes (front ++ back) front back =
+    record { whole = refl; letters = letters; ends = ends } in
+    is_of comes
 
 pub one_kind : {text other : List ℕ} (k m : ℕ) → HasKind text k → HasKind other m → text ≡ other
     → k ≡ m
@@ -86,31 +87,21 @@ one_kind k m p q e =
     sym p.is ∙ (ap (λ (f : List ℕ). class f p.back) same.0 ∙ ap (class q.front) same.1) ∙ q.is
 
 of_command : (c : Command) → HasLine c → HasKind (line_of c) 1
-of_command (command.Register id) p =
-    starts (codes "register") _ refl (λ e. absurd (cc))
-of_command (command.Deregister k) p =
-    starts (codes "deregister") _ refl (λ e. absurd (cc))
-of_command command.Nodes p =
-    starts (codes "nodes") [] refl (λ e. absurd (cc))
-of_command (command.Add d) p =
-    starts (codes "add") _ refl (λ e. absurd (cc))
-of_command (command.Release k) p =
-    starts (codes "release") _ refl (λ e. absurd (cc))
-of_command (command.List r) p =
-    starts (codes "list") _ refl (λ e. absurd (cc))
-of_command (command.Count r) p =
-    starts (codes "count") _ refl (λ e. absurd (cc))
-of_command (command.Dead id (ByPort kept)) p =
-    starts (codes "dead") _ refl (λ e. absurd (cc))
+of_command (command.Register id) p = starts (codes "register") _ refl refl
+of_command (command.Deregister k) p = starts (codes "deregister") _ refl refl
+of_command command.Nodes p = starts (codes "nodes") [] refl refl
+of_command (command.Add d) p = starts (codes "add") _ refl refl
+of_command (command.Release k) p = starts (codes "release") _ refl refl
+of_command (command.List r) p = starts (codes "list") _ refl refl
+of_command (command.Count r) p = starts (codes "count") _ refl refl
+of_command (command.Dead id (ByPort kept)) p = starts (codes "dead") _ refl refl
 of_command _ p = absurd p
 
 -- a command has the kind of one
 pub of_text : (c : NamedCommand) → HasText c → HasKind (command_text c) 1
 of_text (numbered c) p = of_command c p
-of_text (deregister slot ticket) p =
-    starts (codes "deregister") _ refl (λ e. absurd (cc))
-of_text (release r slot ticket) p =
-    starts (codes "release") _ refl (λ e. absurd (cc))
+of_text (deregister slot ticket) p = starts (codes "deregister") _ refl refl
+of_text (release r slot ticket) p = starts (codes "release") _ refl refl
 
 -- a number, a colon and a space
 pub number_comes : (n : ℕ) (rest : List ℕ) → n < 2 ^ 64
@@ -136,7 +127,7 @@ crash_comes p = record { whole = refl; letters = p.letters; ends = λ e. absurd 
 
 -- what is given has the kind of it
 pub of_given : (rest : List ℕ) → HasKind (codes "state " ++ rest) 5
-of_given rest = starts (codes "state") (codes " " ++ rest) refl (λ e. absurd (cc))
+of_given rest = starts (codes "state") (codes " " ++ rest) refl refl
 
 -- which line it is
 abbrev pub kind : Line → ℕ
@@ -152,12 +143,10 @@ kind (given None s) = 5
 kind (given (Some n) s) = 2
 
 pub of_line : (l : Line) → IsLine l → HasKind (line_text l) (kind l)
-of_line (service l) p =
-    starts (codes "service") _ refl (λ e. absurd (cc))
+of_line (service l) p = starts (codes "service") _ refl refl
 of_line (call None c) p = of_text c p.1
 of_line (call (Some n) c) p = is_of (number_comes n (command_text c) p.0)
-of_line (reply words) p =
-    starts [] (codes "= " ++ words) refl (λ e. absurd (cc))
+of_line (reply words) p = starts [] (codes "= " ++ words) refl refl
 of_line (begin None caller c) p = is_of (begin_comes c p.1)
 of_line (begin (Some n) caller c) p = is_of (number_comes n (begin_text caller c) p.0)
 of_line (end caller words) p = is_of (end_comes words p)

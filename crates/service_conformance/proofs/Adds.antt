@@ -1,6 +1,6 @@
 -- Adds that take a given slot.
 use Rattle.service_conformance.proofs.Prelude.{All, All-append, All-cons, All-head, All-nil, All-tail, All-weaker, Err, List, Ok, [], ap, arith, cases_order, drop, inl, inr, insert, refl, subst, suc, sym, take, take-append-drop, ℕ, ◌++◌, ◌+◌, ◌<◌, ◌∙◌, ◌∷◌, ◌≡◌, ◌≢◌}
-use Rattle.service_conformance.proofs.Names.{AddStep, ContainerAddFailure, Entry, Handle, HasRoom, InsertsOne, IsFreePosition, IsFull, IsLocked, IsRegistry, MayGive, OutOfSpace, RegistryState, TakesEntry, entry_at, handle_of}
+use Rattle.service_conformance.proofs.Names.{AddStep, ContainerAddFailure, Entry, Handle, HasRoom, InsertsOne, IsFreePosition, IsFull, IsLocked, IsRegistry, MayGive, OutOfSpace, RegistryState, TakesEntry, handle_of, slot_entry}
 use Rattle.std.specs.Prelude.{Result}
 use Rattle.iox2_container.proofs.Gaining.{All-back, AllPairs-head, AllPairs-tail}
 use Rattle.iox2_container.proofs.Keeping.{kept_add, All-gain}
@@ -19,11 +19,8 @@ add_once r n m d (Err IsLocked) s t k l = s.1 ∙ sym t.1
 add_once r n m d (Err OutOfSpace) s t k l = s.2 ∙ sym t.2
 add_once {T} r n m d (Ok handle) s t k l =
     let x : Entry T = record { slot = handle.slot; ticket = r.used; details = d } in
-    let g : InsertsOne r.entries n.entries x = s.2.2 in
-    let j : InsertsOne r.entries m.entries x = t.2.2 in
-    let entries : n.entries ≡ m.entries = g.new_is
-    ∙ (one_position g.before g.after j.before j.after x (sym g.old_is ∙ j.old_is)
-    (rw g.new_is at k.slots_rise) (rw j.new_is at l.slots_rise) ∙ sym j.new_is) in
+    let entries : n.entries ≡ m.entries = one_position r.entries n.entries x s.2.2 k.slots_rise
+    ∙ sym (one_position r.entries m.entries x t.2.2 l.slots_rise) in
     s.2.3
     ∙ (ap (λ (es : List (Entry T)). record r { entries = es; used = r.used + 1 }) entries
     ∙ sym t.2.3)
@@ -32,7 +29,7 @@ add_once {T} r n m d (Ok handle) s t k l =
 pub was_given : {T : Type 0} (r new : RegistryState T) (details : T) (handle : Handle)
     → AddStep r details (Ok handle) new → IsRegistry new → MayGive r handle
 was_given {T} r new details handle s k =
-    let x : Entry T = record { slot = handle.slot; ticket = r.used; details = details } in
+    let x : Entry T = slot_entry handle.slot r.used details in
     let e : handle ≡ handle_of r x = s.2.0 in
     let g : InsertsOne r.entries new.entries x = s.2.2 in
     let one : x.slot < new.capacity =
@@ -54,18 +51,18 @@ with_entry r position x =
     record r { entries = take position r.entries ++ x ∷ drop position r.entries; used = r.used + 1 }
 
 handle_is : {T : Type 0} (r : RegistryState T) (handle : Handle) (details : T) → MayGive r handle
-    → handle ≡ handle_of r (record { slot = handle.slot; ticket = r.used; details = details })
+    → handle ≡ handle_of r (slot_entry handle.slot r.used details)
 handle_is r handle details m = rw (← m.service, ← m.role, ← m.ticket) refl
 
 -- what may be given can be, in a position that is free
 pub given : {T : Type 0} (r : RegistryState T) (details : T) (handle : Handle) (position : ℕ)
     → IsRegistry r → TakesEntry r → MayGive r handle → IsFreePosition r.entries handle.slot position
     → AddStep r details (Ok handle)
-    (with_entry r position (record { slot = handle.slot; ticket = r.used; details = details }))
+    (with_entry r position (slot_entry handle.slot r.used details))
     × IsRegistry (with_entry r position
-    (record { slot = handle.slot; ticket = r.used; details = details }))
+    (slot_entry handle.slot r.used details))
 given {T} r details handle position k takes m there =
-    let x : Entry T = record { slot = handle.slot; ticket = r.used; details = details } in
+    let x : Entry T = slot_entry handle.slot r.used details in
     let es = take position r.entries ++ x ∷ drop position r.entries in
     let g : InsertsOne r.entries es x = record {
       before = take position r.entries;
@@ -129,7 +126,7 @@ can_give r details handle k takes m =
     let there = position_for r.entries handle.slot k.slots_rise m.free in
     let so = given r details handle there.0 k takes m there.1 in (
       with_entry r there.0
-          (record { slot = handle.slot; ticket = r.used; details = details }),
+          (slot_entry handle.slot r.used details),
       so.0,
       so.1,
     )
@@ -138,9 +135,9 @@ can_give r details handle k takes m =
 pub with_entry_is : {T : Type 0} (s r : RegistryState T) (position : ℕ) (handle : Handle)
     (details : T)
     (l : List (Entry T)) → s ≡ r → MayGive r handle
-    → l ≡ insert s.entries position (entry_at handle details)
+    → l ≡ insert s.entries position (slot_entry handle.slot handle.ticket details)
     → record s { entries = l; used = s.used + 1 }
-    ≡ with_entry r position (record { slot = handle.slot; ticket = r.used; details = details })
+    ≡ with_entry r position (slot_entry handle.slot r.used details)
 with_entry_is s r position handle details l e m i = rw (i, e, m.ticket) refl
 
 pub not_free : {T : Type 0} (r : RegistryState T) (es : List (Entry T)) (slot : ℕ) → es ≡ r.entries

@@ -13,7 +13,7 @@ use Rattle.service_conformance.proofs.Following.{attach_may, register_may}
 use Rattle.service_conformance.proofs.Quiet.{run_quiet, serves_quiet, service_quiet}
 use Rattle.service_conformance.proofs.Seen.{is_handle, no_handle_text}
 use Rattle.service_conformance.proofs.Sides.{ports_are}
-use Rattle.service_conformance.proofs.Words.{neither, parts_same}
+use Rattle.service_conformance.proofs.Words.{neither, one_handle, parts_same}
 
 -- a handle that the service may give to a command
 record IsOwn (s : Service) (c : Command) (h : Handle) : Type 0 where
@@ -65,13 +65,6 @@ module _ (s mid : Service) (i : IsService s) (kept : IsService mid) (b : IsBound
   own_given handles (command.Dead dead cleanup) h so = absurd so
   own_given handles _ h so = absurd (let z = so.0 in cc)
 
-same_handle : (h k : Handle) → h.service ≡ k.service → h.role ≡ k.role → h.slot ≡ k.slot
-    → h.ticket ≡ k.ticket → h ≡ k
-same_handle h k a b c d =
-    let same : h ≡ record { service = k.service; role = k.role; slot = k.slot; ticket = k.ticket } =
-    rw (← a, ← b, ← c, ← d) refl in
-    same
-
 -- the handle that a reply gives is that which its words give
 module _ (s mid : Service) (i : IsService s) (kept : IsService mid) (b : IsBounded s)
     (handles : List (Option Handle)) (c : Command) (r : Reply)
@@ -94,7 +87,7 @@ module _ (s mid : Service) (i : IsService s) (kept : IsService mid) (b : IsBound
       let parts =
       parts_same h.slot h.ticket k.slot k.ticket own.slot own.ticket gives.1 gives.2
       (sym (ap text_of is) ∙ gives.0) in
-      ap Some (same_handle h k (own.service ∙ sym gives.3) (own.role ∙ sym gives.4) parts.0 parts.1)
+      ap Some (one_handle h k (own.service ∙ sym gives.3) (own.role ∙ sym gives.4) parts.0 parts.1)
 
   pub given_same : (words : List ℕ) (g : Option Handle) → text_of r ≡ words
       → Gives s.nodes.registry.service c words g → handle_in r ≡ g

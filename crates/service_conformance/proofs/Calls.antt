@@ -7,7 +7,7 @@ use Rattle.service_conformance.specs.declared.conformance.possible.Part.TheVaria
 use Rattle.service_conformance.specs.declared.conformance.possible.Possible.TheVariants as possible
 use Rattle.service_conformance.proofs.Following.{attach_stays, deregister_stays, register_stays, release_stays}
 use Rattle.service_conformance.proofs.Seen.{reported_nothing}
-use Rattle.service_conformance.proofs.Words.{same_handle, same_reply, same_step}
+use Rattle.service_conformance.proofs.Words.{IsPlain, same_handle, same_or_plain, same_reply}
 
 pub all_of_one : {S : Type 0} (Fact : S → Type 0) (x : S) → Fact x
     → ((other : S) → Fact other → other ≡ x) → AreAll Fact (x ∷ [])
@@ -41,89 +41,6 @@ same_given s part.Nodes h k m n e = same_handle s.nodes.registry h k m n e
 same_given s part.First h k m n e = same_handle s.ports.first.registry h k m n e
 same_given s part.Second h k m n e = same_handle s.ports.second.registry h k m n e
 
-module _ (call : Call) (s : Service) where
-  leads_on : (r : Reply) (next : Service) → CanServe (ServesCall call s) r
-      → LeadsTo (ServesCall call s) r next → LeadsOn call s r next
-  leads_on r next can leads = (can.0, can.1, can.2, leads can.0 can.1)
-
-  -- the same reply leads on to one service
-  one_next : IsCovered call.command → (r q : Reply) (next other : Service) → IsSameReply r q
-      → LeadsTo (ServesCall call s) r next → LeadsOn call s q other → other ≡ next
-  one_next covered r q next other same leads on =
-      sym on.3 ∙ leads on.0
-      (same_step s on.0 (call.handle ∷ []) call.command covered r q same on.1)
-
-  module _ (is : IsService s) (rest : quiet s ≡ s) (covered : IsCovered call.command) where
-    module _ (p : Possible) (words : List ℕ) (has : call.words ≡ Some words)
-        (all : ArePossible s (ServesCall call s) p) where
-      pub seen_one : (r : Reply) (next : Service) → ReadsReply s p words (Some r)
-          → LeadsTo (ServesCall call s) r next → AreAll (CallStep call s) (next ∷ [])
-      seen_one r next reads leads =
-          all_of_one (CallStep call s) next
-          (is, rest, (r, rw has reads.1, leads_on r next (all.can r reads.0) leads))
-          (λ other step.
-          let q = step.2.0 in
-          let on = step.2.2 in
-          one_next covered r q next other
-          (reads.2 q (all.only q on.0 on.1 on.2) (rw has at step.2.1)) leads on)
-
-    pub any_one : call.words ≡ None → (one : LineReply) (next : Service)
-        → ArePossible s (ServesCall call s) (possible.One one)
-        → LeadsTo (ServesCall call s) (reply_in one) next → AreAll (CallStep call s) (next ∷ [])
-    any_one none one next all leads =
-        let r = reply_in one in
-        all_of_one (CallStep call s) next
-        (is, rest, (r, rw none tt, leads_on r next (all.can r (same_reply r)) leads))
-        (λ other step.
-        let q = step.2.0 in
-        let on = step.2.2 in
-        one_next covered r q next other (all.only q on.0 on.1 on.2) leads on)
-
-  module _ (p : Part) where
-    pub slot_taken : (slot : ℕ) (xs : List Service)
-        → ((h : Handle) → h.slot ≡ slot → ¬ (MayGiveIn s p h))
-        → AreAll (GivesBelow call s p slot) xs → AreAll (GivesBelow call s p (slot + 1)) xs
-    slot_taken slot xs never =
-        all_as (GivesBelow call s p slot) (GivesBelow call s p (slot + 1)) xs
-        (λ x g. (g.0, g.1, omega (arith, g.2), g.3))
-        (λ x g. (
-          g.0,
-          g.1,
-          (elim (cases_lt g.0.slot slot) [
-            | inl l ↦ l
-            | inr m ↦ absurd (never g.0 (omega (arith, g.2)) g.1)
-          ]),
-          g.3,
-        ))
-
-    pub slot_given : (slot : ℕ) (xs : List Service) (h : Handle) (next : Service)
-        → IsCovered call.command → h.slot ≡ slot → MayGiveIn s p h
-        → CanServe (ServesCall call s) (reply.Handle h)
-        → LeadsTo (ServesCall call s) (reply.Handle h) next
-        → AreAll (GivesBelow call s p slot) xs
-        → AreAll (GivesBelow call s p (slot + 1)) (xs ++ next ∷ [])
-    slot_given slot xs h next covered at may can leads =
-        all_and_one (GivesBelow call s p slot) (GivesBelow call s p (slot + 1)) xs next
-        (λ x g. (g.0, g.1, omega (arith, g.2), g.3))
-        (h, may, omega (arith, at), leads_on (reply.Handle h) next can leads)
-        (λ x g. (elim (cases_lt g.0.slot slot) [
-          | inl l ↦ inl (g.0, g.1, l, g.3)
-          | inr m ↦ inr (one_next covered (reply.Handle h) (reply.Handle g.0) next x
-              (ap reply.Handle (same_given s p h g.0 may g.1 (omega (arith, at, g.2)))) leads g.3)
-        ]))
-
-    pub all_given : IsService s → quiet s ≡ s → call.words ≡ None
-        → ArePossible s (ServesCall call s) (possible.Given p)
-        → (limit : ℕ) → ((h : Handle) → MayGiveIn s p h → h.slot < limit) → (xs : List Service)
-        → AreAll (GivesBelow call s p limit) xs → AreAll (CallStep call s) xs
-    all_given is rest none all limit below xs =
-        all_as (GivesBelow call s p limit) (CallStep call s) xs
-        (λ x g. (is, rest, (reply.Handle g.0, rw none tt, g.3)))
-        (λ x step.
-        let on = step.2.2 in
-        let a = all.only step.2.0 on.0 on.1 on.2 in
-        (a.0, a.2, below a.0 a.2, subst (λ q. LeadsOn call s q x) a.1 on))
-
 -- a reply that gives no handle and is of no removal changes nothing
 dead_any : (s mid : Service) (dead : ℕ) (kept : Vec ℕ) (r : Reply) → is_removal r ≡ false
     → ServesDead s dead (ByPort kept) r mid → quiet mid ≡ s
@@ -147,6 +64,97 @@ stays s mid handles (command.Count role) r i rest none e so = ap quiet so.1 ∙ 
 stays s mid handles (command.Dead dead (ByPort kept)) r i rest none e so =
     dead_any s mid dead kept r e so
 stays s mid handles _ r i rest none e so = absurd i
+
+module _ (call : Call) (s : Service) where
+  leads_on : (r : Reply) (next : Service) → CanServe (ServesCall call s) r
+      → LeadsTo (ServesCall call s) r next → LeadsOn call s r next
+  leads_on r next can leads = (can.0, can.1, can.2, leads can.0 can.1)
+
+  one_next : (r : Reply) (next other : Service) → LeadsTo (ServesCall call s) r next
+      → LeadsOn call s r other → other ≡ next
+  one_next r next other leads on = sym on.3 ∙ leads on.0 on.1
+
+  module _ (is : IsService s) (rest : quiet s ≡ s) (covered : IsCovered call.command) where
+    nothing : (r : Reply) (next : Service) → IsPlain r → LeadsOn call s r next → next ≡ s
+    nothing r next n on =
+        sym on.3
+        ∙ stays s on.0 (call.handle ∷ []) call.command r covered rest n.0 n.1 on.1
+
+    -- replies that are the same lead on to one service
+    same_next : (r q : Reply) (next other : Service) → IsSameReply r q
+        → LeadsTo (ServesCall call s) r next → LeadsOn call s r next → LeadsOn call s q other
+        → other ≡ next
+    same_next r q next other same leads first on = elim (same_or_plain r q same) [
+      | inl e ↦ one_next r next other leads (subst (λ x. LeadsOn call s x other) (sym e) on)
+      | inr n ↦ nothing q other n.1 on ∙ sym (nothing r next n.0 first)
+    ]
+
+    module _ (p : Possible) (words : List ℕ) (has : call.words ≡ Some words)
+        (all : ArePossible s (ServesCall call s) p) where
+      pub seen_one : (r : Reply) (next : Service) → ReadsReply s p words (Some r)
+          → LeadsTo (ServesCall call s) r next → AreAll (CallStep call s) (next ∷ [])
+      seen_one r next reads leads =
+          let first = leads_on r next (all.can r reads.0) leads in
+          all_of_one (CallStep call s) next (is, rest, (r, rw has reads.1, first)) (λ other step.
+          let on = step.2.2 in
+          same_next r step.2.0 next other
+          (reads.2 step.2.0 (all.only step.2.0 on.0 on.1 on.2) (rw has at step.2.1)) leads first on)
+
+    pub any_one : call.words ≡ None → (one : LineReply) (next : Service)
+        → ArePossible s (ServesCall call s) (possible.One one)
+        → LeadsTo (ServesCall call s) (reply_in one) next → AreAll (CallStep call s) (next ∷ [])
+    any_one none one next all leads =
+        let r = reply_in one in
+        let first = leads_on r next (all.can r (same_reply r)) leads in
+        all_of_one (CallStep call s) next (is, rest, (r, rw none tt, first)) (λ other step.
+        let on = step.2.2 in
+        same_next r step.2.0 next other (all.only step.2.0 on.0 on.1 on.2) leads first on)
+
+  module _ (p : Part) where
+    pub slot_taken : (slot : ℕ) (xs : List Service)
+        → ((h : Handle) → h.slot ≡ slot → ¬ (MayGiveIn s p h))
+        → AreAll (GivesBelow call s p slot) xs → AreAll (GivesBelow call s p (slot + 1)) xs
+    slot_taken slot xs never =
+        all_as (GivesBelow call s p slot) (GivesBelow call s p (slot + 1)) xs
+        (λ x g. (g.0, g.1, omega (arith, g.2), g.3))
+        (λ x g. (
+          g.0,
+          g.1,
+          (elim (cases_lt g.0.slot slot) [
+            | inl l ↦ l
+            | inr m ↦ absurd (never g.0 (omega (arith, g.2)) g.1)
+          ]),
+          g.3,
+        ))
+
+    pub slot_given : (slot : ℕ) (xs : List Service) (h : Handle) (next : Service)
+        → h.slot ≡ slot → MayGiveIn s p h
+        → CanServe (ServesCall call s) (reply.Handle h)
+        → LeadsTo (ServesCall call s) (reply.Handle h) next
+        → AreAll (GivesBelow call s p slot) xs
+        → AreAll (GivesBelow call s p (slot + 1)) (xs ++ next ∷ [])
+    slot_given slot xs h next at may can leads =
+        all_and_one (GivesBelow call s p slot) (GivesBelow call s p (slot + 1)) xs next
+        (λ x g. (g.0, g.1, omega (arith, g.2), g.3))
+        (h, may, omega (arith, at), leads_on (reply.Handle h) next can leads)
+        (λ x g. (elim (cases_lt g.0.slot slot) [
+          | inl l ↦ inl (g.0, g.1, l, g.3)
+          | inr m ↦ inr (one_next (reply.Handle h) next x leads
+              (subst (λ k. LeadsOn call s (reply.Handle k) x)
+              (same_given s p g.0 h g.1 may (omega (arith, at, g.2))) g.3))
+        ]))
+
+    pub all_given : IsService s → quiet s ≡ s → call.words ≡ None
+        → ArePossible s (ServesCall call s) (possible.Given p)
+        → (limit : ℕ) → ((h : Handle) → MayGiveIn s p h → h.slot < limit) → (xs : List Service)
+        → AreAll (GivesBelow call s p limit) xs → AreAll (CallStep call s) xs
+    all_given is rest none all limit below xs =
+        all_as (GivesBelow call s p limit) (CallStep call s) xs
+        (λ x g. (is, rest, (reply.Handle g.0, rw none tt, g.3)))
+        (λ x step.
+        let on = step.2.2 in
+        let a = all.only step.2.0 on.0 on.1 on.2 in
+        (a.0, a.2, below a.0 a.2, subst (λ q. LeadsOn call s q x) a.1 on))
 
 module _ (call : Call) (covered : IsCovered call.command) (seen : SeenReply)
     (has : call.words ≡ Some (seen_text seen)) (nothing : changes_nothing seen ≡ true) where

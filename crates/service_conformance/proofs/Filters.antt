@@ -1,6 +1,6 @@
 -- Registries of which some entries are left.
 use Rattle.service_conformance.proofs.Prelude.{All-filter, AllPairs-filter, Bool, List, [], ap, arith, false, filter, if◌then◌else◌, length, length-filter_both, list_any, lt-ltb, nat_lt, not, refl, sym, true, ℕ, ◌&&◌, ◌<◌, ◌||◌, ◌∙◌, ◌∷◌, ◌≡◌, ◌≢◌}
-use Rattle.service_conformance.proofs.Names.{Entry, IsRegistry, PortDetails, RegistryState, ReleaseMode, Service, candidates, entries_of, goes, has_ports_of, is_kept, is_of, node_of, ports_after, stays, with_left, without_ports}
+use Rattle.service_conformance.proofs.Names.{Entry, IsRegistry, PortDetails, RegistryState, ReleaseMode, candidates, goes, has_ports_of, is_kept, is_of, node_of, stays, with_left, without_ports, ports_at_rest}
 use Rattle.iox2_container.proofs.Removing.{nothing_left, locks_empty}
 
 pub kept_filter : {T : Type 0} (r : RegistryState T) (mode : ReleaseMode) (p : Entry T → Bool)
@@ -45,17 +45,10 @@ stays_left dead kept (e ∷ es) =
     (λ e. is_of node_of dead e.details) refl (stays_left dead kept es)
 
 -- the same of both kinds of ports
-pub some_left : (s : Service) (dead : ℕ) (kept : List ℕ) (first second : RegistryState PortDetails)
-    → first ≡ s.ports.first.registry → second ≡ s.ports.second.registry
+pub some_left : (dead : ℕ) (kept : List ℕ) (first second : RegistryState PortDetails)
     → (list_any (λ e. stays dead kept e.details) first.entries
     || list_any (λ e. stays dead kept e.details) second.entries)
-    ≡ has_ports_of dead (ports_after s dead kept)
-some_left s dead kept first second e f =
-    let any : RegistryState PortDetails → Bool =
-    λ r. list_any (λ e. stays dead kept e.details) r.entries in
-    let left : RegistryState PortDetails → Bool =
-    λ r. nat_lt 0 (entries_of node_of dead (without_ports dead kept r)) in
-    let same : (r : RegistryState PortDetails) → any r ≡ left r =
-    λ r. stays_left dead kept r.entries in
-    ap (λ b. b || any second) (same first ∙ ap left e)
-    ∙ ap (λ b. left s.ports.first.registry || b) (same second ∙ ap left f)
+    ≡ has_ports_of dead
+    (ports_at_rest (without_ports dead kept first) (without_ports dead kept second))
+some_left dead kept first second =
+    rw (stays_left dead kept first.entries, stays_left dead kept second.entries) refl

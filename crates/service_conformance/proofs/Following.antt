@@ -1,7 +1,8 @@
 -- The one state that a reply leaves.
 use Rattle.service_conformance.proofs.Prelude.{Err, None, Ok, Option, Some, ap, false, inl, inr, refl, subst, true, ℕ, ◌∙◌, ◌≡◌}
-use Rattle.service_conformance.proofs.Names.{AddStep, Adds, AddsPort, CanServe, ContainerHandleNotOwnedByContainer, ContainerState, Default, First, Handle, IsRegistry, IsService, LeadsTo, LockIfLastIndex, MayGive, OnSide, OutOfSpace, PatternKind, PortDetails, Ports, RegistryState, ReleaseState, RemoveStep, Removes, RemovesPort, Reply, Reports, Role, Second, ServesAdd, ServesDeregister, ServesRegister, ServesRelease, Service, Side, TakesEntry, at_rest, first_role, handle_in, is_removal, of_side, other_side, ports_at, quiet, role_at, role_of, second_role}
-use Rattle.service_conformance.proofs.Sides.{has_role, lacks, one_side, step_at}
+use Rattle.service_conformance.proofs.Names.{AddStep, AddsPort, CanServe, ContainerHandleNotOwnedByContainer, Default, First, Handle, IsRegistry, IsService, LeadsTo, LockIfLastIndex, MayGive, OutOfSpace, PortDetails, RegistryState, ReleaseState, RemoveStep, RemovesPort, Reply, Reports, Second, ServesAdd, ServesDeregister, ServesRegister, ServesRelease, Service, Side, TakesEntry, at_rest, handle_in, is_removal, ports_at, quiet, role_at, role_of}
+use Rattle.service_conformance.proofs.Sides.{has_role, lacks}
+use Rattle.service_conformance.proofs.Taking.{Takes, at_side, of_ports, ports_taken, taken_at}
 use Rattle.service_descriptions.specs.declared.replay.machine.reply.Reply.TheVariants as reply
 use Rattle.service_conformance.proofs.Adds.{add_once, was_given}
 use Rattle.service_conformance.proofs.Quiet.{service_quiet}
@@ -14,12 +15,6 @@ one_kept Step r new can one = subst IsService (one can.0 can.1) (service_quiet c
 leaves : (Step : Reply → Service → Type 0) (r : Reply) (new : Service) → CanServe Step r
     → LeadsTo Step r new → LeadsTo Step r new × IsService new
 leaves Step r new can one = (one, one_kept Step r new can one)
-
--- what is seen of a service, by its registries
-seen_as : (s w : Service) (m : RegistryState ℕ) (first second : RegistryState PortDetails)
-    → w.pattern ≡ s.pattern → w.nodes.registry ≡ m → w.ports.first.registry ≡ first
-    → w.ports.second.registry ≡ second → quiet w ≡ at_rest s.pattern m first second
-seen_as s w m first second p n f g = rw (p, n, f, g) refl
 
 -- the nodes alone have changed
 by_nodes : (s w : Service) (m : RegistryState ℕ) → w ≡ record s { nodes = w.nodes }
@@ -79,46 +74,15 @@ deregister_goes s h reply.PortsAttached m e gone = absurd (let z : false ≡ tru
 deregister_goes s h reply.NotOwned m e gone = absurd (let z : false ≡ true = e in cc)
 deregister_goes s h _ m e gone = λ w so. absurd so
 
--- a service with another registry of one kind of ports
-abbrev pub at_side : Side → Service → RegistryState PortDetails → Service
-at_side side s m =
-    at_rest s.pattern s.nodes.registry (of_side side m s.ports.first.registry)
-    (of_side side s.ports.second.registry m)
-
--- the ports of one kind have changed, and no node came or went
-pub by_ports : (side : Side) (s w : Service) (m : RegistryState PortDetails)
-    → w.pattern ≡ s.pattern → w.nodes.registry ≡ s.nodes.registry
-    → (ports_at w side).registry ≡ m
-    → of_side (other_side side) w.ports.first w.ports.second
-    ≡ of_side (other_side side) s.ports.first s.ports.second → quiet w ≡ at_side side s m
-by_ports First s w m p k n o =
-    seen_as s w s.nodes.registry m s.ports.second.registry p k n
-    (ap (λ (c : ContainerState PortDetails). c.registry) o)
-by_ports Second s w m p k n o =
-    seen_as s w s.nodes.registry s.ports.first.registry m p k
-    (ap (λ (c : ContainerState PortDetails). c.registry) o) n
-
 same_side : (side : Side) (s : Service) → at_side side s (ports_at s side).registry ≡ quiet s
 same_side First s = refl
 same_side Second s = refl
 
--- what a change of the other kind leaves
-others_at : (p : PatternKind) (side : Side) (old new : Ports) (role : Role)
-    (Step : ContainerState PortDetails → ContainerState PortDetails → Type 0)
-    → role ≡ role_at p side → OnSide (first_role p) (second_role p) old role Step new
-    → of_side (other_side side) new.first new.second ≡ of_side
-    (other_side side) old.first old.second
-others_at p side old new role Step e s =
-    subst (λ z. of_side (other_side z) new.first new.second ≡ of_side
-    (other_side z) old.first old.second)
-    (one_side p side s.side role e s.role_is) s.others
-
 module _ (s : Service) (d : PortDetails) where
   refused_add : quiet s ≡ s → (w : Service) → AddsPort s d (Err OutOfSpace) w → quiet w ≡ s
   refused_add rest w (a, e) =
-      by_ports a.side s w (ports_at s a.side).registry (ap (λ (n : Service). n.pattern) e)
-      (ap (λ (n : Service). n.nodes.registry) e) a.step.step.2 a.others
-      ∙ (same_side a.side s ∙ rest)
+      let t = ports_taken (λ r m. AddStep r d (Err OutOfSpace) m) (role_of d) s w a e in
+      t.left ∙ (ap (at_side a.side s) t.step.2 ∙ (same_side a.side s ∙ rest))
 
   pub attach_stays : quiet s ≡ s → (r : Reply) → handle_in r ≡ None → LeadsTo (ServesAdd s d) r s
   attach_stays rest (reply.Handle h) e = absurd (no_handle h e)
@@ -129,6 +93,10 @@ module _ (s : Service) (d : PortDetails) where
   attach_stays rest _ e = λ w so. absurd so
 
   module _ (side : Side) (h : Handle) (role : role_of d ≡ role_at s.pattern side) where
+    added : (w : Service) → ServesAdd s d (reply.Handle h) w
+        → Takes (of_ports side) (λ r m. AddStep r d (Ok h) m) s (quiet w)
+    added w so = taken_at _ (role_of d) s w so.1.1.0 so.1.1.1 side role
+
     pub attach_enters : CanServe (ServesAdd s d) (reply.Handle h)
         → (m : RegistryState PortDetails)
         → AddStep (ports_at s side).registry d (Ok h) m → IsRegistry m
@@ -136,31 +104,22 @@ module _ (s : Service) (d : PortDetails) where
         × IsService (at_side side s m)
     attach_enters can m step k =
         leaves (ServesAdd s d) (reply.Handle h) (at_side side s m) can (λ w so.
-        let a = so.1.1.0 in
-        let c = step_at s.pattern side s.ports w.ports (role_of d)
-        (λ o n. Adds o d (Ok h) n) role a in
-        by_ports side s w m (ap (λ (n : Service). n.pattern) so.1.1.1)
-        (ap (λ (n : Service). n.nodes.registry) so.1.1.1)
-        (add_once (ports_at s side).registry (ports_at w side).registry m d
-        (Ok h) c.step step c.kept k)
-        (others_at s.pattern side s.ports w.ports (role_of d) (λ o n. Adds o d (Ok h) n) role a))
+        let t = added w so in
+        t.left ∙ ap (at_side side s) (add_once _ t.registry m d (Ok h) t.step step t.whole k))
 
     pub attach_may : CanServe (ServesAdd s d) (reply.Handle h)
         → TakesEntry (ports_at s side).registry × MayGive (ports_at s side).registry h
     attach_may can =
-        let a = can.1.1.1.0 in
-        let c = step_at s.pattern side s.ports can.0.ports (role_of d)
-        (λ o n. Adds o d (Ok h) n) role a in (
-          (c.step.0, c.step.1),
-          was_given (ports_at s side).registry (ports_at can.0 side).registry d h c.step c.kept,
-        )
+        let t = added can.0 can.1 in
+        ((t.step.0, t.step.1), was_given _ t.registry d h t.step t.whole)
 
 refused_removal : (s : Service) (h : Handle) → quiet s ≡ s → (w : Service)
     → RemovesPort s h (Err ContainerHandleNotOwnedByContainer) w → quiet w ≡ s
 refused_removal s h rest w (inl a, e) =
-    by_ports a.side s w (ports_at s a.side).registry (ap (λ (n : Service). n.pattern) e)
-    (ap (λ (n : Service). n.nodes.registry) e) a.step.step.1 a.others
-    ∙ (same_side a.side s ∙ rest)
+    let t =
+    ports_taken (λ r m. RemoveStep r h Default (Err ContainerHandleNotOwnedByContainer) m) h.role s
+    w a e in
+    t.left ∙ (ap (at_side a.side s) t.step.1 ∙ (same_side a.side s ∙ rest))
 refused_removal s h rest w (inr a, e) = ap quiet e ∙ rw a.2 rest
 
 pub release_stays : (s : Service) → quiet s ≡ s → (handle : Option Handle) (r : Reply)
@@ -177,13 +136,8 @@ module _ (s : Service) (h : Handle) where
     gone_at : (state : ReleaseState) (w : Service) → RemovesPort s h (Ok state) w
         → quiet w ≡ at_side side s m
     gone_at state w (inl a, e) =
-        by_ports side s w m (ap (λ (n : Service). n.pattern) e)
-        (ap (λ (n : Service). n.nodes.registry) e)
-        (gone state (ports_at w side).registry
-        (step_at s.pattern side s.ports w.ports h.role
-        (λ o n. Removes o h Default (Ok state) n) role a).step)
-        (others_at s.pattern side s.ports w.ports h.role
-        (λ o n. Removes o h Default (Ok state) n) role a)
+        let t = taken_at (λ r m. RemoveStep r h Default (Ok state) m) h.role s w a e side role in
+        t.left ∙ ap (at_side side s) (gone state t.registry t.step)
     gone_at state w (inr a, e) =
         absurd (lacks s.pattern h.role a.0 (has_role s.pattern side h.role role))
 

@@ -115,100 +115,64 @@ ports_only : (s : Service) (side : Side) (r : RegistryState PortDetails)
 ports_only s First r i = i.ports_are.first
 ports_only s Second r i = i.ports_are.second
 
-ports_used : (s : Service) (side : Side) (used : ℕ) → IsService s
-    → IsRegistry (with_used (ports_at s side).registry used false)
-    → IsService (with_ports side s (with_used (ports_at s side).registry used false))
-ports_used s side used i k =
-    let p = ports_are s side i in
-    ports_is s side (with_used (ports_at s side).registry used false) i (record {
-      is_registry = k;
-      number_is = p.number_is;
-      role_is = p.role_is;
-      is_open = refl;
-      registered = p.registered;
-    })
-
-port_last : (s : Service) (side : Side) (x : Entry PortDetails) → IsService s
-    → 0 < entries_of_node (node_of x.details) s.nodes.registry
-    → IsRegistry (with_last (ports_at s side).registry x)
-    → IsService (with_ports side s (with_last (ports_at s side).registry x))
-port_last s side x i has k =
-    let p = ports_are s side i in
-    ports_is s side (with_last (ports_at s side).registry x) i (record {
-      is_registry = k;
-      number_is = p.number_is;
-      role_is = p.role_is;
-      is_open = p.is_open;
-      registered = All-push
-          (λ (e : Entry PortDetails). 0 < entries_of_node (node_of e.details) s.nodes.registry)
-          (ports_at s side).registry.entries x p.registered has;
-    })
-
 -- the same ports leave the service as it is
 pub same_ports : (s : Service) (side : Side) → with_ports side s (ports_at s side).registry ≡ s
 same_ports s First = refl
 same_ports s Second = refl
 
--- what becomes of a registry becomes of the service that has it
-becomes : {T : Type 0} (put : RegistryState T → Service) (old : RegistryState T) (s : Service)
-    (Is : RegistryState T → Type 0) (Gives : Service → Type 0) → put old ≡ s → IsService s
-    → ((r : RegistryState T) → Is r → Gives (put r) × IsService (put r))
-    → ((new : Service) → Gives new → (r : RegistryState T) × Is r)
-    → (so : Bool) (r : RegistryState T) → Becomes Is old so r
-    → Becomes Gives s so (put r) × IsService (put r)
-becomes put old s Is Gives same i there back true r b = there r b
-becomes put old s Is Gives same i there back false r b =
-    let is : put r ≡ s = ap put b.1 ∙ same in
-    ((λ new g. b.0 (back new g).0 (back new g).1, is), subst IsService (sym is) i)
-
--- where memory is refused nothing has changed
-given_by : {E T : Type 0} (Is Gives : Bool → Type 0) (Kept : T → Type 0) (result : Result Bool E)
-    (old new : T) → IfOk result Is → OnErr result (new ≡ old)
-    → ((so : Bool) → Is so → Gives so × Kept new) → Kept old → IfOk result Gives × Kept new
-given_by Is Gives Kept (Ok so) old new h e f i = f so h
-given_by Is Gives Kept (Err x) old new h e f i = (tt, subst Kept (sym e) i)
-
--- what is put is a service
-puts : {T : Type 0} (put : RegistryState T → Service) (target r : RegistryState T)
-    → (IsRegistry target → IsService (put target)) → r ≡ target → IsRegistry r
-    → (put r ≡ put target) × IsService (put r)
-puts put target r keeps e k =
-    let is = ap put e in (is, subst IsService (sym is) (keeps (subst IsRegistry e k)))
+-- What becomes of a registry becomes of the service in which it is put: the registry becomes the
+-- target, which is put there where it is a registry.
+module _ {T : Type 0} (put : RegistryState T → Service) (old target : RegistryState T)
+    (s : Service) (same : put old ≡ s) (i : IsService s)
+    (there : IsRegistry target → IsService (put target))
+    (back : IsService (put target) → IsRegistry target) (Is : RegistryState T → Type 0)
+    (Gives : Service → Type 0) where
+  becomes : {E : Type 0}
+      → ((r : RegistryState T) → Is r → ((r ≡ target) × IsRegistry r)
+      × ((new : Service) → (new ≡ put target) × IsService new → Gives new))
+      → ((new : Service) → Gives new → ((new ≡ put target) × IsService new)
+      × ((r : RegistryState T) → (r ≡ target) × IsRegistry r → Is r))
+      → (result : Result Bool E) (r : RegistryState T) → IfOk result (λ so. Becomes Is old so r)
+      → OnErr result (r ≡ old)
+      → IfOk result (λ so. Becomes Gives s so (put r)) × IsService (put r)
+  becomes to from (Ok true) r b err =
+      let t = to r b in
+      let is = ap put t.0.0 in
+      let kept = subst IsService (sym is) (there (subst IsRegistry t.0.0 t.0.1)) in
+      (t.1 (put r) (is, kept), kept)
+  becomes to from (Ok false) r b err =
+      let is : put r ≡ s = ap put b.1 ∙ same in (
+        (
+          λ new g.
+              let f = from new g in b.0 target (f.1 target (refl, back (subst IsService f.0.0 f.0.1))),
+          is,
+        ),
+        subst IsService (sym is) i,
+      )
+  becomes to from (Err e) r ok err = (tt, subst IsService (sym (ap put err ∙ same)) i)
 
 module _ (s : Service) (i : IsService s) where
   pub gives_nodes : (used : ℕ) (locked so : Bool) (r : RegistryState ℕ)
       → Becomes (UsedSo s.nodes.registry used locked) s.nodes.registry so r
       → Becomes (GivesNodes s used locked) s so (with_nodes s r) × IsService (with_nodes s r)
   gives_nodes used locked so r b =
-      let target = with_used s.nodes.registry used locked in
-      becomes (with_nodes s) s.nodes.registry s (UsedSo s.nodes.registry used locked)
-      (GivesNodes s used locked) refl i
-      (λ r u.
-      let p =
-      puts (with_nodes s) target r (λ k. nodes_is s target i k refl refl (λ ports all. all)) u.1 u.2
-      in
-      ((u.0, p.0, p.1), p.1))
-      (λ new g. (target, (g.0, refl, (subst IsService g.1 g.2).nodes_are))) so r b
+      becomes (with_nodes s) s.nodes.registry (with_used s.nodes.registry used locked) s refl i
+      (λ k. nodes_is s _ i k refl refl (λ ports all. all)) (λ j. j.nodes_are) _
+      (GivesNodes s used locked) {E = Unit {0}}
+      (λ r u. ((u.1, u.2), λ new n. (u.0, n.0, n.1)))
+      (λ new g. ((g.1, g.2), λ r n. (g.0, n.0, n.1))) (Ok so) r b tt
 
   pub gives_node : {E : Type 0} (slot ticket id : ℕ) (result : Result Bool E) (r : RegistryState ℕ)
-      → IfOk result
-      (λ so. Becomes (StandsLast s.nodes.registry (slot_entry slot ticket id)) s.nodes.registry so
-      r)
+      → IfOk result (λ so.
+      Becomes (StandsLast s.nodes.registry (slot_entry slot ticket id)) s.nodes.registry so r)
       → OnErr result (r ≡ s.nodes.registry)
       → IfOk result (λ so. Becomes (GivesNode s slot ticket id) s so (with_nodes s r))
       × IsService (with_nodes s r)
-  gives_node slot ticket id result r ok err =
+  gives_node slot ticket id =
       let x : Entry ℕ = slot_entry slot ticket id in
-      let target = with_last s.nodes.registry x in
-      given_by _ _ (λ r. IsService (with_nodes s r)) result s.nodes.registry r ok err
-      (λ so. becomes (with_nodes s) s.nodes.registry s (StandsLast s.nodes.registry x)
-      (GivesNode s slot ticket id) refl i
-      (λ r u.
-      let p =
-      puts (with_nodes s) target r
-      (λ k. nodes_is s target i k refl refl (registered_more s.nodes.registry x)) u.0 u.1 in
-      (p, p.1))
-      (λ new g. (target, (refl, (subst IsService g.0 g.1).nodes_are))) so r) i
+      becomes (with_nodes s) s.nodes.registry (with_last s.nodes.registry x) s refl i
+      (λ k. nodes_is s _ i k refl refl (registered_more s.nodes.registry x)) (λ j. j.nodes_are) _
+      (GivesNode s slot ticket id) (λ r u. (u, λ new n. n)) (λ new g. (g, λ r n. n))
 
   module _ (side : Side) where
     abbrev now : RegistryState PortDetails
@@ -219,23 +183,36 @@ module _ (s : Service) (i : IsService s) where
         → ((at : Side) × (role ≡ role_at s.pattern at) × P at) → P side
     here P role at g = subst P (one_side s.pattern side g.0 role at g.1) g.2
 
+    -- other ports of this side, with the same number and role
+    ports_stay : (r : RegistryState PortDetails) → IsRegistry r → r.service ≡ now.service
+        → r.role ≡ now.role → r.locked ≡ false → Registered s.nodes.registry r.entries
+        → IsService (with_ports side s r)
+    ports_stay r k number role is_open registered =
+        let p = ports_are s side i in
+        ports_is s side r i (record {
+          is_registry = k;
+          number_is = number ∙ p.number_is;
+          role_is = role ∙ p.role_is;
+          is_open = is_open;
+          registered = registered;
+        })
+
     pub gives_ports : (role : Role) (used : ℕ) (so : Bool) (r : RegistryState PortDetails)
         → role ≡ role_at s.pattern side → Becomes (UsedSo now used false) now so r
         → Becomes (GivesPorts s role used) s so (with_ports side s r)
         × IsService (with_ports side s r)
     gives_ports role used so r at b =
-        becomes (with_ports side s) now s (UsedSo now used false)
-        (GivesPorts s role used) (same_ports s side) i
-        (λ r u.
-        let p =
-        puts (with_ports side s) (with_used now used false) r (ports_used s side used i) u.1 u.2 in
-        ((side, at, u.0, p.0, p.1), p.1))
+        let target = with_used now used false in
+        becomes (with_ports side s) now target s (same_ports s side) i
+        (λ k. ports_stay target k refl refl refl (ports_are s side i).registered)
+        (λ j. (ports_only s side target j).is_registry) _ (GivesPorts s role used)
+        {E = Unit {0}} (λ r u. ((u.1, u.2), λ new n. (side, at, u.0, n.0, n.1)))
         (λ new g.
-        let w = here (λ z. IsUnused (ports_at s z).registry
-        × IsService (with_ports z s (with_used (ports_at s z).registry used false))) role at
-        (g.0, g.1, (g.2, subst IsService g.3 g.4)) in
-        let p = ports_only s side (with_used now used false) w.1 in
-        (with_used now used false, (w.0, refl, p.is_registry))) so r b
+        let w =
+        here (λ z. IsUnused (ports_at s z).registry
+        × (new ≡ with_ports z s (with_used (ports_at s z).registry used false)) × IsService new)
+        role at (g.0, g.1, (g.2, g.3, g.4)) in
+        ((w.1, w.2), λ r n. (w.0, n.0, n.1))) (Ok so) r b tt
 
     pub gives_port : {E : Type 0} (slot ticket : ℕ) (d : PortDetails) (result : Result Bool E)
         (r : RegistryState PortDetails) → role_of d ≡ role_at s.pattern side
@@ -244,21 +221,20 @@ module _ (s : Service) (i : IsService s) where
         → OnErr result (r ≡ now)
         → IfOk result (λ so. Becomes (GivesPort s slot ticket d) s so (with_ports side s r))
         × IsService (with_ports side s r)
-    gives_port slot ticket d result r at has ok err =
+    gives_port slot ticket d result r at has =
         let x : Entry PortDetails = slot_entry slot ticket d in
-        given_by _ _ (λ r. IsService (with_ports side s r)) result now r ok err
-        (λ so. becomes (with_ports side s) now s (StandsLast now x) (GivesPort s slot ticket d)
-        (same_ports s side) i
-        (λ r u.
-        let p = puts (with_ports side s) (with_last now x) r (port_last s side x i has) u.0 u.1 in
-        ((side, at, p.0, p.1), p.1))
-        (λ new g.
-        let w =
-        here (λ z. IsService (with_ports z s (with_last (ports_at s z).registry x))) (role_of d) at
-        (g.0, g.1, subst IsService g.2 g.3) in
-        let p = ports_only s side (with_last now x) w in
-        (with_last now x, (refl, p.is_registry))) so r)
-        (subst IsService (sym (same_ports s side)) i)
+        let target = with_last now x in
+        becomes (with_ports side s) now target s (same_ports s side) i
+        (λ k. ports_stay target k refl refl (ports_are s side i).is_open
+        (All-push (λ (e : Entry PortDetails). 0 < entries_of_node (node_of e.details)
+        s.nodes.registry) now.entries x (ports_are s side i).registered has))
+        (λ j. (ports_only s side target j).is_registry) _ (GivesPort s slot ticket d)
+        (λ r u. (u, λ new n. (side, at, n.0, n.1)))
+        (λ new g. (
+          here (λ z. (new ≡ with_ports z s (with_last (ports_at s z).registry x)) × IsService new)
+              (role_of d) at (g.0, g.1, (g.2, g.3)),
+          λ r n. n,
+        )) result r
 
   -- a port of a node that is not registered
   pub no_node : (slot ticket : ℕ) (d : PortDetails)

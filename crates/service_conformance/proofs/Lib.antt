@@ -6,6 +6,7 @@ pub mod Removes
 pub mod Filters
 pub mod Possibles
 pub mod Sides
+pub mod Taking
 pub mod Removing
 pub mod Quiet
 pub mod Following

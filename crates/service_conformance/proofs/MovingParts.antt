@@ -1,12 +1,12 @@
 -- Changes of one registry of a service, and two of them in either order.
 use Rattle.service_conformance.proofs.Prelude.{Bool, List, Ok, [], ap, arith, length, refl, subst, sym, true, ℕ, ◌++◌, ◌||◌, ◌∙◌, ◌∷◌, ◌≡◌, inl, inr, map, ◌==◌, ◌≢◌, ◌⊎◌}
-use Rattle.service_conformance.proofs.Names.{Entry, Handle, InsertsOne, IsRegistry, RegistryState, ReleaseMode, ReleaseState, RemoveStep, handle_of, lock_after, release_state, with_left, First, IsService, PortDetails, Second, Service, Side, at_rest, is_among, port_ids, port_of, port_value, ports_at, role_at}
+use Rattle.service_conformance.proofs.Names.{Entry, Handle, InsertsOne, IsRegistry, RegistryState, ReleaseMode, ReleaseState, RemoveStep, handle_of, lock_after, release_state, with_left, First, IsService, PortDetails, Second, Service, Side, is_among, port_ids, port_of, port_value, ports_at, role_at}
 use Rattle.iox2_container.proofs.CellEntries.{gains_later}
 use Rattle.iox2_container.proofs.Gaining.{length-InsertsOne}
 use Rattle.service_conformance.proofs.Removes.{kept_without}
 use Rattle.service_conformance.proofs.Looking.{by_cases, IsBetween, LosesIds, loses_between}
 use Rattle.service_conformance.specs.declared.conformance.possible.Part.TheVariants as part
-use Rattle.service_conformance.proofs.Following.{at_side}
+use Rattle.service_conformance.proofs.Taking.{Place, Takes, TakesPorts, at_side, of_nodes, of_ports, with_nodes}
 use Rattle.service_conformance.proofs.Sides.{ports_are}
 
 -- the entries without the second alone
@@ -106,33 +106,6 @@ module _ {T : Type 0} (some : List (Entry T) → Bool) (test : Entry T → Bool)
       → some rest ≡ true → some whole ≡ true
   in_whole rest whole x g e =
       ap some g.new_is ∙ in_put g.before g.after x (sym (ap some g.old_is) ∙ e)
-
--- a registry of a service: where it stands, and the service with another one there
-pub record Place (T : Type 0) : Type 0 where
-  pub at : Service → RegistryState T
-  pub put : Service → RegistryState T → Service
-
-abbrev pub with_nodes : Service → RegistryState ℕ → Service
-with_nodes s nodes = at_rest s.pattern nodes s.ports.first.registry s.ports.second.registry
-
-abbrev pub of_nodes : Place ℕ
-of_nodes = record { at = λ (s : Service). s.nodes.registry; put = with_nodes }
-
-abbrev pub of_ports : Side → Place PortDetails
-of_ports side = record { at = λ (s : Service). (ports_at s side).registry; put = at_side side }
-
--- the registry in a place takes a step
-pub record Takes {T : Type 0} (p : Place T) (Step : RegistryState T → RegistryState T → Type 0)
-    (s t : Service) : Type 0 where
-  pub registry : RegistryState T
-  pub step : Step (p.at s) registry
-  pub whole : IsRegistry registry
-  pub left : t ≡ p.put s registry
-
--- the ports of one kind take a step
-abbrev pub TakesPorts : (RegistryState PortDetails → RegistryState PortDetails → Type 0) → Service
-    → Service → Type 0
-TakesPorts Step s t = (side : Side) × Takes (of_ports side) Step s t
 
 -- of two changes the second is made first
 pub record Exchange (First Second : Service → Service → Type 0) (old mid new : Service) : Type 0

@@ -10,8 +10,8 @@ use Rattle.service_descriptions.specs.declared.replay.machine.command.Command.Th
 use Rattle.service_descriptions.specs.declared.replay.machine.reply.Reply.TheVariants as reply
 use Rattle.service_conformance.specs.declared.conformance.mover.Change.TheVariants as change
 use Rattle.service_conformance.specs.declared.conformance.seen_reply.ReplyWord.TheVariants as word
-use Rattle.service_conformance.proofs.Following.{at_side, by_ports}
-use Rattle.service_conformance.proofs.MovingParts.{Removal, Takes, TakesPorts, its_ports, of_nodes, of_ports}
+use Rattle.service_conformance.proofs.Taking.{Takes, TakesPorts, at_side, nodes_taken, of_nodes, ports_taken}
+use Rattle.service_conformance.proofs.MovingParts.{Removal, its_ports}
 use Rattle.service_conformance.proofs.Quiet.{service_quiet, untouching}
 use Rattle.service_conformance.proofs.Seen.{is_handle, is_named, no_handle_text}
 use Rattle.service_conformance.proofs.Sides.{has_role, ports_are}
@@ -101,9 +101,13 @@ not_last false some e = refl
 not_last true false e = refl
 not_last true true e = e refl
 
+-- a step leads to a service of which no touch is counted
+abbrev LeadsThere : (Service → Type 0) → Service → Type 0
+LeadsThere Step t = Step t × IsService t × (quiet t ≡ t)
+
 module _ (s : Service) (i : IsService s) (h : Handle) (t : Service) where
   node_goes : Takes of_nodes (NodeRemoval h) s t → Fits change.NodeRemoved s t
-      → ServesDeregister (quiet s) (Some h) reply.HasOwners t × IsService t × (quiet t ≡ t)
+      → LeadsThere (ServesDeregister (quiet s) (Some h) reply.HasOwners) t
   node_goes a fits =
       let r = s.nodes.registry in
       let n : RegistryState ℕ = a.registry in
@@ -124,20 +128,18 @@ module _ (s : Service) (i : IsService s) (h : Handle) (t : Service) where
         one,
         counted-InsertsOne (is_of (λ (q : ℕ). q) id) n.entries r.entries x step.0.2,
       ))) in
-      subst (λ (v : Service). ServesDeregister (quiet s) (Some h) reply.HasOwners v
-      × IsService v × (quiet v ≡ v)) (sym a.left) (
+      subst (LeadsThere (ServesDeregister (quiet s) (Some h) reply.HasOwners)) (sym a.left) (
         (id, has, more, untouching _ (untouched r) n step a.whole, refl),
         leaving_kept (quiet s) (untouched n) h id has more step.0 a.whole (service_quiet s i),
         refl,
       )
 
   node_comes : (id : ℕ) → Takes of_nodes (Addition id h) s t
-      → ServesRegister (quiet s) id (reply.Handle h) t × IsService t × (quiet t ≡ t)
+      → LeadsThere (ServesRegister (quiet s) id (reply.Handle h)) t
   node_comes id a =
       let adds : Adds (untouched s.nodes.registry) id (Ok h) (untouched a.registry) =
       untouching _ (untouched s.nodes.registry) a.registry a.step a.whole in
-      subst (λ (v : Service). ServesRegister (quiet s) id (reply.Handle h) v
-      × IsService v × (quiet v ≡ v)) (sym a.left) (
+      subst (LeadsThere (ServesRegister (quiet s) id (reply.Handle h))) (sym a.left) (
         (adds, refl),
         register_kept (quiet s) (untouched a.registry) id (Ok h) adds (service_quiet s i),
         refl,
@@ -163,7 +165,7 @@ module _ (s : Service) (i : IsService s) (h : Handle) (t : Service) where
       }
 
   port_goes : TakesPorts (PortRemoval h) s t
-      → ServesRelease (quiet s) (Some h) reply.Released t × IsService t × (quiet t ≡ t)
+      → LeadsThere (ServesRelease (quiet s) (Some h) reply.Released) t
   port_goes (side, a) =
       let at : h.role ≡ role_at s.pattern side =
       ap (λ (q : Handle). q.role) a.step.2.0.1 ∙ (ports_are s side i).role_is in
@@ -171,8 +173,7 @@ module _ (s : Service) (i : IsService s) (h : Handle) (t : Service) where
       let goes =
       on_side (λ r m. RemoveStep r h Default (Ok state) m) h.role side a.registry at a.step.2
       a.whole in
-      subst (λ (v : Service). ServesRelease (quiet s) (Some h) reply.Released v
-      × IsService v × (quiet v ≡ v)) (sym a.left) (
+      subst (LeadsThere (ServesRelease (quiet s) (Some h) reply.Released)) (sym a.left) (
         (state, (inl goes, refl)),
         release_kept (quiet s) s.pattern (at_side side s a.registry).ports h (Ok state) refl
             (inl goes) (service_quiet s i),
@@ -181,7 +182,7 @@ module _ (s : Service) (i : IsService s) (h : Handle) (t : Service) where
 
   port_comes : (d : PortDetails) → h.role ≡ role_of d → TakesPorts (Addition d h) s t
       → 0 < entries_of_node (node_of d) s.nodes.registry
-      → ServesAdd (quiet s) d (reply.Handle h) t × IsService t × (quiet t ≡ t)
+      → LeadsThere (ServesAdd (quiet s) d (reply.Handle h)) t
   port_comes d role (side, a) some =
       let at : role_of d ≡ role_at s.pattern side =
       sym role ∙ (ap (λ (q : Handle). q.role) a.step.2.0 ∙ (ports_are s side i).role_is) in
@@ -194,8 +195,7 @@ module _ (s : Service) (i : IsService s) (h : Handle) (t : Service) where
       omega (arith, some, none)) in
       let attaches : AttachStep (quiet s) d (Ok h) (at_side side s a.registry) =
       ((is_open, some), (comes, refl)) in
-      subst (λ (v : Service). ServesAdd (quiet s) d (reply.Handle h) v
-      × IsService v × (quiet v ≡ v)) (sym a.left) (
+      subst (LeadsThere (ServesAdd (quiet s) d (reply.Handle h))) (sym a.left) (
         (has_role s.pattern side (role_of d) at, attaches),
         attach_kept (quiet s) (at_side side s a.registry) d (Ok h) attaches (service_quiet s i),
         refl,
@@ -216,20 +216,6 @@ node_gone s mid (Some h) so = (
   },
 )
 
-ports_changed : (Step : RegistryState PortDetails → RegistryState PortDetails → Type 0)
-    (role : Role) (s mid : Service)
-    (a : OnSide (first_role s.pattern) (second_role s.pattern) s.ports role
-    (λ o n. Changes Step o n) mid.ports) → mid ≡ record s { ports = mid.ports }
-    → Takes (of_ports a.side) Step s (quiet mid)
-ports_changed Step role s mid a e = record {
-  registry = (ports_at mid a.side).registry;
-  step = a.step.step;
-  whole = a.step.kept;
-  left = by_ports a.side s mid (ports_at mid a.side).registry
-      (ap (λ (n : Service). n.pattern) e) (ap (λ (n : Service). n.nodes.registry) e) refl
-      a.others;
-}
-
 port_gone : (s mid : Service) (o : Option Handle) → ServesRelease s o reply.Released mid
     → (h : Handle) × (o ≡ Some h) × TakesPorts (PortRemoval h) s (quiet mid)
 port_gone s mid None so = absurd so
@@ -239,7 +225,7 @@ port_gone s mid (Some h) so = (h, refl, gone so.0 so.1)
         → TakesPorts (PortRemoval h) s (quiet mid)
     gone state (inl a, e) =
         let t =
-        ports_changed (λ r m. RemoveStep r h Default (Ok state) m) h.role s mid a e in (
+        ports_taken (λ r m. RemoveStep r h Default (Ok state) m) h.role s mid a e in (
           a.side,
           record {
             registry = t.registry;
@@ -276,7 +262,7 @@ module _ (own : Command) (handle : Option Handle) (words : List ℕ) (May : Hand
       → ServesOwn old r mid → (h : Handle) × May h × Step h old (quiet mid))
       → ((h : Handle) → May h → (r : Reply) × (text_of r ≡ words)
       × ((old new : Service) → IsService old → Step h old new → Fits old new
-      → ServesOwn (quiet old) r new × IsService new × (quiet new ≡ new)))
+      → LeadsThere (ServesOwn (quiet old) r) new))
       → (c : Call) → c.command ≡ own → c.handle ≡ handle → c.words ≡ Some words
       → Does c May Fits Step
   does_own there back c e f g =
@@ -334,8 +320,7 @@ pub does : (x : Change) (c : Call) (is : IsChange x c)
     → Does c (May x c is) (Fits x) (Made x c is)
 does change.NodeRemoved c is =
     let o = named (c.handle ∷ []) is.0.0 in
-    does_own (command.Deregister is.0.0) c.handle (word_text word.HasOwners)
-    (May change.NodeRemoved c is) (Fits change.NodeRemoved) (Made change.NodeRemoved c is)
+    does_own (command.Deregister is.0.0) c.handle (word_text word.HasOwners) _ _ _
     (λ r text old mid i so.
     node_gone old mid o
     (subst (λ q. ServesDeregister old o q mid) (is_named r word.HasOwners text) so))
@@ -351,9 +336,7 @@ does change.NodeRemoved c is =
     )) c is.0.1 refl is.1
 does (change.PortRemoved role) c is =
     let o = named (c.handle ∷ []) is.0.0 in
-    does_own (command.Release is.0.0) c.handle (word_text word.Released)
-    (May (change.PortRemoved role) c is) (Fits (change.PortRemoved role))
-    (Made (change.PortRemoved role) c is)
+    does_own (command.Release is.0.0) c.handle (word_text word.Released) _ _ _
     (λ r text old mid i so.
     let gone =
     port_gone old mid o
@@ -371,20 +354,14 @@ does (change.PortRemoved role) c is =
     )) c is.0.1 refl is.2
 does (change.NodeRegistered id) c is =
     let words = handle_words is.1.0 is.1.1 in
-    does_own (command.Register id) c.handle words (May (change.NodeRegistered id) c is)
-    (Fits (change.NodeRegistered id)) (Made (change.NodeRegistered id) c is)
+    does_own (command.Register id) c.handle words _ _ _
     (λ r text old mid i so.
     let g = gave r is.1.0 is.1.1 text in
     let step = subst (λ q. ServesRegister old id q mid) g.1 so in (
       g.0,
       subst (λ o. HasWords o (reply.Handle g.0)) (sym is.1.2)
           (subst (λ q. text_of q ≡ words) g.1 text),
-      record {
-        registry = mid.nodes.registry;
-        step = step.0.step;
-        whole = step.0.kept;
-        left = ap quiet step.1;
-      },
+      nodes_taken (Addition id g.0) old mid step.0 step.1,
     ))
     (λ h may. (
       reply.Handle h,
@@ -394,8 +371,7 @@ does (change.NodeRegistered id) c is =
 does (change.PortAdded role node) c is =
     let d = is.0.0 in
     let words = handle_words is.1.0 is.1.1 in
-    does_own (command.Add d) c.handle words (May (change.PortAdded role node) c is)
-    (Fits (change.PortAdded role node)) (Made (change.PortAdded role node) c is)
+    does_own (command.Add d) c.handle words _ _ _
     (λ r text old mid i so.
     let g = gave r is.1.0 is.1.1 text in
     let step = subst (λ q. ServesAdd old d q mid) g.1 so in
@@ -409,7 +385,7 @@ does (change.PortAdded role node) c is =
             (subst (λ q. text_of q ≡ words) g.1 text),
         given,
       ),
-      (a.side, ports_changed (Addition d g.0) (role_of d) old mid a step.1.1.1),
+      (a.side, ports_taken (Addition d g.0) (role_of d) old mid a step.1.1.1),
     ))
     (λ h may. (
       reply.Handle h,

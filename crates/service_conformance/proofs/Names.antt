@@ -41,15 +41,15 @@ pub use Rattle.line_streams.specs.declared.phrase.LineEnd.TheVariants.{Bytes}
 pub use Rattle.service_conformance.specs.Alone.{Answered, Gives, IsBare, IsBounded, IsBoundedRegistry, added_role, handle_named, judged_of}
 pub use Rattle.service_conformance.specs.Calls.{AreRepliesOf, Call, CallStep, ChangesNothing, GivesBelow, HasNumber, HasWords, IsIdleCall, LacksNumber, LeadsOn, ServesCall, answered, at_first, call_of, handle_for}
 pub use Rattle.service_conformance.specs.Dead.{after_dead, goes, is_kept, nodes_if, ports_after, stays, without_node, without_ports}
-pub use Rattle.service_conformance.specs.Entries.{HasAt, IsAt, IsFreePosition, MayGive, Refuses, StandsAt, entry_at, with_left}
-pub use Rattle.service_conformance.specs.Given.{Becomes, GivesNode, GivesNodes, GivesPort, GivesPorts, IsBefore, IsUnused, MayStand, StandsLast, UsedSo, slot_entry, with_last, with_nodes, with_ports, with_used}
+pub use Rattle.service_conformance.specs.Entries.{HasAt, IsAt, IsFreePosition, MayGive, Refuses, StandsAt, slot_entry, with_left}
+pub use Rattle.service_conformance.specs.Given.{Becomes, GivesNode, GivesNodes, GivesPort, GivesPorts, IsBefore, IsUnused, MayStand, StandsLast, UsedSo, with_last, with_nodes, with_ports, with_used}
 pub use Rattle.service_conformance.specs.IdWords.{apart, has_no_space, printed_one, same_id}
 pub use Rattle.service_conformance.specs.Judged.{AreJudgedReplies, CallLeaves, IsIdleJudged, IsWithin, Judged, JudgedStep, WindowStep}
 pub use Rattle.service_conformance.specs.Judged.Judged.{call, stops}
 pub use Rattle.service_conformance.specs.Laws.{IsThere, WeakListingsSeeEnough, looks_through}
 pub use Rattle.service_conformance.specs.Looks.{IsWatched, Look, Watched, ids_in, is_among, lacking, look_after, look_of, looks_after, port_ids, unwatched, watched, without}
-pub use Rattle.service_conformance.specs.Movers.{ChangesAt, IsChange, MovesBeforeCall, MovesBeforeChange}
-pub use Rattle.service_conformance.specs.Possible.{Allows, ArePossible, IsCovered, MayGiveIn, possible_add, reply_in, reply_named, reply_of_owners, reply_of_state}
+pub use Rattle.service_conformance.specs.Movers.{ChangesAt, IsChange, CanPrecede, MovesBeforeCall}
+pub use Rattle.service_conformance.specs.Possible.{Allows, ArePossible, IsCovered, MayGiveIn, possible_add, reply_in, reply_named, reply_of_owners}
 pub use Rattle.service_conformance.specs.Quiet.{CanServe, LeadsTo, Reports, at_rest, is_removal, ports_at_rest, quiet, quiet_state, untouched}
 pub use Rattle.service_conformance.specs.Requests.{request_command}
 pub use Rattle.service_conformance.specs.Seen.{EndsWord, IsToLine, changes_nothing, count_words, list_words, printed_id, seen_text, word_of, word_text}
@@ -66,7 +66,7 @@ pub use Rattle.service_conformance.specs.declared.conformance.possible.PossibleR
 pub use Rattle.service_conformance.specs.declared.conformance.request.Request.{Request}
 pub use Rattle.service_conformance.specs.declared.conformance.seen_reply.ReplyWord.{ReplyWord}
 pub use Rattle.service_conformance.specs.declared.conformance.seen_reply.SeenReply.{SeenReply}
-pub use Rattle.service_descriptions.specs.Cleanups.{CleanedUp, Cleans, ServesDead, action_for}
+pub use Rattle.service_descriptions.specs.Cleanups.{CleanedUp, Cleans, ServesDead, action_for, reply_of_owners as reply_of_state}
 pub use Rattle.service_descriptions.specs.Handles.{KeepsHandles, named}
 pub use Rattle.service_descriptions.specs.Lines.{IsId}
 pub use Rattle.service_descriptions.specs.Replies.{IsSameReply, id_word, port_word, text_of}

@@ -1,6 +1,6 @@
 -- The replies to adds: to registering a node, and to attaching a port.
 use Rattle.service_conformance.proofs.Prelude.{Bool, None, Ok, Option, Some, false, refl, subst, sym, true, ℕ, ◌∙◌, ◌≡◌, Err, Result, arith}
-use Rattle.service_conformance.proofs.Names.{Allows, ArePossible, ContainerAddFailure, IsFull, IsLocked, IsSameReply, IsService, LineReply, OutOfSpace, Refuses, Reply, ServesRegister, Service, TakesEntry, container, possible_add, reply_in, Adds, AddsPort, Handle, HasRole, IsOpenFor, PortDetails, ServesAdd, Side, entries_of_node, node_of, part_at, ports_at, role_at, role_of, with_ports_at}
+use Rattle.service_conformance.proofs.Names.{AddStep, Allows, ArePossible, quiet, ContainerAddFailure, IsFull, IsLocked, IsSameReply, IsService, LineReply, OutOfSpace, Refuses, Reply, ServesRegister, Service, TakesEntry, container, possible_add, reply_in, Adds, AddsPort, Handle, HasRole, IsOpenFor, PortDetails, ServesAdd, Side, entries_of_node, node_of, part_at, ports_at, role_at, role_of, with_ports_at}
 use Rattle.iox2_dynamic.proofs.Keeping.{register_kept}
 use Rattle.service_descriptions.specs.declared.replay.machine.reply.Reply.TheVariants as reply
 use Rattle.service_conformance.specs.declared.conformance.possible.Part.TheVariants as part
@@ -11,7 +11,8 @@ use Rattle.service_conformance.proofs.Adds.{can_give, no_room, was_given}
 use Rattle.service_conformance.proofs.Quiet.{untouching}
 use Rattle.iox2_dynamic.specs.declared.dynamic_config.answers.AttachError.TheVariants as refusal
 use Rattle.iox2_dynamic.proofs.Moving.{attach_kept}
-use Rattle.service_conformance.proofs.Sides.{given_at, has_role, lacks, may_give_at, ports_are, step_at, steps_at}
+use Rattle.service_conformance.proofs.Sides.{given_at, has_role, lacks, may_give_at, ports_are, steps_at}
+use Rattle.service_conformance.proofs.Taking.{Takes, of_ports, taken_at}
 
 pub not_both : (b : Bool) → b ≡ true → b ≡ false → ⊥
 not_both b t f = (let z : true ≡ false = sym t ∙ f in cc)
@@ -110,9 +111,8 @@ module _ (s : Service) (d : PortDetails) where
       (opens : IsOpenFor s (node_of d)) where
     -- the add to the registry of the side
     adds_at : (answer : Result Handle ContainerAddFailure) (new : Service)
-        → AddsPort s d answer new → Adds (ports_at s side) d answer (ports_at new side)
-    adds_at answer new a =
-        step_at s.pattern side s.ports new.ports (role_of d) (λ o n. Adds o d answer n) role a.0
+        → AddsPort s d answer new → Takes (of_ports side) (λ r m. AddStep r d answer m) s (quiet new)
+    adds_at answer new a = taken_at _ (role_of d) s new a.0 a.1 side role
 
     full_only : IsFull (ports_at s side).registry → (r : Reply) (new : Service)
         → ServesAdd s d r new → reply.Full ≡ r
@@ -132,7 +132,7 @@ module _ (s : Service) (d : PortDetails) where
           h,
           refl,
           given_at s side h
-              (was_given (ports_at s side).registry (ports_at new side).registry d h a.step a.kept),
+              (was_given (ports_at s side).registry a.registry d h a.step a.whole),
         )
     given_only takes reply.Locked new so k =
         absurd (not_both s.nodes.registry.locked so.1.0 opens.0)

@@ -1,6 +1,6 @@
 -- The replies to removals: of a node's entry, and of a port.
 use Rattle.service_conformance.proofs.Prelude.{Bool, List, Ok, Some, ap, arith, eq-eqb, false, length, nat_eq, ne_eqb, refl, suc, sym, true, zero, ℕ, ◌+◌, ◌∙◌, ◌≡◌, false_from_ne_true, Err, Result, inl, inr}
-use Rattle.service_conformance.proofs.Names.{ArePossible, DeregisterNodeState, Entry, Handle, HasEntry, InsertsOne, IsRegistry, IsService, IsUnknownHandle, LockIfLastIndex, RegistryState, ReleaseState, RemoveStep, Removes, Reply, ServesDeregister, Service, container, is_last_of_ports, lock_after, release_state, reply_in, reply_of_owners, reply_of_state, state_of, with_left, ContainerHandleNotOwnedByContainer, ContainerRemoveError, Default, PortDetails, Ports, RemovesFrom, RemovesPort, ServesRelease, Side, first_role, of_side, ports_at, role_at, second_role, with_ports_at}
+use Rattle.service_conformance.proofs.Names.{ArePossible, quiet, DeregisterNodeState, Entry, Handle, HasEntry, InsertsOne, IsRegistry, IsService, IsUnknownHandle, LockIfLastIndex, RegistryState, ReleaseState, RemoveStep, Removes, Reply, ServesDeregister, Service, container, is_last_of_ports, lock_after, release_state, reply_in, reply_of_owners, reply_of_state, state_of, with_left, ContainerHandleNotOwnedByContainer, ContainerRemoveError, Default, PortDetails, RemovesFrom, RemovesPort, ServesRelease, Side, first_role, ports_at, role_at, second_role, with_ports_at}
 use Rattle.iox2_container.specs.declared.container.release.ReleaseState.TheVariants as state
 use Rattle.iox2_container.proofs.Gaining.{length-InsertsOne}
 use Rattle.iox2_container.proofs.Handles.{not_foreign}
@@ -15,7 +15,8 @@ use Rattle.service_conformance.proofs.Possibles.{alone, not_both}
 use Rattle.service_conformance.proofs.Quiet.{untouching}
 use Rattle.service_conformance.proofs.Removes.{can_remove}
 use Rattle.iox2_dynamic.proofs.Moving.{release_kept}
-use Rattle.service_conformance.proofs.Sides.{has_role, lacks, ports_are, step_at, steps_at}
+use Rattle.service_conformance.proofs.Sides.{has_role, lacks, ports_are, steps_at}
+use Rattle.service_conformance.proofs.Taking.{Takes, of_ports, taken_at}
 
 -- the entry of a handle is one
 pub one_details : {T : Type 0} (r : RegistryState T) (h : Handle) (a b : T) → IsRegistry r
@@ -144,20 +145,13 @@ module _ (s : Service) (h : Handle) where
 
 module _ (s : Service) (h : Handle) where
   module _ (side : Side) (role : h.role ≡ role_at s.pattern side) where
-    from_at : (answer : Result ReleaseState ContainerRemoveError) (new : Ports)
-        → RemovesFrom (first_role s.pattern) (second_role s.pattern) s.ports h answer new
-        → Removes (of_side side s.ports.first s.ports.second) h Default answer
-        (of_side side new.first new.second)
-    from_at answer new (inl a) =
-        step_at s.pattern side s.ports new h.role (λ o n. Removes o h Default answer n) role a
-    from_at answer new (inr a) =
-        absurd (lacks s.pattern h.role a.0 (has_role s.pattern side h.role role))
-
     -- the removal from the registry of the side
-    pub removes_at : (answer : Result ReleaseState ContainerRemoveError) (new : Service)
+    removes_at : (answer : Result ReleaseState ContainerRemoveError) (new : Service)
         → RemovesPort s h answer new
-        → Removes (ports_at s side) h Default answer (ports_at new side)
-    removes_at answer new a = from_at answer new.ports a.0
+        → Takes (of_ports side) (λ r m. RemoveStep r h Default answer m) s (quiet new)
+    removes_at answer new (inl a, e) = taken_at _ h.role s new a e side role
+    removes_at answer new (inr a, e) =
+        absurd (lacks s.pattern h.role a.0 (has_role s.pattern side h.role role))
 
     unreleased_only : IsUnknownHandle (ports_at s side).registry h → (r : Reply) (new : Service)
         → ServesRelease s (Some h) r new → reply.NotOwned ≡ r

@@ -1,40 +1,37 @@
 -- Lists of entries by rising slot.
-use Rattle.service_conformance.proofs.Prelude.{All, All-head, All-tail, AllPairs, AllPairs-cons, Err, HoldsAt, IfNone, IfSome, IsBinarySearchResult, IsSearchInRange, List, MatchOption, None, Ok, Option, Result, Some, [], ap, arith, cases_lt, get_or, get_or-drop, get_or-take, inl, inr, length, length-drop, length-take, nat_cmp, nat_tests, ordering_index, ranked, result_err, slice_get_cases, subst, sym, ℕ, ◌++◌, ◌+◌, ◌<◌, ◌∷◌, ◌≡◌, ◌≢◌, ◌≤◌}
-use Rattle.service_conformance.proofs.Names.{Entry, HasAt, IsAt, IsFreePosition}
+use Rattle.service_conformance.proofs.Prelude.{All, All-head, All-tail, AllPairs, AllPairs-cons, Err, HoldsAt, IfNone, IfSome, IsBinarySearchResult, IsSearchInRange, List, MatchOption, None, Ok, Option, Result, Some, [], ap, arith, cases_lt, get_or, get_or-drop, get_or-take, inl, inr, length, length-drop, length-take, nat_cmp, nat_tests, ordering_index, ranked, result_err, slice_get_cases, subst, sym, ℕ, ◌++◌, ◌+◌, ◌<◌, ◌∷◌, ◌≡◌, ◌≢◌, ◌≤◌, false_from_ne_true, if◌then◌else◌, lt-ltb, ltb-true, nat_lt, refl, ◌∙◌}
+use Rattle.service_conformance.proofs.Names.{Entry, HasAt, IsAt, IsFreePosition, InsertsOne}
 use Rattle.iox2_container.proofs.Gaining.{AllPairs-head, AllPairs-tail, All-back, All-put}
 
 -- the entries stand by rising slot
 abbrev pub Rise : {T : Type 0} → List (Entry T) → Type 0
 Rise es = AllPairs (λ a b. a.slot < b.slot) es
 
+-- an entry among others by rising slot
+abbrev put : {T : Type 0} → Entry T → List (Entry T) → List (Entry T)
+put x [] = x ∷ []
+put x (y ∷ ys) = if nat_lt x.slot y.slot then x ∷ y ∷ ys else y ∷ put x ys
+
+put_is : {T : Type 0} (b a : List (Entry T)) (x : Entry T) → Rise (b ++ x ∷ a)
+    → b ++ x ∷ a ≡ put x (b ++ a)
+put_is [] [] x r = refl
+put_is {T} [] (y ∷ a) x r =
+    let less =
+    All-head (λ w. x.slot < w.slot) y a
+    (AllPairs-head (λ (v w : Entry T). v.slot < w.slot) x (y ∷ a) r) in
+    rw (lt-ltb x.slot y.slot less) refl
+put_is {T} (y ∷ b) a x r =
+    let R : Entry T → Entry T → Type 0 = λ v w. v.slot < w.slot in
+    let less = All-head (R y) x a (All-back (R y) b (x ∷ a) (AllPairs-head R y (b ++ x ∷ a) r)) in
+    let later = false_from_ne_true (nat_lt x.slot y.slot)
+    (λ t. omega (arith, less, ltb-true x.slot y.slot t)) in
+    rw later (ap (λ (l : List (Entry T)). y ∷ l) (put_is b a x (AllPairs-tail R y (b ++ x ∷ a) r)))
+
 -- an entry has one position among others
-pub one_position : {T : Type 0} (b a c d : List (Entry T)) (x : Entry T) → b ++ a ≡ c ++ d
-    → Rise (b ++ x ∷ a) → Rise (c ++ x ∷ d) → b ++ x ∷ a ≡ c ++ x ∷ d
-one_position {T} [] a [] d x e r s = ap (λ (l : List (Entry T)). x ∷ l) e
-one_position {T} [] a (y ∷ c) d x e r s =
-    let R : Entry T → Entry T → Type 0 = λ v w. v.slot < w.slot in
-    let up : All (R x) (y ∷ (c ++ d)) =
-    subst (λ (l : List (Entry T)). All (R x) l) e (AllPairs-head R x a r) in
-    let one : x.slot < y.slot = All-head (R x) y (c ++ d) up in
-    let other : y.slot < x.slot =
-    All-head (R y) x d (All-back (R y) c (x ∷ d) (AllPairs-head R y (c ++ x ∷ d) s)) in
-    absurd (omega arith)
-one_position {T} (y ∷ b) a [] d x e r s =
-    let R : Entry T → Entry T → Type 0 = λ v w. v.slot < w.slot in
-    let up : All (R x) (y ∷ (b ++ a)) =
-    subst (λ (l : List (Entry T)). All (R x) l) (sym e) (AllPairs-head R x d s) in
-    let one : x.slot < y.slot = All-head (R x) y (b ++ a) up in
-    let other : y.slot < x.slot =
-    All-head (R y) x a (All-back (R y) b (x ∷ a) (AllPairs-head R y (b ++ x ∷ a) r)) in
-    absurd (omega arith)
-one_position {T} (y ∷ b) a (z ∷ c) d x e r s =
-    let R : Entry T → Entry T → Type 0 = λ v w. v.slot < w.slot in
-    let first : y ≡ z = cc in
-    let others : b ++ a ≡ c ++ d = cc in
-    let rest : b ++ x ∷ a ≡ c ++ x ∷ d =
-    one_position b a c d x others (AllPairs-tail R y (b ++ x ∷ a) r)
-    (AllPairs-tail R z (c ++ x ∷ d) s) in
-    cc
+pub one_position : {T : Type 0} (old new : List (Entry T)) (x : Entry T) → InsertsOne old new x
+    → Rise new → new ≡ put x old
+one_position old new x g r =
+    g.new_is ∙ (put_is g.before g.after x (rw g.new_is at r) ∙ ap (put x) (sym g.old_is))
 
 -- where an entry is put between those below and those above, they rise
 pub rise_put : {T : Type 0} (b a : List (Entry T)) (x : Entry T) → Rise (b ++ a)

@@ -1,7 +1,7 @@
 -- What the words of replies say.
-use Rattle.service_conformance.proofs.Prelude.{All-cons, All-head, All-map, All-nil, All-tail, Bool, List, None, Option, Some, [], ap, append-nil, append_cancel_left, arith, codes, cond, decimal, decimal_injective, eq-or-lt_of_le, false, flat_map, get_or, get_or-map, inl, inr, length, length-map, map, refl, subst, suc, sym, take, take_all, true, zero, ℕ, ◌++◌, ◌+◌, ◌<◌, ◌^◌, ◌↔◌, ◌∙◌, ◌∷◌, ◌≡◌, ◌≢◌, ◌≤◌, nil_from_length, same_Some, take_more}
+use Rattle.service_conformance.proofs.Prelude.{All-cons, All-head, All-map, All-nil, All-tail, Bool, List, None, Option, Some, [], ap, append-nil, append_cancel_left, arith, codes, cond, decimal, decimal_injective, false, flat_map, get_or, get_or-map, length, length-map, map, refl, subst, suc, sym, true, ℕ, ◌++◌, ◌+◌, ◌<◌, ◌^◌, ◌↔◌, ◌∙◌, ◌∷◌, ◌≡◌, ◌≢◌, ◌≤◌, nil_from_length, same_Some, drop, length-drop}
 use Rattle.service_conformance.proofs.Names.{Bytes, EndsNumber, EndsWord, Handle, IsId, IsToLine, OthersFit, PortDetails, Reads, Reply, ReplyWord, SeenReply, Spelling, after, apart, changes_nothing, cons_same, count_words, handle_in, handle_words, has_no_space, hexadecimal, id_word, is_removal, line_end, list_words, listed_one, number, others_text, port_of, port_value, port_word, printed_id, printed_one, reply_named, same_id, seen_text, sequence, text_of, word_of, word_text}
-use Rattle.std.proofs.Common.{◌&&◌, All, ◌==◌}
+use Rattle.std.proofs.Common.{drop-cons, ◌&&◌, All, ◌==◌}
 use Rattle.line_streams.specs.Spelling.{listed}
 use Rattle.service_descriptions.specs.declared.replay.machine.reply.Reply.TheVariants as reply
 use Rattle.service_conformance.specs.declared.conformance.seen_reply.ReplyWord.TheVariants as word
@@ -209,84 +209,65 @@ space_first : (ids : List ℕ) → EndsWord (flat_map id_word ids)
 space_first [] = refl
 space_first (id ∷ ids) = refl
 
--- lists with one text have the same ids at each index that was read
-pub differ_at : (xs ys : List ℕ) (i : ℕ) → i < length xs → i < length ys → take i xs ≡ take i ys
-    → IsId (get_or xs i 0) → IsId (get_or ys i 0) → get_or xs i 0 ≢ get_or ys i 0
-    → flat_map id_word xs ≢ flat_map id_word ys
-differ_at [] ys i p q t s u n e = omega (arith, p)
-differ_at (a ∷ xs) [] i p q t s u n e = omega (arith, q)
-differ_at (a ∷ xs) (b ∷ ys) zero p q t s u n e =
-    n (same_id a b s u (apart (hexadecimal a) (hexadecimal b) (flat_map id_word xs)
-    (flat_map id_word ys) (has_no_space a s) (has_no_space b u) (space_first xs) (space_first ys)
-    (cons_same e).1).0)
-differ_at (a ∷ xs) (b ∷ ys) (suc i) p q t s u n e =
-    let both = cons_same t in
-    differ_at xs ys i (omega (arith, p)) (omega (arith, q)) both.1 s u n
-    (append_cancel_left (id_word a) (flat_map id_word xs) (flat_map id_word ys)
-    (e ∙ ap (λ x. id_word x ++ flat_map id_word ys) (sym both.0)))
+-- two lists, not both of which go on, have one text exactly where they have one length
+both_end : (xs ys : List ℕ) → (0 < length xs → 0 < length ys → ⊥)
+    → (length xs ≡ length ys) ↔ (flat_map id_word xs ≡ flat_map id_word ys)
+both_end [] [] end = (λ e. refl, λ e. refl)
+both_end [] (y ∷ ys) end = (λ e. absurd (omega (arith, e)), λ e. absurd (cc))
+both_end (x ∷ xs) [] end = (λ e. absurd (omega (arith, e)), λ e. absurd (cc))
+both_end (x ∷ xs) (y ∷ ys) end = absurd (end (omega arith) (omega arith))
 
--- lists with one text, of which one was read to its end, have one length
-pub same_length : (xs ys : List ℕ) (i : ℕ) → i ≤ length xs → i ≤ length ys
-    → take i xs ≡ take i ys → (i < length xs → i < length ys → ⊥)
-    → flat_map id_word xs ≡ flat_map id_word ys → length xs ≡ length ys
-same_length [] [] i p q t end e = refl
-same_length [] (b ∷ ys) zero p q t end e =
-    absurd (let z : [] ≡ id_word b ++ flat_map id_word ys = e in cc)
-same_length [] (b ∷ ys) (suc i) p q t end e = absurd (omega (arith, p))
-same_length (a ∷ xs) [] zero p q t end e =
-    absurd (let z : id_word a ++ flat_map id_word xs ≡ [] = e in cc)
-same_length (a ∷ xs) [] (suc i) p q t end e = absurd (omega (arith, q))
-same_length (a ∷ xs) (b ∷ ys) zero p q t end e = absurd (end (omega arith) (omega arith))
-same_length (a ∷ xs) (b ∷ ys) (suc i) p q t end e =
-    let both = cons_same t in
-    let rest =
-    same_length xs ys i (omega (arith, p)) (omega (arith, q)) both.1
-    (λ l m. end (omega (arith, l)) (omega (arith, m)))
-    (append_cancel_left (id_word a) (flat_map id_word xs) (flat_map id_word ys)
-    (e ∙ ap (λ x. id_word x ++ flat_map id_word ys) (sym both.0))) in
-    ap suc rest
+next_at : (ids : List ℕ) (i : ℕ) → i < length ids
+    → drop i ids ≡ get_or ids i 0 ∷ drop (i + 1) ids
+next_at ids i h =
+    let next : suc i ≡ i + 1 = omega arith in
+    subst (λ k. drop i ids ≡ get_or ids i 0 ∷ drop k ids) next (drop-cons ids i 0 h)
 
--- the ids of items, and others
-module _ {A : Type 0} (id : A → ℕ) where
-  module _ (xs : List A) (ids : List ℕ) (i : ℕ) where
-    module _ (p : i < length xs) (q : i < length ids)
-        (same : take i (map id xs) ≡ take i ids) (x : A) (is : x ≡ get_or xs i x) (value : ℕ)
-        (has : value ≡ id x) where
-      its_id : get_or (map id xs) i 0 ≡ id x
-      its_id = get_or-map id xs i x 0 p ∙ ap id (sym is)
+-- the ids of items, and others, from an index on
+module _ {A : Type 0} (id : A → ℕ) (xs : List A) (ids : List ℕ) (i : ℕ) where
+  -- what follows has one text
+  abbrev pub AreAlike : Type 0
+  AreAlike = flat_map id_word (drop i (map id xs)) ≡ flat_map id_word (drop i ids)
 
-      within : i < length (map id xs)
-      within = rw (length-map xs id) p
+  module _ (p : i < length xs) (q : i < length ids) (x : A) (is : x ≡ get_or xs i x) (value : ℕ)
+      (has : value ≡ id x) where
+    item_next : drop i (map id xs) ≡ value ∷ drop (i + 1) (map id xs)
+    item_next =
+        next_at (map id xs) i (rw (length-map xs id) p)
+        ∙ ap (λ v. v ∷ drop (i + 1) (map id xs))
+        (get_or-map id xs i x 0 p ∙ (ap id (sym is) ∙ sym has))
 
-      pub ids_differ : IsId value → IsId (get_or ids i 0)
-          → (value ≡ get_or ids i 0 → ⊥)
-          → flat_map id_word (map id xs) ≢ flat_map id_word ids
-      ids_differ small other never =
-          let here : get_or (map id xs) i 0 ≡ value = its_id ∙ sym has in
-          differ_at (map id xs) ids i within q same (subst IsId (sym here) small) other
-          (λ e. never (sym here ∙ e))
+    pub ids_differ : IsId value → IsId (get_or ids i 0) → (value ≡ get_or ids i 0 → ⊥) → ¬ AreAlike
+    ids_differ small other never e =
+        let words = rw (item_next, next_at ids i q) at e in
+        never (same_id value (get_or ids i 0) small other
+        (apart (hexadecimal value) (hexadecimal (get_or ids i 0)) _ _ (has_no_space value small)
+        (has_no_space (get_or ids i 0) other) (space_first (drop (i + 1) (map id xs)))
+        (space_first (drop (i + 1) ids)) (cons_same words).1).0)
 
-      pub ids_go_on : value ≡ get_or ids i 0 → take (i + 1) (map id xs) ≡ take (i + 1) ids
-      ids_go_on e =
-          let here : get_or (map id xs) i 0 ≡ get_or ids i 0 = its_id ∙ (sym has ∙ e) in
-          rw (take_more (map id xs) i 0 within, take_more ids i 0 q, same, here) refl
+    pub ids_go_on : value ≡ get_or ids i 0 → AreAlike
+        ↔ (flat_map id_word (drop (i + 1) (map id xs)) ≡ flat_map id_word (drop (i + 1) ids))
+    ids_go_on e =
+        let here : flat_map id_word (drop i (map id xs))
+        ≡ id_word value ++ flat_map id_word (drop (i + 1) (map id xs)) =
+        ap (flat_map id_word) item_next in
+        let there : flat_map id_word (drop i ids)
+        ≡ id_word value ++ flat_map id_word (drop (i + 1) ids) =
+        ap (flat_map id_word) (next_at ids i q ∙ ap (λ v. v ∷ drop (i + 1) ids) (sym e)) in (
+          λ same. append_cancel_left (id_word value) _ _ (sym here ∙ (same ∙ there)),
+          λ same. here ∙ (ap (λ (l : List ℕ). id_word value ++ l) same ∙ sym there),
+        )
 
-    pub ids_alike : i ≤ length xs → i ≤ length ids → take i (map id xs) ≡ take i ids
-        → (i < length xs → i < length ids → ⊥)
-        → (length xs ≡ length ids) ↔ (flat_map id_word (map id xs) ≡ flat_map id_word ids)
-    ids_alike p q same end = (
-      λ e. elim (eq-or-lt_of_le p) [
-        | inl at ↦ ap (flat_map id_word)
-            (sym (take_all i (map id xs) (omega (arith, at, length-map xs id)))
-            ∙ (same ∙ take_all i ids (omega (arith, at, e))))
-        | inr l ↦ absurd (end l (omega (arith, l, e)))
-      ],
-      λ e.
-          let within : i ≤ length (map id xs) = rw (length-map xs id) p in
-          sym (length-map xs id)
-          ∙ same_length (map id xs) ids i within q same
-          (λ l m. end (rw (length-map xs id) at l) m) e,
-    )
+  pub ids_end : i ≤ length xs → i ≤ length ids → (i < length xs → i < length ids → ⊥)
+      → (length xs ≡ length ids) ↔ AreAlike
+  ids_end p q end =
+      let ends =
+      both_end (drop i (map id xs)) (drop i ids) (λ l m. end
+      (omega (arith, l, length-drop i (map id xs), length-map xs id)) (omega (arith, m, length-drop i ids)))
+      in (
+        λ e. ends.0 (omega (arith, e, length-drop i (map id xs), length-map xs id, length-drop i ids)),
+        λ e. omega (arith, ends.1 e, length-drop i (map id xs), length-map xs id, length-drop i ids),
+      )
 
 -- whether a text says that something changed
 abbrev says_change : List ℕ → Bool

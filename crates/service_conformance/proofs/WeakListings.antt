@@ -1,5 +1,5 @@
 -- Weak listings lack nothing where their replies see enough.
-use Rattle.service_conformance.proofs.Prelude.{AllByRecursion, Bool, Contains, List, [], ap, arith, false, filter, if◌then◌else◌, inl, inr, length, list_any, not, refl, subst, suc, sym, true, zero, ℕ, ◌&&◌, ◌==◌, ◌∙◌, ◌∷◌, ◌≡◌, ◌⊎◌, not-not, eqb-true, Any-from_list_any, list_any-from_Any, and_parts}
+use Rattle.service_conformance.proofs.Prelude.{AllByRecursion, Bool, Contains, List, [], ap, arith, false, filter, inl, inr, length, not, refl, subst, suc, sym, true, zero, ℕ, ◌&&◌, ◌==◌, ◌∙◌, ◌∷◌, ◌≡◌, ◌⊎◌, not-not, eqb-true, and_parts, ◌↔◌}
 use Rattle.service_conformance.proofs.Names.{IsThere, Look, Part, Service, WeakListingsSeeEnough, ids_in, is_among, look_of, looks_after, looks_through, without}
 use Rattle.std.proofs.lemmas.Map.Views.{any-filter_same}
 use Rattle.service_conformance.proofs.Looking.{by_cases, empty_of, seen_of}
@@ -9,57 +9,37 @@ use Rattle.service_conformance.proofs.Possibles.{not_both}
 abbrev Settles : (Service → ℕ → Bool) → List Service → ℕ → Type 0
 Settles Test services id = (s : Service) × Contains services s × (Test s id ≡ true)
 
-module _ (Test : Service → ℕ → Bool) where
-  -- the ids that services settle not, one after the other
-  abbrev left : List Service → List ℕ → List ℕ
-  left [] ids = ids
-  left (s ∷ services) ids = left services (filter (λ id. not (Test s id)) ids)
+module _ (Test : Service → ℕ → Bool) (s : Service) (services : List Service) where
+  later : (id : ℕ) → Settles Test services id → Settles Test (s ∷ services) id
+  later id (x, (k, h, is), t) = (x, (suc k, omega (arith, h), is), t)
 
-  left_none : (services : List Service) → left services [] ≡ []
-  left_none [] = refl
-  left_none (s ∷ services) = left_none services
-
-  abbrev settled : List Service → ℕ → Bool
-  settled services id = list_any (λ s. Test s id) services
-
-  left_one : (services : List Service) (id : ℕ) (ids : List ℕ)
-      → left services (id ∷ ids)
-      ≡ (if settled services id then left services ids else id ∷ left services ids)
-  left_one [] id ids = refl
-  left_one (s ∷ services) id ids =
-      let rest = left_one services id (filter (λ i. not (Test s i)) ids) in
-      by_cases _ (Test s id) (λ t. rw t refl) (λ f. rw f rest)
-
-  settled_by : (services : List Service) (id : ℕ) → settled services id ≡ true
+  not_first : (id : ℕ) → Test s id ≡ false → Settles Test (s ∷ services) id
       → Settles Test services id
-  settled_by services id e =
-      let a = Any-from_list_any (λ s. Test s id) services e in (a.1, (a.0, a.2, a.3), a.4)
+  not_first id f (x, (zero, h, is), t) =
+      absurd (not_both (Test s id) (ap (λ y. Test y id) is ∙ t) f)
+  not_first id f (x, (suc k, h, is), t) = (x, (k, omega (arith, h), is), t)
 
-  settled_one : (services : List Service) (id : ℕ) → Settles Test services id
-      → settled services id ≡ true
-  settled_one services id (s, (k, h, is), t) =
-      list_any-from_Any (λ s. Test s id) services (k, s, h, is, t)
+  -- ids are settled exactly where those are that the first service does not settle
+  settled_rest : (ids : List ℕ) → AllByRecursion (Settles Test (s ∷ services)) ids
+      → AllByRecursion (Settles Test services) (filter (λ id. not (Test s id)) ids)
+  settled_rest [] all = tt
+  settled_rest (id ∷ ids) all =
+      let rest = settled_rest ids all.1 in
+      by_cases _ (Test s id) (λ t. rw t rest) (λ f. rw f (not_first id f all.0, rest))
 
-  -- none is left exactly where each is settled
-  none_left : (services : List Service) (ids : List ℕ) → left services ids ≡ []
-      → AllByRecursion (Settles Test services) ids
-  none_left services [] e = tt
-  none_left services (id ∷ ids) e =
-      by_cases _ (settled services id) (λ t.
-      let same : left services (id ∷ ids) ≡ left services ids =
-      left_one services id ids ∙ rw t refl in
-      (settled_by services id t, none_left services ids (sym same ∙ e))) (λ f.
-      let same : left services (id ∷ ids) ≡ id ∷ left services ids =
-      left_one services id ids ∙ rw f refl in
-      let bars : id ∷ left services ids ≡ [] = sym same ∙ e in
-      absurd (cc))
+  rest_settled : (ids : List ℕ)
+      → AllByRecursion (Settles Test services) (filter (λ id. not (Test s id)) ids)
+      → AllByRecursion (Settles Test (s ∷ services)) ids
+  rest_settled [] all = tt
+  rest_settled (id ∷ ids) all =
+      by_cases _ (Test s id)
+      (λ t. ((s, (0, omega arith, refl), t), rest_settled ids (rw t at all)))
+      (λ f. let both = rw f at all in (later id both.0, rest_settled ids both.1))
 
-  all_settled : (services : List Service) (ids : List ℕ)
-      → AllByRecursion (Settles Test services) ids → left services ids ≡ []
-  all_settled services [] all = left_none services
-  all_settled services (id ∷ ids) all =
-      let t = settled_one services id all.0 in
-      left_one services id ids ∙ (rw t refl ∙ all_settled services ids all.1)
+none_settled : (Test : Service → ℕ → Bool) (ids : List ℕ)
+    → AllByRecursion (Settles Test []) ids → ids ≡ []
+none_settled Test [] all = refl
+none_settled Test (id ∷ ids) all = absurd (omega (arith, all.0.1.1))
 
 abbrev was_there : Part → Service → ℕ → Bool
 was_there p s id = is_among (ids_in s p) id
@@ -75,10 +55,10 @@ looks_none : (services : List Service) → looks_through services [] ≡ []
 looks_none [] = refl
 looks_none (s ∷ services) = looks_none services
 
--- the weak listing lacks nothing exactly where all ids are settled
-record NoneLeft (l : Look) (services : List Service) : Type 0 where
-  pub unseen : left (was_there l.part) services l.unseen ≡ []
-  pub lasting : left (was_away l.part) services l.lasting ≡ []
+-- all ids of a weak listing are settled
+record AreSettled (services : List Service) (l : Look) : Type 0 where
+  pub unseen : AllByRecursion (Settles (was_there l.part) services) l.unseen
+  pub lasting : AllByRecursion (Settles (was_away l.part) services) l.lasting
 
 module _ (s : Service) (l : Look) where
   abbrev next : Look
@@ -87,59 +67,66 @@ module _ (s : Service) (l : Look) where
   abbrev is_over : Bool
   is_over = length next.unseen == 0 && length next.lasting == 0
 
-  next_left : (services : List Service) → NoneLeft next services → NoneLeft l (s ∷ services)
-  next_left services n = record {
-    unseen = n.unseen;
-    lasting = ap (left (was_away l.part) services)
-        (sym (twice_not (is_among (ids_in s l.part)) l.lasting)) ∙ n.lasting;
-  }
+  module _ (services : List Service) where
+    next_settled : AreSettled services next → AreSettled (s ∷ services) l
+    next_settled so = record {
+      unseen = rest_settled (was_there l.part) s services l.unseen so.unseen;
+      lasting = rest_settled (was_away l.part) s services l.lasting
+          (subst (AllByRecursion (Settles (was_away l.part) services))
+          (twice_not (is_among (ids_in s l.part)) l.lasting) so.lasting);
+    }
 
-  left_next : (services : List Service) → NoneLeft l (s ∷ services) → NoneLeft next services
-  left_next services n = record {
-    unseen = n.unseen;
-    lasting = ap (left (was_away l.part) services)
-        (twice_not (is_among (ids_in s l.part)) l.lasting) ∙ n.lasting;
-  }
+    settled_next : AreSettled (s ∷ services) l → AreSettled services next
+    settled_next so = record {
+      unseen = settled_rest (was_there l.part) s services l.unseen so.unseen;
+      lasting = subst (AllByRecursion (Settles (was_away l.part) services))
+          (sym (twice_not (is_among (ids_in s l.part)) l.lasting))
+          (settled_rest (was_away l.part) s services l.lasting so.lasting);
+    }
 
-  over_left : (services : List Service) → is_over ≡ true → NoneLeft next services
-  over_left services t =
-      let both = and_parts (length next.unseen == 0) (length next.lasting == 0) t in
-      record {
-        unseen = ap (left (was_there l.part) services) (empty_of next.unseen both.0)
-            ∙ left_none (was_there l.part) services;
-        lasting = ap (left (was_away l.part) services) (empty_of next.lasting both.1)
-            ∙ left_none (was_away l.part) services;
-      }
+    over_settled : is_over ≡ true → AreSettled services next
+    over_settled t =
+        let both = and_parts (length next.unseen == 0) (length next.lasting == 0) t in
+        record {
+          unseen = subst (AllByRecursion (Settles (was_there l.part) services))
+              (sym (empty_of next.unseen both.0)) tt;
+          lasting = subst (AllByRecursion (Settles (was_away l.part) services))
+              (sym (empty_of next.lasting both.1)) tt;
+        }
 
-  over_now : NoneLeft next [] → is_over ≡ true
-  over_now n = rw (n.unseen, n.lasting) refl
+  settled_over : AreSettled [] next → is_over ≡ true
+  settled_over so =
+      rw (
+        none_settled (was_there l.part) next.unseen so.unseen,
+        none_settled (was_away l.part) next.lasting so.lasting,
+      ) refl
 
-one_next : (s : Service) (l : Look) → is_over s l ≡ false → looks_after s (l ∷ []) ≡ next s l ∷ []
-one_next s l f = rw f refl
+  one_next : is_over ≡ false → looks_after s (l ∷ []) ≡ next ∷ []
+  one_next f = rw f refl
 
-none_next : (s : Service) (l : Look) → is_over s l ≡ true → looks_after s (l ∷ []) ≡ []
-none_next s l t = rw t refl
+  none_next : is_over ≡ true → looks_after s (l ∷ []) ≡ []
+  none_next t = rw t refl
 
-through_left : (s : Service) (services : List Service) (l : Look)
-    → looks_through (s ∷ services) (l ∷ []) ≡ [] → NoneLeft l (s ∷ services)
-through_left s [] l e =
-    by_cases _ (is_over s l) (λ t. next_left s l [] (over_left s l [] t))
-    (λ f. let bars : next s l ∷ [] ≡ [] = sym (one_next s l f) ∙ e in absurd (cc))
-through_left s (x ∷ more) l e =
-    by_cases _ (is_over s l) (λ t. next_left s l (x ∷ more) (over_left s l (x ∷ more) t))
-    (λ f. next_left s l (x ∷ more)
-    (through_left x more (next s l)
-    (ap (λ (o : List Look). looks_through (x ∷ more) o) (sym (one_next s l f)) ∙ e)))
-
-left_through : (s : Service) (services : List Service) (l : Look) → NoneLeft l (s ∷ services)
-    → looks_through (s ∷ services) (l ∷ []) ≡ []
-left_through s [] l n = none_next s l (over_now s l (left_next s l [] n))
-left_through s (x ∷ more) l n =
+-- a weak listing lacks nothing exactly where all its ids are settled
+through : (s : Service) (services : List Service) (l : Look)
+    → (looks_through (s ∷ services) (l ∷ []) ≡ []) ↔ AreSettled (s ∷ services) l
+through s [] l =
     by_cases _ (is_over s l)
-    (λ t. ap (λ (o : List Look). looks_through (x ∷ more) o) (none_next s l t)
-    ∙ looks_none (x ∷ more))
-    (λ f. ap (λ (o : List Look). looks_through (x ∷ more) o) (one_next s l f)
-    ∙ left_through x more (next s l) (left_next s l (x ∷ more) n))
+    (λ t. (λ e. next_settled s l [] (over_settled s l [] t), λ so. none_next s l t)) (λ f. (
+      λ e. (let bars : next s l ∷ [] ≡ [] = sym (one_next s l f) ∙ e in absurd (cc)),
+      λ so. absurd (not_both (is_over s l) (settled_over s l (settled_next s l [] so)) f),
+    ))
+through s (x ∷ more) l =
+    by_cases _ (is_over s l) (λ t. (
+      λ e. next_settled s l (x ∷ more) (over_settled s l (x ∷ more) t),
+      λ so. ap (λ (o : List Look). looks_through (x ∷ more) o) (none_next s l t)
+          ∙ looks_none (x ∷ more),
+    )) (λ f.
+    let rest = through x more (next s l) in
+    let same = ap (λ (o : List Look). looks_through (x ∷ more) o) (one_next s l f) in (
+      λ e. next_settled s l (x ∷ more) (rest.0 (sym same ∙ e)),
+      λ so. same ∙ rest.1 (settled_next s l (x ∷ more) so),
+    ))
 
 one_of : (P : ℕ → Type 0) (ids : List ℕ) (id : ℕ) → AllByRecursion P ids
     → is_among ids id ≡ true → P id
@@ -192,24 +179,20 @@ enough number p reply first others =
     let l = look_of number p reply first in
     let Away = Settles (was_away p) services in (
       λ none.
-          let n = through_left first others l none in
-          let away = none_left (was_away p) services l.lasting n.lasting in
+          let n = (through first others l).0 none in
           record {
-            seen = none_left (was_there p) services reply n.unseen;
+            seen = n.unseen;
             lasting = λ id all. by_cases _ (is_among reply id) (λ t. t) (λ f.
-                let one = kept_one Away reply (ids_in first p) id away all.0 f in
+                let one = kept_one Away reply (ids_in first p) id n.lasting all.0 f in
                 let here = all_there p id services one.0 all one.1 in
-                let away : not (is_among (ids_in one.0 p) id) ≡ true = one.2 in
-                absurd (let z : false ≡ true = sym (ap not here) ∙ away in cc));
+                absurd (not_both (not (is_among (ids_in one.0 p) id)) one.2 (ap not here)));
           },
-      λ so.
-          left_through first others l (record {
-            unseen = all_settled (was_there p) services reply so.seen;
-            lasting = all_settled (was_away p) services l.lasting
-                (kept_all Away reply (ids_in first p) (λ id f.
-                elim (there_or_away p id services) [
-                  | inl all ↦ absurd (not_both (is_among reply id) (so.lasting id all) f)
-                  | inr away ↦ away
-                ]));
-          }),
+      λ so. (through first others l).1 (record {
+        unseen = so.seen;
+        lasting = kept_all Away reply (ids_in first p) (λ id f.
+            elim (there_or_away p id services) [
+              | inl all ↦ absurd (not_both (is_among reply id) (so.lasting id all) f)
+              | inr away ↦ away
+            ]);
+      }),
     )

@@ -1,8 +1,7 @@
 -- What words tell.
-use Rattle.service_conformance.proofs.Prelude.{All-map, List, None, Option, Some, Vec, [], ap, append-nil, append_assoc, append_cancel_left, arith, codes, decimal, decimal_injective, map, refl, subst, sym, ℕ, ◌++◌, ◌+◌, ◌<◌, ◌^◌, ◌∙◌, ◌∷◌, ◌≡◌, ◌≢◌, get_or-map, length-map}
-use Rattle.service_conformance.proofs.Names.{AllowsWords, ArePossible, ArePossibleWords, ByPort, Bytes, Command, EndsNumber, Entry, Handle, IsCovered, IsNextHandle, IsNextIn, IsSameReply, MayGive, MayGiveIn, NextHandle, Part, PortDetails, RegistryState, Reply, Request, Serves, ServesDeregister, ServesRelease, Service, Spelling, ReadsReplyHandle, after, cons_same, handle_words, line_end, named, number_one, request_command, sequence, text_of}
+use Rattle.service_conformance.proofs.Prelude.{All-map, List, None, Option, Some, [], ap, append-nil, append_assoc, append_cancel_left, arith, codes, decimal, decimal_injective, map, refl, subst, sym, ℕ, ◌++◌, ◌+◌, ◌<◌, ◌^◌, ◌∙◌, ◌∷◌, ◌≡◌, ◌≢◌, get_or-map, length-map, false, inl, inr, ◌⊎◌}
+use Rattle.service_conformance.proofs.Names.{AllowsWords, ArePossible, ArePossibleWords, Bytes, EndsNumber, Entry, Handle, IsCovered, IsNextHandle, IsNextIn, IsSameReply, MayGive, MayGiveIn, NextHandle, Part, RegistryState, Reply, Request, Service, Spelling, ReadsReplyHandle, after, cons_same, handle_words, line_end, number_one, request_command, sequence, text_of, handle_in, is_removal}
 use Rattle.std.proofs.Common.{All}
-use Rattle.service_descriptions.specs.declared.replay.machine.command.Command.TheVariants as command
 use Rattle.service_descriptions.specs.declared.replay.machine.reply.Reply.TheVariants as reply
 use Rattle.service_descriptions.proofs.Lines.{any_fits, any_number}
 use Rattle.service_conformance.specs.declared.conformance.possible.Part.TheVariants as part
@@ -17,28 +16,34 @@ spaced slot ticket =
     ap (λ (l : List ℕ). codes "handle " ++ l)
     (append_assoc (decimal slot) (32 ∷ []) (decimal ticket))
 
+-- handles with the same parts are the same
+pub one_handle : (h k : Handle) → h.service ≡ k.service → h.role ≡ k.role → h.slot ≡ k.slot
+    → h.ticket ≡ k.ticket → h ≡ k
+one_handle h k a b c d =
+    let same : h ≡ record { service = k.service; role = k.role; slot = k.slot; ticket = k.ticket } =
+    rw (← a, ← b, ← c, ← d) refl in
+    same
+
 -- handles of one slot that may be given are the same
 pub same_handle : {T : Type 0} (r : RegistryState T) (h k : Handle) → MayGive r h → MayGive r k
     → h.slot ≡ k.slot → h ≡ k
 same_handle r h k m n e =
-    let same : k ≡ record { service = r.service; role = r.role; slot = h.slot; ticket = r.used } =
-    rw (e, ← n.service, ← n.role, ← n.ticket) refl in
-    rw (same, ← m.service, ← m.role, ← m.ticket) refl
+    one_handle h k (m.service ∙ sym n.service) (m.role ∙ sym n.role) e (m.ticket ∙ sym n.ticket)
 
 pub same_reply : (r : Reply) → IsSameReply r r
 same_reply (reply.Nodes ids) = refl
 same_reply (reply.Ports ports) = refl
 same_reply _ = refl
 
-is_nodes : (ids : Vec ℕ) (r : Reply) → IsSameReply (reply.Nodes ids) r
-    → (other : Vec ℕ) × (r ≡ reply.Nodes other) × (ids.items ≡ other.items)
-is_nodes ids (reply.Nodes other) e = (other, refl, e)
-is_nodes ids _ e = absurd (cc)
+-- the reply gives no handle, and is of no removal
+abbrev pub IsPlain : Reply → Type 0
+IsPlain r = (handle_in r ≡ None) × (is_removal r ≡ false)
 
-is_ports : (ports : Vec PortDetails) (r : Reply) → IsSameReply (reply.Ports ports) r
-    → (other : Vec PortDetails) × (r ≡ reply.Ports other) × (ports.items ≡ other.items)
-is_ports ports (reply.Ports other) e = (other, refl, e)
-is_ports ports _ e = absurd (cc)
+-- replies that are the same are equal, or lists
+pub same_or_plain : (r q : Reply) → IsSameReply r q → (r ≡ q) ⊎ (IsPlain r × IsPlain q)
+same_or_plain (reply.Nodes ids) (reply.Nodes other) e = inr ((refl, refl), (refl, refl))
+same_or_plain (reply.Ports ports) (reply.Ports other) e = inr ((refl, refl), (refl, refl))
+same_or_plain _ _ e = inl e
 
 -- the slots, and what follows them, in one text are the same
 slot_and_rest : (s t u v : ℕ) → s < 2 ^ 64 → u < 2 ^ 64 → handle_words s t ≡ handle_words u v
@@ -174,52 +179,6 @@ pub neither : (Has : Option Handle → Type 0) → ¬ (Has None) → ((h : Handl
     → (h : Option Handle) → ¬ (Has h)
 neither Has none some None = none
 neither Has none some (Some h) = some h
-
-module _ (s new : Service) (handles : List (Option Handle)) where
-  nodes_step : (c : Command) → IsCovered c → (ids other : Vec ℕ) → ids.items ≡ other.items
-      → Serves s None handles c (reply.Nodes other) new
-      → Serves s None handles c (reply.Nodes ids) new
-  nodes_step command.Nodes i ids other e so = (e ∙ so.0, so.1)
-  nodes_step (command.Register id) i ids other e so = absurd so
-  nodes_step (command.Deregister k) i ids other e so =
-      absurd (neither (λ h. ServesDeregister s h (reply.Nodes other) new) (λ n. n) (λ h n. n)
-      (named handles k) so)
-  nodes_step (command.Add d) i ids other e so = absurd so
-  nodes_step (command.Release k) i ids other e so =
-      absurd (neither (λ h. ServesRelease s h (reply.Nodes other) new) (λ n. n) (λ h n. n)
-      (named handles k) so)
-  nodes_step (command.List role) i ids other e so = absurd so.0
-  nodes_step (command.Count role) i ids other e so = absurd so.0
-  nodes_step (command.Dead dead (ByPort kept)) i ids other e so = absurd so
-  nodes_step _ i ids other e so = absurd i
-
-  ports_step : (c : Command) → IsCovered c → (ports other : Vec PortDetails)
-      → ports.items ≡ other.items → Serves s None handles c (reply.Ports other) new
-      → Serves s None handles c (reply.Ports ports) new
-  ports_step command.Nodes i ports other e so = absurd so.0
-  ports_step (command.Register id) i ports other e so = absurd so
-  ports_step (command.Deregister k) i ports other e so =
-      absurd (neither (λ h. ServesDeregister s h (reply.Ports other) new) (λ n. n) (λ h n. n)
-      (named handles k) so)
-  ports_step (command.Add d) i ports other e so = absurd so
-  ports_step (command.Release k) i ports other e so =
-      absurd (neither (λ h. ServesRelease s h (reply.Ports other) new) (λ n. n) (λ h n. n)
-      (named handles k) so)
-  ports_step (command.List role) i ports other e so = (rw e so.0, so.1)
-  ports_step (command.Count role) i ports other e so = absurd so.0
-  ports_step (command.Dead dead (ByPort kept)) i ports other e so = absurd so
-  ports_step _ i ports other e so = absurd i
-
-  -- the same reply has the same steps
-  pub same_step : (c : Command) → IsCovered c → (r q : Reply) → IsSameReply r q
-      → Serves s None handles c q new → Serves s None handles c r new
-  same_step c i (reply.Nodes ids) q e so =
-      let a = is_nodes ids q e in
-      nodes_step c i ids a.0 a.2 (subst (λ q. Serves s None handles c q new) a.1 so)
-  same_step c i (reply.Ports ports) q e so =
-      let a = is_ports ports q e in
-      ports_step c i ports a.0 a.2 (subst (λ q. Serves s None handles c q new) a.1 so)
-  same_step c i _ q e so = subst (λ r. Serves s None handles c r new) (sym e) so
 
 -- a command that was called is one whose replies are known
 pub request_covered : (a : Request) → IsCovered (request_command a)

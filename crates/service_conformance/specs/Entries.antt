@@ -8,10 +8,9 @@ pub record IsFreePosition {T : Type 0} (es : List (Entry T)) (slot position : �
   pub below : All (λ e. e.slot < slot) (take position es)
   pub above : All (λ e. slot < e.slot) (drop position es)
 
--- an entry with the slot and the ticket of a handle
-abbrev pub entry_at : {T : Type 0} → Handle → T → Entry T
-entry_at handle details =
-    record { slot = handle.slot; ticket = handle.ticket; details = details }
+-- details in a slot, and the ticket that they were given
+abbrev pub slot_entry : {T : Type 0} → ℕ → ℕ → T → Entry T
+slot_entry slot ticket details = record { slot = slot; ticket = ticket; details = details }
 
 -- the entry has this slot and this ticket
 abbrev pub IsAt : {T : Type 0} → ℕ → ℕ → Entry T → Type 0

@@ -1,6 +1,7 @@
 -- What is given of a service that was in use.
 use Rattle.std.specs.Prelude.{◌++◌, ◌<◌, ◌∷◌, ◌≡◌, ◌≢◌, All, Bool, [], false, true, ℕ}
 use Rattle.service_conformance.specs.Prelude.{Entry, IsRegistry, IsService, PortDetails, RegistryState, Role, Service, Side, container, role_at, role_of}
+use Rattle.service_conformance.specs.Entries.{slot_entry}
 use Rattle.service_conformance.specs.Sides.{ports_at, with_ports_at}
 
 -- the registry is as a new one
@@ -16,10 +17,6 @@ with_used r used locked = record r { used = used; locked = locked }
 -- the registry with one more entry behind the others
 abbrev pub with_last : {T : Type 0} → RegistryState T → Entry T → RegistryState T
 with_last r e = record r { entries = r.entries ++ e ∷ [] }
-
--- details in a slot, and the ticket that they were given
-abbrev pub slot_entry : {T : Type 0} → ℕ → ℕ → T → Entry T
-slot_entry slot ticket details = record { slot = slot; ticket = ticket; details = details }
 
 -- the entry stands before this slot, and has another ticket
 pub record IsBefore {T : Type 0} (slot ticket : ℕ) (e : Entry T) : Type 0 where

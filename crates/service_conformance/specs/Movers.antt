@@ -1,5 +1,5 @@
 -- Calls that can be made before others, wherever they can be made right after them.
-use Rattle.std.specs.Prelude.{◌≡◌, List, Option, Some, ℕ}
+use Rattle.std.specs.Prelude.{◌≡◌, ◌≢◌, List, Option, Some, ℕ}
 use Rattle.service_conformance.specs.Prelude.{Handle, PortDetails, node_of, role_of}
 use Rattle.service_descriptions.specs.declared.replay.machine.command.Command.TheVariants as command
 use Rattle.service_conformance.specs.declared.conformance.mover.Change.{Change}
@@ -36,9 +36,20 @@ MovesBeforeCall c other =
     (old mid new : Watched) → CallLeaves other old mid → CallLeaves c mid new
     → (m : Watched) × CallLeaves c old m × CallLeaves other m new
 
--- the same of all calls with these changes
-pub record MovesBeforeChange (change by : Change) : Type 0 where
-  pub moves : (c other : Call) → IsChange change c → IsChange by other → MovesBeforeCall c other
+-- a call with the first change moves before one with the second
+abbrev pub CanPrecede : Change → Change → Type 0
+CanPrecede change.NodeRemoved change.NodeRemoved = Unit {0}
+CanPrecede (change.PortRemoved role) change.NodeRemoved = Unit {0}
+CanPrecede (change.PortRemoved role) (change.PortRemoved to) = Unit {0}
+CanPrecede (change.PortRemoved role) (change.NodeRegistered id) = Unit {0}
+CanPrecede (change.PortRemoved role) (change.PortAdded to node) = role ≢ to
+CanPrecede (change.NodeRegistered id) (change.PortRemoved role) = Unit {0}
+CanPrecede (change.NodeRegistered id) (change.PortAdded role node) = Unit {0}
+CanPrecede (change.PortAdded role node) change.NodeRemoved = Unit {0}
+CanPrecede (change.PortAdded role node) (change.NodeRegistered id) = node ≢ id
+CanPrecede (change.PortAdded role node) (change.PortRemoved to) = role ≢ to
+CanPrecede (change.PortAdded role node) (change.PortAdded to other) = role ≢ to
+CanPrecede _ _ = ⊥
 
 -- it is a call that makes the change
 abbrev pub MakesChange : Change → Judged → Type 0

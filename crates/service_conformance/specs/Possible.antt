@@ -1,7 +1,6 @@
 -- The replies that a run could give.
 use Rattle.std.specs.Prelude.{◌≡◌, Bool, None, Option, Some, false, true}
-use Rattle.service_conformance.specs.Prelude.{ByPort, Command, ContainerAddFailure, DeregisterNodeState, Handle, IsLocked, IsSameReply, IsService, OutOfSpace, Reply, Service}
-use Rattle.iox2_dynamic.specs.declared.dynamic_config.answers.DeregisterNodeState.TheVariants as nodes
+use Rattle.service_conformance.specs.Prelude.{ByPort, Command, ContainerAddFailure, Handle, IsLocked, IsSameReply, IsService, OutOfSpace, Reply, Service}
 use Rattle.service_descriptions.specs.declared.replay.machine.command.Command.TheVariants as command
 use Rattle.service_descriptions.specs.declared.replay.machine.reply.Reply.TheVariants as reply
 use Rattle.service_conformance.specs.declared.conformance.line_reply.LineReply.{LineReply}
@@ -62,11 +61,6 @@ possible_add (Some OutOfSpace) in_part = possible.One (line.Word word.Full)
 abbrev pub reply_of_owners : Bool → LineReply
 reply_of_owners true = line.Word word.NoMoreOwners
 reply_of_owners false = line.Word word.HasOwners
-
--- the reply that says so
-abbrev pub reply_of_state : DeregisterNodeState → Reply
-reply_of_state nodes.NoMoreOwners = reply.NoMoreOwners
-reply_of_state nodes.HasOwners = reply.HasOwners
 
 -- a command whose possible replies are known
 abbrev pub IsCovered : Command → Type 0

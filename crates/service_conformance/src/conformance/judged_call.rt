@@ -3,7 +3,7 @@ ghost use Rattle.std.specs.Option.{option_map};
 ghost use Rattle.std.specs.Prelude.{◌≡◌, ℕ, IfOk, IfSome, IsTrue, None, OnErr, OnOk, map};
 ghost use Rattle.histories.specs.Frontier.{IsMade, states_in};
 ghost use Rattle.histories.specs.Histories.{AreAll};
-ghost use Rattle.service_conformance.specs.Judged.{AreJudgedReplies, IsIdleJudged, IsList, JudgedStep};
+ghost use Rattle.service_conformance.specs.Judged.{AreJudgedReplies, IsIdleJudged, JudgedStep};
 ghost use Rattle.service_conformance.specs.Judged.{MayStop, StartsLook, ids_seen, judged_answered};
 ghost use Rattle.service_conformance.specs.Judged.{role_added, shown, stopped};
 ghost use Rattle.service_conformance.specs.Judged.Judged.{call, starts, stops};
@@ -74,14 +74,6 @@ fn ids_seen(alloc: Global, reply: &SeenReply) -> Result<Vec<u128>, AllocError>
     }
 }
 
-/// Whether the reply is a list.
-fn is_list(reply: &SeenReply) -> bool
-    ensures yes { IsTrue result → IsList reply.now }
-    ensures no { IsList reply.now → IsTrue result }
-{
-    matches!(reply, SeenReply::List(_))
-}
-
 /// Whether the weak listing that began with this number may stop.
 fn may_stop(state: &WatchedService, start: usize, reply: &Option<SeenReply>) -> bool
     ensures yes { IsTrue result → MayStop start reply.now state.now }
@@ -89,7 +81,8 @@ fn may_stop(state: &WatchedService, start: usize, reply: &Option<SeenReply>) -> 
 {
     match reply {
         None => true,
-        Some(reply) => is_list(reply) && state.lacks_nothing(start),
+        Some(SeenReply::List(_)) => state.lacks_nothing(start),
+        Some(_) => false,
     }
 }
 

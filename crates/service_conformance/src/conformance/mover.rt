@@ -1,7 +1,7 @@
 //! Calls that can be made before others, wherever they can be made right after them.
-ghost use Rattle.std.specs.Prelude.{◌≢◌, IfSome, IsTrue, Some};
+ghost use Rattle.std.specs.Prelude.{IfSome, IsTrue, Some};
 ghost use Rattle.service_conformance.specs.Requests.{request_command, request_handle};
-ghost use Rattle.service_conformance.specs.Movers.{IsChange, MovesBeforeChange};
+ghost use Rattle.service_conformance.specs.Movers.{CanPrecede, IsChange};
 ghost use Rattle.service_conformance.specs.Seen.{seen_text};
 
 use super::request::Request;
@@ -47,32 +47,24 @@ pub(super) fn change_of(request: &Request, seen: &SeenReply) -> Option<Change>
     }
 }
 
-/// Whether two roles are not the same. Ports of two roles stand in two registries.
-fn differ(role: Role, other: Role) -> bool
-    ensures { IsTrue result → role ≢ other }
-{
-    role != other
-}
-
 impl Change {
     /// Whether a call with this change, wherever it can be made right after one with the other
     /// change, can be made right before it, and both leave the same. A no says nothing.
-    #[tactic(auto, using(crate::proofs::Moving::movers))]
     pub(super) fn moves_before(self, other: Change) -> bool
-        ensures { IsTrue result → MovesBeforeChange self other }
+        ensures { IsTrue result → CanPrecede self other }
     {
         match (self, other) {
             (Change::NodeRemoved, Change::NodeRemoved) => true,
             (Change::PortRemoved(_), Change::NodeRemoved) => true,
             (Change::PortRemoved(_), Change::PortRemoved(_)) => true,
             (Change::PortRemoved(_), Change::NodeRegistered(_)) => true,
-            (Change::PortRemoved(role), Change::PortAdded(added, _)) => differ(role, added),
+            (Change::PortRemoved(role), Change::PortAdded(added, _)) => role != added,
             (Change::NodeRegistered(_), Change::PortRemoved(_)) => true,
             (Change::NodeRegistered(_), Change::PortAdded(_, _)) => true,
             (Change::PortAdded(_, _), Change::NodeRemoved) => true,
-            (Change::PortAdded(role, _), Change::PortRemoved(removed)) => differ(role, removed),
+            (Change::PortAdded(role, _), Change::PortRemoved(removed)) => role != removed,
             (Change::PortAdded(_, node), Change::NodeRegistered(id)) => node != id,
-            (Change::PortAdded(role, _), Change::PortAdded(added, _)) => differ(role, added),
+            (Change::PortAdded(role, _), Change::PortAdded(added, _)) => role != added,
             _ => false,
         }
     }

@@ -10,16 +10,16 @@ ghost use Rattle.iox2_container.specs.declared.container.release.ReleaseState.{R
 ghost use Rattle.iox2_dynamic.specs.Details.{node_of};
 ghost use Rattle.iox2_dynamic.specs.Service.{entries_of_node};
 ghost use Rattle.service_conformance.specs.Dead.{stays, without_node, without_ports};
-ghost use Rattle.service_conformance.specs.Entries.{MayGive, Refuses, StandsAt};
+ghost use Rattle.service_conformance.specs.Entries.{MayGive, Refuses, StandsAt, slot_entry};
 ghost use Rattle.service_conformance.specs.Given.{Becomes, IsBefore, IsUnused, MayStand, StandsLast};
-ghost use Rattle.service_conformance.specs.Given.{UsedSo, slot_entry};
+ghost use Rattle.service_conformance.specs.Given.{UsedSo};
 ghost use Rattle.service_conformance.specs.Hashes.{entries_hash};
 ghost use Rattle.service_conformance.specs.Words.{IsNextHandle, ReadsReplyHandle, handle_words};
 
 use super::possible::NextHandle;
 use super::same::{Same, are_same};
 use super::slot_entry::{
-    SlotEntry, details_of, entries_hash, free_position, position_with, put, slots_of,
+    SlotEntry, details_of, entries_hash, free_position, position_with, slots_of,
 };
 use iox2_container::container::{ContainerAddFailure, ContainerHandle, ReleaseMode, Role};
 use iox2_dynamic::dynamic_config::PortDetails;
@@ -206,10 +206,19 @@ impl<T: Copy> RegistryCheck<T> {
         ensures err { OnErr result (self.new ≡ self.old) }
         ensures kept { IsRegistry self.new }
     {
-        let Some(position) = free_position(&self.entries, handle.slot()) else {
+        let slot = handle.slot();
+        let Some(position) = free_position(&self.entries, slot) else {
             return Ok(());
         };
-        put(&mut self.entries, position, handle, details)?;
+        let ticket = handle.ticket();
+        self.entries.insert(
+            position,
+            SlotEntry {
+                slot,
+                ticket,
+                details,
+            },
+        )?;
         self.used += 1;
         Ok(())
     }

@@ -153,8 +153,7 @@ impl SeenCall {
         slot: usize,
         found: &mut Vec<ServiceCheck>,
     ) -> Result<(), AllocError>
-        requires covered { IsCovered self.now.command }
-        requires all { ArePossible state.now (ServesCall self.now state.now) (possible.Given part) }
+        requires { ArePossible state.now (ServesCall self.now state.now) (possible.Given part) }
         ensures { OnOk result (AreAll (GivesBelow self.now state.now part slot) found.old.items
             → AreAll (GivesBelow self.now state.now part (slot + 1)) found.new.items) }
     {
@@ -174,7 +173,6 @@ impl SeenCall {
         part: Part,
     ) -> Result<Vec<ServiceCheck>, AllocError>
         requires words { self.now.words ≡ None }
-        requires covered { IsCovered self.now.command }
         requires all { ArePossible state.now (ServesCall self.now state.now) (possible.Given part) }
         ensures { IfOk result (λ found. AreAll (CallStep self.now state.now) found.items) }
     {

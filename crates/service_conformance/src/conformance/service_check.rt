@@ -205,9 +205,7 @@ impl ServiceCheck {
     fn has_left(&self, dead: &UniqueNodeId, kept: &[u128]) -> bool
         ensures { result ≡ has_ports_of dead.now (ports_after self.now dead.now kept.now) }
     {
-        let first = self.ports(true);
-        let second = self.ports(false);
-        has_left_in(first, second, dead, kept)
+        has_left_in(&self.first, &self.second, dead, kept)
     }
 
     /// Whether the service is locked once a dead node was removed, where the ports of these values

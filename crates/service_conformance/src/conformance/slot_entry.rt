@@ -1,15 +1,13 @@
 //! Entries by rising slot.
-ghost use Rattle.std.specs.Prelude.{◌≡◌, ◌≢◌, ◌<◌, ◌≤◌, All, AllPairs, IfNone, IfSome, OnOk, OnErr};
-ghost use Rattle.std.specs.Prelude.{◌↔◌, IfOk, IsTrue, length, map};
-ghost use Rattle.std.specs.List.{insert};
+ghost use Rattle.std.specs.Prelude.{◌≡◌, ◌≢◌, ◌<◌, All, AllPairs, IfNone, IfSome};
+ghost use Rattle.std.specs.Prelude.{◌↔◌, IfOk, IsTrue, map};
 ghost use Rattle.iox2_container.specs.Steps.{is_of};
 ghost use Rattle.iox2_dynamic.specs.Details.{node_of};
 ghost use Rattle.service_conformance.specs.Dead.{goes, is_kept, stays};
-ghost use Rattle.service_conformance.specs.Entries.{HasAt, IsAt, IsFreePosition, entry_at};
+ghost use Rattle.service_conformance.specs.Entries.{HasAt, IsAt, IsFreePosition};
 ghost use Rattle.service_conformance.specs.Hashes.{entries_hash};
 
 use super::same::Same;
-use iox2_container::container::ContainerHandle;
 use iox2_dynamic::dynamic_config::PortDetails;
 use iox2_ids::identifiers::UniqueNodeId;
 use std::alloc::{AllocError, Global};
@@ -79,31 +77,6 @@ pub(super) fn free_position<T: Copy>(entries: &[SlotEntry<T>], slot: usize) -> O
 {
     let found = entries.binary_search_by_key(&slot, |entry| entry.slot());
     found.err()
-}
-
-/// Puts an entry with the slot and the ticket of the handle in the position.
-pub(super) fn put<T: Copy>(
-    entries: &mut Vec<SlotEntry<T>>,
-    position: usize,
-    handle: ContainerHandle,
-    details: T,
-) -> Result<(), AllocError>
-    requires { position ≤ length entries.old.items }
-    ensures ok { OnOk result (entries.new.items ≡
-        insert entries.old.items position (entry_at handle details)) }
-    ensures err { OnErr result (entries.new.items ≡ entries.old.items) }
-{
-    let slot = handle.slot();
-    let ticket = handle.ticket();
-    entries.insert(
-        position,
-        SlotEntry {
-            slot,
-            ticket,
-            details,
-        },
-    )?;
-    Ok(())
 }
 
 /// The position of the entry with this slot and this ticket, or `None` where there is none.

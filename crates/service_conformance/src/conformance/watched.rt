@@ -95,14 +95,6 @@ fn lacking(alloc: Global, looks: &[OpenLook], start: usize) -> Result<PossibleLi
     })
 }
 
-/// Whether no weak listing with this number lacks something.
-fn lacks_nothing(looks: &[OpenLook], start: usize) -> bool
-    ensures yes { IsTrue result → LacksNothing looks.now start }
-    ensures no { LacksNothing looks.now start → IsTrue result }
-{
-    looks.iter().all(|look| look.number() != start)
-}
-
 impl WatchedService {
     /// A copy of the service, at which no weak listing looks.
     pub fn new(alloc: Global, service: &ServiceCheck) -> Result<Self, AllocError>
@@ -196,7 +188,7 @@ impl WatchedService {
         ensures yes { IsTrue result → LacksNothing self.now.looks start }
         ensures no { LacksNothing self.now.looks start → IsTrue result }
     {
-        lacks_nothing(&self.looks, start)
+        self.looks.iter().all(|look| look.number() != start)
     }
 
     /// What the weak listing with this number lacks.

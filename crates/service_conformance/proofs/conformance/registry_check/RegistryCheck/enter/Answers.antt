@@ -9,7 +9,7 @@ invariant_of-self-2 g c =
     subst IsRegistry
     (sym (with_entry_is _ r c.in-Some.position c.args.handle c.args.details _ c.self.view_is
     c.requires.may
-    c.in_ok-put.ensures.ok))
+    (rw (c.slot-slot.ensures, c.ticket-ticket.ensures) at c.in_ok-insert.ensures.items)))
     (given r c.args.details c.args.handle c.in-Some.position
     (subst IsRegistry c.self.view_is c.self.invariant)
     c.requires.takes c.requires.may (search rules)).1

@@ -4,6 +4,6 @@ use Rattle.service_conformance.proofs.conformance.service_check.ServiceCheck.has
 
 pub returns : goal.returns
 returns c =
-    c.has_left_in.ensures
-    ∙ some_left c.args.self.now c.args.dead.now c.args.kept.now c.ports-first.result.now
-    c.ports-second.result.now c.ports-first.ensures.ports c.ports-second.ensures.ports
+    rw (← c.self.view_is)
+    (c.has_left_in.ensures ∙ some_left c.args.dead.now c.args.kept.now c.self.inside.first
+    c.self.inside.second)

@@ -1,0 +1,76 @@
+-- Steps of a service, by the registry that takes them.
+use Rattle.service_conformance.proofs.Prelude.{ap, subst, ℕ, ◌∙◌, ◌≡◌}
+use Rattle.service_conformance.proofs.Names.{Changes, ContainerState, First, IsRegistry, OnSide, PortDetails, RegistryState, Role, Second, Service, Side, at_rest, first_role, of_side, other_side, ports_at, quiet, role_at, second_role}
+use Rattle.service_conformance.proofs.Sides.{one_side}
+
+-- a registry of a service: where it stands, and the service with another one there
+pub record Place (T : Type 0) : Type 0 where
+  pub at : Service → RegistryState T
+  pub put : Service → RegistryState T → Service
+
+abbrev pub with_nodes : Service → RegistryState ℕ → Service
+with_nodes s nodes = at_rest s.pattern nodes s.ports.first.registry s.ports.second.registry
+
+abbrev pub of_nodes : Place ℕ
+of_nodes = record { at = λ (s : Service). s.nodes.registry; put = with_nodes }
+
+-- a service with another registry of one kind of ports
+abbrev pub at_side : Side → Service → RegistryState PortDetails → Service
+at_side side s m =
+    at_rest s.pattern s.nodes.registry (of_side side m s.ports.first.registry)
+    (of_side side s.ports.second.registry m)
+
+abbrev pub of_ports : Side → Place PortDetails
+of_ports side = record { at = λ (s : Service). (ports_at s side).registry; put = at_side side }
+
+-- the registry in a place takes a step
+pub record Takes {T : Type 0} (p : Place T) (Step : RegistryState T → RegistryState T → Type 0)
+    (s t : Service) : Type 0 where
+  pub registry : RegistryState T
+  pub step : Step (p.at s) registry
+  pub whole : IsRegistry registry
+  pub left : t ≡ p.put s registry
+
+-- the ports of one kind take a step
+abbrev pub TakesPorts : (RegistryState PortDetails → RegistryState PortDetails → Type 0) → Service
+    → Service → Type 0
+TakesPorts Step s t = (side : Side) × Takes (of_ports side) Step s t
+
+pub nodes_taken : (Step : RegistryState ℕ → RegistryState ℕ → Type 0) (s w : Service)
+    → Changes Step s.nodes w.nodes → w ≡ record s { nodes = w.nodes }
+    → Takes of_nodes Step s (quiet w)
+nodes_taken Step s w c e =
+    record { registry = w.nodes.registry; step = c.step; whole = c.kept; left = ap quiet e }
+
+module _ (Step : RegistryState PortDetails → RegistryState PortDetails → Type 0) (role : Role)
+    (s w : Service)
+    (a : OnSide (first_role s.pattern) (second_role s.pattern) s.ports role
+    (λ o n. Changes Step o n) w.ports) (is : w ≡ record s { ports = w.ports }) where
+  -- the ports of one kind have changed, and no node came or went
+  by_ports : (side : Side)
+      → of_side (other_side side) w.ports.first w.ports.second
+      ≡ of_side (other_side side) s.ports.first s.ports.second
+      → quiet w ≡ at_side side s (ports_at w side).registry
+  by_ports First o =
+      ap quiet is
+      ∙ ap (λ (c : ContainerState PortDetails).
+      at_rest s.pattern s.nodes.registry w.ports.first.registry c.registry) o
+  by_ports Second o =
+      ap quiet is
+      ∙ ap (λ (c : ContainerState PortDetails).
+      at_rest s.pattern s.nodes.registry c.registry w.ports.second.registry) o
+
+  pub ports_taken : Takes (of_ports a.side) Step s (quiet w)
+  ports_taken = record {
+    registry = (ports_at w a.side).registry;
+    step = a.step.step;
+    whole = a.step.kept;
+    left = by_ports a.side a.others;
+  }
+
+  -- they are those of the role
+  pub taken_at : (side : Side) → role ≡ role_at s.pattern side
+      → Takes (of_ports side) Step s (quiet w)
+  taken_at side at =
+      subst (λ z. Takes (of_ports z) Step s (quiet w))
+      (one_side s.pattern side a.side role at a.role_is) ports_taken
