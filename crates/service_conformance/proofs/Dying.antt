@@ -85,7 +85,8 @@ module _ {F T : Type 0} (calls : F → T → Bool → F → Type 0) (is_dead ans
       let m = marks_for old.entries (λ e. answer e.details) k.slots_rise in
       let marks =
       marks_same m.0 answer (candidates is_dead old.entries)
-      (All-filter (λ e. is_dead e.details) (λ e. m.0 e.slot ≡ answer e.details) old.entries m.1) in (
+      (All-filter (λ e. is_dead e.details) (λ e. m.0 e.slot ≡ answer e.details) old.entries m.1)
+      in (
         record {
           marked = m.0;
           called = subst (λ l. CalledInTurn calls f (details_where is_dead old) l f) (sym marks)
@@ -105,7 +106,8 @@ abbrev CleansPort : Vec ℕ → List PortCleanupAction → PortDetails → Bool 
 CleansPort kept f d goes g = CallsCleanup (Cleans (ByPort kept)) f (port_of d) goes g
 
 module _ (kept : Vec ℕ) (dead : ℕ) (old : RegistryState PortDetails) where
-  ports_left : (f g : List PortCleanupAction) (state : ReleaseState) (new : RegistryState PortDetails)
+  ports_left : (f g : List PortCleanupAction) (state : ReleaseState)
+      (new : RegistryState PortDetails)
       → RecoverStep (CleansPort kept) (is_of node_of dead) old f Default state new g
       → new ≡ without_ports dead kept.items old
   ports_left =

@@ -144,7 +144,8 @@ module _ {T : Type 0} (put : RegistryState T → Service) (old target : Registry
       let is : put r ≡ s = ap put b.1 ∙ same in (
         (
           λ new g.
-              let f = from new g in b.0 target (f.1 target (refl, back (subst IsService f.0.0 f.0.1))),
+              let f = from new g in
+              b.0 target (f.1 target (refl, back (subst IsService f.0.0 f.0.1))),
           is,
         ),
         subst IsService (sym is) i,

@@ -111,7 +111,8 @@ module _ (s : Service) (d : PortDetails) where
       (opens : IsOpenFor s (node_of d)) where
     -- the add to the registry of the side
     adds_at : (answer : Result Handle ContainerAddFailure) (new : Service)
-        → AddsPort s d answer new → Takes (of_ports side) (λ r m. AddStep r d answer m) s (quiet new)
+        → AddsPort s d answer new
+        → Takes (of_ports side) (λ r m. AddStep r d answer m) s (quiet new)
     adds_at answer new a = taken_at _ (role_of d) s new a.0 a.1 side role
 
     full_only : IsFull (ports_at s side).registry → (r : Reply) (new : Service)

@@ -261,12 +261,14 @@ module _ {A : Type 0} (id : A → ℕ) (xs : List A) (ids : List ℕ) (i : ℕ) 
   pub ids_end : i ≤ length xs → i ≤ length ids → (i < length xs → i < length ids → ⊥)
       → (length xs ≡ length ids) ↔ AreAlike
   ids_end p q end =
+      let items : length (drop i (map id xs)) + i ≡ length xs =
+      omega (arith, length-drop i (map id xs), length-map xs id) in
+      let others : length (drop i ids) + i ≡ length ids = omega (arith, length-drop i ids) in
       let ends =
-      both_end (drop i (map id xs)) (drop i ids) (λ l m. end
-      (omega (arith, l, length-drop i (map id xs), length-map xs id)) (omega (arith, m, length-drop i ids)))
-      in (
-        λ e. ends.0 (omega (arith, e, length-drop i (map id xs), length-map xs id, length-drop i ids)),
-        λ e. omega (arith, ends.1 e, length-drop i (map id xs), length-map xs id, length-drop i ids),
+      both_end (drop i (map id xs)) (drop i ids)
+      (λ l m. end (omega (arith, l, items)) (omega (arith, m, others))) in (
+        λ e. ends.0 (omega (arith, e, items, others)),
+        λ e. omega (arith, ends.1 e, items, others),
       )
 
 -- whether a text says that something changed

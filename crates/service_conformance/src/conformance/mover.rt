@@ -49,7 +49,8 @@ pub(super) fn change_of(request: &Request, seen: &SeenReply) -> Option<Change>
 
 impl Change {
     /// Whether a call with this change, wherever it can be made right after one with the other
-    /// change, can be made right before it, and both leave the same. A no says nothing.
+    /// change, can be made right before it, and both leave the same. A no says nothing. Ports of
+    /// two roles stand in two registries.
     pub(super) fn moves_before(self, other: Change) -> bool
         ensures { IsTrue result → CanPrecede self other }
     {
